@@ -98,7 +98,7 @@ def write_store(folder, last):
     os.makedirs(folder, exist_ok=True)
     text = f'    long: "{"x" * LETTERS}"\n    value: none\n'
     with open(os.path.join(folder, "store.yaml"), "w", encoding="utf-8") as target:
-        target.write('---\nstore: confstore-1\nat: "0"\nconfigs:\n')
+        target.write('---\nstore: confstore-2\nat: "0"\nconfigs:\n')
         target.writelines(f"  c{number}:\n{text}" for number in range(last + 1))
         target.write("...\n")
 
@@ -161,7 +161,7 @@ def write_deletes(path, count):
     """Writes a journal that puts so many configurations, and deletes all but the last one, the oldest first."""
     os.makedirs(path)
     with open(os.path.join(path, "store.yaml"), "w", encoding="utf-8") as target:
-        target.write('---\nstore: confstore-1\nat: "0"\nconfigs: {}\n...\n')
+        target.write('---\nstore: confstore-2\nat: "0"\nconfigs: {}\n...\n')
         for number in range(count):
             target.write(f'---\nat: "{number + 1}"\nimport: c{number}\ntree: x\n...\n')
         for number in range(count - 1):

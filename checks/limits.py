@@ -147,7 +147,7 @@ def stores_have_a_greatest_length(top, failures):
     commands = b"delete: c\npath: ''\n...\nnames:\n...\ncheckpoint:\n...\ndelete: c\npath: ''\n...\n"
     answers = JOURNAL_LONG + b"---\nnames:\n  - c\n...\n" + ok(count) + ok(count + 1)
     failures.expect("a checkpoint of a full store", session(filling.folder, commands), (0, answers, ""))
-    base = b'---\nstore: confstore-1\nat: "%d"\nconfigs:\n  c: ' % count + value_of(room) + b"\n...\n"
+    base = b'---\nstore: confstore-2\nat: "%d"\nconfigs:\n  c: ' % count + value_of(room) + b"\n...\n"
     record = b'---\nat: "%d"\ndelete: c\npath: ""\n...\n' % (count + 1)
     failures.expect("the file after it", read_file(filling.file()) == base + record, True)
 

@@ -167,8 +167,8 @@ def streams(folder, failures):
     store = os.path.join(folder, "store.yaml")
     journal = read_file(store)
     session(folder, b"---\ncheckpoint:\n...\n")
-    first = {"store": "confstore-1", "at": "0", "configs": {}}
-    base = {"store": "confstore-1", "at": str(len(stream.records)), "configs": stream.trees}
+    first = {"store": "confstore-2", "at": "0", "configs": {}}
+    base = {"store": "confstore-2", "at": str(len(stream.records)), "configs": stream.trees}
     yield "commands", commands, stream.commands
     yield "answers", answers, stream.answers
     yield "journal", journal, [first, *stream.records]

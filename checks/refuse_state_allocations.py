@@ -52,7 +52,7 @@ def opening(number):
     """The order that takes a state from its base."""
     count, configs = STATES[number]
     shown = ", ".join(f"{name}: {flow}" for name, (flow, _) in configs.items())
-    return f"open;{{store: confstore-1, at: {count}, configs: {{{shown}}}}}"
+    return f"open;{{store: confstore-2, at: {count}, configs: {{{shown}}}}}"
 
 
 def shown(number):

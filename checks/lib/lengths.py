@@ -23,7 +23,7 @@ def record_length(number, words):
 def base_length(count, state):
     """The length of the base of a state."""
     configs = "".join(f"  {name}: {styled(text)}\n" for name, text in state.items())
-    return len(f'---\nstore: confstore-1\nat: "{count}"\nconfigs:{"" if state else " {}"}\n{configs}...\n')
+    return len(f'---\nstore: confstore-2\nat: "{count}"\nconfigs:{"" if state else " {}"}\n{configs}...\n')
 
 
 def meant(words):

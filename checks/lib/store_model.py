@@ -13,6 +13,9 @@ CLOSING = re.compile(rb"^\.\.\.\n", re.MULTILINE)
 # The characters x85, x2028 and x2029 are breaks in YAML 1.1, and none in YAML 1.2.
 OLD_BREAKS = re.compile(rb"\xc2\x85|\xe2\x80[\xa8\xa9]")
 
+# The names of the formats that a base may have. The second is the one that is written.
+FORMATS = ("confstore-1", "confstore-2")
+
 NUMBER = re.compile(r"0|[1-9][0-9]*")
 NAME = re.compile(r"[a-z][a-z0-9_-]{0,63}")
 GREATEST = 2**64 - 1
@@ -81,7 +84,7 @@ def number_of(text):
 def read_base(piece):
     """The configurations of a base, in order, and its count."""
     keys, values = read_mapping(piece)
-    if keys != ("store", "at", "configs") or values[0] != "confstore-1" or not isinstance(values[2], tuple):
+    if keys != ("store", "at", "configs") or values[0] not in FORMATS or not isinstance(values[2], tuple):
         raise Refused
     if not all(NAME.fullmatch(name) for name, _ in values[2]):
         raise Refused
@@ -139,20 +142,33 @@ def deletion(tree, step):
     return tuple(pair for pair in tree if pair[0] != step)
 
 
-def perform(configs, keys, values):
-    """The configurations after a record's command."""
-    name = values[1]
+def edited(configs, keys, values):
+    """The configurations after an edit."""
+    name = values[0]
     if not isinstance(name, str) or not NAME.fullmatch(name):
         raise Refused
-    if keys == ("at", "import", "tree"):
-        return {**configs, name: values[2]}
-    steps = steps_of(values[2]) if len(values) > 2 else None
-    if keys not in (("at", "set", "path", "value"), ("at", "delete", "path")) or name not in configs:
+    if keys == ("import", "tree"):
+        return {**configs, name: values[1]}
+    steps = steps_of(values[1]) if len(values) > 1 else None
+    if keys not in (("set", "path", "value"), ("delete", "path")) or name not in configs:
         raise Refused
-    if keys[1] == "delete" and not steps:
+    if keys[0] == "delete" and not steps:
         return {other: tree for other, tree in configs.items() if other != name}
-    changed = setting(values[3]) if keys[1] == "set" else deletion
-    return {**configs, name: with_change(configs[name], steps, changed) if steps else values[3]}
+    changed = setting(values[2]) if keys[0] == "set" else deletion
+    return {**configs, name: with_change(configs[name], steps, changed) if steps else values[2]}
+
+
+def perform(configs, keys, values):
+    """The configurations after a record's command: an edit, or a batch of at least one."""
+    if keys != ("batch",):
+        return edited(configs, keys, values)
+    if not isinstance(values[0], list) or not values[0]:
+        raise Refused
+    for edit in values[0]:
+        if not isinstance(edit, tuple) or not edit:
+            raise Refused
+        configs = edited(configs, *zip(*edit))
+    return configs
 
 
 def meaning(content):
@@ -165,9 +181,9 @@ def meaning(content):
     for piece in pieces[1:]:
         try:
             keys, values = read_mapping(piece)
-            if len(values) < 3 or number_of(values[0]) != count + 1:
+            if keys[0] != "at" or len(values) < 2 or number_of(values[0]) != count + 1:
                 raise Refused
-            configs, count = perform(configs, keys, values), count + 1
+            configs, count = perform(configs, keys[1:], values[1:]), count + 1
         except Refused as error:
             raise Damaged from error
     return configs, count, len(rest)

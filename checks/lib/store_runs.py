@@ -12,7 +12,7 @@ TOP = os.path.dirname(os.path.dirname(os.path.dirname(os.path.abspath(__file__))
 PROGRAM = os.path.join(TOP, "crates", "confstore", "out", "confstore")
 
 # The file of an empty state.
-EMPTY = b'---\nstore: confstore-1\nat: "0"\nconfigs: {}\n...\n'
+EMPTY = b'---\nstore: confstore-2\nat: "0"\nconfigs: {}\n...\n'
 
 # The record of an import of the text `x` under `a`, as the first command.
 IMPORT = b'---\nat: "1"\nimport: a\ntree: x\n...\n'

@@ -8,3 +8,4 @@ pub mod FieldLemmas
 pub mod PieceLemmas
 pub mod TreeLemmas
 pub mod WrittenLemmas
+pub mod EditLines

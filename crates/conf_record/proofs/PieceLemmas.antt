@@ -1,20 +1,22 @@
 -- The parts of a tree that a `Config` keeps.
-use Rattle.std.proofs.Common.{◌≡◌, ◌<◌, ◌≤◌, ℕ, ◌+◌, true, ◌&&◌, List, [], ◌∷◌, ◌++◌, length, max, not, String, Global, string_bytes, append_assoc, append-nil, arith, refl, sym, ap, ◌∙◌}
+use Rattle.std.proofs.Common.{◌≡◌, ◌<◌, ◌≤◌, ℕ, ◌+◌, true, ◌&&◌, List, [], ◌∷◌, ◌++◌, codes, length, max, map, not, Option, Some, None, option_map, String, Global, string_bytes, append_assoc, append-nil, arith, refl, sym, ap, ◌∙◌}
 use Rattle.std.proofs.lemmas.Bool.{and_parts}
 use Rattle.std.specs.Str.{chars}
 use Rattle.yaml_grammar.specs.Texts.{byte_len}
-use Rattle.yaml_grammar.specs.Style.{key_lines, value_at, members_after}
-use Rattle.yaml_grammar.specs.Trees.{Tree, mapping, Members, no_member, member, has_key, distinct, members_distinct, depth, members_depth, AreTextMembers}
+use Rattle.yaml_grammar.specs.Style.{key_lines, value_at, lines_after_dash, elements_after, members_after}
+use Rattle.yaml_grammar.specs.Trees.{Tree, sequence, mapping, Elements, no_element, element, Members, no_member, member, has_key, distinct, elements_distinct, members_distinct, depth, elements_depth, members_depth, AreTextElements, AreTextMembers}
 use Rattle.yaml_writer.specs.BudgetLaws.{byte_len-append}
 use Rattle.yaml_config.specs.Kept.{own_limits, IsKept}
-use Rattle.yaml_data.specs.Seen.{Pair, tree_of, members_of}
+use Rattle.yaml_data.specs.Seen.{Pair, tree_of, elements_of, members_of}
 use Rattle.yaml_data.specs.TextBytes.{text_bytes}
 use Rattle.yaml_data.specs.declared.text.Text.{Text}
 use Rattle.yaml_data.specs.declared.tree.Tree as code
 use Rattle.conf_state.specs.Kept.{entries_of}
-use Rattle.conf_record.specs.RecordsRead.{values, entries}
-use Rattle.conf_record.proofs.SizeLemmas.{value_size}
-use Rattle.conf_record.specs.Reading.{AreKept, trees_of}
+use Rattle.conf_state.specs.Commands.{Edit, edit_of}
+use Rattle.conf_state.specs.declared.command.Edit as edits
+use Rattle.conf_record.specs.RecordsRead.{values, edit_in, ahead, edits_of, entries}
+use Rattle.conf_record.proofs.SizeLemmas.{element_least, value_size}
+use Rattle.conf_record.specs.Reading.{AreKept, AreKeptElements, trees_of}
 
 after_bytes : (key : List ℕ) (t : Tree) (ms : Members)
     → byte_len (members_after (member key t ms) 0) ≡ byte_len (key_lines 0 key) + byte_len (value_at t 0) + byte_len (members_after ms 0)
@@ -52,6 +54,26 @@ own_values (p ∷ ps) kept = (kept.0, own_values ps kept.1)
 -- so are the trees of pairs whose mapping is
 pub own_parts : (items : List Pair) → IsKept (mapping (members_of items)) → AreKept (trees_of items)
 own_parts items kept = own_values items (parts_kept (members_of items) kept)
+
+elements_kept : (ts : Elements) → AreTextElements ts → elements_distinct ts ≡ true → elements_depth ts < own_limits.depth → byte_len (elements_after ts 0) ≤ own_limits.style → AreKeptElements ts
+elements_kept no_element are keys deep long = tt
+elements_kept (element t ts) are keys deep long =
+    let parts = and_parts (distinct t) (elements_distinct ts) keys in
+    let levels = max_parts (depth t) (elements_depth ts) own_limits.depth deep in
+    let bytes = byte_len-append (codes "- " ++ lines_after_dash t 0) (elements_after ts 0) in
+    let dash = byte_len-append (codes "- ") (lines_after_dash t 0) in
+    let alone = element_least t in
+    let low = levels.0 in (
+      record { texts = are.0; keys = parts.0; deep = omega (arith, low); long = omega (arith, bytes, dash, alone, long) },
+      elements_kept ts are.1 parts.1 levels.1 (omega (arith, bytes, dash, long)),
+    )
+
+-- the elements of a sequence within the limits are within them
+pub items_kept : (ts : Elements) → IsKept (sequence ts) → AreKeptElements ts
+items_kept no_element kept = tt
+items_kept (element t ts) kept =
+    let deep = kept.deep in
+    elements_kept (element t ts) kept.texts kept.keys (omega (arith, deep)) kept.long
 
 -- ---- pairs that are moved, in their order
 
@@ -93,3 +115,50 @@ pub all_moved : (all : List Pair) (done : List Named) (left : List Pair) → Mov
     → entries_of done ≡ entries (members_of all)
 all_moved all done [] so none = sym (append-nil (entries_of done)) ∙ so.whole
 all_moved all done (p ∷ ps) so none = absurd (omega arith)
+
+-- ---- edits that are read, in their order
+
+pub record ReadSoFar (all : List code.Tree) (done : List edits.Edit) (left : List code.Tree) : Type 0 where
+  pub whole : option_map (λ es. map edit_of done ++ es) (edits_of (elements_of left)) ≡ edits_of (elements_of all)
+  pub kept : AreKeptElements (elements_of left)
+
+same_option : (o : Option (List Edit)) → option_map (λ es. [] ++ es) o ≡ o
+same_option None = refl
+same_option (Some es) = refl
+
+-- at first no edit was read
+pub none_read : (all : List code.Tree) → AreKeptElements (elements_of all) → ReadSoFar all [] all
+none_read all kept = record { whole = same_option (edits_of (elements_of all)); kept = kept }
+
+edits-one : (done : List edits.Edit) (e : edits.Edit) → map edit_of (done ++ e ∷ []) ≡ map edit_of done ++ edit_of e ∷ []
+edits-one [] e = refl
+edits-one (d ∷ ds) e = ap (λ es. edit_of d ∷ es) (edits-one ds e)
+
+moved_over : (first : List Edit) (e : Edit) (o : Option (List Edit))
+    → option_map (λ es. (first ++ e ∷ []) ++ es) o ≡ option_map (λ es. first ++ es) (option_map (λ rest. e ∷ rest) o)
+moved_over first e None = refl
+moved_over first e (Some es) = ap Some (append_assoc first (e ∷ []) es)
+
+-- one more edit is read
+pub one_read : (all : List code.Tree) (done : List edits.Edit) (t : code.Tree) (left : List code.Tree) (e : edits.Edit) → Some (edit_of e) ≡ edit_in (tree_of t)
+    → ReadSoFar all done (t ∷ left) → (new : List edits.Edit) → new ≡ done ++ e ∷ [] → ReadSoFar all new left
+one_read all done t left e is so new pushed = record {
+  whole =
+      ap (λ es. option_map (λ more. es ++ more) (edits_of (elements_of left))) (ap (map edit_of) pushed ∙ edits-one done e)
+      ∙ moved_over (map edit_of done) (edit_of e) (edits_of (elements_of left))
+      ∙ ap (λ first. option_map (λ es. map edit_of done ++ es) (ahead first (edits_of (elements_of left)))) is
+      ∙ so.whole;
+  kept = so.kept.1;
+}
+
+-- an element that is no edit
+pub none_there : (all : List code.Tree) (done : List edits.Edit) (t : code.Tree) (left : List code.Tree) → None ≡ edit_in (tree_of t) → ReadSoFar all done (t ∷ left)
+    → None ≡ edits_of (elements_of all)
+none_there all done t left is so =
+    ap (λ first. option_map (λ es. map edit_of done ++ es) (ahead first (edits_of (elements_of left)))) is ∙ so.whole
+
+-- where no element is left, all were read
+pub all_read : (all : List code.Tree) (done : List edits.Edit) (left : List code.Tree) → ReadSoFar all done left → length left ≡ 0
+    → Some (map edit_of done) ≡ edits_of (elements_of all)
+all_read all done [] so none = ap Some (sym (append-nil (map edit_of done))) ∙ so.whole
+all_read all done (t ∷ ts) so none = absurd (omega arith)

@@ -1,5 +1,5 @@
 -- The trees of records and bases: they are good, within the limits, and tell what they were made of.
-use Rattle.std.proofs.Common.{◌≡◌, ℕ, ◌+◌, ◌≤◌, true, not, ◌&&◌, ◌||◌, nat_le, if◌then◌else◌, List, [], ◌∷◌, ◌++◌, length, codes, decimal, Some, None, append_assoc, refl, ap, sym, ◌∙◌, arith}
+use Rattle.std.proofs.Common.{◌≡◌, ℕ, ◌+◌, ◌≤◌, true, not, ◌&&◌, ◌||◌, nat_le, if◌then◌else◌, List, [], ◌∷◌, ◌++◌, length, codes, decimal, Some, None, option_map, append_assoc, refl, ap, sym, ◌∙◌, arith}
 use Rattle.std.proofs.lemmas.Bool.{and_parts, and_from}
 use Rattle.std.proofs.lemmas.Bool.Decides.{nat_tests}
 use Rattle.std.proofs.lemmas.Fmt.{decimal_is_IsNumeral, length-decimal-le}
@@ -9,7 +9,7 @@ use Rattle.std.specs.Str.Parse.{AllDigits, digits_value}
 use Rattle.yaml_chars.specs.Classes.{code_point, in_range}
 use Rattle.std.specs.List.{list_all}
 use Rattle.yaml_grammar.specs.Texts.{IsText, byte_len, first, same_text}
-use Rattle.yaml_grammar.specs.Trees.{Tree, text, Members, no_member, member, members_depth, distinct, members_distinct, has_key, AreTextMembers}
+use Rattle.yaml_grammar.specs.Trees.{Tree, text, Members, no_member, member, elements_depth, members_depth, distinct, elements_distinct, members_distinct, has_key, AreTextElements, AreTextMembers}
 use Rattle.yaml_grammar.specs.Reads.{Good}
 use Rattle.yaml_grammar.specs.Style.{scalar_lines, key_lines, value_at, members_after, style_text}
 use Rattle.yaml_recognizers.specs.Closings.{framed_text}
@@ -18,13 +18,13 @@ use Rattle.yaml_config.specs.Kept.{own_limits}
 use Rattle.yaml_config.specs.Limits.{config_limits}
 use Rattle.yaml_data.proofs.CharacterLemmas.{same_text-self}
 use Rattle.conf_state.specs.Names.{small_letter, name_char, good_name}
-use Rattle.conf_state.specs.Commands.{Command, import_as, set_at, delete_at}
+use Rattle.conf_state.specs.Commands.{Edit, import_as, set_at, delete_at, Command, single, batch}
 use Rattle.conf_state.specs.States.{Entry, Contents, base_limit, count_limit, names_of, has_name, names_differ}
 use Rattle.conf_state.specs.Limits.{AreConfigs, IsState}
 use Rattle.conf_state.specs.BaseTexts.{members, base_tree, base_text, base_length, closed_document}
-use Rattle.conf_record.specs.Records.{command_members, record_tree}
-use Rattle.conf_record.specs.RecordsRead.{number_from_digits, record_of, entries, base_of, IsCommand}
-use Rattle.conf_record.specs.SmallCommands.{IsSmallCommand}
+use Rattle.conf_record.specs.Records.{edit_members, edit_elements, command_members, record_tree, record_text, FitsRecord}
+use Rattle.conf_record.specs.RecordsRead.{number_from_digits, edit_from, ahead, edits_of, command_from, with_number, record_of, entries, base_of, IsEdit, AreEdits, IsCommand}
+use Rattle.conf_record.specs.SmallCommands.{IsSmallEdit, AreSmallEdits, IsSmallCommand}
 use Rattle.conf_state.proofs.BaseLemmas.{count_bytes}
 use Rattle.conf_record.proofs.SizeLemmas.{size, scalar_most, value_size}
 
@@ -95,12 +95,30 @@ number_from_digits-decimal n small = by (digits_value 10 (decimal n)) (decimal_i
 
 -- ---- records
 
+-- the members of an edit are read as that edit
+edit_tells : (edit : Edit) → IsSmallEdit edit → edit_from (edit_members edit) ≡ Some edit
+edit_tells (import_as name tree) ok = rw (ok.0) refl
+edit_tells (set_at name path value) ok = rw (ok.0, ok.1.parsed) refl
+edit_tells (delete_at name path) ok = rw (ok.0, ok.1.parsed) refl
+
+-- so are the elements of a batch
+edits_tell : (edits : List Edit) → AreSmallEdits edits → edits_of (edit_elements edits) ≡ Some edits
+edits_tell [] ok = refl
+edits_tell (edit ∷ edits) ok =
+    ap (λ first. ahead first (edits_of (edit_elements edits))) (edit_tells edit ok.0) ∙ ap (ahead (Some edit)) (edits_tell edits ok.1)
+
+command_tells : (command : Command) → IsSmallCommand command → command_from (command_members command) ≡ Some command
+command_tells (single (import_as name tree)) ok = ap (option_map single) (edit_tells (import_as name tree) ok)
+command_tells (single (set_at name path value)) ok = ap (option_map single) (edit_tells (set_at name path value) ok)
+command_tells (single (delete_at name path)) ok = ap (option_map single) (edit_tells (delete_at name path) ok)
+command_tells (batch edits) ok = ap (option_map batch) (edits_tell edits ok)
+
 -- the tree of an accepted command's record is read as that command and number
 pub record_tells : (command : Command) (number : ℕ) → IsSmallCommand command → number ≤ count_limit → record_of (record_tree command number) ≡ Some (command, number)
 unfolding record_of
-record_tells (import_as name tree) number ok small = rw (ok.0, number_from_digits-decimal number small) refl
-record_tells (set_at name path value) number ok small = rw (ok.0, ok.1.parsed, number_from_digits-decimal number small) refl
-record_tells (delete_at name path) number ok small = rw (ok.0, ok.1.parsed, number_from_digits-decimal number small) refl
+record_tells command number ok small =
+    ap (λ read. with_number read (decimal number)) (command_tells command ok)
+    ∙ ap (option_map (λ n. (command, n))) (number_from_digits-decimal number small)
 
 -- the same parts, grouped otherwise
 pub framed_document : (t : Tree) → framed_text t ≡ closed_document t
@@ -121,8 +139,8 @@ members_bytes : (key : List ℕ) (t : Tree) (ms : Members)
 members_bytes key t ms =
     omega (arith, byte_len-append (key_lines 0 key ++ value_at t 0) (members_after ms 0), byte_len-append (key_lines 0 key) (value_at t 0))
 
-command_bytes : (command : Command) → IsSmallCommand command → byte_len (members_after (command_members command) 0) ≤ 67000000
-command_bytes (import_as name tree) ok =
+edit_bytes : (edit : Edit) → IsSmallEdit edit → byte_len (members_after (edit_members edit) 0) ≤ 67000000
+edit_bytes (import_as name tree) ok =
     let small = ok.1.bytes in
     let value = (value_size tree).most in
     omega (
@@ -134,7 +152,7 @@ command_bytes (import_as name tree) ok =
       members_bytes (codes "import") (text name) (member (codes "tree") tree no_member),
       members_bytes (codes "tree") tree no_member,
     )
-command_bytes (set_at name path value) ok =
+edit_bytes (set_at name path value) ok =
     let short = ok.1.bytes in
     let small = ok.2.bytes in
     let valued = (value_size value).most in
@@ -150,7 +168,7 @@ command_bytes (set_at name path value) ok =
       members_bytes (codes "path") (text path) (member (codes "value") value no_member),
       members_bytes (codes "value") value no_member,
     )
-command_bytes (delete_at name path) ok =
+edit_bytes (delete_at name path) ok =
     let short = ok.1.bytes in
     omega (
       arith,
@@ -162,38 +180,78 @@ command_bytes (delete_at name path) ok =
       members_bytes (codes "path") (text path) no_member,
     )
 
-record_bytes : (command : Command) (number : ℕ) → IsSmallCommand command → number ≤ count_limit → size (record_tree command number) ≤ 67100000
-record_bytes command number ok small =
-    omega (arith, command_bytes command ok, decimal_bytes number small, members_bytes (codes "at") (text (decimal number)) (command_members command))
+-- the record of a single edit is short, and that of a batch is by its premise
+record_bytes : (command : Command) (number : ℕ) → IsSmallCommand command → number ≤ count_limit → FitsRecord command number
+    → byte_len (framed_text (record_tree command number)) ≤ own_limits.bytes
+unfolding record_text
+record_bytes (single edit) number ok small fits =
+    omega (
+      arith,
+      edit_bytes edit ok,
+      decimal_bytes number small,
+      members_bytes (codes "at") (text (decimal number)) (edit_members edit),
+      framed_bytes (record_tree (single edit) number),
+    )
+record_bytes (batch edits) number ok small fits =
+    let same = ap byte_len (framed_document (record_tree (batch edits) number)) in
+    omega (arith, same, fits)
+
+edit_texts : (edit : Edit) → IsEdit edit → IsSmallEdit edit → AreTextMembers (edit_members edit)
+edit_texts (import_as name tree) is ok = (refl, name_is_text name ok.0, (refl, is.texts, tt))
+edit_texts (set_at name path value) is ok = (refl, name_is_text name ok.0, (refl, is.0, (refl, is.1.texts, tt)))
+edit_texts (delete_at name path) is ok = (refl, name_is_text name ok.0, (refl, is, tt))
+
+edits_texts : (edits : List Edit) → AreEdits edits → AreSmallEdits edits → AreTextElements (edit_elements edits)
+edits_texts [] are ok = tt
+edits_texts (edit ∷ edits) are ok = (edit_texts edit are.0 ok.0, edits_texts edits are.1 ok.1)
 
 command_texts : (command : Command) → IsCommand command → IsSmallCommand command → AreTextMembers (command_members command)
-command_texts (import_as name tree) is ok = (refl, name_is_text name ok.0, (refl, is.texts, tt))
-command_texts (set_at name path value) is ok = (refl, name_is_text name ok.0, (refl, is.0, (refl, is.1.texts, tt)))
-command_texts (delete_at name path) is ok = (refl, name_is_text name ok.0, (refl, is, tt))
+command_texts (single edit) is ok = edit_texts edit is ok
+command_texts (batch edits) is ok = (refl, edits_texts edits is ok, tt)
 
-command_depth : (command : Command) → IsSmallCommand command → members_depth (command_members command) ≤ config_limits.depth
-command_depth (import_as name tree) ok = let deep = ok.1.deep in omega arith
-command_depth (set_at name path value) ok = let deep = ok.2.deep in omega arith
-command_depth (delete_at name path) ok = omega arith
+edit_depth : (edit : Edit) → IsSmallEdit edit → members_depth (edit_members edit) ≤ config_limits.depth
+edit_depth (import_as name tree) ok = let deep = ok.1.deep in omega arith
+edit_depth (set_at name path value) ok = let deep = ok.2.deep in omega arith
+edit_depth (delete_at name path) ok = omega arith
+
+edits_depth : (edits : List Edit) → AreSmallEdits edits → elements_depth (edit_elements edits) ≤ 1 + config_limits.depth
+edits_depth [] ok = omega arith
+edits_depth (edit ∷ edits) ok = omega (arith, edit_depth edit ok.0, edits_depth edits ok.1)
+
+command_depth : (command : Command) → IsSmallCommand command → members_depth (command_members command) ≤ 2 + config_limits.depth
+command_depth (single edit) ok = omega (arith, edit_depth edit ok)
+command_depth (batch edits) ok = omega (arith, edits_depth edits ok)
+
+edit_distinct : (edit : Edit) → IsEdit edit → members_distinct (edit_members edit) ≡ true
+edit_distinct (import_as name tree) is = let keys = is.keys in rw keys refl
+edit_distinct (set_at name path value) is = let keys = is.1.keys in rw keys refl
+edit_distinct (delete_at name path) is = refl
+
+edits_distinct : (edits : List Edit) → AreEdits edits → elements_distinct (edit_elements edits) ≡ true
+edits_distinct [] are = refl
+edits_distinct (edit ∷ edits) are =
+    and_from (members_distinct (edit_members edit)) (elements_distinct (edit_elements edits)) (edit_distinct edit are.0) (edits_distinct edits are.1)
 
 record_distinct : (command : Command) (number : ℕ) → IsCommand command → distinct (record_tree command number) ≡ true
-record_distinct (import_as name tree) number is = let keys = is.keys in rw keys refl
-record_distinct (set_at name path value) number is = let keys = is.1.keys in rw keys refl
-record_distinct (delete_at name path) number is = refl
+record_distinct (single (import_as name tree)) number is = edit_distinct (import_as name tree) is
+record_distinct (single (set_at name path value)) number is = edit_distinct (set_at name path value) is
+record_distinct (single (delete_at name path)) number is = refl
+record_distinct (batch edits) number is = and_from (elements_distinct (edit_elements edits)) true (edits_distinct edits is) refl
 
 -- that tree keeps the limits of a text that is read
-pub record_good : (command : Command) (number : ℕ) → IsCommand command → IsSmallCommand command → number ≤ count_limit → FramedGood (record_tree command number)
-record_good command number is ok small =
-    let bytes = record_bytes command number ok small in
+pub record_good : (command : Command) (number : ℕ) → IsCommand command → IsSmallCommand command → number ≤ count_limit → FitsRecord command number
+    → FramedGood (record_tree command number)
+record_good command number is ok small fits =
+    let short = record_bytes command number ok small fits in
     let deep = command_depth command ok in
     record {
       good = record {
         texts = (refl, decimal_is_text number small, command_texts command is ok);
         keys = record_distinct command number is;
         deep = omega arith;
-        long = omega arith;
+        long = omega (arith, framed_bytes (record_tree command number));
       };
-      short = omega (arith, framed_bytes (record_tree command number));
+      short = short;
     }
 
 -- ---- bases

@@ -1,5 +1,5 @@
 -- Bytes in the one style: how they grow with the indentation, and with the bytes of a scalar.
-use Rattle.std.proofs.Common.{◌≡◌, ℕ, zero, suc, ◌+◌, ◌*◌, ◌/◌, ◌%◌, ◌≤◌, Bool, true, false, ◌||◌, ◌==◌, nat_le, if◌then◌else◌, List, [], ◌∷◌, ◌++◌, codes, refl, arith}
+use Rattle.std.proofs.Common.{◌≡◌, ℕ, zero, suc, ◌+◌, ◌*◌, ◌/◌, ◌%◌, ◌<◌, ◌≤◌, Bool, true, false, ◌||◌, ◌==◌, nat_le, nat_lt, if◌then◌else◌, List, [], ◌∷◌, ◌++◌, codes, refl, arith}
 use Rattle.std.proofs.lemmas.Bool.Decides.{nat_tests}
 use Rattle.std.proofs.lemmas.Str.{len_utf8_bounds}
 use Rattle.std.specs.Char.{len_utf8}
@@ -91,45 +91,116 @@ scalar_grows j value = by (plain_in_style value) (literal_in_style value) (liter
         record { no_less = omega arith; no_twice = omega arith }
     by false false mark = record { no_less = omega arith; no_twice = omega arith }
 
--- ---- scalars: at least as many bytes as the text, and at most 18 times as many and five more
+-- ---- scalars: at least as many bytes as the text, and at most four times as many and five more
 
-record Escapes (c spelled : ℕ) : Type 0 where
-  esc_less : c ≤ spelled
-  esc_most : spelled ≤ 18 * c
+ascii_byte : (c : ℕ) → c < 128 → len_utf8 c ≡ 1
+ascii_byte c small = grind (arith, nat_tests)
+
+no_byte : (c : ℕ) → nat_le c 0xff ≡ false → 2 ≤ len_utf8 c
+no_byte c e = grind (arith, nat_tests)
+
+hex_small : (d : ℕ) → d < 16 → hex d < 128
+hex_small d small = by (nat_lt d 10)
+  where
+    by : (b : Bool) → (if b then 48 + d else 55 + d) < 128
+    by true = omega arith
+    by false = omega arith
+
+hex_byte : (d : ℕ) → d < 16 → len_utf8 (hex d) ≡ 1
+hex_byte d small = ascii_byte (hex d) (hex_small d small)
+
+first_byte : (c : ℕ) → len_utf8 (hex (c / 4096)) ≤ len_utf8 c
+first_byte c = by (nat_lt c 65536) refl
+  where
+    by : (b : Bool) → nat_lt c 65536 ≡ b → len_utf8 (hex (c / 4096)) ≤ len_utf8 c
+    by true few =
+        let small : c < 65536 = grind (arith, nat_tests) in
+        let one = hex_byte (c / 4096) (omega arith) in
+        let own = len_utf8_bounds c in
+        omega arith
+    by false many =
+        let own : len_utf8 c ≡ 4 = grind (arith, nat_tests) in
+        let most = len_utf8_bounds (hex (c / 4096)) in
+        omega arith
+
+letter_byte : (c : ℕ) → letter_escape c < 128
+letter_byte c = by (c == 0) (c == 7) (c == 8) (c == 9) (c == 10) (c == 11) (c == 12) (c == 13)
+  where
+    by : (a b d e f g h i : Bool) → (if a then 48 else if b then 97 else if d then 98 else if e then 116 else if f then 110 else if g then 118 else if h then 102 else if i then 114 else 101) < 128
+    by true b d e f g h i = omega arith
+    by false true d e f g h i = omega arith
+    by false false true e f g h i = omega arith
+    by false false false true f g h i = omega arith
+    by false false false false true g h i = omega arith
+    by false false false false false true h i = omega arith
+    by false false false false false false true i = omega arith
+    by false false false false false false false true = omega arith
+    by false false false false false false false false = omega arith
+
+-- a character in double quotes is at most four times as long as it is
+char_most : (c : ℕ) → byte_len (quoted_char c) ≤ 4 * len_utf8 c
+char_most c = by ((c == 34) || (c == 92)) (shown c) ((c == 0) || in_range 7 13 c || (c == 27)) (nat_le c 0xff) refl
+  where
+    by : (sign itself named short : Bool) → nat_le c 0xff ≡ short
+        → byte_len (if sign then 92 ∷ c ∷ [] else if itself then c ∷ [] else if named then 92 ∷ letter_escape c ∷ []
+        else if short then codes "\\x" ++ hex (c / 16) ∷ hex (c % 16) ∷ [] else codes "\\u" ++ hex (c / 4096) ∷ hex (c / 256 % 16) ∷ hex (c / 16 % 16) ∷ hex (c % 16) ∷ [])
+        ≤ 4 * len_utf8 c
+    by true itself named short e = let own = len_utf8_bounds c in omega arith
+    by false true named short e = let own = len_utf8_bounds c in omega arith
+    by false false true short e =
+        let own = len_utf8_bounds c in
+        let one = ascii_byte (letter_escape c) (letter_byte c) in
+        omega arith
+    by false false false true e =
+        let own = len_utf8_bounds c in
+        let small : c ≤ 255 = grind (arith, nat_tests) in
+        let a = hex_byte (c / 16) (omega arith) in
+        let b = hex_byte (c % 16) (omega arith) in
+        omega arith
+    by false false false false e =
+        let own = no_byte c e in
+        let a = first_byte c in
+        let b = hex_byte (c / 256 % 16) (omega arith) in
+        let d = hex_byte (c / 16 % 16) (omega arith) in
+        let f = hex_byte (c % 16) (omega arith) in
+        omega arith
 
 named_is_ascii : (c : ℕ) → ((c == 0) || in_range 7 13 c || (c == 27)) ≡ true → len_utf8 c ≡ 1
 named_is_ascii c e = grind (arith, nat_tests)
 
-char_bytes : (c : ℕ) → Escapes (len_utf8 c) (byte_len (quoted_char c))
-char_bytes c =
+char_least : (c : ℕ) → len_utf8 c ≤ byte_len (quoted_char c)
+char_least c =
     by ((c == 34) || (c == 92)) (shown c) ((c == 0) || in_range 7 13 c || (c == 27)) (nat_le c 0xff) (letter_escape c)
     (hex (c / 16)) (hex (c % 16)) (hex (c / 4096)) (hex (c / 256 % 16)) (hex (c / 16 % 16)) refl
   where
     by : (sign itself named short : Bool) (letter d0 d1 d2 d3 d4 : ℕ) → ((c == 0) || in_range 7 13 c || (c == 27)) ≡ named
-        → Escapes (len_utf8 c)
-        (byte_len (if sign then 92 ∷ c ∷ [] else if itself then c ∷ [] else if named then 92 ∷ letter ∷ []
-        else if short then codes "\\x" ++ d0 ∷ d1 ∷ [] else codes "\\u" ++ d2 ∷ d3 ∷ d4 ∷ d1 ∷ []))
-    by true itself named short letter d0 d1 d2 d3 d4 e = let own = len_utf8_bounds c in record { esc_less = omega arith; esc_most = omega arith }
-    by false true named short letter d0 d1 d2 d3 d4 e = let own = len_utf8_bounds c in record { esc_less = omega arith; esc_most = omega arith }
+        → len_utf8 c
+        ≤ byte_len (if sign then 92 ∷ c ∷ [] else if itself then c ∷ [] else if named then 92 ∷ letter ∷ []
+        else if short then codes "\\x" ++ d0 ∷ d1 ∷ [] else codes "\\u" ++ d2 ∷ d3 ∷ d4 ∷ d1 ∷ [])
+    by true itself named short letter d0 d1 d2 d3 d4 e = let own = len_utf8_bounds c in omega arith
+    by false true named short letter d0 d1 d2 d3 d4 e = let own = len_utf8_bounds c in omega arith
     by false false true short letter d0 d1 d2 d3 d4 e =
         let own = named_is_ascii c e in
         let a = len_utf8_bounds letter in
-        record { esc_less = omega arith; esc_most = omega arith }
+        omega arith
     by false false false true letter d0 d1 d2 d3 d4 e =
         let own = len_utf8_bounds c in
         let a = len_utf8_bounds d0 in let b = len_utf8_bounds d1 in
-        record { esc_less = omega arith; esc_most = omega arith }
+        omega arith
     by false false false false letter d0 d1 d2 d3 d4 e =
         let own = len_utf8_bounds c in
         let a = len_utf8_bounds d1 in let b = len_utf8_bounds d2 in let d = len_utf8_bounds d3 in let f = len_utf8_bounds d4 in
-        record { esc_less = omega arith; esc_most = omega arith }
+        omega arith
+
+record Escapes (c spelled : ℕ) : Type 0 where
+  esc_less : c ≤ spelled
+  esc_most : spelled ≤ 4 * c
 
 quoted_bytes : (cs : List ℕ) → Escapes (byte_len cs) (byte_len (quoted_chars cs))
 quoted_bytes [] = record { esc_less = omega arith; esc_most = omega arith }
 quoted_bytes (c ∷ cs) =
-    let one = char_bytes c in
     let rest = quoted_bytes cs in
-    let a = one.esc_less in let b = one.esc_most in let d = rest.esc_less in let e = rest.esc_most in
+    let a = char_least c in let b = char_most c in let d = rest.esc_less in let e = rest.esc_most in
     let both = byte_len-append (quoted_char c) (quoted_chars cs) in
     record { esc_less = omega arith; esc_most = omega arith }
 
@@ -152,13 +223,13 @@ mark_most zero = omega arith
 mark_most (suc zero) = omega arith
 mark_most (suc (suc n)) = omega arith
 
--- the lines of a scalar are at most 18 times as long as it is, and 5 bytes
-pub scalar_most : (value : List ℕ) → byte_len (scalar_lines 2 value) ≤ 18 * byte_len value + 5
+-- the lines of a scalar are at most four times as long as it is, and 5 bytes
+pub scalar_most : (value : List ℕ) → byte_len (scalar_lines 2 value) ≤ 4 * byte_len value + 5
 scalar_most value = by (plain_in_style value) (literal_in_style value)
   where
     by : (plain literal : Bool)
         → byte_len (if plain then value ++ codes "\n" else if literal then literal_mark (feeds_at_end value) ++ codes "\n" ++ literal_lines 2 true value else in_double_quotes value ++ codes "\n")
-        ≤ 18 * byte_len value + 5
+        ≤ 4 * byte_len value + 5
     by true literal = omega (arith, byte_len-append value (codes "\n"))
     by false true =
         omega (arith, mark_most (feeds_at_end value), (literal_most value).0, three (literal_mark (feeds_at_end value)) (codes "\n") (literal_lines 2 true value))

@@ -1,13 +1,15 @@
 -- What a tree is as a record or a base.
-use Rattle.std.proofs.Common.{◌≡◌, refl, sym, ◌∙◌, ap, subst, ℕ, Bool, true, false, List, [], ◌∷◌, codes, Option, Some, None, IfSome, IfNone}
-use Rattle.yaml_grammar.specs.Trees.{Tree, text, sequence, mapping, Elements, Members}
+use Rattle.std.proofs.Common.{◌≡◌, refl, sym, ◌∙◌, ap, subst, arith, length, get_or, ℕ, Bool, true, false, List, [], ◌∷◌, codes, if◌then◌else◌, Option, Some, None, option_map, IfSome, IfNone}
+use Rattle.std.specs.List.{remove}
+use Rattle.yaml_grammar.specs.Texts.{same_text}
+use Rattle.yaml_grammar.specs.Trees.{Tree, text, sequence, mapping, Elements, Members, no_member, member}
 use Rattle.yaml_config.specs.Kept.{own_limits}
 use Rattle.yaml_tree.specs.Reading.{IsRead}
 use Rattle.yaml_data.specs.Seen.{Pair, members_of}
-use Rattle.conf_state.specs.Commands.{Command, command_of}
+use Rattle.conf_state.specs.Commands.{Command, single, command_of}
 use Rattle.conf_state.specs.Kept.{entries_of}
 use Rattle.conf_state.specs.Limits.{IsState}
-use Rattle.conf_record.specs.RecordsRead.{keys_are, values, import_of, set_of, delete_of, record_of, import_keys, set_keys, delete_keys, base_keys, base_of, contents_of}
+use Rattle.conf_record.specs.RecordsRead.{number_from_digits, keys_are, values, if_good, import_of, set_of, delete_of, edit_from, batch_of, command_from, with_number, record_of, batch_keys, import_keys, set_keys, delete_keys, base_keys, base_of, contents_of}
 use Rattle.conf_state.specs.States.{Contents}
 use Rattle.conf_state.specs.declared.command.Command as code
 use Rattle.conf_state.proofs.LineLemmas.{ascii}
@@ -28,39 +30,104 @@ pub record_sequence : (ts : Elements) → record_of (sequence ts) ≡ None
 unfolding record_of
 record_sequence ts = refl
 
--- a mapping with the keys of an import is read as one
-pub record_import : (ms : Members) → keys_are import_keys ms ≡ true → record_of (mapping ms) ≡ import_of (values ms)
+-- an empty mapping is no record
+pub record_empty : record_of (mapping no_member) ≡ None
 unfolding record_of
-record_import ms e = rw e refl
+record_empty = refl
 
--- a mapping with the keys of a set is read as one
-pub record_set : (ms : Members) → keys_are import_keys ms ≡ false → keys_are set_keys ms ≡ true → record_of (mapping ms) ≡ set_of (values ms)
-unfolding record_of
-record_set ms e f = rw (e, f) refl
+with_number-Some : (read : Option Command) (digits : List ℕ) (n : ℕ) → number_from_digits digits ≡ Some n
+    → with_number read digits ≡ option_map (λ command. (command, n)) read
+with_number-Some None digits n told = refl
+with_number-Some (Some command) digits n told = ap (option_map (λ number. (command, number))) told
 
--- a mapping with the keys of a delete is read as one
-pub record_delete : (ms : Members) → keys_are import_keys ms ≡ false → keys_are set_keys ms ≡ false → keys_are delete_keys ms ≡ true
-    → record_of (mapping ms) ≡ delete_of (values ms)
-unfolding record_of
-record_delete ms e f g = rw (e, f, g) refl
+with_number-None : (read : Option Command) (digits : List ℕ) → number_from_digits digits ≡ None → with_number read digits ≡ None
+with_number-None None digits told = refl
+with_number-None (Some command) digits told = ap (option_map (λ number. (command, number))) told
 
--- a mapping with other keys is no record
-pub record_none : (ms : Members) → keys_are import_keys ms ≡ false → keys_are set_keys ms ≡ false → keys_are delete_keys ms ≡ false
-    → record_of (mapping ms) ≡ None
+-- a mapping that begins with a number is read by the members after it
+pub record_numbered : (key digits : List ℕ) (ms : Members) (n : ℕ) → same_text key (codes "at") ≡ true → number_from_digits digits ≡ Some n
+    → record_of (mapping (member key (text digits) ms)) ≡ option_map (λ command. (command, n)) (command_from ms)
 unfolding record_of
-record_none ms e f g = rw (e, f, g) refl
+record_numbered key digits ms n is told = rw is (with_number-Some (command_from ms) digits n told)
+
+-- one with another first key is no record
+pub record_other : (key : List ℕ) (t : Tree) (ms : Members) → same_text key (codes "at") ≡ false → record_of (mapping (member key t ms)) ≡ None
+unfolding record_of
+record_other key (text digits) ms other = rw other refl
+record_other key (sequence ts) ms other = refl
+record_other key (mapping ns) ms other = refl
+
+-- nor is one with a first value that is no text
+pub record_listed : (key : List ℕ) (ts : Elements) (ms : Members) → record_of (mapping (member key (sequence ts) ms)) ≡ None
+unfolding record_of
+record_listed key ts ms = refl
+
+pub record_mapped : (key : List ℕ) (ns ms : Members) → record_of (mapping (member key (mapping ns) ms)) ≡ None
+unfolding record_of
+record_mapped key ns ms = refl
+
+-- or no number
+pub record_numberless : (key digits : List ℕ) (ms : Members) → number_from_digits digits ≡ None → record_of (mapping (member key (text digits) ms)) ≡ None
+unfolding record_of
+record_numberless key digits ms told = by (same_text key (codes "at"))
+  where
+    by : (b : Bool) → (if b then with_number (command_from ms) digits else None) ≡ None
+    by true = with_number-None (command_from ms) digits told
+    by false = refl
+
+-- no pairs are no record
+pub empty_pairs : (ps : List Pair) → length ps ≡ 0 → record_of (mapping (members_of ps)) ≡ None
+empty_pairs [] e = record_empty
+empty_pairs (p ∷ ps) e = absurd (omega arith)
+
+-- some pairs are the first one and those that are left without it
+pub first_pair : (ps : List Pair) (p : Pair) → (length ps ≡ 0 → ⊥) → p ≡ get_or ps 0 p → ps ≡ p ∷ remove ps 0
+first_pair [] p some is = absurd (some refl)
+first_pair (q ∷ qs) p some is = ap (λ x. x ∷ qs) (sym is)
+
+-- ---- edits and batches
+
+-- members with the keys of a batch are read as one
+pub command_batch : (ms : Members) → keys_are batch_keys ms ≡ true → command_from ms ≡ batch_of (values ms)
+command_batch ms e = rw e refl
+
+-- others are read as an edit
+pub command_single : (ms : Members) → keys_are batch_keys ms ≡ false → command_from ms ≡ option_map single (edit_from ms)
+command_single ms e = rw e refl
+
+-- members with the keys of an import are read as one
+pub edit_import : (ms : Members) → keys_are import_keys ms ≡ true → edit_from ms ≡ if_good (import_of (values ms))
+edit_import ms e = rw e refl
+
+-- members with the keys of a set are read as one
+pub edit_set : (ms : Members) → keys_are import_keys ms ≡ false → keys_are set_keys ms ≡ true → edit_from ms ≡ if_good (set_of (values ms))
+edit_set ms e f = rw (e, f) refl
+
+-- members with the keys of a delete are read as one
+pub edit_delete : (ms : Members) → keys_are import_keys ms ≡ false → keys_are set_keys ms ≡ false → keys_are delete_keys ms ≡ true
+    → edit_from ms ≡ if_good (delete_of (values ms))
+edit_delete ms e f g = rw (e, f, g) refl
+
+-- members with other keys are no edit
+pub edit_none : (ms : Members) → keys_are import_keys ms ≡ false → keys_are set_keys ms ≡ false → keys_are delete_keys ms ≡ false
+    → edit_from ms ≡ None
+edit_none ms e f g = rw (e, f, g) refl
 
 -- the keys that the code asks for are those of the definitions
+pub batch_texts : texts batch_keys ≡ batch_keys
+batch_texts = λ i. ascii (codes "batch") refl i ∷ []
+
+-- the keys of an import as texts
 pub import_texts : texts import_keys ≡ import_keys
-import_texts = λ i. ascii (codes "at") refl i ∷ ascii (codes "import") refl i ∷ ascii (codes "tree") refl i ∷ []
+import_texts = λ i. ascii (codes "import") refl i ∷ ascii (codes "tree") refl i ∷ []
 
 -- the keys of a set as texts
 pub set_texts : texts set_keys ≡ set_keys
-set_texts = λ i. ascii (codes "at") refl i ∷ ascii (codes "set") refl i ∷ ascii (codes "path") refl i ∷ ascii (codes "value") refl i ∷ []
+set_texts = λ i. ascii (codes "set") refl i ∷ ascii (codes "path") refl i ∷ ascii (codes "value") refl i ∷ []
 
 -- the keys of a delete as texts
 pub delete_texts : texts delete_keys ≡ delete_keys
-delete_texts = λ i. ascii (codes "at") refl i ∷ ascii (codes "delete") refl i ∷ ascii (codes "path") refl i ∷ []
+delete_texts = λ i. ascii (codes "delete") refl i ∷ ascii (codes "path") refl i ∷ []
 
 -- the keys of a base as texts
 pub base_texts : texts base_keys ≡ base_keys

@@ -8,14 +8,14 @@ use Rattle.std.specs.List.{list_all}
 use Rattle.std.specs.Str.{chars}
 use Rattle.std.specs.Str.Parse.{digits_value}
 use Rattle.yaml_chars.specs.Signs.{tilde, line_feed, space_char, double_quote}
-use Rattle.yaml_grammar.specs.Style.{plain_in_style, literal_in_style, feeds_at_end, literal_mark, literal_lines, quoted_chars, in_double_quotes, scalar_lines, value_at, members_after}
+use Rattle.yaml_grammar.specs.Style.{plain_in_style, literal_in_style, feeds_at_end, literal_mark, literal_lines, quoted_chars, in_double_quotes, scalar_lines, value_at, members_after, style_text}
 use Rattle.yaml_grammar.specs.Texts.{IsText, byte_len, first, same_text}
 use Rattle.yaml_grammar.specs.Trees.{Tree, text, Members, no_member, member}
 use Rattle.yaml_writer.specs.declared.scalar_style.ScalarStyle.{ScalarStyle}
 use Rattle.yaml_writer.specs.declared.scalar_style.ScalarStyle.TheVariants.{Plain, Double, LiteralStrip, LiteralClip, LiteralKeep}
 use Rattle.yaml_writer.specs.Runs.{stands_alone}
 use Rattle.yaml_writer.specs.ScalarStyles.{value_style, literal_style}
-use Rattle.yaml_writer.specs.Sizes.{indented_literal_lines, element_size}
+use Rattle.yaml_writer.specs.Sizes.{indented_literal_lines, indented_scalar_lines, element_size}
 use Rattle.yaml_writer.specs.declared.size.Size.{Size}
 use Rattle.yaml_writer.proofs.ByteLemmas.{byte_len-encoded}
 use Rattle.yaml_writer.proofs.QuotedLemmas.{stands_alone-below, quoted_chars-alone}
@@ -30,10 +30,10 @@ use Rattle.yaml_config.specs.Limits.{config_limits}
 use Rattle.yaml_config.proofs.TextTreeLemmas.{chars-IsText}
 use Rattle.json_pointer.specs.Pointers.{first_stray, path_of}
 use Rattle.conf_state.specs.States.{count_limit}
-use Rattle.conf_state.specs.Commands.{Command, import_as, set_at, delete_at}
+use Rattle.conf_state.specs.Commands.{Edit, import_as, set_at, delete_at, Command, single}
 use Rattle.conf_state.proofs.LineLemmas.{line, number_line}
 use Rattle.conf_record.specs.Documents.{IsRecord}
-use Rattle.conf_record.specs.Records.{command_members, record_text, record_bytes}
+use Rattle.conf_record.specs.Records.{edit_members, record_text, record_bytes}
 use Rattle.conf_record.specs.RecordsRead.{number_from_digits, ReadsRecord}
 use Rattle.conf_record.specs.SmallCommands.{is_slash, is_no_tilde}
 use Rattle.conf_record.specs.Written.{IsLineOf, IsConfigLine}
@@ -183,7 +183,7 @@ last_value key spelled line lines end ascii is ends written =
 pub import_lines : (name : List ℕ) (tree : Tree) (lines after_name line end : List ℕ)
     → lines ≡ codes "import: " ++ (encode_utf8_all (scalar_lines 2 name) ++ after_name)
     → after_name ≡ codes "tree: " ++ (line ++ line_feed ∷ end) → end ≡ codes "...\n" → encode_utf8_all (value_at tree 0) ≡ 32 ∷ (line ++ line_feed ∷ [])
-    → lines ≡ encode_utf8_all (members_after (command_members (import_as name tree)) 0 ++ codes "...\n")
+    → lines ≡ encode_utf8_all (members_after (edit_members (import_as name tree)) 0 ++ codes "...\n")
 import_lines name tree lines after_name line end first second ends written =
     field (codes "import: ") (scalar_lines 2 name) (members_after (member (codes "tree") tree no_member) 0) (codes "...\n") lines after_name refl first
     (last_value (codes "tree:") (value_at tree 0) line after_name end refl second ends written)
@@ -192,7 +192,7 @@ pub set_lines : (name path : List ℕ) (value : Tree) (lines after_name after_pa
     → lines ≡ codes "set: " ++ (encode_utf8_all (scalar_lines 2 name) ++ after_name)
     → after_name ≡ codes "path: " ++ (encode_utf8_all (scalar_lines 2 path) ++ after_path)
     → after_path ≡ codes "value: " ++ (line ++ line_feed ∷ end) → end ≡ codes "...\n" → encode_utf8_all (value_at value 0) ≡ 32 ∷ (line ++ line_feed ∷ [])
-    → lines ≡ encode_utf8_all (members_after (command_members (set_at name path value)) 0 ++ codes "...\n")
+    → lines ≡ encode_utf8_all (members_after (edit_members (set_at name path value)) 0 ++ codes "...\n")
 set_lines name path value lines after_name after_path line end first second third ends written =
     let valued : Members = member (codes "value") value no_member in
     field (codes "set: ") (scalar_lines 2 name) (members_after (member (codes "path") (text path) valued) 0) (codes "...\n") lines after_name refl first
@@ -202,7 +202,7 @@ set_lines name path value lines after_name after_path line end first second thir
 pub delete_lines : (name path lines after_name end : List ℕ)
     → lines ≡ codes "delete: " ++ (encode_utf8_all (scalar_lines 2 name) ++ after_name)
     → after_name ≡ codes "path: " ++ (encode_utf8_all (scalar_lines 2 path) ++ end) → end ≡ codes "...\n"
-    → lines ≡ encode_utf8_all (members_after (command_members (delete_at name path)) 0 ++ codes "...\n")
+    → lines ≡ encode_utf8_all (members_after (edit_members (delete_at name path)) 0 ++ codes "...\n")
 delete_lines name path lines after_name end first second ends =
     field (codes "delete: ") (scalar_lines 2 name) (members_after (member (codes "path") (text path) no_member) 0) (codes "...\n") lines after_name refl first
     (field (codes "path: ") (scalar_lines 2 path) [] (codes "...\n") after_name end refl second (ends ∙ sym (ascii_bytes (codes "...\n") refl)))
@@ -210,13 +210,13 @@ delete_lines name path lines after_name end first second ends =
 -- ---- the whole
 
 -- the line of a number and the lines of a command make its record
-pub whole_record : (bytes lines : List ℕ) (command : Command) (number : ℕ) → number ≤ count_limit
+pub whole_record : (bytes lines : List ℕ) (edit : Edit) (number : ℕ) → number ≤ count_limit
     → bytes ≡ codes "---\nat: \"" ++ (encode_utf8_all (decimal number) ++ (codes "\"\n" ++ lines))
-    → lines ≡ encode_utf8_all (members_after (command_members command) 0 ++ codes "...\n") → bytes ≡ record_bytes command number
+    → lines ≡ encode_utf8_all (members_after (edit_members edit) 0 ++ codes "...\n") → bytes ≡ record_bytes (single edit) number
 unfolding record_bytes record_text
-whole_record bytes lines command number small is follows =
+whole_record bytes lines edit number small is follows =
     let ds = decimal number in
-    let ms = members_after (command_members command) 0 in
+    let ms = members_after (edit_members edit) 0 in
     let all = (decimal_is_IsNumeral number (omega arith)).0.1 in
     field (codes "---\nat: \"") ds (codes "\"\n" ++ ms) (codes "...\n") bytes (codes "\"\n" ++ lines) refl is
     (ap (λ bs. codes "\"\n" ++ bs) follows ∙ sym (before (codes "\"\n") (ms ++ codes "...\n") refl))

@@ -1,5 +1,5 @@
 -- Records and bases as bytes: which bytes are one, and what is left of written ones that a crash cuts.
-use Rattle.std.specs.Prelude.{◌≡◌, ◌≤◌, ℕ, ◌+◌, List, [], ◌∷◌, ◌++◌, length, take, replicate, Bool, Ok}
+use Rattle.std.specs.Prelude.{◌≡◌, ◌≤◌, ℕ, ◌+◌, List, [], ◌∷◌, ◌++◌, length, take, replicate, Ok}
 use Rattle.std.specs.List.{concat}
 use Rattle.std.specs.Str.{chars, IsUtf8}
 use Rattle.yaml_grammar.specs.Closings.{ClosesOnce, Pieces}
@@ -8,7 +8,8 @@ use Rattle.conf_state.specs.States.{Contents, count_limit, base_limit}
 use Rattle.conf_state.specs.Limits.{IsState}
 use Rattle.conf_state.specs.Steps.{step}
 use Rattle.conf_state.specs.BaseTexts.{base_bytes}
-use Rattle.conf_record.specs.Records.{record_bytes}
+use Rattle.conf_state.specs.declared.room.Room.{Room}
+use Rattle.conf_record.specs.Records.{FitsRecord, record_bytes}
 use Rattle.conf_record.specs.RecordsRead.{IsCommand, ReadsRecord, ReadsBase}
 
 -- the bytes are a text that reads as a command with a number
@@ -50,10 +51,12 @@ pub record TornRecords (count : ℕ) (commands : List Command) (bytes : List ℕ
 abbrev pub BasesAreRead : Type 0
 BasesAreRead = (s : Contents) → IsState s → IsBase (base_bytes s) s
 
--- the record of a command that some state accepts reads as that command with its number
+-- The record of a command that some state accepts reads as that command with its number. That of a batch has to be of
+-- at most 67,108,864 bytes.
 abbrev pub RecordsAreRead : Type 0
-RecordsAreRead = (s new : Contents) (command : Command) (fits : Bool) (number : ℕ) → IsState s → IsCommand command
-    → step s command fits ≡ Ok new → number ≤ count_limit → IsRecord (record_bytes command number) command number
+RecordsAreRead = (s new : Contents) (command : Command) (room : Room) (number : ℕ) → IsState s → IsCommand command
+    → step s command room ≡ Ok new → number ≤ count_limit → FitsRecord command number
+    → IsRecord (record_bytes command number) command number
 
 -- a base has at most 67,108,864 bytes
 abbrev pub BasesFit : Type 0

@@ -2,7 +2,7 @@
 use Rattle.std.specs.Prelude.{ℕ, List, [], ◌∷◌, Vec, Option, Some, None, option_map, map}
 use Rattle.std.specs.Str.{chars}
 use Rattle.std.specs.declared.alloc.Global.{Global}
-use Rattle.yaml_grammar.specs.Trees.{Tree, Members, text, mapping}
+use Rattle.yaml_grammar.specs.Trees.{Tree, Elements, no_element, element, Members, text, mapping}
 use Rattle.yaml_config.specs.Kept.{IsKept}
 use Rattle.yaml_data.specs.Seen.{Pair, tree_of, members_of}
 use Rattle.conf_state.specs.Commands.{Command, command_of}
@@ -14,6 +14,10 @@ use Rattle.conf_state.specs.declared.command.Command as code
 abbrev pub AreKept : List Tree → Type 0
 AreKept [] = Unit {0}
 AreKept (t ∷ ts) = IsKept t × AreKept ts
+
+abbrev pub AreKeptElements : Elements → Type 0
+AreKeptElements no_element = Unit {0}
+AreKeptElements (element t ts) = IsKept t × AreKeptElements ts
 
 -- the values of a mapping's pairs
 abbrev pub trees_of : List Pair → List Tree

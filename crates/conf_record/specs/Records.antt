@@ -1,16 +1,28 @@
 -- Records: the documents that hold commands, each with the number under which it was accepted.
-use Rattle.std.specs.Prelude.{ℕ, List, codes, decimal, encode_utf8_all}
-use Rattle.yaml_grammar.specs.Trees.{Tree, text, mapping, Members, no_member, member}
-use Rattle.conf_state.specs.Commands.{Command, import_as, set_at, delete_at}
+use Rattle.std.specs.Prelude.{◌≤◌, ℕ, List, [], ◌∷◌, codes, decimal, encode_utf8_all}
+use Rattle.yaml_grammar.specs.Texts.{byte_len}
+use Rattle.yaml_grammar.specs.Trees.{Tree, text, sequence, mapping, Elements, no_element, element, Members, no_member, member}
+use Rattle.conf_state.specs.Commands.{Edit, import_as, set_at, delete_at, Command, single, batch}
 use Rattle.conf_state.specs.BaseTexts.{closed_document}
+use Rattle.conf_state.specs.Rooms.{record_limit}
+
+-- the members of an edit
+abbrev pub edit_members : Edit → Members
+edit_members (import_as name tree) = member (codes "import") (text name) (member (codes "tree") tree no_member)
+edit_members (set_at name path value) =
+    member (codes "set") (text name) (member (codes "path") (text path) (member (codes "value") value no_member))
+edit_members (delete_at name path) =
+    member (codes "delete") (text name) (member (codes "path") (text path) no_member)
+
+-- a mapping for each edit
+abbrev pub edit_elements : List Edit → Elements
+edit_elements [] = no_element
+edit_elements (edit ∷ edits) = element (mapping (edit_members edit)) (edit_elements edits)
 
 -- what comes after the number
 abbrev pub command_members : Command → Members
-command_members (import_as name tree) = member (codes "import") (text name) (member (codes "tree") tree no_member)
-command_members (set_at name path value) =
-    member (codes "set") (text name) (member (codes "path") (text path) (member (codes "value") value no_member))
-command_members (delete_at name path) =
-    member (codes "delete") (text name) (member (codes "path") (text path) no_member)
+command_members (single edit) = edit_members edit
+command_members (batch edits) = member (codes "batch") (sequence (edit_elements edits)) no_member
 
 -- the mapping of a record
 abbrev pub record_tree : Command → ℕ → Tree
@@ -23,3 +35,8 @@ record_text command number = closed_document (record_tree command number)
 -- the same in UTF-8
 unfoldable pub record_bytes : Command → ℕ → List ℕ
 record_bytes command number = encode_utf8_all (record_text command number)
+
+-- the record of a batch is not too long; that of a single edit never is
+abbrev pub FitsRecord : Command → ℕ → Type 0
+FitsRecord (single edit) number = Unit {0}
+FitsRecord (batch edits) number = byte_len (record_text (batch edits) number) ≤ record_limit

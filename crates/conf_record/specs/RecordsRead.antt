@@ -1,14 +1,14 @@
 -- Which texts are records and bases, and what they hold. The document may be spelled in any way. With other keys, keys
 -- in another order, or a number, a name or a path that is not good, it is neither.
-use Rattle.std.specs.Prelude.{◌≡◌, ℕ, Bool, true, false, ◌&&◌, nat_le, if◌then◌else◌, List, [], ◌∷◌, codes, decimal, Option, Some, None, option_map, is_ok}
+use Rattle.std.specs.Prelude.{◌≡◌, ℕ, Bool, true, false, ◌&&◌, ◌||◌, nat_le, if◌then◌else◌, List, [], ◌∷◌, codes, decimal, Option, Some, None, option_map, is_ok}
 use Rattle.std.specs.Str.Parse.{digits_value}
 use Rattle.yaml_grammar.specs.Texts.{IsText, same_text}
-use Rattle.yaml_grammar.specs.Trees.{Tree, text, sequence, mapping, Members, no_member, member}
+use Rattle.yaml_grammar.specs.Trees.{Tree, text, sequence, mapping, Elements, no_element, element, Members, no_member, member}
 use Rattle.yaml_grammar.specs.Reads.{Gives}
 use Rattle.yaml_config.specs.Kept.{IsKept, own_limits}
 use Rattle.json_pointer.specs.Pointers.{path_of}
 use Rattle.conf_state.specs.Names.{good_name}
-use Rattle.conf_state.specs.Commands.{Command, import_as, set_at, delete_at, name_of}
+use Rattle.conf_state.specs.Commands.{Edit, import_as, set_at, delete_at, Command, single, batch, name_of}
 use Rattle.conf_state.specs.States.{Entry, Contents, count_limit}
 use Rattle.conf_state.specs.Limits.{IsState}
 
@@ -31,49 +31,92 @@ abbrev pub values : Members → List Tree
 values no_member = []
 values (member key t ms) = t ∷ values ms
 
--- ---- records
+-- ---- edits
 
 abbrev pub import_keys : List (List ℕ)
-import_keys = codes "at" ∷ codes "import" ∷ codes "tree" ∷ []
+import_keys = codes "import" ∷ codes "tree" ∷ []
 
 abbrev pub set_keys : List (List ℕ)
-set_keys = codes "at" ∷ codes "set" ∷ codes "path" ∷ codes "value" ∷ []
+set_keys = codes "set" ∷ codes "path" ∷ codes "value" ∷ []
 
 abbrev pub delete_keys : List (List ℕ)
-delete_keys = codes "at" ∷ codes "delete" ∷ codes "path" ∷ []
+delete_keys = codes "delete" ∷ codes "path" ∷ []
 
-abbrev pub has_good_path : Command → Bool
+abbrev pub import_of : List Tree → Option Edit
+import_of (text name ∷ tree ∷ []) = Some (import_as name tree)
+import_of ts = None
+
+abbrev pub set_of : List Tree → Option Edit
+set_of (text name ∷ text path ∷ value ∷ []) = Some (set_at name path value)
+set_of ts = None
+
+abbrev pub delete_of : List Tree → Option Edit
+delete_of (text name ∷ text path ∷ []) = Some (delete_at name path)
+delete_of ts = None
+
+abbrev pub has_good_path : Edit → Bool
 has_good_path (import_as name tree) = true
 has_good_path (set_at name path value) = is_ok (path_of path)
 has_good_path (delete_at name path) = is_ok (path_of path)
 
--- the command with the number, if its name, its path and the digits are good
-abbrev pub command_with_number : Command → List ℕ → Option (Command × ℕ)
-command_with_number command digits =
-    if good_name (name_of command) && has_good_path command
-    then option_map (λ number. (command, number)) (number_from_digits digits) else None
+-- an edit whose name and path are good
+abbrev pub if_good : Option Edit → Option Edit
+if_good None = None
+if_good (Some edit) = if good_name (name_of edit) && has_good_path edit then Some edit else None
 
-abbrev pub import_of : List Tree → Option (Command × ℕ)
-import_of (text digits ∷ text name ∷ tree ∷ []) = command_with_number (import_as name tree) digits
-import_of ts = None
+-- the edit of a mapping
+abbrev pub edit_from : Members → Option Edit
+edit_from ms =
+    if keys_are import_keys ms then if_good (import_of (values ms))
+    else if keys_are set_keys ms then if_good (set_of (values ms))
+    else if keys_are delete_keys ms then if_good (delete_of (values ms))
+    else None
 
-abbrev pub set_of : List Tree → Option (Command × ℕ)
-set_of (text digits ∷ text name ∷ text path ∷ value ∷ []) = command_with_number (set_at name path value) digits
-set_of ts = None
+-- ---- records
 
-abbrev pub delete_of : List Tree → Option (Command × ℕ)
-delete_of (text digits ∷ text name ∷ text path ∷ []) = command_with_number (delete_at name path) digits
-delete_of ts = None
+-- the edit of an element of a batch
+abbrev pub edit_in : Tree → Option Edit
+edit_in (text value) = None
+edit_in (sequence ts) = None
+edit_in (mapping ms) = edit_from ms
+
+-- an edit before others, if all are there
+abbrev pub ahead : Option Edit → Option (List Edit) → Option (List Edit)
+ahead None edits = None
+ahead (Some edit) edits = option_map (λ rest. edit ∷ rest) edits
+
+-- the edits of a batch: each element is one
+abbrev pub edits_of : Elements → Option (List Edit)
+edits_of no_element = Some []
+edits_of (element t ts) = ahead (edit_in t) (edits_of ts)
+
+abbrev pub batch_keys : List (List ℕ)
+batch_keys = codes "batch" ∷ []
+
+abbrev pub batch_of : List Tree → Option Command
+batch_of (sequence ts ∷ []) = option_map batch (edits_of ts)
+batch_of ts = None
+
+-- the command of the members after the number
+abbrev pub command_from : Members → Option Command
+command_from ms = if keys_are batch_keys ms then batch_of (values ms) else option_map single (edit_from ms)
+
+abbrev pub with_number : Option Command → List ℕ → Option (Command × ℕ)
+with_number None digits = None
+with_number (Some command) digits = option_map (λ number. (command, number)) (number_from_digits digits)
+
+-- the command and the number of a mapping with this first member
+abbrev pub numbered_of : List ℕ → Tree → Members → Option (Command × ℕ)
+numbered_of key (text digits) ms =
+    if same_text key (codes "at") then with_number (command_from ms) digits else None
+numbered_of key t ms = None
 
 -- the command and the number that a record's tree holds
 unfoldable pub record_of : Tree → Option (Command × ℕ)
 record_of (text value) = None
 record_of (sequence ts) = None
-record_of (mapping ms) =
-    if keys_are import_keys ms then import_of (values ms)
-    else if keys_are set_keys ms then set_of (values ms)
-    else if keys_are delete_keys ms then delete_of (values ms)
-    else None
+record_of (mapping no_member) = None
+record_of (mapping (member key t ms)) = numbered_of key t ms
 
 -- the text gives a record's tree, within the limits of a `Config`
 pub record ReadsRecord (source : List ℕ) (command : Command) (number : ℕ) : Type 0 where
@@ -90,10 +133,13 @@ abbrev pub entries : Members → List Entry
 entries no_member = []
 entries (member name t ms) = (name, t) ∷ entries ms
 
+-- the names of the formats that a base may have; the second is the one that is written
+abbrev pub is_format : List ℕ → Bool
+is_format mark = same_text mark (codes "confstore-1") || same_text mark (codes "confstore-2")
+
 abbrev pub contents_of : List Tree → Option Contents
 contents_of (text mark ∷ text digits ∷ mapping configs ∷ []) =
-    if same_text mark (codes "confstore-1")
-    then option_map (λ number. record { configs = entries configs; count = number }) (number_from_digits digits)
+    if is_format mark then option_map (λ number. record { configs = entries configs; count = number }) (number_from_digits digits)
     else None
 contents_of ts = None
 
@@ -112,9 +158,17 @@ pub record ReadsBase (source : List ℕ) (state : Contents) : Type 0 where
 
 -- ---- commands of the code
 
--- What holds of each of them: its path is a text, and its tree is one that a `Config` keeps. Nothing is said of the
--- name, since a command is accepted only under a good one.
+-- What holds of each edit: its path is a text, and its tree is one that a `Config` keeps. Nothing is said of the name,
+-- since an edit is accepted only under a good one.
+abbrev pub IsEdit : Edit → Type 0
+IsEdit (import_as name tree) = IsKept tree
+IsEdit (set_at name path value) = IsText path × IsKept value
+IsEdit (delete_at name path) = IsText path
+
+abbrev pub AreEdits : List Edit → Type 0
+AreEdits [] = Unit {0}
+AreEdits (edit ∷ edits) = IsEdit edit × AreEdits edits
+
 abbrev pub IsCommand : Command → Type 0
-IsCommand (import_as name tree) = IsKept tree
-IsCommand (set_at name path value) = IsText path × IsKept value
-IsCommand (delete_at name path) = IsText path
+IsCommand (single edit) = IsEdit edit
+IsCommand (batch edits) = AreEdits edits

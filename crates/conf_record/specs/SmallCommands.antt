@@ -1,6 +1,6 @@
 -- Which commands have a record that is read back, whatever the state: what a store asks of a command beside what its
 -- configurations are.
-use Rattle.std.specs.Prelude.{◌≡◌, ◌*◌, ◌≤◌, ◌==◌, Bool, true, not, List, ℕ, is_ok}
+use Rattle.std.specs.Prelude.{◌≡◌, ◌*◌, ◌≤◌, ◌==◌, Bool, true, not, List, [], ◌∷◌, ℕ, is_ok}
 use Rattle.yaml_chars.specs.Signs.{tilde}
 use Rattle.yaml_grammar.specs.Texts.{byte_len}
 use Rattle.yaml_grammar.specs.Trees.{Tree, depth}
@@ -8,7 +8,7 @@ use Rattle.yaml_grammar.specs.Style.{style_text}
 use Rattle.yaml_config.specs.Limits.{config_limits}
 use Rattle.json_pointer.specs.Pointers.{slash, path_of}
 use Rattle.conf_state.specs.Names.{good_name}
-use Rattle.conf_state.specs.Commands.{Command, import_as, set_at, delete_at}
+use Rattle.conf_state.specs.Commands.{Edit, import_as, set_at, delete_at, Command, single, batch}
 
 -- a tree within the limits of a store's configuration
 pub record IsSmallTree (t : Tree) : Type 0 where
@@ -21,10 +21,18 @@ pub record IsShortPath (path : List ℕ) : Type 0 where
   pub bytes : byte_len path ≤ 2 * config_limits.style
 
 -- the name and the path are good, and the tree is small
+abbrev pub IsSmallEdit : Edit → Type 0
+IsSmallEdit (import_as name tree) = (good_name name ≡ true) × IsSmallTree tree
+IsSmallEdit (set_at name path value) = (good_name name ≡ true) × IsShortPath path × IsSmallTree value
+IsSmallEdit (delete_at name path) = (good_name name ≡ true) × IsShortPath path
+
+abbrev pub AreSmallEdits : List Edit → Type 0
+AreSmallEdits [] = Unit {0}
+AreSmallEdits (edit ∷ edits) = IsSmallEdit edit × AreSmallEdits edits
+
 abbrev pub IsSmallCommand : Command → Type 0
-IsSmallCommand (import_as name tree) = (good_name name ≡ true) × IsSmallTree tree
-IsSmallCommand (set_at name path value) = (good_name name ≡ true) × IsShortPath path × IsSmallTree value
-IsSmallCommand (delete_at name path) = (good_name name ≡ true) × IsShortPath path
+IsSmallCommand (single edit) = IsSmallEdit edit
+IsSmallCommand (batch edits) = AreSmallEdits edits
 
 -- ---- paths without escapes
 

@@ -5,10 +5,10 @@ use Rattle.yaml_grammar.specs.Style.{scalar_lines, value_at, members_after}
 use Rattle.yaml_grammar.specs.Trees.{Tree}
 use Rattle.yaml_writer.specs.Sizes.{indented_scalar_lines}
 use Rattle.yaml_config.specs.Kept.{IsKept}
-use Rattle.conf_state.specs.Commands.{Command}
-use Rattle.conf_record.specs.Records.{command_members}
-use Rattle.conf_record.specs.RecordsRead.{IsCommand}
-use Rattle.conf_record.specs.SmallCommands.{IsSmallTree, IsSmallCommand}
+use Rattle.conf_state.specs.Commands.{Edit}
+use Rattle.conf_record.specs.Records.{edit_members}
+use Rattle.conf_record.specs.RecordsRead.{IsEdit}
+use Rattle.conf_record.specs.SmallCommands.{IsSmallTree, IsSmallEdit}
 
 -- the text as a value is this line alone, in the one style
 pub record IsLineOf (line value : List ℕ) : Type 0 where
@@ -21,8 +21,8 @@ pub record IsConfigLine (line : List ℕ) (t : Tree) : Type 0 where
   pub kept : IsKept t
   pub small : IsSmallTree t
 
--- what comes after the number in the record of a command
-pub record IsWritten (lines : List ℕ) (command : Command) : Type 0 where
-  pub written : lines ≡ encode_utf8_all (members_after (command_members command) 0 ++ codes "...\n")
-  pub is : IsCommand command
-  pub small : IsSmallCommand command
+-- what comes after the number in the record of a single edit
+pub record IsWritten (lines : List ℕ) (edit : Edit) : Type 0 where
+  pub written : lines ≡ encode_utf8_all (members_after (edit_members edit) 0 ++ codes "...\n")
+  pub is : IsEdit edit
+  pub small : IsSmallEdit edit

@@ -1,12 +1,11 @@
 // The configurations and the count of a base's tree.
-ghost use Rattle.std.specs.Prelude.{◌≡◌, [], ◌∷◌, None, IfSome, MatchOption, codes};
+ghost use Rattle.std.specs.Prelude.{◌≡◌, [], ◌∷◌, None, IfSome, MatchOption};
 ghost use Rattle.std.specs.Str.{chars};
-ghost use Rattle.yaml_grammar.specs.Texts.{same_text};
 ghost use Rattle.yaml_config.specs.Kept.{IsKept};
 ghost use Rattle.yaml_data.specs.TextBytes.{text_bytes};
 ghost use Rattle.yaml_data.specs.Seen.{tree_of, members_of};
 ghost use Rattle.yaml_grammar.specs.Trees.{text, mapping};
-ghost use Rattle.conf_record.specs.RecordsRead.{values, contents_of, base_of};
+ghost use Rattle.conf_record.specs.RecordsRead.{values, is_format, contents_of, base_of};
 ghost use Rattle.conf_record.specs.Reading.{AreKept, state_of_parts};
 
 use crate::fields::{is_same, keys_are, next_pairs, next_text, next_value, number_from};
@@ -70,9 +69,9 @@ fn base_values(pairs: Vec<(Text, Tree)>) -> Option<(Text, Text, Vec<(Text, Tree)
     Some((format, digits, configs))
 }
 
-/// Whether a text is the name of the format.
+/// Whether a text is the name of a format that a base may have.
 fn is_format(text: &str) -> bool
-    ensures { result ≡ same_text (chars text.now) (codes "confstore-1") }
+    ensures { result ≡ is_format (chars text.now) }
 {
-    is_same(text, "confstore-1")
+    is_same(text, "confstore-1") || is_same(text, "confstore-2")
 }

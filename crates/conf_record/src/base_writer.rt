@@ -26,7 +26,7 @@ fn write_base<S: Sink>(state: &State, sink: &mut S) -> Result<(), S::Fault>
     ensures { OnOk result (S.Takes sink.old (base_text state.now) sink.new) }
 {
     sink.put_text("---\n")?;
-    sink.put_text("store: confstore-1\n")?;
+    sink.put_text("store: confstore-2\n")?;
     write_number(state.count(), sink)?;
     sink.put_text("configs:")?;
     state.write_configs(sink)?;

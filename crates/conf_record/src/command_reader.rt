@@ -1,22 +1,24 @@
 // The command and the number of a record's tree.
-ghost use Rattle.std.specs.Prelude.{◌≡◌, [], ◌∷◌, None, option_map, IfOk, MatchOption};
+ghost use Rattle.std.specs.Prelude.{◌≡◌, ◌&&◌, [], ◌∷◌, None, map, option_map, is_ok, IfOk, IfSome, MatchOption};
 ghost use Rattle.std.specs.Str.{chars};
-ghost use Rattle.yaml_grammar.specs.Trees.{Tree as Meant, text};
+ghost use Rattle.yaml_grammar.specs.Trees.{text, sequence, mapping};
 ghost use Rattle.yaml_data.specs.TextBytes.{text_bytes};
 ghost use Rattle.yaml_config.specs.Kept.{IsKept};
-ghost use Rattle.yaml_data.specs.Seen.{tree_of, members_of};
-ghost use Rattle.conf_state.specs.Commands.{set_at, delete_at};
-ghost use Rattle.conf_record.specs.RecordsRead.{values, command_with_number, import_of, set_of, delete_of, record_of};
-ghost use Rattle.conf_record.specs.Reading.{AreKept, command_and_number};
+ghost use Rattle.yaml_data.specs.Seen.{Pair, tree_of, elements_of, members_of};
+ghost use Rattle.json_pointer.specs.Pointers.{path_of};
+ghost use Rattle.conf_state.specs.Commands.{edit_of, command_of};
+ghost use Rattle.conf_state.specs.Names.{good_name};
+ghost use Rattle.conf_record.specs.RecordsRead.{values, if_good, import_of, set_of, delete_of, edit_from, edit_in, edits_of, batch_of, command_from, record_of};
+ghost use Rattle.conf_record.specs.Reading.{AreKept, AreKeptElements, command_and_number};
 
-use crate::fields::{is_path, keys_are, next_text, next_value, number_from};
+use crate::fields::{is_path, is_same, keys_are, next_text, next_value, number_from};
 use crate::parts::part;
-use conf_state::{Command, good_name};
+use conf_state::{Command, Edit, good_name};
 use std::alloc::{AllocError, Global};
 use yaml_tree::{Text, Tree};
 
 /// The command and the number of a record's tree; `None` if it is no record's. It fails only if memory runs out.
-pub(crate) fn command_from(alloc: Global, tree: Tree) -> Result<Option<(Command, u64)>, AllocError>
+pub(crate) fn record_from(alloc: Global, tree: Tree) -> Result<Option<(Command, u64)>, AllocError>
     requires kept { IsKept (tree_of tree) }
     ensures { IfOk result (λ read. command_and_number read ≡ record_of (tree_of tree)) }
 {
@@ -25,50 +27,160 @@ pub(crate) fn command_from(alloc: Global, tree: Tree) -> Result<Option<(Command,
         Tree::Seq(_) => return Ok(None),
         Tree::Map(pairs) => pairs,
     };
-    if keys_are(&["at", "import", "tree"], &pairs) {
+    let Some((number, pairs)) = split_number(pairs) else {
+        return Ok(None);
+    };
+    let Some(command) = command_from(alloc, pairs)? else {
+        return Ok(None);
+    };
+    Ok(Some((command, number)))
+}
+
+/// The number of a record, and the pairs after it; `None` if the first pair has no good number.
+fn split_number(pairs: Vec<(Text, Tree)>) -> Option<(u64, Vec<(Text, Tree)>)>
+    ensures read { MatchOption result (record_of (mapping (members_of pairs.items)) ≡ None)
+        (λ v. record_of (mapping (members_of pairs.items))
+        ≡ option_map (λ command. (command, v.0)) (command_from (members_of v.1.items))) }
+    ensures rest { IfSome result (λ v. (pair : Pair) × (pairs.items ≡ pair ∷ v.1.items)) }
+{
+    if pairs.is_empty() {
+        return None;
+    }
+    let mut rest = pairs;
+    let (key, digits) = rest.remove(0);
+    if !is_same(&key, "at") {
+        return None;
+    }
+    let digits = match digits {
+        Tree::Text(digits) => digits,
+        Tree::Seq(_) => return None,
+        Tree::Map(_) => return None,
+    };
+    match number_from(&digits) {
+        Some(number) => Some((number, rest)),
+        None => None,
+    }
+}
+
+/// The command of the pairs after the number; `None` if they are no command's.
+fn command_from(alloc: Global, pairs: Vec<(Text, Tree)>) -> Result<Option<Command>, AllocError>
+    requires kept { AreKept (values (members_of pairs.items)) }
+    ensures { IfOk result (λ read. option_map command_of read
+        ≡ command_from (members_of pairs.items)) }
+{
+    if keys_are(&["batch"], &pairs) {
+        return batch_from(alloc, pairs);
+    }
+    let read = edit_from(alloc, pairs)?;
+    match read {
+        Some(edit) => Ok(Some(Command::from(edit))),
+        None => Ok(None),
+    }
+}
+
+/// The batch with this value; `None` if it is no sequence, or an element of it is no edit.
+fn batch_from(alloc: Global, pairs: Vec<(Text, Tree)>) -> Result<Option<Command>, AllocError>
+    requires kept { AreKept (values (members_of pairs.items)) }
+    ensures { IfOk result (λ read. option_map command_of read
+        ≡ batch_of (values (members_of pairs.items))) }
+{
+    let Some(items) = batch_items(pairs) else {
+        return Ok(None);
+    };
+    let Some(edits) = edits_from(alloc, items)? else {
+        return Ok(None);
+    };
+    Ok(Some(Command::Batch { edits }))
+}
+
+/// The one value, if it is a sequence: its elements.
+fn batch_items(pairs: Vec<(Text, Tree)>) -> Option<Vec<Tree>>
+    ensures { MatchOption result (batch_of (values (members_of pairs.items)) ≡ None)
+        (λ v. values (members_of pairs.items) ≡ sequence (elements_of v.items) ∷ []) }
+{
+    let mut values = pairs.into_iter();
+    let Some(value) = next_value(&mut values) else {
+        return None;
+    };
+    let items = match value {
+        Tree::Text(_) => return None,
+        Tree::Seq(items) => items,
+        Tree::Map(_) => return None,
+    };
+    if next_value(&mut values).is_some() {
+        return None;
+    }
+    Some(items)
+}
+
+/// The edits of a batch, in their order; `None` if one of them is none.
+fn edits_from(alloc: Global, items: Vec<Tree>) -> Result<Option<Vec<Edit>>, AllocError>
+    requires { AreKeptElements (elements_of items.items) }
+    ensures { IfOk result (λ read. option_map (λ edits. map edit_of edits.items) read
+        ≡ edits_of (elements_of items.items)) }
+{
+    let mut edits = Vec::with_capacity(alloc, items.len())?;
+    for item in items {
+        let Some(edit) = edit_in(alloc, item)? else {
+            return Ok(None);
+        };
+        edits.push(edit)?;
+    }
+    Ok(Some(edits))
+}
+
+/// The edit of an element of a batch; `None` if it is none.
+fn edit_in(alloc: Global, tree: Tree) -> Result<Option<Edit>, AllocError>
+    requires kept { IsKept (tree_of tree) }
+    ensures { IfOk result (λ read. option_map edit_of read ≡ edit_in (tree_of tree)) }
+{
+    match tree {
+        Tree::Text(_) => Ok(None),
+        Tree::Seq(_) => Ok(None),
+        Tree::Map(pairs) => edit_from(alloc, pairs),
+    }
+}
+
+/// The edit of a mapping's pairs; `None` if they are no edit's.
+fn edit_from(alloc: Global, pairs: Vec<(Text, Tree)>) -> Result<Option<Edit>, AllocError>
+    requires kept { AreKept (values (members_of pairs.items)) }
+    ensures { IfOk result (λ read. option_map edit_of read ≡ edit_from (members_of pairs.items)) }
+{
+    if keys_are(&["import", "tree"], &pairs) {
         import_from(alloc, pairs)
-    } else if keys_are(&["at", "set", "path", "value"], &pairs) {
+    } else if keys_are(&["set", "path", "value"], &pairs) {
         set_from(alloc, pairs)
-    } else if keys_are(&["at", "delete", "path"], &pairs) {
+    } else if keys_are(&["delete", "path"], &pairs) {
         delete_from(alloc, pairs)
     } else {
         Ok(None)
     }
 }
 
-/// The import with these values: the number, the name and the tree. Returns `None` if one of them is not good.
-fn import_from(
-    alloc: Global,
-    pairs: Vec<(Text, Tree)>,
-) -> Result<Option<(Command, u64)>, AllocError>
+/// The import with these values: the name and the tree. Returns `None` if they are others, or the name is not good.
+fn import_from(alloc: Global, pairs: Vec<(Text, Tree)>) -> Result<Option<Edit>, AllocError>
     requires kept { AreKept (values (members_of pairs.items)) }
-    ensures { IfOk result (λ read. command_and_number read
-        ≡ import_of (values (members_of pairs.items))) }
+    ensures { IfOk result (λ read. option_map edit_of read
+        ≡ if_good (import_of (values (members_of pairs.items)))) }
 {
-    let Some((digits, name, tree)) = import_values(pairs) else {
+    let Some((name, tree)) = import_values(pairs) else {
         return Ok(None);
     };
     if !good_name(&name) {
         return Ok(None);
     }
-    let Some(number) = number_from(&digits) else {
-        return Ok(None);
-    };
     let name = name.into_string(alloc)?;
     let tree = part(tree);
-    Ok(Some((Command::Import { name, tree }, number)))
+    Ok(Some(Edit::Import { name, tree }))
 }
 
-/// The values of an import: two texts and a tree; `None` if they are others.
-fn import_values(pairs: Vec<(Text, Tree)>) -> Option<(Text, Text, Tree)>
+/// The values of an import: a text and a tree; `None` if they are others.
+fn import_values(pairs: Vec<(Text, Tree)>) -> Option<(Text, Tree)>
     ensures { MatchOption result (import_of (values (members_of pairs.items)) ≡ None)
         (λ v. values (members_of pairs.items)
-        ≡ text (chars (text_bytes v.0)) ∷ text (chars (text_bytes v.1)) ∷ tree_of v.2 ∷ []) }
+        ≡ text (chars (text_bytes v.0)) ∷ tree_of v.1 ∷ []) }
 {
     let mut values = pairs.into_iter();
-    let Some(digits) = next_text(&mut values) else {
-        return None;
-    };
     let Some(name) = next_text(&mut values) else {
         return None;
     };
@@ -78,38 +190,36 @@ fn import_values(pairs: Vec<(Text, Tree)>) -> Option<(Text, Text, Tree)>
     if next_value(&mut values).is_some() {
         return None;
     }
-    Some((digits, name, tree))
+    Some((name, tree))
 }
 
-/// The set with these values: the number, the name, the path and the value. Returns `None` if one of them is not good.
-fn set_from(alloc: Global, pairs: Vec<(Text, Tree)>) -> Result<Option<(Command, u64)>, AllocError>
+/// The set with these values: the name, the path and the value. Returns `None` if they are others, or the name or the
+/// path is not good.
+fn set_from(alloc: Global, pairs: Vec<(Text, Tree)>) -> Result<Option<Edit>, AllocError>
     requires kept { AreKept (values (members_of pairs.items)) }
-    ensures { IfOk result (λ read. command_and_number read
-        ≡ set_of (values (members_of pairs.items))) }
+    ensures { IfOk result (λ read. option_map edit_of read
+        ≡ if_good (set_of (values (members_of pairs.items)))) }
 {
-    let Some((digits, name, path, value)) = set_values(pairs) else {
+    let Some((name, path, value)) = set_values(pairs) else {
         return Ok(None);
     };
-    let Some(number) = edit_number(alloc, &digits, &name, &path)? else {
+    let good = are_good(alloc, &name, &path)?;
+    if !good {
         return Ok(None);
-    };
+    }
     let name = name.into_string(alloc)?;
     let path = path.into_string(alloc)?;
     let value = part(value);
-    Ok(Some((Command::Set { name, path, value }, number)))
+    Ok(Some(Edit::Set { name, path, value }))
 }
 
-/// The values of a set: three texts and a tree; `None` if they are others.
-fn set_values(pairs: Vec<(Text, Tree)>) -> Option<(Text, Text, Text, Tree)>
+/// The values of a set: two texts and a tree; `None` if they are others.
+fn set_values(pairs: Vec<(Text, Tree)>) -> Option<(Text, Text, Tree)>
     ensures { MatchOption result (set_of (values (members_of pairs.items)) ≡ None)
         (λ v. values (members_of pairs.items)
-        ≡ text (chars (text_bytes v.0)) ∷ text (chars (text_bytes v.1))
-        ∷ text (chars (text_bytes v.2)) ∷ tree_of v.3 ∷ []) }
+        ≡ text (chars (text_bytes v.0)) ∷ text (chars (text_bytes v.1)) ∷ tree_of v.2 ∷ []) }
 {
     let mut values = pairs.into_iter();
-    let Some(digits) = next_text(&mut values) else {
-        return None;
-    };
     let Some(name) = next_text(&mut values) else {
         return None;
     };
@@ -122,39 +232,33 @@ fn set_values(pairs: Vec<(Text, Tree)>) -> Option<(Text, Text, Text, Tree)>
     if next_value(&mut values).is_some() {
         return None;
     }
-    Some((digits, name, path, value))
+    Some((name, path, value))
 }
 
-/// The delete with these values: the number, the name and the path. Returns `None` if one of them is not good.
-fn delete_from(
-    alloc: Global,
-    pairs: Vec<(Text, Tree)>,
-) -> Result<Option<(Command, u64)>, AllocError>
-    ensures { IfOk result (λ read. command_and_number read
-        ≡ delete_of (values (members_of pairs.items))) }
+/// The delete with these values: the name and the path. Returns `None` if they are others, or one of them is not good.
+fn delete_from(alloc: Global, pairs: Vec<(Text, Tree)>) -> Result<Option<Edit>, AllocError>
+    ensures { IfOk result (λ read. option_map edit_of read
+        ≡ if_good (delete_of (values (members_of pairs.items)))) }
 {
-    let Some((digits, name, path)) = delete_values(pairs) else {
+    let Some((name, path)) = delete_values(pairs) else {
         return Ok(None);
     };
-    let Some(number) = edit_number(alloc, &digits, &name, &path)? else {
+    let good = are_good(alloc, &name, &path)?;
+    if !good {
         return Ok(None);
-    };
+    }
     let name = name.into_string(alloc)?;
     let path = path.into_string(alloc)?;
-    Ok(Some((Command::Delete { name, path }, number)))
+    Ok(Some(Edit::Delete { name, path }))
 }
 
-/// The values of a delete: three texts; `None` if they are others.
-fn delete_values(pairs: Vec<(Text, Tree)>) -> Option<(Text, Text, Text)>
+/// The values of a delete: two texts; `None` if they are others.
+fn delete_values(pairs: Vec<(Text, Tree)>) -> Option<(Text, Text)>
     ensures { MatchOption result (delete_of (values (members_of pairs.items)) ≡ None)
         (λ v. values (members_of pairs.items)
-        ≡ text (chars (text_bytes v.0)) ∷ text (chars (text_bytes v.1))
-        ∷ text (chars (text_bytes v.2)) ∷ []) }
+        ≡ text (chars (text_bytes v.0)) ∷ text (chars (text_bytes v.1)) ∷ []) }
 {
     let mut values = pairs.into_iter();
-    let Some(digits) = next_text(&mut values) else {
-        return None;
-    };
     let Some(name) = next_text(&mut values) else {
         return None;
     };
@@ -164,28 +268,16 @@ fn delete_values(pairs: Vec<(Text, Tree)>) -> Option<(Text, Text, Text)>
     if next_value(&mut values).is_some() {
         return None;
     }
-    Some((digits, name, path))
+    Some((name, path))
 }
 
-/// The number of a set or a delete; `None` if the number, the name or the path is not good.
-fn edit_number(
-    alloc: Global,
-    digits: &str,
-    name: &str,
-    path: &str,
-) -> Result<Option<u64>, AllocError>
-    ensures set { IfOk result (λ number. (value : Meant)
-        → option_map (λ n. (set_at (chars name.now) (chars path.now) value, n)) number
-        ≡ command_with_number (set_at (chars name.now) (chars path.now) value) (chars digits.now)) }
-    ensures delete { IfOk result (λ number.
-        option_map (λ n. (delete_at (chars name.now) (chars path.now), n)) number
-        ≡ command_with_number (delete_at (chars name.now) (chars path.now)) (chars digits.now)) }
+/// Whether a name and a path (RFC 6901) are good. It fails only if memory runs out.
+fn are_good(alloc: Global, name: &str, path: &str) -> Result<bool, AllocError>
+    ensures { IfOk result (λ good. good
+        ≡ (good_name (chars name.now) && is_ok (path_of (chars path.now)))) }
 {
     if !good_name(name) {
-        return Ok(None);
+        return Ok(false);
     }
-    if !is_path(alloc, path)? {
-        return Ok(None);
-    }
-    Ok(number_from(digits))
+    is_path(alloc, path)
 }

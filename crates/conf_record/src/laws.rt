@@ -1,11 +1,12 @@
 // What records and base texts read as.
-ghost use Rattle.std.specs.Prelude.{◌≡◌, ◌≤◌, ℕ, Bool, Ok};
+ghost use Rattle.std.specs.Prelude.{◌≡◌, ◌≤◌, ℕ, Ok};
 ghost use Rattle.conf_state.specs.Commands.{Command};
 ghost use Rattle.conf_state.specs.States.{Contents, count_limit};
 ghost use Rattle.conf_state.specs.Limits.{IsState};
 ghost use Rattle.conf_state.specs.Steps.{step};
 ghost use Rattle.conf_state.specs.BaseTexts.{base_text};
-ghost use Rattle.conf_record.specs.Records.{record_text};
+ghost use Rattle.conf_state.specs.declared.room.Room.{Room};
+ghost use Rattle.conf_record.specs.Records.{FitsRecord, record_text};
 ghost use Rattle.conf_record.specs.RecordsRead.{IsCommand, ReadsRecord, ReadsBase};
 ghost use Rattle.conf_record.specs.SmallCommands.{IsSmallCommand};
 
@@ -14,22 +15,22 @@ use yaml_recognizers::one_style::style_reads;
 
 /// The base text of a state reads as that state, and as no other. The record of a command that some state accepts
 /// reads as that command under its number, up to the greatest count, and as no other. It does so too where only the
-/// name and the path are good and the parts are small, whatever the state (`small`). Each is read within the limits of
-/// a `Config`: at most 67,108,864 bytes, also in the one style, and at most 66 deep.
+/// names and the paths are good and the parts are small, whatever the state (`small`). The record of a batch has to have
+/// at most 67,108,864 bytes. Each is read within the limits of a `Config`.
 pub fn records_read()
     ensures base { (s : Contents) → IsState s → ReadsBase (base_text s) s }
     ensures one_base { (s other : Contents) → IsState s → ReadsBase (base_text s) other
         → other ≡ s }
     ensures small { (command : Command) (number : ℕ) → IsCommand command → IsSmallCommand command
-        → number ≤ count_limit → ReadsRecord (record_text command number) command number }
-    ensures record { (s new : Contents) (command : Command) (fits : Bool) (number : ℕ) → IsState s
-        → IsCommand command
-        → step s command fits ≡ Ok new → number ≤ count_limit
+        → number ≤ count_limit → FitsRecord command number
         → ReadsRecord (record_text command number) command number }
-    ensures one_record { (s new : Contents) (command other : Command) (fits : Bool)
+    ensures record { (s new : Contents) (command : Command) (room : Room) (number : ℕ) → IsState s
+        → IsCommand command → step s command room ≡ Ok new → number ≤ count_limit
+        → FitsRecord command number → ReadsRecord (record_text command number) command number }
+    ensures one_record { (s new : Contents) (command other : Command) (room : Room)
         (number read : ℕ) → IsState s
-        → IsCommand command → step s command fits ≡ Ok new → number ≤ count_limit
-        → ReadsRecord (record_text command number) other read
+        → IsCommand command → step s command room ≡ Ok new → number ≤ count_limit
+        → FitsRecord command number → ReadsRecord (record_text command number) other read
         → (other ≡ command) × (read ≡ number) }
 {
     one_tree();

@@ -22,10 +22,10 @@ mod record;
 mod written;
 
 pub use base_writer::base_text;
-pub use conf_state::{Command, Names, State, good_name, step};
+pub use conf_state::{Command, Edit, Names, State, good_name, step};
 pub use documents::{documents_are_read, documents_close};
 pub use fields::{is_same, keys_are, next_text, next_value};
 pub use laws::records_read;
 pub use parts::part;
 pub use read::{read_base, read_record};
-pub use record::record_text;
+pub use record::{record_length, record_of_length, record_text};

@@ -7,7 +7,7 @@ ghost use Rattle.conf_state.specs.Commands.{command_of};
 ghost use Rattle.conf_record.specs.Documents.{IsRecord, IsBase, IsNoRecord, IsNoBase};
 
 use crate::base_reader::base_from;
-use crate::command_reader::command_from;
+use crate::command_reader::record_from;
 use crate::parts::configurations;
 use crate::written::written_record;
 use conf_state::{Command, State};
@@ -17,11 +17,12 @@ use yaml_tree::{Limits, ReadFault, Tree, bytes_give_one, read_one, refused_bytes
 /// Reads a record: the command and its number. The bytes may spell the document in any way (YAML 1.2.2).
 ///
 /// It returns `None` if the bytes are no record:
-/// - they are not one document of texts, sequences and mappings, or are over the limits: 67,108,864 bytes, also in the
-///   one style, and a depth of 66;
-/// - the mapping has other keys, or the same in another order;
+/// - they are not one document of texts, sequences and mappings, or are over the limits of a `Config`
+///   ([`Limits::KEPT`]);
+/// - the mapping has other keys, or the same in another order; in a batch (`batch`) those of each edit count, and a
+///   batch may have none;
 /// - the number is not decimal digits without a leading zero, or is more than 18,446,744,073,709,551,615;
-/// - the name or the path (RFC 6901) is not good.
+/// - the name or the path (RFC 6901) of an edit is not good.
 ///
 /// It fails only if memory runs out. It takes time linear in the bytes, and moves the texts and trees that were read.
 pub fn read_record(alloc: Global, bytes: &[u8]) -> Result<Option<(Command, u64)>, AllocError>
@@ -43,7 +44,7 @@ fn spelled_record(alloc: Global, bytes: &[u8]) -> Result<Option<(Command, u64)>,
 {
     bytes_give_one();
     match read_tree(alloc, bytes)? {
-        Some(tree) => command_from(alloc, tree),
+        Some(tree) => record_from(alloc, tree),
         None => Ok(None),
     }
 }
@@ -52,7 +53,8 @@ fn spelled_record(alloc: Global, bytes: &[u8]) -> Result<Option<(Command, u64)>,
 ///
 /// It returns `None` if the bytes are no base:
 /// - they are not such a document, as for [`read_record`];
-/// - the mapping has other keys, or the same in another order, or the format is not `confstore-1`;
+/// - the mapping has other keys, or the same in another order, or the format is neither `confstore-1` nor
+///   `confstore-2`;
 /// - the count is not decimal digits without a leading zero, or is more than 18,446,744,073,709,551,615;
 /// - no state holds the configurations, as for [`State::from_parts`].
 ///

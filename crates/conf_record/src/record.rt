@@ -1,29 +1,33 @@
 // The text of a record: the document that holds a command and the number under which it was accepted.
-ghost use Rattle.std.specs.Prelude.{◌≡◌, ◌++◌, min, codes, decimal, string_bytes, IfOk, OnOk};
+ghost use Rattle.std.specs.Prelude.{◌≡◌, ◌≤◌, ◌++◌, min, map, codes, decimal, string_bytes, IfOk, OnOk};
 ghost use Rattle.std.specs.Str.{chars};
-ghost use Rattle.yaml_grammar.specs.Texts.{byte_len};
+ghost use Rattle.yaml_grammar.specs.Texts.{IsText, byte_len, spaces};
 ghost use Rattle.yaml_grammar.specs.Trees as grammar;
 ghost use Rattle.yaml_grammar.specs.Trees.{text};
-ghost use Rattle.yaml_grammar.specs.Style.{key_lines, value_at, members_after};
+ghost use Rattle.yaml_grammar.specs.Style.{key_lines, value_at, members_at, members_after};
 ghost use Rattle.yaml_config.specs.Kept.{IsKept};
 ghost use Rattle.yaml_data.specs.Seen.{tree_of};
-ghost use Rattle.conf_state.specs.Commands.{command_of};
-ghost use Rattle.conf_record.specs.Records.{command_members, record_text, record_bytes};
-ghost use Rattle.conf_record.specs.RecordsRead.{IsCommand};
+ghost use Rattle.conf_state.specs.Commands.{command_of, edit_of, batch, import_as, set_at, delete_at};
+ghost use Rattle.conf_record.specs.Records.{edit_members, command_members, record_text, record_bytes};
+ghost use Rattle.conf_record.specs.RecordsRead.{IsEdit, AreEdits, IsCommand};
 
-use conf_state::Command;
+use conf_state::{Command, Edit};
 use itoa::Buffer;
 use std::alloc::{AllocError, Global};
-use yaml_tree::{ByteCount, Config, Sink, write_key, write_text, write_value};
+use yaml_tree::{ByteCount, Config, Sink, write_text, write_value};
+
+/// The indentation of the members of an edit in a batch.
+const EDIT_INDENT: u64 = 4;
 
 /// The text of a command's record: an explicit document (YAML 1.2.2, 9.1.4). It is a line of `---`, a mapping in the
-/// one style and a line of `...`. The mapping holds, in this order, the number as decimal digits (`at`), the name
-/// (`import`, `set` or `delete`), and the path of a set or a delete (`path`). Last is the tree of an import (`tree`) or
-/// the value of a set (`value`). It takes time linear in the text's length, and memory once, for the text. It fails
-/// only if memory runs out.
+/// one style and a line of `...`. The mapping holds, in this order, the number as decimal digits (`at`), and the members
+/// of the edit. These are the name (`import`, `set` or `delete`), the path of a set or a delete (`path`), and last the
+/// tree of an import (`tree`) or the value of a set (`value`). In place of them a batch has a sequence (`batch`), with a
+/// mapping of such members for each of its edits. It takes time linear in the text's length, and memory once, for the
+/// text. It fails only if memory runs out.
 ///
 /// [`records_read`](crate::records_read) says that the text reads as that command under that number, if some state
-/// accepts the command.
+/// accepts the command, and the record of a batch is not too long.
 pub fn record_text(alloc: Global, command: &Command, number: u64) -> Result<String, AllocError>
     ensures text { IfOk result (λ text.
         chars (string_bytes text) ≡ record_text (command_of command.now) number) }
@@ -31,13 +35,30 @@ pub fn record_text(alloc: Global, command: &Command, number: u64) -> Result<Stri
         string_bytes text ≡ record_bytes (command_of command.now) number) }
     ensures kept { IfOk result (λ text. IsCommand (command_of command.now)) }
 {
-    let mut text = String::with_capacity(alloc, record_length(command, number) as usize)?;
+    record_of_length(alloc, command, number, record_length(command, number))
+}
+
+/// The same text, where its length in bytes is known, as by [`record_length`]. Memory is taken for so many bytes.
+pub fn record_of_length(
+    alloc: Global,
+    command: &Command,
+    number: u64,
+    bytes: u64,
+) -> Result<String, AllocError>
+    ensures text { IfOk result (λ text.
+        chars (string_bytes text) ≡ record_text (command_of command.now) number) }
+    ensures bytes { IfOk result (λ text.
+        string_bytes text ≡ record_bytes (command_of command.now) number) }
+    ensures kept { IfOk result (λ text. IsCommand (command_of command.now)) }
+{
+    let mut text = String::with_capacity(alloc, bytes as usize)?;
     write_record(command, number, &mut text)?;
     Ok(text)
 }
 
-/// How many bytes a record has; at most the greatest `u64`.
-fn record_length(command: &Command, number: u64) -> u64
+/// How many bytes the record of a command has under a number; at most the greatest `u64`. Nothing is written, and it
+/// takes no memory.
+pub fn record_length(command: &Command, number: u64) -> u64
     ensures { result ≡ min (byte_len (record_text (command_of command.now) number)) u64.MAX }
 {
     let mut bytes = ByteCount::new();
@@ -77,37 +98,119 @@ fn write_command<S: Sink>(command: &Command, sink: &mut S) -> Result<(), S::Faul
     ensures kept { OnOk result (IsCommand (command_of command.now)) }
 {
     match command {
-        Command::Import { name, tree } => {
-            write_text_member("import", name, sink)?;
-            write_member("tree", tree, sink)
-        }
-        Command::Set { name, path, value } => {
-            write_text_member("set", name, sink)?;
-            write_text_member("path", path, sink)?;
-            write_member("value", value, sink)
-        }
-        Command::Delete { name, path } => {
-            write_text_member("delete", name, sink)?;
-            write_text_member("path", path, sink)
-        }
+        Command::Import { name, tree } => write_import(name, tree, 0, sink),
+        Command::Set { name, path, value } => write_set(name, path, value, 0, sink),
+        Command::Delete { name, path } => write_delete(name, path, 0, sink),
+        Command::Batch { edits } => write_batch(edits, sink),
     }
 }
 
-/// Writes a key and a text as its value.
-fn write_text_member<S: Sink>(key: &str, text: &str, sink: &mut S) -> Result<(), S::Fault>
-    ensures { OnOk result (S.Takes sink.old
-        (key_lines 0 (chars key.now) ++ value_at (grammar.text (chars text.now)) 0) sink.new) }
+/// Writes a batch: a mapping for each edit, in a sequence.
+fn write_batch<S: Sink>(edits: &[Edit], sink: &mut S) -> Result<(), S::Fault>
+    ensures takes { OnOk result (S.Takes sink.old
+        (members_after (command_members (batch (map edit_of edits.now))) 0) sink.new) }
+    ensures kept { OnOk result (AreEdits (map edit_of edits.now)) }
 {
-    write_key(key, 0, sink)?;
-    write_text(text, 0, sink)
+    if edits.is_empty() {
+        return sink.put_text("batch: []\n");
+    }
+    sink.put_text("batch:\n")?;
+    for edit in edits {
+        sink.put_text("  - ")?;
+        write_edit(edit, EDIT_INDENT, sink)?;
+    }
+    Ok(())
 }
 
-/// Writes a key and a configuration as its value.
-fn write_member<S: Sink>(key: &str, value: &Config, sink: &mut S) -> Result<(), S::Fault>
-    ensures takes { OnOk result (S.Takes sink.old (key_lines 0 (chars key.now)
-        ++ value_at (tree_of value.now) 0) sink.new) }
+/// Writes the members of an edit at an indentation, the first without its spaces.
+fn write_edit<S: Sink>(edit: &Edit, indent: u64, sink: &mut S) -> Result<(), S::Fault>
+    requires { indent ≤ EDIT_INDENT }
+    ensures takes { OnOk result (S.Takes sink.old
+        (members_at (edit_members (edit_of edit.now)) indent) sink.new) }
+    ensures kept { OnOk result (IsEdit (edit_of edit.now)) }
+{
+    match edit {
+        Edit::Import { name, tree } => write_import(name, tree, indent, sink),
+        Edit::Set { name, path, value } => write_set(name, path, value, indent, sink),
+        Edit::Delete { name, path } => write_delete(name, path, indent, sink),
+    }
+}
+
+/// Writes the members of an import.
+fn write_import<S: Sink>(
+    name: &str,
+    tree: &Config,
+    indent: u64,
+    sink: &mut S,
+) -> Result<(), S::Fault>
+    requires { indent ≤ EDIT_INDENT }
+    ensures takes { OnOk result (S.Takes sink.old (members_at (edit_members
+        (import_as (chars name.now) (tree_of tree.now))) indent) sink.new) }
+    ensures kept { OnOk result (IsKept (tree_of tree.now)) }
+{
+    write_text_member("import:", name, indent, sink)?;
+    write_value_member("tree:", tree, indent, sink)
+}
+
+/// Writes the members of a set.
+fn write_set<S: Sink>(
+    name: &str,
+    path: &str,
+    value: &Config,
+    indent: u64,
+    sink: &mut S,
+) -> Result<(), S::Fault>
+    requires { indent ≤ EDIT_INDENT }
+    ensures takes { OnOk result (S.Takes sink.old (members_at (edit_members
+        (set_at (chars name.now) (chars path.now) (tree_of value.now))) indent) sink.new) }
+    ensures kept { OnOk result (IsText (chars path.now) × IsKept (tree_of value.now)) }
+{
+    write_text_member("set:", name, indent, sink)?;
+    sink.put_spaces(indent)?;
+    write_text_member("path:", path, indent, sink)?;
+    write_value_member("value:", value, indent, sink)
+}
+
+/// Writes the members of a delete.
+fn write_delete<S: Sink>(name: &str, path: &str, indent: u64, sink: &mut S) -> Result<(), S::Fault>
+    requires { indent ≤ EDIT_INDENT }
+    ensures takes { OnOk result (S.Takes sink.old (members_at (edit_members
+        (delete_at (chars name.now) (chars path.now))) indent) sink.new) }
+    ensures kept { OnOk result (IsText (chars path.now)) }
+{
+    write_text_member("delete:", name, indent, sink)?;
+    sink.put_spaces(indent)?;
+    write_text_member("path:", path, indent, sink)
+}
+
+/// Writes a key with its `:`, as it is, and a text as its value.
+fn write_text_member<S: Sink>(
+    key: &str,
+    text: &str,
+    indent: u64,
+    sink: &mut S,
+) -> Result<(), S::Fault>
+    requires { indent ≤ EDIT_INDENT }
+    ensures { OnOk result (S.Takes sink.old
+        (chars key.now ++ value_at (grammar.text (chars text.now)) indent) sink.new) }
+{
+    sink.put_text(key)?;
+    write_text(text, indent, sink)
+}
+
+/// Writes the spaces before a line, a key with its `:`, as it is, and a configuration as its value.
+fn write_value_member<S: Sink>(
+    key: &str,
+    value: &Config,
+    indent: u64,
+    sink: &mut S,
+) -> Result<(), S::Fault>
+    requires { indent ≤ EDIT_INDENT }
+    ensures takes { OnOk result (S.Takes sink.old
+        (spaces indent ++ chars key.now ++ value_at (tree_of value.now) indent) sink.new) }
     ensures kept { OnOk result (IsKept (tree_of value.now)) }
 {
-    write_key(key, 0, sink)?;
-    write_value(value.tree(), 0, sink)
+    sink.put_spaces(indent)?;
+    sink.put_text(key)?;
+    write_value(value.tree(), indent, sink)
 }

@@ -8,7 +8,7 @@ ghost use Rattle.yaml_grammar.specs.Style.{scalar_lines};
 ghost use Rattle.yaml_grammar.specs.Texts.{first};
 ghost use Rattle.yaml_writer.specs.Runs.{stands_alone};
 ghost use Rattle.json_pointer.specs.Pointers.{path_of};
-ghost use Rattle.conf_state.specs.Commands.{command_of};
+ghost use Rattle.conf_state.specs.Commands.{edit_of, command_of};
 ghost use Rattle.conf_state.specs.States.{count_limit};
 ghost use Rattle.conf_record.specs.Documents.{IsRecord};
 ghost use Rattle.conf_record.specs.SmallCommands.{IsShortPath, is_slash, is_no_tilde};
@@ -16,12 +16,12 @@ ghost use Rattle.conf_record.specs.Written.{IsLineOf, IsConfigLine, IsWritten};
 
 use crate::fields::{is_path, number_from};
 use crate::laws::records_read;
-use conf_state::{Command, good_name};
+use conf_state::{Command, Edit, good_name};
 use std::alloc::{AllocError, Global};
 use std::str;
 use yaml_tree::{Config, Limits, ScalarStyle, Size, Text, Tree, value_style};
 
-/// The record that the bytes are, if they are the very text that [`record_text`](crate::record_text) writes for it, and
+/// The record of a single edit that the bytes are, if they are the very text that [`record_text`](crate::record_text) writes for it, and
 /// each text in it is on one line without an escape. `None` says nothing of the bytes. It fails only if memory runs out.
 pub(crate) fn written_record(
     alloc: Global,
@@ -36,10 +36,10 @@ pub(crate) fn written_record(
     let Some((number, lines)) = cut_number(text) else {
         return Ok(None);
     };
-    let Some(command) = cut_command(alloc, lines)? else {
+    let Some(edit) = cut_edit(alloc, lines)? else {
         return Ok(None);
     };
-    Ok(Some((command, number)))
+    Ok(Some((Command::from(edit), number)))
 }
 
 /// The number at the start of a record, and the lines after it.
@@ -68,9 +68,9 @@ fn digits_number(digits: &str) -> Option<u64>
     number_from(digits)
 }
 
-/// The command on the lines after the number.
-fn cut_command(alloc: Global, lines: &str) -> Result<Option<Command>, AllocError>
-    ensures { IfOk result (λ cut. IfSome cut (λ command. IsWritten lines.now (command_of command))) }
+/// The edit on the lines after the number.
+fn cut_edit(alloc: Global, lines: &str) -> Result<Option<Edit>, AllocError>
+    ensures { IfOk result (λ cut. IfSome cut (λ edit. IsWritten lines.now (edit_of edit))) }
 {
     if lines.starts_with("set: ") {
         cut_set(alloc, lines)
@@ -82,8 +82,8 @@ fn cut_command(alloc: Global, lines: &str) -> Result<Option<Command>, AllocError
 }
 
 /// The set on the lines.
-fn cut_set(alloc: Global, lines: &str) -> Result<Option<Command>, AllocError>
-    ensures { IfOk result (λ cut. IfSome cut (λ command. IsWritten lines.now (command_of command))) }
+fn cut_set(alloc: Global, lines: &str) -> Result<Option<Edit>, AllocError>
+    ensures { IfOk result (λ cut. IfSome cut (λ edit. IsWritten lines.now (edit_of edit))) }
 {
     let Some((name, after_name)) = cut_text(lines, "set: ") else {
         return Ok(None);
@@ -109,12 +109,12 @@ fn cut_set(alloc: Global, lines: &str) -> Result<Option<Command>, AllocError>
     };
     let name = String::from_str(alloc, name)?;
     let path = String::from_str(alloc, path)?;
-    Ok(Some(Command::Set { name, path, value }))
+    Ok(Some(Edit::Set { name, path, value }))
 }
 
 /// The delete on the lines.
-fn cut_delete(alloc: Global, lines: &str) -> Result<Option<Command>, AllocError>
-    ensures { IfOk result (λ cut. IfSome cut (λ command. IsWritten lines.now (command_of command))) }
+fn cut_delete(alloc: Global, lines: &str) -> Result<Option<Edit>, AllocError>
+    ensures { IfOk result (λ cut. IfSome cut (λ edit. IsWritten lines.now (edit_of edit))) }
 {
     let Some((name, after_name)) = cut_text(lines, "delete: ") else {
         return Ok(None);
@@ -134,12 +134,12 @@ fn cut_delete(alloc: Global, lines: &str) -> Result<Option<Command>, AllocError>
     }
     let name = String::from_str(alloc, name)?;
     let path = String::from_str(alloc, path)?;
-    Ok(Some(Command::Delete { name, path }))
+    Ok(Some(Edit::Delete { name, path }))
 }
 
 /// The import on the lines.
-fn cut_import(alloc: Global, lines: &str) -> Result<Option<Command>, AllocError>
-    ensures { IfOk result (λ cut. IfSome cut (λ command. IsWritten lines.now (command_of command))) }
+fn cut_import(alloc: Global, lines: &str) -> Result<Option<Edit>, AllocError>
+    ensures { IfOk result (λ cut. IfSome cut (λ edit. IsWritten lines.now (edit_of edit))) }
 {
     let Some((name, after_name)) = cut_text(lines, "import: ") else {
         return Ok(None);
@@ -157,7 +157,7 @@ fn cut_import(alloc: Global, lines: &str) -> Result<Option<Command>, AllocError>
         return Ok(None);
     };
     let name = String::from_str(alloc, name)?;
-    Ok(Some(Command::Import { name, tree }))
+    Ok(Some(Edit::Import { name, tree }))
 }
 
 /// Whether this is the last line of a document.

@@ -1,5 +1,5 @@
 -- What an edit inside a configuration makes of a state's configurations and of their length.
-use Rattle.std.proofs.Common.{inl, inr, ◌⊎◌, ◌==◌, length, ◌≡◌, ℕ, ◌+◌, ◌<◌, ◌≤◌, nat_le, nat_lt, Bool, true, false, if◌then◌else◌, List, [], ◌∷◌, ◌++◌, Option, Some, None, option_map, Result, Ok, Err, String, Global, IsUtf8, refl, sym, ap, subst, ◌∙◌, arith}
+use Rattle.std.proofs.Common.{inl, inr, ◌⊎◌, ◌==◌, length, ◌≡◌, ℕ, ◌+◌, ◌*◌, ◌<◌, ◌≤◌, nat_le, nat_lt, Bool, true, false, if◌then◌else◌, List, [], ◌∷◌, ◌++◌, Option, Some, None, option_map, Result, Ok, Err, String, Global, IsUtf8, refl, sym, ap, subst, ◌∙◌, arith}
 use Rattle.std.proofs.lemmas.Bool.Decides.{nat_tests}
 use Rattle.std.specs.Map.{lookup}
 use Rattle.std.specs.Str.{chars}
@@ -83,7 +83,7 @@ edit-length es name old new change there is =
       entry_value name new,
     )
 
-value_fits : (t : grammar.Tree) → byte_len (style_text t) ≤ config_limits.style → byte_len (value_at t 2) ≤ 10000000
+value_fits : (t : grammar.Tree) → byte_len (style_text t) ≤ config_limits.style → byte_len (value_at t 2) ≤ 16 * config_limits.style
 value_fits t short = omega (arith, value_law t 2, value_bound t, value_small t)
 
 -- these bytes stay within a 64-bit number

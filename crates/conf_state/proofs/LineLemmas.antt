@@ -43,8 +43,8 @@ framed_line first rest = ap (λ cs. cs ++ codes "...\n") (append_assoc (codes "-
 
 -- the same of a base, whose mapping ends with the configurations
 pub base_lines : (number configs : List ℕ)
-    → codes "---\n" ++ codes "store: confstore-1\n" ++ number ++ codes "configs:" ++ configs ++ codes "...\n"
-    ≡ codes "---\n" ++ (codes "store: confstore-1\n" ++ (number ++ (codes "configs:" ++ configs ++ []))) ++ codes "...\n"
+    → codes "---\n" ++ codes "store: confstore-2\n" ++ number ++ codes "configs:" ++ configs ++ codes "...\n"
+    ≡ codes "---\n" ++ (codes "store: confstore-2\n" ++ (number ++ (codes "configs:" ++ configs ++ []))) ++ codes "...\n"
 base_lines number configs =
-    ap (λ cs. codes "---\n" ++ (codes "store: confstore-1\n" ++ cs) ++ codes "...\n")
+    ap (λ cs. codes "---\n" ++ (codes "store: confstore-2\n" ++ cs) ++ codes "...\n")
     (append_assoc number (codes "configs:") configs ∙ ap (λ cs. number ++ cs) (sym (append-nil (codes "configs:" ++ configs))))

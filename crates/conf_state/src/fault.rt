@@ -22,9 +22,9 @@ pub enum StoreFault {
     Path(PathFault),
     /// The text to import is refused.
     Read(ReadFault),
-    /// The configuration would be more than 64 deep.
+    /// The configuration would be more than 128 deep.
     TooDeep,
-    /// The configuration would have more than 1,048,576 bytes in the one style.
+    /// The configuration would have more than 4,194,304 bytes in the one style.
     ConfigLarge,
     /// The base text of the state would have more than 67,108,864 bytes.
     StoreFull,

@@ -13,6 +13,7 @@ use Rattle.conf_state.specs.Commands.{Command}
 use Rattle.conf_state.specs.States.{Contents}
 use Rattle.conf_state.specs.Steps.{step, after}
 use Rattle.conf_state.proofs.RunLaws.{after-count}
+use Rattle.conf_state.specs.declared.room.Room.TheVariants.{Enough}
 use Rattle.yaml_recognizers.specs.Closings.{OnePieces}
 use Rattle.conf_record.specs.Documents.{OneBase, OneRecord, IsRecord, RecordsTear, RecordsClose, record_pieces, records_bytes}
 use Rattle.conf_record.specs.Records.{record_bytes}
@@ -112,7 +113,7 @@ records-bytes-more count (c ∷ cs) command =
 
 -- a journal with the record of the next command
 pub journal-more : (file : File) (flushed s end : Contents) (since : List Command) (command : Command) (more : List ℕ) → IsJournal file flushed since s → more ≡ record_bytes command (s.count + 1)
-    → IsRecord more command (s.count + 1) → step s command true ≡ Ok end → length file.synced + length file.pending + length more ≤ store_limit
+    → IsRecord more command (s.count + 1) → step s command Enough ≡ Ok end → length file.synced + length file.pending + length more ≤ store_limit
     → IsJournal (with_pending more file) flushed (since ++ command ∷ []) end
 journal-more file flushed s end since command more journal is reads done short =
     let count : s.count ≡ flushed.count + length since = after-count flushed s since journal.leads in
@@ -144,7 +145,7 @@ prefix-last flushed end since command store leads some = elim (cases_lt (length 
       inl (record { count = some.count; state = some.state; leads = ap (after flushed) (sym fewer) ∙ some.leads; means = some.means })
 ]
 
-pub prefix-more : (flushed s end : Contents) (since : List Command) (command : Command) (store : Option (List ℕ)) → after flushed since ≡ Ok s → step s command true ≡ Ok end
+pub prefix-more : (flushed s end : Contents) (since : List Command) (command : Command) (store : Option (List ℕ)) → after flushed since ≡ Ok s → step s command Enough ≡ Ok end
     → AfterPrefix flushed (since ++ command ∷ []) store → AfterPrefix flushed since store ⊎ FileMeans store end
 prefix-more flushed s end since command store leads done =
     prefix-last flushed end since command store (after-joined flushed s end since (command ∷ []) leads (after-done s end command done))
@@ -163,7 +164,7 @@ prefix-longer flushed since more store some = elim (cases_lt (length since) some
 
 -- what a crash leaves while a record is appended
 pub appended-left : RecordsTear → (file : File) (flushed s end : Contents) (since : List Command) (command : Command) (more : List ℕ) → IsJournal file flushed since s → more ≡ record_bytes command (s.count + 1)
-    → IsRecord more command (s.count + 1) → step s command true ≡ Ok end → length file.synced + length file.pending + length more ≤ store_limit
+    → IsRecord more command (s.count + 1) → step s command Enough ≡ Ok end → length file.synced + length file.pending + length more ≤ store_limit
     → (store : Option (List ℕ)) → IsLeftOf (Some (with_pending more file)) store → AfterPrefix flushed since store ⊎ FileMeans store end
 appended-left tear file flushed s end since command more journal is reads done short store left =
     prefix-more flushed s end since command store journal.leads done

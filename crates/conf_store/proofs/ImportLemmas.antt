@@ -1,19 +1,21 @@
 -- What an import says of the name, the text and the tree.
-use Rattle.std.proofs.Common.{◌≡◌, ◌+◌, ℕ, Bool, true, false, not, nat_le, nat_lt, if◌then◌else◌, List, Result, Ok, Err, refl, subst}
+use Rattle.std.proofs.Common.{◌≡◌, ◌+◌, ℕ, Bool, true, false, nat_le, nat_lt, if◌then◌else◌, List, Result, Ok, Err, refl, subst}
 use Rattle.yaml_grammar.specs.Texts.{byte_len}
 use Rattle.yaml_grammar.specs.Style.{style_text}
 use Rattle.yaml_grammar.specs.Trees.{Tree, depth}
 use Rattle.yaml_config.specs.Limits.{config_limits}
 use Rattle.yaml_tree.specs.Reading.{IsRead}
 use Rattle.conf_state.specs.BaseTexts.{base_length}
-use Rattle.conf_state.specs.Commands.{import_as}
+use Rattle.conf_state.specs.Commands.{import_as, single}
 use Rattle.conf_state.specs.Names.{good_name}
 use Rattle.conf_state.specs.States.{Entry, Contents, put_config, base_limit, count_limit}
-use Rattle.conf_state.specs.Steps.{step, state_after_command, next_state}
+use Rattle.conf_state.specs.Steps.{and_then, step, with_checked_config, with_room, next_state}
 use Rattle.conf_state.specs.declared.fault.StoreFault.{StoreFault}
-use Rattle.conf_state.specs.declared.fault.StoreFault.TheVariants.{BadName, NoConfig, Path, Read, TooDeep, ConfigLarge, StoreFull, JournalLong, CountFull, Reopen, Device, OutOfMemory}
+use Rattle.conf_state.specs.declared.fault.StoreFault.TheVariants.{EmptyBatch, BadName, NoConfig, Path, Read, TooDeep, ConfigLarge, StoreFull, RecordLong, JournalLong, CountFull, Reopen, Device, OutOfMemory}
+use Rattle.conf_state.specs.declared.room.Room.{Room}
+use Rattle.conf_state.specs.declared.room.Room.TheVariants.{Enough, LongRecord, Missing}
 use Rattle.conf_store.specs.View.{StoreView}
-use Rattle.conf_store.specs.Calls.{has_room, journal_length, RefusesCommand}
+use Rattle.conf_store.specs.Calls.{room_for, journal_length, RefusesCommand}
 use Rattle.conf_store.specs.Accepting.{IsOfState}
 use Rattle.conf_store.specs.Imports.{RefusesText, RefusesImport}
 
@@ -23,46 +25,49 @@ OfTree (Err BadName) = ⊥
 OfTree (Err (Read fault)) = ⊥
 OfTree _ = Unit {0}
 
-next_state-of_tree : (s : Contents) (fits : Bool) (configs : List Entry) → OfTree (next_state s fits configs)
+next_state-of_tree : (s : Contents) (room : Room) (configs : List Entry) → OfTree (next_state s room configs)
 unfolding OfTree
-next_state-of_tree s fits configs =
-    by (nat_lt base_limit (base_length (record { configs = configs; count = s.count + 1 }))) fits (nat_le count_limit s.count)
+next_state-of_tree s room configs =
+    by (nat_lt base_limit (base_length (record { configs = configs; count = s.count + 1 }))) room (nat_le count_limit s.count)
   where
-    by : (full fits last : Bool) → OfTree {A = Contents} (if full then Err StoreFull else if not fits then Err JournalLong else if last then Err CountFull else Ok (record { configs = configs; count = s.count + 1 }))
-    by true fits last = tt
-    by false false last = tt
-    by false true true = tt
-    by false true false = tt
+    by : (full : Bool) (room : Room) (last : Bool) → OfTree {A = Contents} (if full then Err StoreFull else with_room room (if last then Err CountFull else Ok (record { configs = configs; count = s.count + 1 })))
+    by true room last = tt
+    by false LongRecord last = tt
+    by false Missing last = tt
+    by false Enough true = tt
+    by false Enough false = tt
 
-import-of_tree : (s : Contents) (name : List ℕ) (t : Tree) (fits : Bool) → OfTree (state_after_command s (import_as name t) fits)
+import-of_tree : (s : Contents) (name : List ℕ) (t : Tree) (room : Room) → OfTree (and_then (with_checked_config s.configs name t) (next_state s room))
 unfolding OfTree
-import-of_tree s name t fits =
+import-of_tree s name t room =
     by (nat_lt config_limits.depth (depth t)) refl (nat_lt config_limits.style (byte_len (style_text t))) refl
   where
     by : (deep : Bool) → nat_lt config_limits.depth (depth t) ≡ deep → (large : Bool) → nat_lt config_limits.style (byte_len (style_text t)) ≡ large
-        → OfTree (state_after_command s (import_as name t) fits)
+        → OfTree (and_then (with_checked_config s.configs name t) (next_state s room))
     by true e large f = rw e tt
     by false e true f = rw (e, f) tt
-    by false e false f = rw (e, f) (next_state-of_tree s fits (put_config s.configs name t))
+    by false e false f = rw (e, f) (next_state-of_tree s room (put_config s.configs name t))
 
-step-of_tree : (s : Contents) (name : List ℕ) (t : Tree) (fits : Bool) → good_name name ≡ true → OfTree (step s (import_as name t) fits)
-step-of_tree s name t fits good = rw good (import-of_tree s name t fits)
+step-of_tree : (s : Contents) (name : List ℕ) (t : Tree) (room : Room) → good_name name ≡ true → OfTree (step s (single (import_as name t)) room)
+step-of_tree s name t room good = rw good (import-of_tree s name t room)
 
 -- the import of a tree under a good name is refused for the tree
 pub import-refused : {D : Type 0} (old new : StoreView D) (name source : List ℕ) (t : Tree) (fault : StoreFault) → good_name name ≡ true → IsRead source config_limits t
-    → RefusesCommand old (import_as name t) new fault → RefusesImport old name source new fault
+    → RefusesCommand old (single (import_as name t)) new fault → RefusesImport old name source new fault
 unfolding OfTree
 import-refused old new name source t Reopen good reads is = tt
 import-refused old new name source t OutOfMemory good reads is = tt
 import-refused old new name source t BadName good reads is =
-    absurd (subst OfTree is (step-of_tree old.state name t (has_room (journal_length old) old.state (import_as name t)) good))
+    absurd (subst OfTree is (step-of_tree old.state name t (room_for (journal_length old) old.state (single (import_as name t))) good))
 import-refused old new name source t (Read fault) good reads is =
-    absurd (subst OfTree is (step-of_tree old.state name t (has_room (journal_length old) old.state (import_as name t)) good))
+    absurd (subst OfTree is (step-of_tree old.state name t (room_for (journal_length old) old.state (single (import_as name t))) good))
+import-refused old new name source t EmptyBatch good reads is = record { tree = t; reads = reads; refuses = is }
 import-refused old new name source t NoConfig good reads is = record { tree = t; reads = reads; refuses = is }
 import-refused old new name source t (Path fault) good reads is = record { tree = t; reads = reads; refuses = is }
 import-refused old new name source t TooDeep good reads is = record { tree = t; reads = reads; refuses = is }
 import-refused old new name source t ConfigLarge good reads is = record { tree = t; reads = reads; refuses = is }
 import-refused old new name source t StoreFull good reads is = record { tree = t; reads = reads; refuses = is }
+import-refused old new name source t RecordLong good reads is = record { tree = t; reads = reads; refuses = is }
 import-refused old new name source t JournalLong good reads is = record { tree = t; reads = reads; refuses = is }
 import-refused old new name source t CountFull good reads is = record { tree = t; reads = reads; refuses = is }
 import-refused old new name source t Device good reads is = record { tree = t; reads = reads; refuses = is }
@@ -73,11 +78,13 @@ unread-refused old new name source OutOfMemory is = tt
 unread-refused old new name source BadName is = is
 unread-refused old new name source (Read fault) is = is
 unread-refused old new name source Reopen is = absurd is
+unread-refused old new name source EmptyBatch is = absurd is
 unread-refused old new name source NoConfig is = absurd is
 unread-refused old new name source (Path fault) is = absurd is
 unread-refused old new name source TooDeep is = absurd is
 unread-refused old new name source ConfigLarge is = absurd is
 unread-refused old new name source StoreFull is = absurd is
+unread-refused old new name source RecordLong is = absurd is
 unread-refused old new name source JournalLong is = absurd is
 unread-refused old new name source CountFull is = absurd is
 unread-refused old new name source Device is = absurd is

@@ -11,6 +11,7 @@ use Rattle.conf_state.specs.States.{Contents}
 use Rattle.conf_state.specs.Steps.{step, after, and_then}
 use Rattle.conf_state.specs.declared.fault.StoreFault.{StoreFault}
 use Rattle.conf_state.proofs.RunLaws.{after-append, after-count, and_then-Ok}
+use Rattle.conf_state.specs.declared.room.Room.TheVariants.{Enough}
 use Rattle.conf_record.specs.Documents.{IsRecord, IsBase, record_pieces, records_bytes, TornRecords, OneBase, OneRecord, RecordsTear}
 use Rattle.conf_journal.specs.Store.{store_limit}
 use Rattle.conf_store.specs.Meaning.{AreRecords, PiecesMean, Means, FileMeans}
@@ -45,7 +46,7 @@ pub after-prefix : (s end : Contents) (commands : List Command) (k : ℕ) → af
 after-prefix s end commands zero leads = (s, refl)
 after-prefix s end [] (suc k) leads = (s, refl)
 after-prefix s end (c ∷ cs) (suc k) leads =
-    let first = and_then-Ok (step s c true) (λ t. after t cs) end leads in
+    let first = and_then-Ok (step s c Enough) (λ t. after t cs) end leads in
     let more = after-prefix first.0 end cs k first.2 in
     (more.0, ap (λ r. and_then r (λ t. after t (take k cs))) first.1 ∙ more.1)
 
@@ -78,7 +79,7 @@ base-means base s is = record { base = base; records = []; are = refl; start = s
 
 -- pieces with one more record
 pub record-means : (pieces : List (List ℕ)) (piece : List ℕ) (s end : Contents) (command : Command) → PiecesMean pieces s
-    → IsRecord piece command (s.count + 1) → step s command true ≡ Ok end → PiecesMean (pieces ++ piece ∷ []) end
+    → IsRecord piece command (s.count + 1) → step s command Enough ≡ Ok end → PiecesMean (pieces ++ piece ∷ []) end
 record-means pieces piece s end command mean is done =
     pieces-mean-more pieces (piece ∷ []) s end (command ∷ []) mean (is, tt) (ap (λ r. and_then r (λ t. after t [])) done)
 
@@ -127,7 +128,7 @@ base-whole base s closes is = record { pieces = base ∷ []; cut = pieces-one ba
 
 -- a whole store and the record of the next command are a whole store
 pub record-whole : (bytes piece : List ℕ) (s end : Contents) (command : Command) → IsWholeStore bytes s → ClosesOnce piece → IsRecord piece command (s.count + 1)
-    → step s command true ≡ Ok end → IsWholeStore (bytes ++ piece) end
+    → step s command Enough ≡ Ok end → IsWholeStore (bytes ++ piece) end
 record-whole bytes piece s end command whole closes is done = record {
   pieces = whole.pieces ++ piece ∷ [];
   cut = pieces-joined bytes piece whole.pieces (piece ∷ []) [] whole.cut (pieces-one piece closes);
@@ -180,11 +181,11 @@ take-none zero = refl
 take-none (suc k) = refl
 
 -- the state after one command is the one after a list of it
-pub after-done : (s end : Contents) (command : Command) → step s command true ≡ Ok end → after s (command ∷ []) ≡ Ok end
+pub after-done : (s end : Contents) (command : Command) → step s command Enough ≡ Ok end → after s (command ∷ []) ≡ Ok end
 after-done s end command done = ap (λ r. and_then r (λ t. after t [])) done
 
 -- of one pending record: the state before its command or after it
-pub after-one : (s end : Contents) (command : Command) (store : Option (List ℕ)) → step s command true ≡ Ok end → AfterPrefix s (command ∷ []) store
+pub after-one : (s end : Contents) (command : Command) (store : Option (List ℕ)) → step s command Enough ≡ Ok end → AfterPrefix s (command ∷ []) store
     → FileMeans store s ⊎ FileMeans store end
 after-one s end command store done some = by some.count some.leads
   where

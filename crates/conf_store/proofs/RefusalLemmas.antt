@@ -1,23 +1,24 @@
 -- The faults of a command on a state, and what a store makes of them.
 use Rattle.std.proofs.Common.{◌≡◌, ◌⊎◌, inl, inr, refl, subst}
-use Rattle.std.specs.Prelude.{Bool, Err}
+use Rattle.std.specs.Prelude.{Err}
 use Rattle.conf_state.specs.Commands.{Command}
 use Rattle.conf_state.specs.States.{Contents}
 use Rattle.conf_state.specs.Steps.{step, IsRefusal}
 use Rattle.conf_state.specs.declared.fault.StoreFault.{StoreFault}
-use Rattle.conf_state.specs.declared.fault.StoreFault.TheVariants.{BadName, NoConfig, Path, Read, TooDeep, ConfigLarge, StoreFull, JournalLong, CountFull, Reopen, Device, OutOfMemory}
+use Rattle.conf_state.specs.declared.fault.StoreFault.TheVariants.{EmptyBatch, BadName, NoConfig, Path, Read, TooDeep, ConfigLarge, StoreFull, RecordLong, JournalLong, CountFull, Reopen, Device, OutOfMemory}
+use Rattle.conf_state.specs.declared.room.Room.{Room}
 use Rattle.conf_store.specs.View.{StoreView}
 use Rattle.conf_store.specs.Accepting.{IsOfState}
 use Rattle.conf_store.specs.Calls.{outcome, journal_length, RefusesCommand}
 
 -- a step refuses for the command and the state alone
 abbrev pub StepsRefuse : Type 0
-StepsRefuse = (s : Contents) (command : Command) (fits : Bool) (fault : StoreFault) → step s command fits ≡ Err fault → IsRefusal fault
+StepsRefuse = (s : Contents) (command : Command) (room : Room) (fault : StoreFault) → step s command room ≡ Err fault → IsRefusal fault
 
 -- a fault with which a step refuses is one of the state
-pub of-state : StepsRefuse → (s : Contents) (command : Command) (fits : Bool) (fault : StoreFault) → (fault ≡ OutOfMemory) ⊎ (step s command fits ≡ Err fault) → IsOfState fault
-of-state refuse s command fits fault (inl memory) = (λ same. cc (memory, same), λ same. cc (memory, same))
-of-state refuse s command fits fault (inr e) = (λ same. subst IsRefusal same (refuse s command fits fault e), λ same. subst IsRefusal same (refuse s command fits fault e))
+pub of-state : StepsRefuse → (s : Contents) (command : Command) (room : Room) (fault : StoreFault) → (fault ≡ OutOfMemory) ⊎ (step s command room ≡ Err fault) → IsOfState fault
+of-state refuse s command room fault (inl memory) = (λ same. cc (memory, same), λ same. cc (memory, same))
+of-state refuse s command room fault (inr e) = (λ same. subst IsRefusal same (refuse s command room fault e), λ same. subst IsRefusal same (refuse s command room fault e))
 
 -- and a store returns that fault
 pub refusal-returned : {D : Type 0} (old new : StoreView D) (command : Command) (fault : StoreFault) → IsOfState fault → (fault ≡ OutOfMemory) ⊎ (outcome (journal_length old) old.state command ≡ Err fault)
@@ -25,6 +26,7 @@ pub refusal-returned : {D : Type 0} (old new : StoreView D) (command : Command) 
 refusal-returned old new command Reopen own is = tt
 refusal-returned old new command Device own is = absurd (own.1 refl)
 refusal-returned old new command OutOfMemory own is = tt
+refusal-returned old new command EmptyBatch own (inr e) = e
 refusal-returned old new command BadName own (inr e) = e
 refusal-returned old new command NoConfig own (inr e) = e
 refusal-returned old new command (Path fault) own (inr e) = e
@@ -32,8 +34,10 @@ refusal-returned old new command (Read fault) own (inr e) = e
 refusal-returned old new command TooDeep own (inr e) = e
 refusal-returned old new command ConfigLarge own (inr e) = e
 refusal-returned old new command StoreFull own (inr e) = e
+refusal-returned old new command RecordLong own (inr e) = e
 refusal-returned old new command JournalLong own (inr e) = e
 refusal-returned old new command CountFull own (inr e) = e
+refusal-returned old new command EmptyBatch own (inl memory) = absurd (cc memory)
 refusal-returned old new command BadName own (inl memory) = absurd (cc memory)
 refusal-returned old new command NoConfig own (inl memory) = absurd (cc memory)
 refusal-returned old new command (Path fault) own (inl memory) = absurd (cc memory)
@@ -41,5 +45,6 @@ refusal-returned old new command (Read fault) own (inl memory) = absurd (cc memo
 refusal-returned old new command TooDeep own (inl memory) = absurd (cc memory)
 refusal-returned old new command ConfigLarge own (inl memory) = absurd (cc memory)
 refusal-returned old new command StoreFull own (inl memory) = absurd (cc memory)
+refusal-returned old new command RecordLong own (inl memory) = absurd (cc memory)
 refusal-returned old new command JournalLong own (inl memory) = absurd (cc memory)
 refusal-returned old new command CountFull own (inl memory) = absurd (cc memory)

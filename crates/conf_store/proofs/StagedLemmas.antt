@@ -12,6 +12,7 @@ use Rattle.conf_journal.specs.Store.{store_limit, file_with_bytes}
 use Rattle.conf_state.specs.Commands.{Command}
 use Rattle.conf_state.specs.States.{Contents}
 use Rattle.conf_state.specs.Steps.{step, after}
+use Rattle.conf_state.specs.declared.room.Room.TheVariants.{Enough}
 use Rattle.conf_record.specs.Documents.{IsRecord, IsBase}
 use Rattle.conf_store.specs.Meaning.{FileMeans}
 use Rattle.conf_store.specs.Staged.{Staged, staged_length, with_more, slice_limit, next_slice, after_slice}
@@ -52,7 +53,7 @@ text-same old new (Some staged) same = ap (option_map (λ (start : List ℕ). st
 
 -- a command more
 pub staging-more : (old new : Folder) (s end : Contents) (command : Command) (more : List ℕ) (staged : Option Staged) → bytes_under new Next ≡ bytes_under old Next → ClosesOnce more
-    → IsRecord more command (s.count + 1) → step s command true ≡ Ok end → IsStaging old s staged → IsStaging new end (with_more more staged)
+    → IsRecord more command (s.count + 1) → step s command Enough ≡ Ok end → IsStaging old s staged → IsStaging new end (with_more more staged)
 staging-more old new s end command more None same closes reads done is = tt
 staging-more old new s end command more (Some staged) same closes reads done is = record {
   start = is.start;

@@ -1,26 +1,31 @@
 -- What an open store keeps on its disk, and what a crash during its calls leaves.
 use Rattle.std.proofs.Common.{◌≡◌, ◌⊎◌, inl, ⊎_elim, refl, sym, ◌∙◌, ap, subst, arith, ◌≤◌, length-append}
-use Rattle.std.specs.Prelude.{ℕ, true, false, ◌+◌, Bool, nat_le, List, [], ◌∷◌, ◌++◌, length, Option, Some, option_map, Ok, Err}
+use Rattle.std.specs.Prelude.{ℕ, true, false, ◌+◌, ◌&&◌, min, Bool, nat_le, nat_lt, if◌then◌else◌, List, [], ◌∷◌, ◌++◌, length, Option, Some, option_map, Ok, Err}
 use Rattle.std.proofs.lemmas.Bool.{false≢true}
 use Rattle.yaml_grammar.specs.Closings.{ClosesOnce}
+use Rattle.yaml_grammar.specs.Texts.{byte_len}
+use Rattle.yaml_writer.proofs.ByteLemmas.{byte_len-encoded}
 use Rattle.conf_disk.specs.Folder.{Folder, with_pending}
 use Rattle.conf_disk.specs.Image.{Image, IsImage, synced_file}
-use Rattle.conf_disk.specs.Moments.{LeavesOnly}
+use Rattle.conf_disk.specs.Moments.{LeavesOnly, greatest}
 use Rattle.conf_disk.proofs.Moments.{LeavesOnly-start, LeavesOnly-weaker}
 use Rattle.conf_journal.specs.Held.{HoldsStore, IsLeftOf, HeldIsLeft, SyncedIsLeft}
 use Rattle.conf_journal.specs.Store.{IsStoreOf, store_limit}
-use Rattle.conf_state.specs.Commands.{Command}
+use Rattle.conf_state.specs.Commands.{Command, single, batch, is_batch}
 use Rattle.conf_state.specs.States.{Contents, count_limit}
 use Rattle.conf_state.specs.Limits.{IsState}
+use Rattle.conf_state.specs.Rooms.{record_limit, room_of}
 use Rattle.conf_state.specs.Steps.{step, after}
+use Rattle.conf_state.specs.declared.room.Room.{Room}
+use Rattle.conf_state.specs.declared.room.Room.TheVariants.{Enough, LongRecord, Missing}
 use Rattle.conf_record.specs.Documents.{IsRecord, IsBase, BasesAreRead, BasesClose, BasesFit, RecordsAreRead, RecordsClose, RecordsTear}
 use Rattle.conf_state.specs.BaseTexts.{base_bytes}
-use Rattle.conf_record.specs.Records.{record_bytes}
+use Rattle.conf_record.specs.Records.{FitsRecord, record_text, record_bytes}
 use Rattle.conf_record.specs.RecordsRead.{IsCommand}
 use Rattle.std.proofs.lemmas.Bool.Decides.{nat_tests}
 use Rattle.conf_state.specs.declared.fault.StoreFault.{StoreFault}
 use Rattle.conf_store.specs.Accepting.{IsAccepted, IsBaseOf}
-use Rattle.conf_store.specs.Calls.{next_number, next_record, has_room, outcome}
+use Rattle.conf_store.specs.Calls.{next_number, next_record, room_for, outcome}
 use Rattle.conf_store.proofs.StepLemmas.{StepsNeedRoom, StepsCount, accepted-anyway, accepted-number}
 use Rattle.conf_store.specs.Meaning.{FileMeans}
 use Rattle.conf_store.specs.Durable.{IsJournal, HasFlushed, IsHeld, IsDurable, AllImagesMean, AfterPrefix}
@@ -79,35 +84,80 @@ or-means moment left old new flushed end since leaves =
 
 -- ---- a command that is accepted
 
-room-is : (size : ℕ) (s : Contents) (command : Command) (fits : Bool) (bytes : List ℕ) → fits ≡ nat_le (size + length bytes) store_limit → bytes ≡ next_record s command
-    → fits ≡ has_room size s command
-room-is size s command fits bytes room is = room ∙ ap (λ b. nat_le (size + length b) store_limit) is
-
--- a command that is refused has that outcome
-pub refused-outcome : (size : ℕ) (s : Contents) (command : Command) (fits : Bool) (bytes : List ℕ) (fault : StoreFault)
-    → fits ≡ nat_le (size + length bytes) store_limit → bytes ≡ next_record s command → step s command fits ≡ Err fault → outcome size s command ≡ Err fault
-refused-outcome size s command fits bytes fault room is refused = ap (step s command) (sym (room-is size s command fits bytes room is)) ∙ refused
-
 within : (n : ℕ) → nat_le n store_limit ≡ true → n ≤ store_limit
 within n e = grind (arith, nat_tests)
 
+not-less : {n : ℕ} → nat_lt record_limit n ≡ false → n ≤ record_limit
+not-less {n} e = grind (arith, nat_tests)
+
+-- a length that is cut off at the greatest number leaves the same room
+room-cut : (is : Bool) (bytes size : ℕ) → room_of is (min bytes greatest) size store_limit ≡ room_of is bytes size store_limit
+room-cut is bytes size =
+    ap (λ long. if is && long then LongRecord else if nat_le (size + min bytes greatest) store_limit then Enough else Missing) record-cut
+    ∙ ap (λ enough. if is && nat_lt record_limit bytes then LongRecord else if enough then Enough else Missing) file-cut
+  where
+    record-cut : nat_lt record_limit (min bytes greatest) ≡ nat_lt record_limit bytes
+    record-cut = grind (arith, nat_tests)
+    file-cut : nat_le (size + min bytes greatest) store_limit ≡ nat_le (size + bytes) store_limit
+    file-cut = grind (arith, nat_tests)
+
+-- the room for a record whose length was measured
+pub room-measured : (size : ℕ) (s : Contents) (command : Command) (room : Room) (bytes longest : ℕ) → room ≡ room_of (is_batch command) bytes longest store_limit → longest ≡ size
+    → bytes ≡ min (byte_len (record_text command (next_number s))) greatest → room ≡ room_for size s command
+unfolding record_bytes
+room-measured size s command room bytes longest is same measured =
+    is
+    ∙ ap (λ n. room_of (is_batch command) bytes n store_limit) same
+    ∙ ap (λ n. room_of (is_batch command) n size store_limit) measured
+    ∙ room-cut (is_batch command) (byte_len (record_text command (next_number s))) size
+    ∙ ap (λ n. room_of (is_batch command) n size store_limit) (byte_len-encoded (record_text command (next_number s)))
+
+-- where there is room, the file with the record is within its limit, and so is the record of a batch
+room-fits : (is : Bool) (bytes size : ℕ) → room_of is bytes size store_limit ≡ Enough → (size + bytes ≤ store_limit) × (is ≡ true → bytes ≤ record_limit)
+room-fits is bytes size e = by is (nat_lt record_limit bytes) refl (nat_le (size + bytes) store_limit) refl e
+  where
+    by : (is long : Bool) → nat_lt record_limit bytes ≡ long → (short : Bool) → nat_le (size + bytes) store_limit ≡ short
+        → (if is && long then LongRecord else if short then Enough else Missing) ≡ Enough → (size + bytes ≤ store_limit) × (is ≡ true → bytes ≤ record_limit)
+    by true true l short h e = absurd (cc e)
+    by true false l false h e = absurd (cc e)
+    by false long l false h e = absurd (cc e)
+    by true false l true h e = (within (size + bytes) h, λ is. not-less l)
+    by false long l true h e = (within (size + bytes) h, λ is. absurd (false≢true is))
+
+-- the record of a batch that has room is read again
+fits-record : (command : Command) (number : ℕ) → (is_batch command ≡ true → length (record_bytes command number) ≤ record_limit) → FitsRecord command number
+unfolding record_bytes
+fits-record (single edit) number short = tt
+fits-record (batch edits) number short =
+    let same = byte_len-encoded (record_text (batch edits) number) in
+    let most = short refl in
+    omega (arith, same, most)
+
+-- a command that is refused has that outcome
+pub refused-outcome : (size : ℕ) (s : Contents) (command : Command) (room : Room) (fault : StoreFault)
+    → room ≡ room_for size s command → step s command room ≡ Err fault → outcome size s command ≡ Err fault
+refused-outcome size s command room fault is refused = ap (step s command) (sym is) ∙ refused
+
 -- a command whose step succeeds is accepted, and its record is as the definitions say
-pub accepted : StepsNeedRoom → StepsCount → RecordsAreRead → RecordsClose → (s new : Contents) (command : Command) (fits : Bool) (bytes : List ℕ) (size : ℕ) → IsState s → IsState new → IsCommand command
-    → step s command fits ≡ Ok new → bytes ≡ next_record s command → fits ≡ nat_le (size + length bytes) store_limit → IsAccepted s command new size bytes
-accepted need_room counts are_read close s new command fits bytes size kept kept_new is_command done is room =
-    let number : next_number s ≡ s.count + 1 = accepted-number counts s new command fits done kept_new in
+pub accepted : StepsNeedRoom → StepsCount → RecordsAreRead → RecordsClose → (s new : Contents) (command : Command) (room : Room) (bytes : List ℕ) (size : ℕ) → IsState s → IsState new
+    → (room ≡ Enough → IsCommand command × (bytes ≡ next_record s command)) → step s command room ≡ Ok new → room ≡ room_for size s command → IsAccepted s command new size bytes
+accepted need_room counts are_read close s new command room bytes size kept kept_new made done is_room =
+    let enough = need_room s new command room done in
+    let is = (made enough).1 in
+    let fits = room-fits (is_batch command) (length (next_record s command)) size (sym is_room ∙ enough) in
+    let number : next_number s ≡ s.count + 1 = accepted-number counts s new command room done kept_new in
     let small : next_number s ≤ count_limit = omega arith in
-    let one = are_read s new command fits (next_number s) kept is_command done small in
+    let one = are_read s new command room (next_number s) kept (made enough).0 done small (fits-record command (next_number s) fits.1) in
     record {
-      outcome = ap (step s command) (sym (room-is size s command fits bytes room is)) ∙ done;
-      done = accepted-anyway need_room s new command fits done;
+      outcome = ap (step s command) (sym is_room) ∙ done;
+      done = accepted-anyway need_room s new command room done;
       kept = kept_new;
-      count = counts s new command fits done;
+      count = counts s new command room done;
       number = number;
       is = is;
       closes = subst ClosesOnce (sym is) (close command (next_number s));
       reads = subst (IsRecord bytes command) number (subst (λ b. IsRecord b command (next_number s)) (sym is) one);
-      short = within (size + length bytes) (sym room ∙ need_room s new command fits done);
+      short = (let short = fits.0 in omega (arith, short, ap length is));
     }
 
 -- its record, as the definitions number it

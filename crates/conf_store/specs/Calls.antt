@@ -1,16 +1,18 @@
 -- What the calls of an open store return, and how they change it.
-use Rattle.std.specs.Prelude.{◌≡◌, ◌⊎◌, ℕ, ◌+◌, ◌<◌, ◌≤◌, min, max, Bool, false, nat_le, if◌then◌else◌, List, length, Result, Ok, Err}
+use Rattle.std.specs.Prelude.{◌≡◌, ◌⊎◌, ℕ, ◌+◌, ◌<◌, ◌≤◌, min, max, false, if◌then◌else◌, List, length, Result, Ok, Err}
 use Rattle.conf_disk.specs.Moments.{greatest}
 use Rattle.conf_journal.specs.Store.{store_limit}
-use Rattle.conf_state.specs.Commands.{Command}
+use Rattle.conf_state.specs.Commands.{Command, is_batch}
 use Rattle.conf_state.specs.States.{Contents, config_named, count_limit}
 use Rattle.yaml_grammar.specs.Trees.{Tree}
 use Rattle.yaml_grammar.specs.Style.{style_text}
 use Rattle.tree_path.specs.Paths.{at}
 use Rattle.conf_state.specs.Names.{good_name}
+use Rattle.conf_state.specs.Rooms.{room_of}
 use Rattle.conf_state.specs.Steps.{step, and_then, found, by_path}
 use Rattle.conf_state.specs.declared.fault.StoreFault.{StoreFault}
 use Rattle.conf_state.specs.declared.fault.StoreFault.TheVariants.{BadName, Reopen, Device, OutOfMemory}
+use Rattle.conf_state.specs.declared.room.Room.{Room}
 use Rattle.conf_record.specs.Records.{record_bytes}
 use Rattle.conf_store.specs.Staged.{staged_length, with_more}
 use Rattle.conf_store.specs.View.{StoreView}
@@ -29,13 +31,13 @@ abbrev pub RecordsAreMeasured : Type 0
 RecordsAreMeasured = (s : Contents) (command : Command) → s.count ≤ count_limit
     → length (next_record s command) ≡ length (record_bytes command (s.count + 1))
 
--- whether a `store.yaml` of `size` bytes has room for the command's record
-abbrev pub has_room : ℕ → Contents → Command → Bool
-has_room size s command = nat_le (size + length (next_record s command)) store_limit
+-- the room for the command's record in a `store.yaml` of `size` bytes
+abbrev pub room_for : ℕ → Contents → Command → Room
+room_for size s command = room_of (is_batch command) (length (next_record s command)) size store_limit
 
 -- the state after the command, or the first refusal that holds
 abbrev pub outcome : ℕ → Contents → Command → Result Contents StoreFault
-outcome size s command = step s command (has_room size s command)
+outcome size s command = step s command (room_for size s command)
 
 -- The length that JournalLong looks at: of `store.yaml`, or of the new file of a running checkpoint, if that is longer.
 abbrev pub journal_length : {D : Type 0} → StoreView D → ℕ

@@ -1,4 +1,6 @@
 pub mod Meaning
+pub mod First
+pub mod OldStores
 pub mod Staged
 pub mod Durable
 pub mod Grown

@@ -1,23 +1,27 @@
 // Performing a command on the state, and making its record, before anything is written to the disk.
-ghost use Rattle.std.specs.Prelude.{◌≡◌, ◌⊎◌, ◌≤◌, max, IfOk, IfErr, OnErr, Err, string_bytes};
+ghost use Rattle.std.specs.Prelude.{◌≡◌, ◌⊎◌, ◌≤◌, max, min, IfOk, IfErr, OnErr, Err, string_bytes};
+ghost use Rattle.yaml_grammar.specs.Texts.{byte_len};
 ghost use Rattle.conf_journal.specs.Store.{store_limit};
 ghost use Rattle.conf_state.specs.Commands.{command_of};
+ghost use Rattle.conf_record.specs.Records.{record_bytes};
+ghost use Rattle.conf_record.specs.RecordsRead.{IsCommand};
 ghost use Rattle.conf_store.specs.Accepting.{IsAccepted, IsOfState};
 ghost use Rattle.conf_store.specs.Calls.{outcome};
 ghost use Rattle.conf_store.specs.Staged.{staged_length, with_more};
 
 use crate::staging::Staging;
 use conf_journal::STORE_LIMIT;
-use conf_record::{documents_are_read, documents_close, record_text};
+use conf_record::{documents_are_read, documents_close, record_length, record_of_length};
 use conf_state::{Command, Room, State, StoreFault, step, steps_are_counted_or_refused};
-use std::alloc::Global;
+use std::alloc::{AllocError, Global};
 
 /// Performs a command on the state of a store whose file has `size` bytes, and adds its record to the new file of a
 /// running checkpoint. Returns the command's record and the new count.
 ///
 /// # Errors
-/// The first refusal of the command by the state, as [`step`] returns it, and `OutOfMemory`. It is `JournalLong` if one
-/// of the two files would be longer than [`STORE_LIMIT`] with the record. The state and the new file are unchanged.
+/// The first refusal of the command by the state, as [`step`] returns it, and `OutOfMemory`. It is `RecordLong` if the
+/// record of a batch is too long, and `JournalLong` if one of the two files would be longer than [`STORE_LIMIT`] with
+/// the record. The state and the new file are unchanged.
 pub fn accept(
     alloc: Global,
     state: &mut State,
@@ -45,9 +49,10 @@ pub fn accept(
     steps_are_counted_or_refused();
     // At the greatest count the record is only measured: the command is refused.
     let number = state.count().saturating_add(1);
-    let record = record_text(alloc, &command, number)?;
+    let bytes = record_length(&command, number);
     let longest = size.max(staging.len() as u64);
-    let room = Room::within(STORE_LIMIT, longest + record.len() as u64);
+    let room = Room::of(&command, bytes, longest, STORE_LIMIT);
+    let record = record_within(alloc, &command, number, bytes, room)?;
     // Its memory is taken before the state changes.
     staging.push(record.as_bytes())?;
     match step(alloc, state, command, room) {
@@ -57,4 +62,21 @@ pub fn accept(
             Err(fault)
         }
     }
+}
+
+/// The record of a command, which has so many bytes. Without room for it none is made, and this is an empty text.
+fn record_within(
+    alloc: Global,
+    command: &Command,
+    number: u64,
+    bytes: u64,
+    room: Room,
+) -> Result<String, AllocError>
+    ensures { IfOk result (λ text. room ≡ Room.Enough → IsCommand (command_of command.now)
+        × (string_bytes text ≡ record_bytes (command_of command.now) number)) }
+{
+    if !room.is_enough() {
+        return Ok(String::new(alloc));
+    }
+    record_of_length(alloc, command, number, bytes)
 }

@@ -2,6 +2,7 @@
 ghost use Rattle.conf_store.specs.Calls.{RecordsAreMeasured};
 ghost use Rattle.conf_store.specs.Durable.{OneFlushed, NothingWaits};
 ghost use Rattle.conf_store.specs.Lives.{LivesHold};
+ghost use Rattle.conf_store.specs.OldStores.{OldStoresRead};
 ghost use Rattle.conf_store.specs.Opens.{OneMeaning, RefusedMeansNothing, RecoveredIsMeant};
 
 use conf_record::{documents_are_read, documents_close};
@@ -64,4 +65,11 @@ pub fn bytes_mean_one_state()
 /// numbers have 20 digits.
 pub fn records_are_measured()
     ensures { RecordsAreMeasured }
+{}
+
+/// Where bytes mean a state as a file of the first format, `confstore-1`, they mean the same state now. So a store that
+/// an earlier version wrote opens, with what it held. That format had smaller limits and no batches; its meaning stands
+/// on a page of definitions of its own (`specs/First.antt`), which never changes.
+pub fn old_stores_read()
+    ensures { OldStoresRead }
 {}

@@ -31,7 +31,9 @@ mod store;
 
 pub use fault::OpenFault;
 pub use importing::import_command;
-pub use laws::{bytes_mean_one_state, lives_hold, one_state_is_flushed, records_are_measured};
+pub use laws::{
+    bytes_mean_one_state, lives_hold, old_stores_read, one_state_is_flushed, records_are_measured,
+};
 pub use reading::read_state;
 pub use recovery::Opened;
 pub use slicing::Progress;

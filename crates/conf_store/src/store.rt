@@ -336,13 +336,14 @@ impl<D: Disk> Store<D> {
     /// [`flush`](Store::flush). Returns the new count, which is one more than before. Commands that waited are
     /// acknowledged with it.
     ///
-    /// The cost depends on the edit and its record, and not on the size of the store.
+    /// A batch is one command, with one record: a crash leaves all of its edits or none. The cost depends on the edits
+    /// and the record, and not on the size of the store.
     ///
     /// # Errors
     /// `Reopen` if the store has to be opened again. Otherwise the first refusal of the command by the state, in the
-    /// order of [`StoreFault`]. It is `JournalLong` if `store.yaml`, or the new file of a running checkpoint, would be
-    /// longer than 1,073,741,824 bytes. These, and `OutOfMemory`, leave the store and the disk as they were, so what
-    /// waited still waits. `Device`: the state is the one after the command, its record may be on the disk or not, and
+    /// order of [`StoreFault`]. It is `RecordLong` if the record of a batch would be longer than 67,108,864 bytes, and
+    /// `JournalLong` if `store.yaml`, or the new file of a running checkpoint, would be longer than 1,073,741,824 bytes.
+    /// These, and `OutOfMemory`, leave the store and the disk as they were, so what waited still waits. `Device`: the state is the one after the command, its record may be on the disk or not, and
     /// the store has to be opened again.
     pub fn apply(&mut self, command: Command) -> Result<u64, StoreFault>
         ensures reopen { IsErrOf result StoreFault.Reopen ↔ (self.old.reopen ≡ true) }

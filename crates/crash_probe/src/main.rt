@@ -10,6 +10,8 @@
 //!   leaves then, each of which is opened, and how many more after each of their openings was cut off.
 //! - `waiting;CALLS`: three commands are submitted and then flushed, over a disk that stops after so many calls. The
 //!   answer is how many of the images that a crash leaves have how many of the commands.
+//! - `batch;CALLS`: a batch of three edits is applied over a disk that stops after so many calls. The answer is how many
+//!   of the images that a crash leaves have none of the edits, and how many have all of them.
 //! - `lists;LENGTH`: each list of so many calls, which are submit, flush, slice (a checkpoint begins if none runs),
 //!   checkpoint, apply, and close and open. It is stopped after each disk call of its last call, and what a crash leaves
 //!   is cut at the ends of records and beside them. Each image is opened, and its store goes on. The answer is how many
@@ -25,6 +27,7 @@
 //!   input is a part of one command.
 #![tactic(auto)]
 
+mod batches;
 mod crashes;
 mod cuts;
 mod device;

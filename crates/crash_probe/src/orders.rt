@@ -1,4 +1,5 @@
 // Orders on crashes and sessions, and their answers.
+use crate::batches::batch;
 use crate::crashes::crash;
 use crate::cuts::each;
 use crate::list_stages::Openings;
@@ -24,6 +25,7 @@ fn answer(alloc: Global, order: &str) -> Result<String, AllocError> {
     match order.split_once(';') {
         Some(("crash", calls)) => crash(alloc, number_of(calls)),
         Some(("waiting", calls)) => waiting(alloc, number_of(calls)),
+        Some(("batch", calls)) => batch(alloc, number_of(calls)),
         Some(("lists", length)) => lists(alloc, number_of(length), Openings::Whole),
         Some(("lists again", length)) => lists(alloc, number_of(length), Openings::CutOff),
         Some(("device", words)) => device_of(alloc, words),

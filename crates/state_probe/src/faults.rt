@@ -16,6 +16,7 @@ pub(crate) fn store_fault(alloc: Global, name: &str) -> Result<String, AllocErro
 /// The fault that a word names. `Path` and `Read` are named with what they hold.
 fn fault_named(name: &str) -> Option<StoreFault> {
     match name {
+        "EmptyBatch" => Some(StoreFault::EmptyBatch),
         "BadName" => Some(StoreFault::BadName),
         "NoConfig" => Some(StoreFault::NoConfig),
         "Path(NoSuchPlace)" => Some(StoreFault::Path(PathFault::NoSuchPlace { step: 2 })),
@@ -23,6 +24,7 @@ fn fault_named(name: &str) -> Option<StoreFault> {
         "TooDeep" => Some(StoreFault::TooDeep),
         "ConfigLarge" => Some(StoreFault::ConfigLarge),
         "StoreFull" => Some(StoreFault::StoreFull),
+        "RecordLong" => Some(StoreFault::RecordLong),
         "JournalLong" => Some(StoreFault::JournalLong),
         "CountFull" => Some(StoreFault::CountFull),
         "Reopen" => Some(StoreFault::Reopen),

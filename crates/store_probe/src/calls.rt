@@ -2,7 +2,7 @@
 use crate::groups::{begin, flush, running, slice, slices, submit};
 use crate::rounds::round_of;
 use crate::sessions::{copies, failing, parts, roomy};
-use crate::store_commands::{delete, set};
+use crate::store_commands::{batch, delete, set};
 use conf_state::{Command, StoreFault};
 use conf_store::Store;
 use probe_words::{meant, measured, no_order, number_of};
@@ -28,6 +28,7 @@ pub(crate) fn call(
         ["import", name, text] => import(alloc, store, name, text),
         ["set", name, path, value] => apply(alloc, store, set(alloc, name, path, value)),
         ["delete", name, path] => apply(alloc, store, delete(alloc, name, path)),
+        ["batch", edits @ ..] => apply(alloc, store, batch(alloc, edits)),
         ["submit", client, words @ ..] => submit(alloc, store, number_of(client), words),
         ["flush"] => flush(alloc, store),
         ["begin"] => begin(alloc, store),

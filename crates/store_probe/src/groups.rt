@@ -1,6 +1,6 @@
 // Commands that wait for a flush, and checkpoints in slices.
 use crate::calls::{FusedStore, counted, done};
-use crate::store_commands::{delete, import, set};
+use crate::store_commands::{batch, delete, import, set};
 use conf_state::{Command, StoreFault};
 use conf_store::Progress;
 use probe_words::no_order;
@@ -25,6 +25,7 @@ pub(crate) fn submit(
             set(alloc, name, path, value),
         ),
         ["delete", name, path] => submitted(alloc, store, client, delete(alloc, name, path)),
+        ["batch", edits @ ..] => submitted(alloc, store, client, batch(alloc, edits)),
         _ => no_order(alloc),
     }
 }

@@ -16,6 +16,7 @@
 //! On the open store:
 //!
 //! - `import;NAME;TEXT`, `set;NAME;PATH;TREE` and `delete;NAME;PATH`: the count after it, or why it is refused.
+//! - `batch;EDIT;EDIT;..`: the same of a batch of edits. An `EDIT` is such an order with `|` in place of each `;`.
 //! - `submit;CLIENT;` before such a command: submits it for the client of this number, without a sync. The answer is the
 //!   same.
 //! - `flush`: syncs what was submitted. The answer is `done`, or why it is refused.

@@ -5,8 +5,8 @@ pub returns-clause-bases : goal.returns-clause-bases
 returns-clause-bases c = λ s kept. base_is s s (c.records_read.ensures.base s kept)
 
 pub returns-clause-records : goal.returns-clause-records
-returns-clause-records c = λ s new command fits number kept is done small.
-    record_is command command number number (c.records_read.ensures.record s new command fits number kept is done small)
+returns-clause-records c = λ s new command room number kept is done small fits.
+    record_is command command number number (c.records_read.ensures.record s new command room number kept is done small fits)
 
 pub returns-clause-one_base : goal.returns-clause-one_base
 returns-clause-one_base c = one_base c.bytes_give_one.ensures

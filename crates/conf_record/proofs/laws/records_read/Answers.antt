@@ -5,7 +5,7 @@ use Rattle.yaml_recognizers.specs.StyleLaws.{FramedReads}
 use Rattle.yaml_config.specs.Kept.{own_limits}
 use Rattle.conf_state.specs.BaseTexts.{base_tree, base_text, closed_document}
 use Rattle.conf_state.specs.Commands.{Command}
-use Rattle.conf_record.specs.Records.{record_tree, record_text}
+use Rattle.conf_record.specs.Records.{record_tree, record_text, FitsRecord}
 use Rattle.conf_record.specs.RecordsRead.{record_of, base_of, IsCommand, ReadsRecord}
 use Rattle.conf_record.specs.SmallCommands.{IsSmallCommand}
 use Rattle.conf_state.specs.States.{count_limit}
@@ -41,12 +41,12 @@ returns-clause-one_base c = λ s other kept reads.
     some_same s other (sym (base_tells s kept.numbered) ∙ ap base_of same ∙ reads.tells)
 
 -- the record of a small command is read back
-small_reads : FramedReads → (command : Command) (number : ℕ) → IsCommand command → IsSmallCommand command → number ≤ count_limit
+small_reads : FramedReads → (command : Command) (number : ℕ) → IsCommand command → IsSmallCommand command → number ≤ count_limit → FitsRecord command number
     → ReadsRecord (record_text command number) command number
 unfolding record_text
-small_reads reads command number is ok numbered = record {
+small_reads reads command number is ok numbered fits = record {
   tree = record_tree command number;
-  gives = document_gives reads (record_tree command number) (record_good command number is ok numbered);
+  gives = document_gives reads (record_tree command number) (record_good command number is ok numbered fits);
   tells = record_tells command number ok numbered;
 }
 
@@ -54,13 +54,13 @@ pub returns-clause-small : goal.returns-clause-small
 returns-clause-small c = small_reads c.style_reads.ensures.framed
 
 pub returns-clause-record : goal.returns-clause-record
-returns-clause-record c = λ s new command fits number kept is done numbered.
-    small_reads c.style_reads.ensures.framed command number is (accepted s new command fits kept done) numbered
+returns-clause-record c = λ s new command room number kept is done numbered fits.
+    small_reads c.style_reads.ensures.framed command number is (accepted s new command room kept done) numbered fits
 
 pub returns-clause-one_record : goal.returns-clause-one_record
 unfolding record_text
-returns-clause-one_record c = λ s new command other fits number read kept is done numbered reads.
-    let ok = accepted s new command fits kept done in
-    let own = document_gives c.style_reads.ensures.framed (record_tree command number) (record_good command number is ok numbered) in
+returns-clause-one_record c = λ s new command other room number read kept is done numbered fits reads.
+    let ok = accepted s new command room kept done in
+    let own = document_gives c.style_reads.ensures.framed (record_tree command number) (record_good command number is ok numbered fits) in
     let same = c.one_tree.ensures (closed_document (record_tree command number)) own_limits own_limits (record_tree command number) reads.tree own reads.gives in
     pair_same (command, number) (other, read) (sym (record_tells command number ok numbered) ∙ ap record_of same ∙ reads.tells)

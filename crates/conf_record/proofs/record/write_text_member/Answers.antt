@@ -4,5 +4,5 @@ use Rattle.conf_record.proofs.record.write_text_member.Goals as goal
 pub returns : goal.returns
 returns g c =
     on_ok_weaker c.write_text.result
-    (λ written. g.met.S.Sink.takes_both _ _ _ _ _ c.in_ok-write_key.ensures written)
+    (λ written. g.met.S.Sink.takes_both _ _ _ _ _ c.in_ok-put_text.ensures written)
     c.write_text.ensures

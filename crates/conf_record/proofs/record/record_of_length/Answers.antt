@@ -2,7 +2,7 @@ use Rattle.std.proofs.Common.{◌++◌, string_bytes, encode_utf8_all, ap, sym, 
 use Rattle.std.proofs.lemmas.Str.{chars_from_encodes, IsUtf8-string_bytes}
 use Rattle.conf_state.specs.Commands.{command_of}
 use Rattle.conf_record.specs.Records.{record_text, record_bytes}
-use Rattle.conf_record.proofs.record.record_text.Goals as goal
+use Rattle.conf_record.proofs.record.record_of_length.Goals as goal
 
 pub returns-clause-text : goal.returns-clause-text
 returns-clause-text c =

@@ -1,0 +1,8 @@
+use Rattle.std.proofs.Common.{subst}
+use Rattle.yaml_data.specs.Seen.{elements_of}
+use Rattle.conf_record.specs.Reading.{AreKept}
+use Rattle.conf_record.proofs.PieceLemmas.{items_kept}
+use Rattle.conf_record.proofs.command_reader.batch_from.Goals as goal
+
+pub edits_from-requires : goal.edits_from-requires
+edits_from-requires c = items_kept (elements_of c.in-Some.items.items) (subst AreKept c.in-Some.ensures c.requires.kept).0

@@ -1,0 +1,13 @@
+use Rattle.std.proofs.Common.{drop, map}
+use Rattle.yaml_grammar.specs.Style.{elements_after}
+use Rattle.conf_state.specs.Commands.{edit_of}
+use Rattle.conf_record.specs.Records.{edit_elements}
+use Rattle.conf_record.specs.RecordsRead.{AreEdits}
+use Rattle.conf_record.proofs.record.write_batch.Given as goal
+
+-- what ends the edits from here ends them all from the start
+abbrev pub invariant-loop-edit : goal.invariant-loop-edit
+invariant-loop-edit g l =
+    ((end : _) → g.S.Sink.Takes l.sink (elements_after (edit_elements (map edit_of (drop l.edit-index l.edits))) 2) end
+    → g.S.Sink.Takes l.initial.sink (elements_after (edit_elements (map edit_of l.edits)) 2) end)
+    × (AreEdits (map edit_of (drop l.edit-index l.edits)) → AreEdits (map edit_of l.edits))
