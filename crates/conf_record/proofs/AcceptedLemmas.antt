@@ -12,7 +12,7 @@ use Rattle.conf_state.specs.Commands.{Edit, import_as, set_at, delete_at, Comman
 use Rattle.conf_state.specs.States.{Entry, Contents, config_named, put_config, cut_config}
 use Rattle.yaml_config.specs.Limits.{config_limits}
 use Rattle.conf_state.specs.Limits.{AreConfigs, IsState}
-use Rattle.conf_state.specs.Steps.{and_then, found, by_path, checked_tree, with_checked_config, configs_after_delete, configs_after, edited, all_edited, performed, next_state, step}
+use Rattle.conf_state.specs.Steps.{found, by_path, checked_tree, with_checked_config, configs_after_delete, configs_after, edited, all_edited, performed, next_state, step}
 use Rattle.conf_state.specs.declared.fault.StoreFault.TheVariants.{BadName, Path, TooDeep, ConfigLarge}
 use Rattle.conf_state.specs.declared.room.Room.{Room}
 use Rattle.conf_record.specs.SmallCommands.{IsSmallTree, IsShortPath, IsSmallEdit, AreSmallEdits, IsSmallCommand}

@@ -8,14 +8,14 @@ use Rattle.std.specs.List.{list_all}
 use Rattle.std.specs.Str.{chars}
 use Rattle.std.specs.Str.Parse.{digits_value}
 use Rattle.yaml_chars.specs.Signs.{tilde, line_feed, space_char, double_quote}
-use Rattle.yaml_grammar.specs.Style.{plain_in_style, literal_in_style, feeds_at_end, literal_mark, literal_lines, quoted_chars, in_double_quotes, scalar_lines, value_at, members_after, style_text}
+use Rattle.yaml_grammar.specs.Style.{plain_in_style, literal_in_style, feeds_at_end, literal_mark, literal_lines, quoted_chars, in_double_quotes, scalar_lines, value_at, members_after}
 use Rattle.yaml_grammar.specs.Texts.{IsText, byte_len, first, same_text}
 use Rattle.yaml_grammar.specs.Trees.{Tree, text, Members, no_member, member}
 use Rattle.yaml_writer.specs.declared.scalar_style.ScalarStyle.{ScalarStyle}
 use Rattle.yaml_writer.specs.declared.scalar_style.ScalarStyle.TheVariants.{Plain, Double, LiteralStrip, LiteralClip, LiteralKeep}
 use Rattle.yaml_writer.specs.Runs.{stands_alone}
 use Rattle.yaml_writer.specs.ScalarStyles.{value_style, literal_style}
-use Rattle.yaml_writer.specs.Sizes.{indented_literal_lines, indented_scalar_lines, element_size}
+use Rattle.yaml_writer.specs.Sizes.{indented_literal_lines, element_size}
 use Rattle.yaml_writer.specs.declared.size.Size.{Size}
 use Rattle.yaml_writer.proofs.ByteLemmas.{byte_len-encoded}
 use Rattle.yaml_writer.proofs.QuotedLemmas.{stands_alone-below, quoted_chars-alone}

@@ -139,7 +139,8 @@ is_format mark = same_text mark (codes "confstore-1") || same_text mark (codes "
 
 abbrev pub contents_of : List Tree → Option Contents
 contents_of (text mark ∷ text digits ∷ mapping configs ∷ []) =
-    if is_format mark then option_map (λ number. record { configs = entries configs; count = number }) (number_from_digits digits)
+    if is_format mark
+    then option_map (λ number. record { configs = entries configs; count = number }) (number_from_digits digits)
     else None
 contents_of ts = None
 

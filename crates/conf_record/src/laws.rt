@@ -15,8 +15,8 @@ use yaml_recognizers::one_style::style_reads;
 
 /// The base text of a state reads as that state, and as no other. The record of a command that some state accepts
 /// reads as that command under its number, up to the greatest count, and as no other. It does so too where only the
-/// names and the paths are good and the parts are small, whatever the state (`small`). The record of a batch has to have
-/// at most 67,108,864 bytes. Each is read within the limits of a `Config`.
+/// names and the paths are good and the parts are small, whatever the state (`small`). The record of a batch has to
+/// have at most 67,108,864 bytes. Each is read within the limits of a `Config`.
 pub fn records_read()
     ensures base { (s : Contents) → IsState s → ReadsBase (base_text s) s }
     ensures one_base { (s other : Contents) → IsState s → ReadsBase (base_text s) other

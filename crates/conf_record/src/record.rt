@@ -20,11 +20,11 @@ use yaml_tree::{ByteCount, Config, Sink, write_text, write_value};
 const EDIT_INDENT: u64 = 4;
 
 /// The text of a command's record: an explicit document (YAML 1.2.2, 9.1.4). It is a line of `---`, a mapping in the
-/// one style and a line of `...`. The mapping holds, in this order, the number as decimal digits (`at`), and the members
-/// of the edit. These are the name (`import`, `set` or `delete`), the path of a set or a delete (`path`), and last the
-/// tree of an import (`tree`) or the value of a set (`value`). In place of them a batch has a sequence (`batch`), with a
-/// mapping of such members for each of its edits. It takes time linear in the text's length, and memory once, for the
-/// text. It fails only if memory runs out.
+/// one style and a line of `...`. The mapping holds the number as decimal digits (`at`), and then the members of the
+/// edit. These are, in this order, the name (`import`, `set` or `delete`), the path of a set or a delete (`path`), and
+/// the tree of an import (`tree`) or the value of a set (`value`). In place of them a batch has a sequence (`batch`),
+/// with a mapping of such members for each of its edits. It takes time linear in the text's length, and memory once, for
+/// the text. It fails only if memory runs out.
 ///
 /// [`records_read`](crate::records_read) says that the text reads as that command under that number, if some state
 /// accepts the command, and the record of a batch is not too long.

@@ -21,8 +21,9 @@ use std::alloc::{AllocError, Global};
 use std::str;
 use yaml_tree::{Config, Limits, ScalarStyle, Size, Text, Tree, value_style};
 
-/// The record of a single edit that the bytes are, if they are the very text that [`record_text`](crate::record_text) writes for it, and
-/// each text in it is on one line without an escape. `None` says nothing of the bytes. It fails only if memory runs out.
+/// The record of a single edit that the bytes are, if they are the very text that
+/// [`record_text`](crate::record_text) writes for it, and each text in it is on one line without an escape. `None` says
+/// nothing of the bytes. It fails only if memory runs out.
 pub(crate) fn written_record(
     alloc: Global,
     bytes: &[u8],

@@ -1,4 +1,4 @@
-use Rattle.std.proofs.Common.{◌≡◌, false, true, sym, ap, subst, ◌∙◌}
+use Rattle.std.proofs.Common.{◌≡◌, false, true, sym, ◌∙◌}
 use Rattle.std.proofs.lemmas.Result.{IfOk-weaker}
 use Rattle.yaml_data.specs.Seen.{members_of}
 use Rattle.conf_record.specs.RecordsRead.{keys_are, import_keys, set_keys, delete_keys}

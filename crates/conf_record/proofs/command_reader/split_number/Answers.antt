@@ -1,9 +1,9 @@
-use Rattle.std.proofs.Common.{◌≡◌, ◌∷◌, true, false, Some, None, ℕ, List, codes, length, vec_len, refl, sym, ap, ◌∙◌, arith}
+use Rattle.std.proofs.Common.{◌≡◌, ◌∷◌, codes, vec_len, refl, sym, ap, ◌∙◌, arith}
 use Rattle.std.proofs.lemmas.Bool.{eqb-true, eqb-false}
 use Rattle.std.specs.Str.{chars}
 use Rattle.yaml_grammar.specs.Texts.{same_text}
 use Rattle.yaml_grammar.specs.Trees.{mapping, member}
-use Rattle.yaml_data.specs.Seen.{Pair, tree_of, members_of}
+use Rattle.yaml_data.specs.Seen.{tree_of, members_of}
 use Rattle.yaml_data.specs.TextBytes.{text_bytes}
 use Rattle.yaml_data.proofs.SeenLemmas.{tree_of-Text, tree_of-Seq, tree_of-Map}
 use Rattle.conf_state.proofs.LineLemmas.{ascii}

@@ -1,12 +1,12 @@
-use Rattle.std.proofs.Common.{◌≡◌, ℕ, List, [], ◌∷◌, ◌+◌, ◌++◌, drop, length, map, codes, refl, sym, ap, subst, ◌∙◌, arith}
+use Rattle.std.proofs.Common.{◌≡◌, List, [], ◌∷◌, length, map, codes, refl, sym, subst, ◌∙◌, arith}
 use Rattle.std.proofs.lemmas.Bool.{eqb-true, eqb-false}
 use Rattle.std.proofs.lemmas.List.{drop_all}
 use Rattle.std.proofs.lemmas.Result.{on_ok_weaker}
-use Rattle.yaml_grammar.specs.Style.{elements_after, members_at}
+use Rattle.yaml_grammar.specs.Style.{elements_after}
 use Rattle.yaml_data.proofs.ListLemmas.{drop_item}
-use Rattle.conf_state.specs.Commands.{Edit, edit_of}
+use Rattle.conf_state.specs.Commands.{edit_of}
 use Rattle.conf_state.specs.declared.command.Edit as code
-use Rattle.conf_record.specs.Records.{edit_members, edit_elements}
+use Rattle.conf_record.specs.Records.{edit_elements}
 use Rattle.conf_record.specs.RecordsRead.{AreEdits}
 use Rattle.conf_state.proofs.LineLemmas.{ascii}
 use Rattle.conf_record.proofs.EditLines.{no_edit_lines, edit_lines}

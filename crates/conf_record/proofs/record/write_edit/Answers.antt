@@ -1,4 +1,4 @@
-use Rattle.std.proofs.Common.{string_bytes, subst, sym}
+use Rattle.std.proofs.Common.{subst, sym}
 use Rattle.std.proofs.lemmas.Result.{on_ok_weaker}
 use Rattle.std.specs.Str.{chars}
 use Rattle.yaml_grammar.specs.Style.{members_at}
