@@ -2,6 +2,7 @@
 use Rattle.std.proofs.Common.{◌≡◌, refl, sym, ◌∙◌, ap, arith, ◌≤◌, append_assoc}
 use Rattle.std.specs.Prelude.{ℕ, suc, List, [], ◌∷◌, ◌++◌, codes, Result, Ok, Err}
 use Rattle.std.specs.Str.{chars}
+use Rattle.std.specs.Str.Parse.{AllDigits}
 use Rattle.std.proofs.lemmas.List.{append-nil}
 use Rattle.yaml_grammar.specs.Trees.{Tree, text, sequence, Elements, no_element, element, depth, elements_depth}
 use Rattle.yaml_grammar.specs.Style.{key_lines, value_at}
@@ -13,8 +14,15 @@ use Rattle.yaml_data.specs.declared.tree.Tree as code
 use Rattle.yaml_data.proofs.SeenLemmas.{tree_of-Text, join_elements, elements_of-append}
 use Rattle.tree_path.specs.Paths.{at, at_from, at_step, child, refusal}
 use Rattle.tree_path.specs.declared.place.Miss.{Miss}
+use Rattle.yaml_config.specs.Kept.{own_limits}
 use Rattle.yaml_config.proofs.Located.{child-within}
+use Rattle.conf_state.specs.Limits.{IsState}
+use Rattle.conf_state.specs.States.{Contents}
+use Rattle.conf_state.proofs.BaseLemmas.{count_line}
+use Rattle.conf_state.proofs.RunLaws.{and_then-Ok}
+use Rattle.conf_store.specs.Calls.{tree_named, tree_at}
 use Rattle.conf_session.specs.Answers.{one, text_elements}
+use Rattle.conf_session.proofs.LengthLemmas.{by_path-Ok, tree_named-good}
 
 -- ---- the text of an answer
 
@@ -26,6 +34,16 @@ regroup a b c d =
 -- the text of a mapping with one pair between `---` and `...`, by its parts
 pub framed-one : (key : List ℕ) (t : Tree) → ((codes "---\n" ++ key_lines 0 key) ++ value_at t 0) ++ codes "...\n" ≡ framed_text (one key t)
 framed-one key t = regroup (codes "---\n") (key_lines 0 key) (value_at t 0) (codes "...\n")
+
+count_end : (ds : List ℕ) → ds ++ codes "\"\n...\n" ≡ ds ++ codes "\"" ++ codes "\n" ++ codes "...\n"
+count_end ds = sym (append_assoc (ds ++ codes "\"") (codes "\n") (codes "...\n") ∙ append_assoc ds (codes "\"") (codes "\n...\n"))
+
+-- the text of a count between its first line and its last, by its digits
+pub framed-count : (ds : List ℕ) → AllDigits 10 ds → codes "---\nok: \"" ++ ds ++ codes "\"\n...\n" ≡ framed_text (one (codes "ok") (text ds))
+framed-count ds all =
+    ap (λ cs. codes "---\nok: \"" ++ cs) (count_end ds)
+    ∙ ap (λ cs. codes "---\nok: " ++ (cs ++ codes "...\n")) (sym (count_line ds all))
+    ∙ framed-one (codes "ok") (text ds)
 
 -- ---- depths
 
@@ -43,9 +61,13 @@ at-within step t v (token ∷ tokens) e = by (child t token) (λ u. at-within (s
     by (Ok u) rest is e = let deeper = rest u e in let here = (child-within t u token is).1 in omega (arith, deeper, here)
     by (Err miss) rest is e = let never : Err (refusal miss step) ≡ Ok v = e in cc
 
--- a value in a tree keeps the tree's limit of depth
-pub value-shallow : (t v : Tree) (tokens : List (List ℕ)) → at t tokens ≡ Ok v → depth t ≤ 66 → depth v ≤ 66
-value-shallow t v tokens e deep = let within = at-within 1 t v tokens e in omega (arith, within, deep)
+-- a value in a configuration of a state is no deeper than what is written
+pub value-shallow : (s : Contents) (name : List ℕ) (tokens : List (List ℕ)) (v : Tree) → IsState s → tree_at s name tokens ≡ Ok v → depth v ≤ own_limits.depth
+value-shallow s name tokens v kept e =
+    let named = and_then-Ok (tree_named s name) _ v e in
+    let within = at-within 1 named.0 v tokens (by_path-Ok (at named.0 tokens) v named.2) in
+    let deep = (tree_named-good s name named.0 kept named.1).deep in
+    omega (arith, within, deep)
 
 -- ---- names that are put into a list one after the other
 
@@ -73,6 +95,6 @@ pub names-all : (names : List code.Tree) (left all : List (List ℕ)) → join_e
 names-all names left all are none =
     sym (join-none (elements_of names)) ∙ ap (λ l. join_elements (elements_of names) (text_elements l)) (sym none) ∙ are
 
--- the tree of all names keeps the limit of depth
-pub names-shallow : (t : Tree) (all : List (List ℕ)) → t ≡ sequence (text_elements all) → depth t ≤ 66
+-- the tree of all names is no deeper than what is written
+pub names-shallow : (t : Tree) (all : List (List ℕ)) → t ≡ sequence (text_elements all) → depth t ≤ own_limits.depth
 names-shallow t all is = let few = texts-shallow all in let same = ap depth is in omega (arith, few, same)

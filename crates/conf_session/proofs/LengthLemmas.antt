@@ -1,11 +1,12 @@
 -- How many bytes answers have: no more than a base.
-use Rattle.std.proofs.Common.{◌≡◌, refl, ◌∙◌, ap, arith, ◌≤◌, ◌<◌}
-use Rattle.std.specs.Prelude.{ℕ, suc, ◌+◌, ◌==◌, Bool, true, false, not, ◌&&◌, nat_le, nat_lt, if◌then◌else◌, List, [], ◌∷◌, ◌++◌, length, codes, decimal, Option, Some, None, Result, Ok, Err}
+use Rattle.std.proofs.Common.{◌≡◌, refl, ◌∙◌, ap, subst, arith, ◌≤◌, ◌<◌}
+use Rattle.std.specs.Prelude.{ℕ, suc, ◌+◌, ◌==◌, Bool, true, false, ◌&&◌, nat_le, nat_lt, if◌then◌else◌, List, [], ◌∷◌, ◌++◌, length, codes, decimal, Option, Some, None, Result, Ok, Err}
 use Rattle.std.proofs.lemmas.Bool.{and_parts}
 use Rattle.std.proofs.lemmas.Bool.Decides.{nat_tests}
 use Rattle.std.proofs.lemmas.Fmt.{decimal_is_IsNumeral, length-decimal-le}
 use Rattle.yaml_chars.specs.Classes.{is_in}
 use Rattle.std.specs.List.{list_all}
+use Rattle.yaml_grammar.specs.Reads.{Good}
 use Rattle.yaml_grammar.specs.Texts.{byte_len, spaces, first, same_text}
 use Rattle.yaml_grammar.specs.Trees.{Tree, text, sequence, mapping, no_element, element, no_member, member}
 use Rattle.yaml_grammar.specs.Style.{plain_in_style, literal_in_style, literal_mark, literal_lines, feeds_at_end, in_double_quotes, scalar_lines, key_text, long_key, key_lines, elements_after, value_at, style_text}
@@ -20,11 +21,13 @@ use Rattle.tree_path.specs.declared.place.Miss.{Miss}
 use Rattle.tree_path.specs.Paths.{at, at_from, at_step, child, refusal as step_refusal}
 use Rattle.json_pointer.specs.Pointers.{path_of}
 use Rattle.yaml_config.proofs.Located.{child-within}
-use Rattle.conf_state.specs.Commands.{Command, name_of}
+use Rattle.conf_state.specs.Commands.{Command}
 use Rattle.conf_state.specs.Names.{small_letter, name_char, good_name}
 use Rattle.conf_state.specs.States.{Entry, Contents, names_of, config_named, base_limit, count_limit}
 use Rattle.conf_state.specs.Limits.{AreConfigs, IsState}
-use Rattle.conf_state.specs.Steps.{step, next_state, configs_after, and_then, found, by_path}
+use Rattle.conf_state.specs.Steps.{step, next_state, performed, with_room, and_then, found, by_path}
+use Rattle.conf_state.specs.declared.room.Room.{Room}
+use Rattle.conf_state.specs.declared.room.Room.TheVariants.{Enough, LongRecord, Missing}
 use Rattle.conf_state.specs.BaseTexts.{base_length, entry_length, entries_length}
 use Rattle.conf_state.specs.declared.fault.StoreFault.{StoreFault}
 use Rattle.conf_state.specs.declared.fault.StoreFault.TheVariants as store
@@ -32,10 +35,10 @@ use Rattle.conf_state.proofs.BaseLemmas.{count_bytes, base_length-framed}
 use Rattle.conf_state.proofs.RunLaws.{and_then-Ok, step-one}
 use Rattle.conf_record.proofs.SizeLemmas.{size, scalar_most, value_size}
 use Rattle.yaml_writer.proofs.ByteLemmas.{byte_len-encoded}
-use Rattle.conf_store.specs.Calls.{outcome, has_room, tree_named}
+use Rattle.conf_store.specs.Calls.{outcome, room_for, tree_named}
 use Rattle.conf_session.specs.Requests.{Request, changing, unread, getting, exporting, naming, checkpointing, bad}
-use Rattle.conf_session.specs.Answers.{Stored, longest, one, text_elements, read_word, path_word, word, refusal, answer_or_refusal, value_at_path, unread_fault, change_answer, answer, answer_limit}
-use Rattle.conf_session.proofs.WordLemmas.{spelled-BadName, spelled-BadPath, spelled-ConfigLarge, spelled-CountFull, spelled-Documents, spelled-JournalLong, spelled-KeyNotText, spelled-KeyTwice, spelled-LargeInStyle, spelled-NoConfig, spelled-NoSuchPlace, spelled-NotIndex, spelled-NotUtf8, spelled-StoreFull, spelled-Syntax, spelled-TooDeep, spelled-TooLong, spelled-none, spelled-BadCommand}
+use Rattle.conf_session.specs.Answers.{Stored, longest, one, text_elements, read_word, path_word, word, refusal, answer_or_refusal, value_at_path, change_answer, answer, answer_limit}
+use Rattle.conf_session.proofs.WordLemmas.{spelled-BadName, spelled-BadPath, spelled-ConfigLarge, spelled-CountFull, spelled-Documents, spelled-EmptyBatch, spelled-JournalLong, spelled-KeyNotText, spelled-KeyTwice, spelled-LargeInStyle, spelled-NoConfig, spelled-NoSuchPlace, spelled-NotIndex, spelled-NotUtf8, spelled-RecordLong, spelled-StoreFull, spelled-Syntax, spelled-TooDeep, spelled-TooLong, spelled-none, spelled-BadCommand}
 
 -- ---- a document of one key
 
@@ -66,17 +69,12 @@ at-size step t v (token ∷ tokens) e = by (child t token) (λ u. at-size (suc s
 pub value-short : (t v : Tree) (tokens : List (List ℕ)) → at t tokens ≡ Ok v → size v ≤ size t
 value-short t v tokens e = at-size 1 t v tokens e
 
--- a configuration under a name keeps its limit of length
-pub named-short : (es : List Entry) (name : List ℕ) (t : Tree) → AreConfigs es → config_named es name ≡ Some t → size t ≤ config_limits.style
-named-short [] name t all is = cc
-named-short (e ∷ es) name t all is = by (same_text name e.0) is (named-short es name t all.2)
+named-good : (es : List Entry) (name : List ℕ) (t : Tree) → AreConfigs es → config_named es name ≡ Some t → Good t config_limits
+named-good [] name t all is = cc
+named-good (e ∷ es) name t all is = by (same_text name e.0) is (named-good es name t all.2)
   where
-    by : (b : Bool) → (if b then Some e.1 else config_named es name) ≡ Some t → (config_named es name ≡ Some t → size t ≤ config_limits.style) → size t ≤ config_limits.style
-    by true here rest =
-        let same : e.1 ≡ t = cc in
-        let bytes = ap size same in
-        let long = all.1.long in
-        omega arith
+    by : (b : Bool) → (if b then Some e.1 else config_named es name) ≡ Some t → (config_named es name ≡ Some t → Good t config_limits) → Good t config_limits
+    by true here rest = let same : e.1 ≡ t = cc in subst (λ u. Good u config_limits) same all.1
     by false there rest = rest there
 
 -- a text as a value
@@ -192,26 +190,23 @@ count-value-length n small =
 le-false : (a b : ℕ) → nat_le a b ≡ false → b < a
 le-false a b e = grind (arith, nat_tests)
 
-next_state-few : (s new : Contents) (fits : Bool) (configs : List Entry) → next_state s fits configs ≡ Ok new → s.count < count_limit
-next_state-few s new fits configs e =
+next_state-few : (s new : Contents) (room : Room) (configs : List Entry) → next_state s room configs ≡ Ok new → s.count < count_limit
+next_state-few s new room configs e =
     le-false count_limit s.count
-    (by (nat_lt base_limit (base_length (record { configs = configs; count = s.count + 1 }))) fits (nat_le count_limit s.count) e)
+    (by (nat_lt base_limit (base_length (record { configs = configs; count = s.count + 1 }))) room (nat_le count_limit s.count) e)
   where
-    by : (full room last : Bool)
-        → (if full then Err store.StoreFull else if not room then Err store.JournalLong else if last then Err store.CountFull else Ok (record { configs = configs; count = s.count + 1 })) ≡ Ok new
+    by : (full : Bool) (room : Room) (last : Bool)
+        → (if full then Err store.StoreFull else with_room room (if last then Err store.CountFull else Ok (record { configs = configs; count = s.count + 1 }))) ≡ Ok new
         → last ≡ false
     by true room last is = cc
-    by false false last is = cc
-    by false true true is = cc
-    by false true false is = refl
+    by false LongRecord last is = cc
+    by false Missing last is = cc
+    by false Enough true is = cc
+    by false Enough false is = refl
 
 -- a step is accepted only below the greatest count
-pub step-few : (s new : Contents) (command : Command) (fits : Bool) → step s command fits ≡ Ok new → s.count < count_limit
-step-few s new command fits e = by (good_name (name_of command)) e
-  where
-    by : (good : Bool) → (if good then and_then (configs_after s.configs command) (next_state s fits) else Err store.BadName) ≡ Ok new → s.count < count_limit
-    by true is = (let done = and_then-Ok (configs_after s.configs command) (next_state s fits) new is in next_state-few s new fits done.0 done.2)
-    by false is = cc
+pub step-few : (s new : Contents) (command : Command) (room : Room) → step s command room ≡ Ok new → s.count < count_limit
+step-few s new command room e = let done = and_then-Ok (performed s.configs command) (next_state s room) new e in next_state-few s new room done.0 done.2
 
 -- ---- refusals
 
@@ -239,11 +234,13 @@ path_refused path.OutOfMemory = refused [] _ spelled-none (omega arith)
 pub refusal-short : (fault : StoreFault) → length (framed_text_bytes (refusal (word fault))) ≤ answer_limit
 refusal-short (store.Path fault) = path_refused fault
 refusal-short (store.Read fault) = read_refused fault
+refusal-short store.EmptyBatch = refused (codes "EmptyBatch") _ spelled-EmptyBatch (omega arith)
 refusal-short store.BadName = refused (codes "BadName") _ spelled-BadName (omega arith)
 refusal-short store.NoConfig = refused (codes "NoConfig") _ spelled-NoConfig (omega arith)
 refusal-short store.TooDeep = refused (codes "TooDeep") _ spelled-TooDeep (omega arith)
 refusal-short store.ConfigLarge = refused (codes "ConfigLarge") _ spelled-ConfigLarge (omega arith)
 refusal-short store.StoreFull = refused (codes "StoreFull") _ spelled-StoreFull (omega arith)
+refusal-short store.RecordLong = refused (codes "RecordLong") _ spelled-RecordLong (omega arith)
 refusal-short store.JournalLong = refused (codes "JournalLong") _ spelled-JournalLong (omega arith)
 refusal-short store.CountFull = refused (codes "CountFull") _ spelled-CountFull (omega arith)
 refusal-short store.Reopen = refused [] _ spelled-none (omega arith)
@@ -256,15 +253,17 @@ bad-short = refused (codes "BadCommand") _ spelled-BadCommand (omega arith)
 
 -- ---- answers
 
-by_path-Ok : {A : Type 0} (r : Result A PathFault) (x : A) → by_path r ≡ Ok x → r ≡ Ok x
+-- a step of a path that leads on led to a place
+pub by_path-Ok : {A : Type 0} (r : Result A PathFault) (x : A) → by_path r ≡ Ok x → r ≡ Ok x
 by_path-Ok (Ok y) x is = cc
 by_path-Ok (Err fault) x is = let refused : Err (store.Path fault) ≡ Ok x = is in cc
 
-named-size : (s : Contents) (name : List ℕ) (t : Tree) → IsState s → tree_named s name ≡ Ok t → size t ≤ config_limits.style
-named-size s name t kept is = by (good_name name) (config_named s.configs name) refl is
+-- a configuration of a state keeps the limits of one
+pub tree_named-good : (s : Contents) (name : List ℕ) (t : Tree) → IsState s → tree_named s name ≡ Ok t → Good t config_limits
+tree_named-good s name t kept is = by (good_name name) (config_named s.configs name) refl is
   where
-    by : (good : Bool) (o : Option Tree) → config_named s.configs name ≡ o → (if good then found o else Err store.BadName) ≡ Ok t → size t ≤ config_limits.style
-    by true (Some u) there e = let same : u ≡ t = cc in named-short s.configs name t kept.configs (there ∙ ap Some same)
+    by : (good : Bool) (o : Option Tree) → config_named s.configs name ≡ o → (if good then found o else Err store.BadName) ≡ Ok t → Good t config_limits
+    by true (Some u) there e = let same : u ≡ t = cc in named-good s.configs name t kept.configs (there ∙ ap Some same)
     by true None there e = cc
     by false o there e = cc
 
@@ -273,7 +272,7 @@ value-size s name p v kept is =
     let named = and_then-Ok (tree_named s name) _ v is in
     let parsed = and_then-Ok (by_path (path_of p)) _ v named.2 in
     let inner = value-short named.0 v parsed.0 (by_path-Ok (at named.0 parsed.0) v parsed.2) in
-    let outer = named-size s name named.0 kept named.1 in
+    let outer = (tree_named-good s name named.0 kept named.1).long in
     omega (arith, inner, outer)
 
 value-answer-short : (s : Contents) → IsState s → (name p : List ℕ) (r : Result Tree StoreFault) → value_at_path s name p ≡ r
@@ -287,7 +286,7 @@ value-answer-short s kept name p (Err fault) is = refusal-short fault
 text-answer-short : (s : Contents) → IsState s → (name : List ℕ) (r : Result Tree StoreFault) → tree_named s name ≡ r
     → length (framed_text_bytes (answer_or_refusal (λ t. one (codes "text") (text (style_text t))) r)) ≤ answer_limit
 text-answer-short s kept name (Ok t) is =
-    omega (arith, document-length (codes "text") (text (style_text t)), scalar_most (style_text t), text-value-length (style_text t), named-size s name t kept is)
+    omega (arith, document-length (codes "text") (text (style_text t)), scalar_most (style_text t), text-value-length (style_text t), (tree_named-good s name t kept is).long)
 text-answer-short s kept name (Err fault) is = refusal-short fault
 
 count-answer-short : (n : ℕ) → n ≤ count_limit → length (framed_text_bytes (one (codes "ok") (text (decimal n)))) ≤ answer_limit
@@ -296,16 +295,16 @@ count-answer-short n small = omega (arith, document-length (codes "ok") (text (d
 change-answer-short : (now : Stored) (command : Command) (r : Result Contents StoreFault) → outcome (longest now) now.state command ≡ r
     → length (framed_text_bytes (change_answer r)) ≤ answer_limit
 change-answer-short now command (Ok new) is =
-    let fits = has_room (longest now) now.state command in
-    let few = step-few now.state new command fits is in
-    let counts = step-one now.state new command fits is in
+    let room = room_for (longest now) now.state command in
+    let few = step-few now.state new command room is in
+    let counts = step-one now.state new command room is in
     count-answer-short new.count (omega (arith, few, counts))
 change-answer-short now command (Err fault) is = refusal-short fault
 
 -- each answer keeps the limit, where the state keeps its limits
 pub answer-short : (now : Stored) (request : Request) → IsState now.state → length (framed_text_bytes (answer now request)) ≤ answer_limit
 answer-short now (changing command) kept = change-answer-short now command (outcome (longest now) now.state command) refl
-answer-short now (unread name fault) kept = refusal-short (unread_fault name fault)
+answer-short now (unread fault) kept = refusal-short fault
 answer-short now (getting name p) kept = value-answer-short now.state kept name p (value_at_path now.state name p) refl
 answer-short now (exporting name) kept = text-answer-short now.state kept name (tree_named now.state name) refl
 answer-short now naming kept =

@@ -7,6 +7,7 @@ pub mod RoundLemmas
 pub mod AnswerLemmas
 pub mod ReplyLemmas
 pub mod SaidLemmas
+pub mod PartLemmas
 pub mod InputLemmas
 pub mod OutputLemmas
 pub mod TurnLemmas

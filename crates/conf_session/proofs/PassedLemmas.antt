@@ -14,7 +14,7 @@ use Rattle.conf_state.specs.Commands.{Command}
 use Rattle.conf_state.specs.States.{Contents}
 use Rattle.conf_state.specs.Steps.{after}
 use Rattle.conf_state.specs.declared.fault.StoreFault.{StoreFault}
-use Rattle.conf_store.specs.Calls.{outcome, has_room, tree_named}
+use Rattle.conf_store.specs.Calls.{outcome, room_for, tree_named}
 use Rattle.conf_store.specs.Durable.{AfterPrefix, HasFlushed, staged_text}
 use Rattle.conf_store.specs.View.{StoreView}
 use Rattle.conf_state.proofs.RefusalLemmas.{accepted-room}
@@ -95,7 +95,7 @@ one-refused (Err fault) = omega arith
 -- a request is one accepted command at most
 pub few-accepted : (now : Stored) (r : Request) → length (accepted_command now r) ≤ 1
 few-accepted now (changing command) = one-accepted_commands (outcome (longest now) now.state command) command
-few-accepted now (unread name fault) = omega arith
+few-accepted now (unread fault) = omega arith
 few-accepted now (getting name path) = omega arith
 few-accepted now (exporting name) = omega arith
 few-accepted now naming = omega arith
@@ -105,7 +105,7 @@ few-accepted now bad = omega arith
 -- a request is refused once at most
 pub few-refused : (now : Stored) (r : Request) → refused_of now r ≤ 1
 few-refused now (changing command) = one-refused (outcome (longest now) now.state command)
-few-refused now (unread name fault) = omega arith
+few-refused now (unread fault) = omega arith
 few-refused now (getting name path) = one-refused (value_at_path now.state name path)
 few-refused now (exporting name) = one-refused (tree_named now.state name)
 few-refused now naming = omega arith
@@ -118,9 +118,9 @@ pub leads-one : (now : Stored) (r : Request) → after now.state (accepted_comma
 leads-one now (changing command) = by (outcome (longest now) now.state command) refl
   where
     by : (j : Result Contents StoreFault) → outcome (longest now) now.state command ≡ j → after now.state (accepted_by j command) ≡ Ok (stored_after_change now command j).state
-    by (Ok new) e = after-done now.state new command (accepted-anyway accepted-room now.state new command (has_room (longest now) now.state command) e)
+    by (Ok new) e = after-done now.state new command (accepted-anyway accepted-room now.state new command (room_for (longest now) now.state command) e)
     by (Err fault) e = refl
-leads-one now (unread name fault) = refl
+leads-one now (unread fault) = refl
 leads-one now (getting name path) = refl
 leads-one now (exporting name) = refl
 leads-one now naming = refl
@@ -154,7 +154,7 @@ quiet-one now (changing command) quiet = by (outcome (longest now) now.state com
     by : (j : Result Contents StoreFault) → is_ok j ≡ false → accepted_by j command ≡ []
     by (Ok new) e = cc
     by (Err fault) e = refl
-quiet-one now (unread name fault) quiet = refl
+quiet-one now (unread fault) quiet = refl
 quiet-one now (getting name path) quiet = refl
 quiet-one now (exporting name) quiet = refl
 quiet-one now naming quiet = refl

@@ -13,7 +13,7 @@ use Rattle.conf_state.specs.States.{names_of}
 use Rattle.conf_state.specs.Steps.{and_then, by_path}
 use Rattle.conf_state.specs.declared.fault.StoreFault.{StoreFault}
 use Rattle.conf_state.specs.declared.fault.StoreFault.TheVariants.{Path}
-use Rattle.conf_store.specs.Calls.{tree_named}
+use Rattle.conf_store.specs.Calls.{tree_named, tree_at}
 use Rattle.conf_session.specs.Requests.{getting, exporting, naming}
 use Rattle.conf_session.specs.Answers.{Stored, one, text_elements, answer_or_refusal, answer_limit, value_at_path, is_refused}
 use Rattle.conf_session.specs.Replies.{Replies}
@@ -48,18 +48,16 @@ module _ (now : Stored) (name : List ℕ) where
       value-refused p (Path f) (ap (λ r. and_then r (λ u. and_then (by_path (path_of p)) (λ tokens. by_path (at u tokens)))) e
       ∙ ap (λ r. and_then (by_path r) (λ tokens. by_path (at t tokens))) wrong)
 
-  module _ (p : List ℕ) (t : Tree) (tokens : List (List ℕ)) (e : tree_named now.state name ≡ Ok t) (path : path_of p ≡ Ok tokens) where
-    leads : value_at_path now.state name p ≡ by_path (at t tokens)
-    leads =
-        ap (λ r. and_then r (λ u. and_then (by_path (path_of p)) (λ ts. by_path (at u ts)))) e
-        ∙ ap (λ r. and_then (by_path r) (λ ts. by_path (at t ts))) path
+  module _ (p : List ℕ) (tokens : List (List ℕ)) (path : path_of p ≡ Ok tokens) where
+    leads : value_at_path now.state name p ≡ tree_at now.state name tokens
+    leads = ap (λ r. and_then (tree_named now.state name) (λ t. and_then (by_path r) (λ ts. by_path (at t ts)))) path
 
-    pub get-value : (v : Tree) (written : String Global) → at t tokens ≡ Ok v → string_bytes written ≡ framed_text_bytes (one (codes "value") v)
+    pub get-value : (v : Tree) (written : String Global) → tree_at now.state name tokens ≡ Ok v → string_bytes written ≡ framed_text_bytes (one (codes "value") v)
         → IsState now.state → Replies now (getting name p) (Done written)
-    get-value v written there = value-reply p v written (leads ∙ ap by_path there)
+    get-value v written there = value-reply p v written (leads ∙ there)
 
-    pub get-no_place : (f : PathFault) → at t tokens ≡ Err f → Replies now (getting name p) (Refused (Path f))
-    get-no_place f there = value-refused p (Path f) (leads ∙ ap by_path there)
+    pub get-refused : (f : StoreFault) → tree_at now.state name tokens ≡ Err f → Replies now (getting name p) (Refused f)
+    get-refused f there = value-refused p f (leads ∙ there)
 
   -- the answer to an `export` is the text of the configuration
   pub export-text : (t : Tree) (written : String Global) → tree_named now.state name ≡ Ok t → string_bytes written ≡ framed_text_bytes (one (codes "text") (text (style_text t)))

@@ -5,10 +5,7 @@ use Rattle.std.specs.Str.{chars, IsUtf8}
 use Rattle.std.specs.declared.alloc.Global.{Global}
 use Rattle.std.proofs.lemmas.Str.{encodes-chars}
 use Rattle.std.proofs.lemmas.List.{append-nil, take_all}
-use Rattle.yaml_grammar.specs.Trees.{Tree, text}
-use Rattle.yaml_tree.specs.Reading.{IsRead, Refuses}
-use Rattle.yaml_events.specs.declared.read_fault.ReadFault.{ReadFault}
-use Rattle.yaml_events.specs.declared.read_fault.ReadFault.TheVariants as read
+use Rattle.yaml_grammar.specs.Trees.{text}
 use Rattle.yaml_recognizers.specs.Closings.{framed_text_bytes}
 use Rattle.conf_disk.specs.Folder.{Folder, bytes_under}
 use Rattle.conf_disk.specs.Image.{Image, IsImage}
@@ -17,13 +14,15 @@ use Rattle.conf_disk.specs.declared.disk.Name.TheVariants.{Store}
 use Rattle.conf_journal.specs.Store.{file_with_bytes}
 use Rattle.conf_disk.proofs.Moments.{LeavesOnly-start, LeavesOnly-weaker}
 use Rattle.conf_state.specs.BaseTexts.{base_bytes}
-use Rattle.conf_state.specs.Commands.{Command, import_as}
+use Rattle.conf_state.specs.Commands.{Command}
 use Rattle.conf_state.specs.Limits.{IsState}
 use Rattle.conf_state.specs.States.{Contents, count_limit}
-use Rattle.yaml_config.specs.Limits.{config_limits}
 use Rattle.conf_state.specs.Steps.{step, after}
 use Rattle.conf_state.specs.declared.fault.StoreFault.{StoreFault}
-use Rattle.conf_store.specs.Calls.{outcome, has_room, next_record, journal_length, Accepts}
+use Rattle.conf_state.specs.declared.room.Room.{Room}
+use Rattle.conf_state.specs.declared.fault.StoreFault.TheVariants as state
+use Rattle.conf_store.specs.Calls.{outcome, room_for, next_record, journal_length, Accepts}
+use Rattle.conf_store.specs.Imports.{IsImportOf, RefusesText}
 use Rattle.conf_store.specs.Staged.{Staged, staged_length, with_more}
 use Rattle.conf_store.specs.Meaning.{FileMeans}
 use Rattle.conf_store.specs.Durable.{AfterPrefix, AllImagesMean, HasFlushed, staged_text}
@@ -32,7 +31,7 @@ use Rattle.conf_state.proofs.RefusalLemmas.{accepted-room}
 use Rattle.conf_store.proofs.StepLemmas.{accepted-anyway}
 use Rattle.conf_store.proofs.MeaningLemmas.{after-done, after-joined}
 use Rattle.conf_store.proofs.HeldLemmas.{prefix-longer}
-use Rattle.conf_session.specs.Said.{Said, import_text, Says}
+use Rattle.conf_session.specs.Said.{Said, import_text, single_part, Says}
 use Rattle.conf_session.specs.declared.fault.SessionFault.{SessionFault}
 use Rattle.conf_session.specs.declared.fault.SessionFault.TheVariants as fault
 use Rattle.conf_session.specs.Requests.{MeansRequest, Request, changing, unread, getting, exporting, naming, checkpointing, bad}
@@ -127,7 +126,7 @@ module _ (at_once : Bool) {D : Type 0} (honest : Type 0) (folder : D → Folder)
       → (honest → store.reopen ≡ false → LeavesPrefixes (folder store.disk) store.state) → Performs at_once honest folder moment since store store request
   only-read store off (changing command) is only means = absurd is
   only-read store off checkpointing is only means = absurd is
-  only-read store off (unread name f) is only means = record { state = refl; stored = λ on. refl; reads = λ h on. refl; stages = λ h on. refl; any_moment = unchanged store off [] only means; waits = λ h on flushed waiting. still (folder store.disk) flushed store.state waiting }
+  only-read store off (unread f) is only means = record { state = refl; stored = λ on. refl; reads = λ h on. refl; stages = λ h on. refl; any_moment = unchanged store off [] only means; waits = λ h on flushed waiting. still (folder store.disk) flushed store.state waiting }
   only-read store off (getting name path) is only means = record { state = refl; stored = λ on. refl; reads = λ h on. refl; stages = λ h on. refl; any_moment = unchanged store off [] only means; waits = λ h on flushed waiting. still (folder store.disk) flushed store.state waiting }
   only-read store off (exporting name) is only means = record { state = refl; stored = λ on. refl; reads = λ h on. refl; stages = λ h on. refl; any_moment = unchanged store off [] only means; waits = λ h on flushed waiting. still (folder store.disk) flushed store.state waiting }
   only-read store off naming is only means = record { state = refl; stored = λ on. refl; reads = λ h on. refl; stages = λ h on. refl; any_moment = unchanged store off [] only means; waits = λ h on flushed waiting. still (folder store.disk) flushed store.state waiting }
@@ -150,7 +149,7 @@ module _ (at_once : Bool) {D : Type 0} (honest : Type 0) (folder : D → Folder)
       let here : outcome (longest now) now.state command ≡ Ok new.state = ap (λ n. outcome n old.state command) (longest-of old) ∙ done in
       let goes : stored_after now (changing command) ≡ stored_after_change now command (Ok new.state) = ap (stored_after_change now command) here in
       let one : accepted_command now (changing command) ≡ command ∷ [] = ap (λ r. accepted_by r command) here in
-      let leads : after old.state (command ∷ []) ≡ Ok new.state = after-done old.state new.state command (accepted-anyway accepted-room old.state new.state command (has_room (journal_length old) old.state command) done) in
+      let leads : after old.state (command ∷ []) ≡ Ok new.state = after-done old.state new.state command (accepted-anyway accepted-room old.state new.state command (room_for (journal_length old) old.state command) done) in
       record {
         state = sym (ap (λ (t : Stored). t.state) goes);
         stored = λ on. stored-accepted old new command (accepts on) ∙ sym goes;
@@ -245,20 +244,19 @@ did-checkpoint at_once honest folder moment since old new (Err fault.SessionLong
 did-checkpoint at_once honest folder moment since old new (Err fault.Reopen) did = absurd did
 did-checkpoint at_once honest folder moment since old new (Err (fault.Write written)) did = absurd did
 
--- an import's text, as bytes
-pub text-given : (name : List ℕ) (bytes : List ℕ) (t : Tree) → IsRead bytes config_limits t → MeansRequest (import_text name (chars bytes)) (changing (import_as name t))
-text-given name bytes t is = inl (t, is.gives, refl)
+-- an `import` under a good name whose text gives a tree is the command
+pub text-given : (name bytes : List ℕ) (command : Command) → IsUtf8 bytes → IsImportOf name bytes command → MeansRequest (single_part (import_text name (chars bytes))) (changing command)
+text-given name bytes command utf8 is = inl (command, subst (λ b. IsImportOf name b command) (sym (encodes-chars bytes utf8)) is, refl)
 
--- an `import` whose text is refused is refused so
-pub text-refused : (name : List ℕ) (bytes : List ℕ) (f : ReadFault) → IsUtf8 bytes → f ≢ read.OutOfMemory → Refuses bytes config_limits f
-    → MeansRequest (import_text name (chars bytes)) (unread name f)
-text-refused name bytes f utf8 some refuses = inr (f, some, subst (λ b. Refuses b config_limits f) (sym (encodes-chars bytes utf8)) refuses, refl)
+-- an `import` whose name or text is refused is refused so
+pub text-refused : (name bytes : List ℕ) (f : StoreFault) → IsUtf8 bytes → f ≢ state.OutOfMemory → RefusesText name bytes f → MeansRequest (single_part (import_text name (chars bytes))) (unread f)
+text-refused name bytes f utf8 some refuses = inr (f, some, subst (λ b. RefusesText name b f) (sym (encodes-chars bytes utf8)) refuses, refl)
 
 -- ---- the count that is answered, which is known before the command
 
 -- the count that is answered is the one of the state after the command
-pub count-after : (s new : Contents) (command : Command) (fits : Bool) (count : ℕ) → step s command fits ≡ Ok new → new.count ≡ s.count + 1 → count ≡ min (s.count + 1) count_limit → count ≡ new.count
-count-after s new command fits count e one is = let few = step-few s new command fits e in omega (arith, one, few, is)
+pub count-after : (s new : Contents) (command : Command) (room : Room) (count : ℕ) → step s command room ≡ Ok new → new.count ≡ s.count + 1 → count ≡ min (s.count + 1) count_limit → count ≡ new.count
+count-after s new command room count e one is = let few = step-few s new command room e in omega (arith, one, few, is)
 
 -- ---- replies
 

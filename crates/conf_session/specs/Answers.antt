@@ -12,7 +12,6 @@ use Rattle.tree_path.specs.Paths.{at}
 use Rattle.json_pointer.specs.Pointers.{path_of}
 use Rattle.conf_journal.specs.Store.{file_with_bytes}
 use Rattle.conf_state.specs.Commands.{Command}
-use Rattle.conf_state.specs.Names.{good_name}
 use Rattle.conf_state.specs.Limits.{IsState}
 use Rattle.conf_state.specs.States.{Contents, names_of, base_limit}
 use Rattle.conf_state.specs.Steps.{and_then, by_path}
@@ -42,6 +41,7 @@ path_word (path.NotIndex step) = codes "NotIndex"
 path_word path.OutOfMemory = []
 
 abbrev pub word : StoreFault → List ℕ
+word store.EmptyBatch = codes "EmptyBatch"
 word store.BadName = codes "BadName"
 word store.NoConfig = codes "NoConfig"
 word (store.Path fault) = path_word fault
@@ -49,6 +49,7 @@ word (store.Read fault) = read_word fault
 word store.TooDeep = codes "TooDeep"
 word store.ConfigLarge = codes "ConfigLarge"
 word store.StoreFull = codes "StoreFull"
+word store.RecordLong = codes "RecordLong"
 word store.JournalLong = codes "JournalLong"
 word store.CountFull = codes "CountFull"
 word store.Reopen = []
@@ -87,17 +88,13 @@ pub record Stored : Type 0 where
 abbrev pub longest : Stored → ℕ
 longest now = max now.size (unwrap_or now.staged 0)
 
--- why an import is refused if its text is refused: a bad name comes first
-abbrev pub unread_fault : List ℕ → ReadFault → StoreFault
-unread_fault name fault = if good_name name then store.Read fault else store.BadName
-
 abbrev pub change_answer : Result Contents StoreFault → Tree
 change_answer r = answer_or_refusal (λ (new : Contents). one (codes "ok") (text (decimal new.count))) r
 
 -- the answer to a request, as the tree that is written in the one style
 abbrev pub answer : Stored → Request → Tree
 answer now (changing command) = change_answer (outcome (longest now) now.state command)
-answer now (unread name fault) = refusal (word (unread_fault name fault))
+answer now (unread fault) = refusal (word fault)
 answer now (getting name p) = answer_or_refusal (one (codes "value")) (value_at_path now.state name p)
 answer now (exporting name) =
     answer_or_refusal (λ t. one (codes "text") (text (style_text t))) (tree_named now.state name)
@@ -201,7 +198,7 @@ is_refused (Err fault) = 1
 -- whether a request is answered by a refusal: 1 or 0
 abbrev pub refused_of : Stored → Request → ℕ
 refused_of now (changing command) = is_refused (outcome (longest now) now.state command)
-refused_of now (unread name fault) = 1
+refused_of now (unread fault) = 1
 refused_of now (getting name p) = is_refused (value_at_path now.state name p)
 refused_of now (exporting name) = is_refused (tree_named now.state name)
 refused_of now bad = 1

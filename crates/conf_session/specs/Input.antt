@@ -32,7 +32,7 @@ pub record IsSound (input : Input) : Type 0 where
   pub within : input.end ≤ 65536
   pub total : input.total ≤ session_limit
 
--- no closing line ends within the first 4,194,304 bytes, and there are more bytes
+-- no closing line ends within the first 16,777,216 bytes, and there are more bytes
 pub record IsOverlong (bytes : List ℕ) : Type 0 where
   pub unclosed : (place : ℕ) → place ≤ piece_limit → ClosesAt bytes place → ⊥
   pub long : piece_limit < length bytes

@@ -1,32 +1,72 @@
 -- What the pieces of a session ask for. Each piece is one request; a piece that is no command is a bad one.
-use Rattle.std.specs.Prelude.{◌≡◌, ◌≢◌, ◌⊎◌, List, [], ◌∷◌, ℕ, encode_utf8_all}
+use Rattle.std.specs.Prelude.{◌≡◌, ◌≢◌, ◌⊎◌, List, [], ◌∷◌, ◌++◌, ℕ, encode_utf8_all}
 use Rattle.yaml_grammar.specs.Reads.{Gives}
 use Rattle.yaml_grammar.specs.Trees.{Tree}
 use Rattle.yaml_config.specs.Limits.{config_limits}
 use Rattle.yaml_tree.specs.Reading.{Refuses}
 use Rattle.yaml_events.specs.declared.read_fault.ReadFault.{ReadFault}
-use Rattle.yaml_events.specs.declared.read_fault.ReadFault.TheVariants.{OutOfMemory}
-use Rattle.conf_state.specs.Commands.{Command, import_as}
-use Rattle.conf_session.specs.Said.{Said, Says, import_text, change, get_at, export_of, all_names, checkpoint_now, nothing}
+use Rattle.yaml_events.specs.declared.read_fault.ReadFault.TheVariants as read
+use Rattle.conf_state.specs.Commands.{Edit, Command, import_as, single, batch}
+use Rattle.conf_state.specs.declared.fault.StoreFault.{StoreFault}
+use Rattle.conf_state.specs.declared.fault.StoreFault.TheVariants.{Read, OutOfMemory}
+use Rattle.conf_store.specs.Imports.{IsImportOf, RefusesText}
+use Rattle.conf_session.specs.Said.{Part, import_text, plain, Said, Says, single_part, batch_of_parts, get_at, export_of, all_names, checkpoint_now, nothing}
 
--- what a document says, with the text of an import read, or with the reason why that is refused
+-- what a document says, with the texts of imports read, or with the reason why there is no command to perform
 pub data Request : Type 0 where
   changing : (command : Command) → Request
-  unread : (name : List ℕ) (fault : ReadFault) → Request
+  unread : (fault : StoreFault) → Request
   getting : (name path : List ℕ) → Request
   exporting : (name : List ℕ) → Request
   naming : Request
   checkpointing : Request
   bad : Request
 
--- Which request a document makes by what it says. Only an import asks for more reading: its text gives a tree, or is
--- refused.
+-- ---- the parts of a batch
+
+-- the edit that a part is: the text of an import gives its tree
+abbrev pub IsReadAs : Part → Edit → Type 0
+IsReadAs (import_text name source) edit =
+    (t : Tree) × Gives source config_limits t × (edit ≡ import_as name t)
+IsReadAs (plain given) edit = edit ≡ given
+
+-- the edits that parts are, one for each in its place
+abbrev pub AreReadAs : List Part → List Edit → Type 0
+AreReadAs [] [] = Unit {0}
+AreReadAs [] (edit ∷ edits) = ⊥
+AreReadAs (part ∷ parts) [] = ⊥
+AreReadAs (part ∷ parts) (edit ∷ edits) = IsReadAs part edit × AreReadAs parts edits
+
+-- the part is an import whose text is refused
+abbrev pub RefusesPart : Part → ReadFault → Type 0
+RefusesPart (import_text name source) fault =
+    (fault ≢ read.OutOfMemory) × Refuses (encode_utf8_all source) config_limits fault
+RefusesPart (plain edit) fault = ⊥
+
+-- the first part whose text is refused is refused so; all parts before it are edits
+pub record IsFirstRefused (parts : List Part) (fault : ReadFault) : Type 0 where
+  pub before : List Part
+  pub edits : List Edit
+  pub part : Part
+  pub further : List Part
+  pub is : parts ≡ before ++ part ∷ further
+  pub read : AreReadAs before edits
+  pub refuses : RefusesPart part fault
+
+-- ---- what is asked for
+
+-- Which request a document makes by what it says. Only imports ask for more reading. The name of a single import is
+-- good and its text gives a tree, or one of them is refused. Of a batch all texts are read, whatever the names are, or
+-- the first text that gives no tree is refused.
 abbrev pub MeansRequest : Said → Request → Type 0
-MeansRequest (import_text name source) request =
-    ((t : Tree) × Gives source config_limits t × (request ≡ changing (import_as name t)))
-    ⊎ ((fault : ReadFault) × (fault ≢ OutOfMemory) × Refuses (encode_utf8_all source) config_limits fault
-    × (request ≡ unread name fault))
-MeansRequest (change command) request = request ≡ changing command
+MeansRequest (single_part (import_text name source)) request =
+    ((command : Command) × IsImportOf name (encode_utf8_all source) command × (request ≡ changing command))
+    ⊎ ((fault : StoreFault) × (fault ≢ OutOfMemory) × RefusesText name (encode_utf8_all source) fault
+    × (request ≡ unread fault))
+MeansRequest (single_part (plain edit)) request = request ≡ changing (single edit)
+MeansRequest (batch_of_parts parts) request =
+    ((edits : List Edit) × AreReadAs parts edits × (request ≡ changing (batch edits)))
+    ⊎ ((fault : ReadFault) × IsFirstRefused parts fault × (request ≡ unread (Read fault)))
 MeansRequest (get_at name path) request = request ≡ getting name path
 MeansRequest (export_of name) request = request ≡ exporting name
 MeansRequest all_names request = request ≡ naming

@@ -1,37 +1,102 @@
 -- What the pieces of a session say. Each piece is one command document; a piece that is none says nothing.
-use Rattle.std.specs.Prelude.{◌≡◌, ◌≢◌, ◌⊎◌, ℕ, Bool, true, false, List, [], ◌∷◌, codes, if◌then◌else◌}
+use Rattle.std.specs.Prelude.{◌≡◌, ◌≢◌, ◌⊎◌, ℕ, Bool, true, false, List, [], ◌∷◌, codes, map, Option, Some, None, if◌then◌else◌}
 use Rattle.std.specs.Str.{chars}
 use Rattle.yaml_grammar.specs.Texts.{same_text}
-use Rattle.yaml_grammar.specs.Trees.{Tree, text, sequence, mapping}
+use Rattle.yaml_grammar.specs.Trees.{Tree, text, sequence, mapping, Elements, no_element, element, Members}
 use Rattle.yaml_grammar.specs.Reads.{Limits}
 use Rattle.yaml_data.specs.TextBytes.{text_bytes}
 use Rattle.yaml_config.specs.Kept.{own_limits}
 use Rattle.yaml_tree.specs.Reading.{IsRead, Refuses}
 use Rattle.yaml_events.specs.declared.read_fault.ReadFault.{ReadFault}
 use Rattle.yaml_events.specs.declared.read_fault.ReadFault.TheVariants.{OutOfMemory}
-use Rattle.conf_state.specs.Commands.{Command, command_of, set_at, delete_at}
+use Rattle.conf_state.specs.Commands.{Edit, set_at, delete_at, edit_of}
 use Rattle.conf_record.specs.RecordsRead.{keys_are, values}
+use Rattle.conf_session.specs.declared.parts.Part as code_part
+use Rattle.conf_session.specs.declared.parts.Part.TheVariants as code_parts
 use Rattle.conf_session.specs.declared.said.Said as code
 use Rattle.conf_session.specs.declared.said.Said.TheVariants as code_said
 
 -- the most bytes of a piece, or of what comes after the last one (the rest)
 abbrev pub piece_limit : ℕ
-piece_limit = 4194304
+piece_limit = 16777216
 
 -- the limits of a command document: its bytes, its depth, and its bytes in the one style
 abbrev pub command_limits : Limits
-command_limits = record { bytes = piece_limit; depth = own_limits.depth; style = 16777216 }
+command_limits = record { bytes = piece_limit; depth = own_limits.depth; style = 67108864 }
+
+-- ---- the parts of commands that change configurations
+
+-- an import whose text is not read yet, or another edit
+pub data Part : Type 0 where
+  import_text : (name source : List ℕ) → Part
+  plain : (edit : Edit) → Part
+
+abbrev pub import_part : List Tree → Option Part
+import_part (text name ∷ text source ∷ []) = Some (import_text name source)
+import_part ts = None
+
+abbrev pub set_part : List Tree → Option Part
+set_part (text name ∷ text path ∷ value ∷ []) = Some (plain (set_at name path value))
+set_part ts = None
+
+abbrev pub delete_part : List Tree → Option Part
+delete_part (text name ∷ text path ∷ []) = Some (plain (delete_at name path))
+delete_part ts = None
+
+abbrev pub import_keys : List (List ℕ)
+import_keys = codes "import" ∷ codes "text" ∷ []
+
+abbrev pub set_keys : List (List ℕ)
+set_keys = codes "set" ∷ codes "path" ∷ codes "value" ∷ []
+
+abbrev pub delete_keys : List (List ℕ)
+delete_keys = codes "delete" ∷ codes "path" ∷ []
+
+-- a part is a mapping with exactly the keys of one of these in this order
+unfoldable pub part_from : Members → Option Part
+part_from ms =
+    if keys_are import_keys ms then import_part (values ms)
+    else if keys_are set_keys ms then set_part (values ms)
+    else if keys_are delete_keys ms then delete_part (values ms)
+    else None
+
+abbrev pub part_of : Tree → Option Part
+part_of (text value) = None
+part_of (sequence ts) = None
+part_of (mapping ms) = part_from ms
+
+abbrev pub first_and_rest : Option Part → Option (List Part) → Option (List Part)
+first_and_rest (Some part) (Some parts) = Some (part ∷ parts)
+first_and_rest (Some part) None = None
+first_and_rest None parts = None
+
+-- the parts that the elements of a sequence are, if each of them is one
+abbrev pub parts_of : Elements → Option (List Part)
+parts_of no_element = Some []
+parts_of (element t ts) = first_and_rest (part_of t) (parts_of ts)
 
 -- ---- what a document says
 
 pub data Said : Type 0 where
-  import_text : (name source : List ℕ) → Said
-  change : (command : Command) → Said
+  single_part : (part : Part) → Said
+  batch_of_parts : (parts : List Part) → Said
   get_at : (name path : List ℕ) → Said
   export_of : (name : List ℕ) → Said
   all_names : Said
   checkpoint_now : Said
   nothing : Said
+
+abbrev pub part_said : Option Part → Said
+part_said (Some part) = single_part part
+part_said None = nothing
+
+abbrev pub parts_said : Option (List Part) → Said
+parts_said (Some parts) = batch_of_parts parts
+parts_said None = nothing
+
+abbrev pub batch_said : List Tree → Said
+batch_said (sequence ts ∷ []) = parts_said (parts_of ts)
+batch_said ts = nothing
 
 -- there is one value
 abbrev pub is_one : List Tree → Bool
@@ -47,18 +112,6 @@ is_one_text ts = false
 abbrev pub are_two_texts : List Tree → Bool
 are_two_texts (text one ∷ text other ∷ []) = true
 are_two_texts ts = false
-
-abbrev pub import_said : List Tree → Said
-import_said (text name ∷ text source ∷ []) = import_text name source
-import_said ts = nothing
-
-abbrev pub set_said : List Tree → Said
-set_said (text name ∷ text path ∷ value ∷ []) = change (set_at name path value)
-set_said ts = nothing
-
-abbrev pub delete_said : List Tree → Said
-delete_said (text name ∷ text path ∷ []) = change (delete_at name path)
-delete_said ts = nothing
 
 abbrev pub get_said : List Tree → Said
 get_said (text name ∷ text path ∷ []) = get_at name path
@@ -79,14 +132,8 @@ names_said ts = if is_empty_text ts then all_names else nothing
 abbrev pub checkpoint_said : List Tree → Said
 checkpoint_said ts = if is_empty_text ts then checkpoint_now else nothing
 
-abbrev pub import_keys : List (List ℕ)
-import_keys = codes "import" ∷ codes "text" ∷ []
-
-abbrev pub set_keys : List (List ℕ)
-set_keys = codes "set" ∷ codes "path" ∷ codes "value" ∷ []
-
-abbrev pub delete_keys : List (List ℕ)
-delete_keys = codes "delete" ∷ codes "path" ∷ []
+abbrev pub batch_keys : List (List ℕ)
+batch_keys = codes "batch" ∷ []
 
 abbrev pub get_keys : List (List ℕ)
 get_keys = codes "get" ∷ codes "path" ∷ []
@@ -100,19 +147,17 @@ names_keys = codes "names" ∷ []
 abbrev pub checkpoint_keys : List (List ℕ)
 checkpoint_keys = codes "checkpoint" ∷ []
 
--- a command is a mapping with exactly these keys in this order
+-- a command is a part, or a mapping with exactly these keys
 unfoldable pub said_by : Tree → Said
 said_by (text value) = nothing
 said_by (sequence ts) = nothing
 said_by (mapping ms) =
-    if keys_are import_keys ms then import_said (values ms)
-    else if keys_are set_keys ms then set_said (values ms)
-    else if keys_are delete_keys ms then delete_said (values ms)
+    if keys_are batch_keys ms then batch_said (values ms)
     else if keys_are get_keys ms then get_said (values ms)
     else if keys_are export_keys ms then export_said (values ms)
     else if keys_are names_keys ms then names_said (values ms)
     else if keys_are checkpoint_keys ms then checkpoint_said (values ms)
-    else nothing
+    else part_said (part_from ms)
 
 -- the piece gives a tree that says so, or gives none and says nothing
 abbrev pub Says : List ℕ → Said → Type 0
@@ -120,10 +165,18 @@ Says piece said =
     ((t : Tree) × IsRead piece command_limits t × (said ≡ said_by t))
     ⊎ ((fault : ReadFault) × (fault ≢ OutOfMemory) × Refuses piece command_limits fault × (said ≡ nothing))
 
--- what a value of the code's type says
+-- ---- what values of the code's types say
+
+abbrev pub part_seen : code_part.Part → Part
+part_seen (code_parts.Import name source) = import_text (chars (text_bytes name)) (chars (text_bytes source))
+part_seen (code_parts.Plain edit) = plain (edit_of edit)
+
+abbrev pub parts_seen : List code_part.Part → List Part
+parts_seen parts = map part_seen parts
+
 abbrev pub said_of : code.Said → Said
-said_of (code_said.Import name source) = import_text (chars (text_bytes name)) (chars (text_bytes source))
-said_of (code_said.Change command) = change (command_of command)
+said_of (code_said.Single part) = single_part (part_seen part)
+said_of (code_said.Batch parts) = batch_of_parts (parts_seen parts.items)
 said_of (code_said.Get name path) = get_at (chars (text_bytes name)) (chars (text_bytes path))
 said_of (code_said.Export name) = export_of (chars (text_bytes name))
 said_of code_said.Names = all_names

@@ -20,7 +20,7 @@ use conf_state::StoreFault;
 use conf_store::Store;
 use itoa::Buffer;
 use std::alloc::{AllocError, Global};
-use tree_path::{Path, PathFault, at};
+use tree_path::{Path, PathFault};
 use yaml_tree::{Sink, Text, Tree, write_key, write_value};
 
 /// The document of a mapping with one key: a line of `---`, the mapping in the one style, and a line
@@ -47,14 +47,28 @@ fn write_answer<S: Sink>(key: &str, value: &Tree, sink: &mut S) -> Result<(), S:
     sink.put_text("...\n")
 }
 
+/// The most bytes of the answer with a count: 15 beside its digits.
+const COUNT_ANSWER_LIMIT: usize = 35;
+
 /// The answer to an accepted command or a checkpoint: the count.
 pub fn count_answer(alloc: Global, count: u64) -> Result<String, AllocError>
     ensures { IfOk result (λ reply.
         string_bytes reply ≡ framed_text_bytes (one (codes "ok") (text (decimal count)))) }
 {
+    let mut text = String::with_capacity(alloc, COUNT_ANSWER_LIMIT)?;
+    write_count(count, &mut text)?;
+    Ok(text)
+}
+
+/// Writes the document of a count, as decimal digits in double quotes.
+fn write_count<S: Sink>(count: u64, sink: &mut S) -> Result<(), S::Fault>
+    ensures { OnOk result
+        (S.Takes sink.old (framed_text (one (codes "ok") (text (decimal count)))) sink.new) }
+{
     let mut digits = Buffer::new();
-    let count = Tree::Text(Text::new(alloc, digits.format(count))?);
-    answer(alloc, "ok", &count)
+    sink.put_text("---\nok: \"")?;
+    sink.put_text(digits.format(count))?;
+    sink.put_text("\"\n...\n")
 }
 
 /// The answer to a `get`: the value at a path of a configuration.
@@ -67,18 +81,17 @@ pub fn get_answer<D: Disk>(
     ensures { IfOk result
         (Replies (stored_of store.now) (getting (chars name.now) (chars path.now))) }
 {
-    let config = match store.config(name) {
-        Ok(config) => config,
-        Err(fault) => return Ok(Reply::Refused(fault)),
-    };
+    if let Err(fault) = store.config(name) {
+        return Ok(Reply::Refused(fault));
+    }
     let path = match Path::parse(alloc, path) {
         Ok(path) => path,
         Err(PathFault::OutOfMemory) => return Err(AllocError),
         Err(fault) => return Ok(Reply::Refused(StoreFault::Path(fault))),
     };
-    match at(config.tree(), &path) {
+    match store.get(name, &path) {
         Ok(value) => Ok(Reply::Done(answer(alloc, "value", value)?)),
-        Err(fault) => Ok(Reply::Refused(StoreFault::Path(fault))),
+        Err(fault) => Ok(Reply::Refused(fault)),
     }
 }
 

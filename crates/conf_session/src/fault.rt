@@ -13,7 +13,7 @@ pub enum SessionFault {
     /// A write failed, or took nothing. Exactly the first `written` bytes of the answers were written, at most
     /// 67,108,864 for each piece.
     Write { written: u64 },
-    /// A piece, or what comes after the last closing line, has more than 4,194,304 bytes.
+    /// A piece, or what comes after the last closing line, has more than 16,777,216 bytes.
     TooLong,
     /// The input has more than 1,073,741,824 bytes.
     SessionLong,

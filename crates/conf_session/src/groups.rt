@@ -300,7 +300,7 @@ fn tend_checkpoint<D: Disk>(
 /// All pieces before the fault are performed, flushed and answered, but for `Write` and `Device`.
 ///
 /// - `Read`: a read failed.
-/// - `TooLong`: a piece, or what comes after the last closing line, has more than 4,194,304 bytes.
+/// - `TooLong`: a piece, or what comes after the last closing line, has more than 16,777,216 bytes.
 /// - `SessionLong`: the input has more than 1,073,741,824 bytes.
 /// - `Write`: a write failed, or took nothing. All pieces of the group are performed and flushed, also those after the
 ///   one whose answer was cut. Nothing more is read.

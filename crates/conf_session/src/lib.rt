@@ -16,6 +16,7 @@ mod groups;
 mod input;
 mod laws;
 mod output;
+mod parts;
 mod pieces;
 mod reply;
 mod rounds;

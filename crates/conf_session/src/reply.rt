@@ -1,7 +1,6 @@
 // What is answered to one piece, and what is done for it.
 ghost use Rattle.std.specs.Prelude.{◌≡◌, ◌≢◌, ◌≤◌, ◌⊎◌, ◌↔◌, ◌++◌, ◌∷◌, [], List, IsErrOf, IfOk, IfErr, OnOk, true, false, if◌then◌else◌};
 ghost use Rattle.std.specs.Str.{chars};
-ghost use Rattle.yaml_data.specs.TextBytes.{text_bytes};
 ghost use Rattle.conf_disk.specs.Folder.{bytes_under};
 ghost use Rattle.conf_disk.specs.Moments.{LeavesOnly};
 ghost use Rattle.conf_journal.specs.Store.{file_with_bytes};
@@ -10,20 +9,20 @@ ghost use Rattle.conf_state.specs.States.{Contents};
 ghost use Rattle.conf_store.specs.Calls.{Accepts, HasFailed, RefusesCommand, next_record};
 ghost use Rattle.conf_store.specs.Durable.{AfterPrefix, AllImagesMean, HasFlushed, staged_text};
 ghost use Rattle.conf_store.specs.Meaning.{FileMeans};
-ghost use Rattle.conf_session.specs.Said.{import_text};
+ghost use Rattle.conf_session.specs.Said.{import_text, single_part, batch_of_parts, part_seen, parts_seen};
 ghost use Rattle.conf_session.specs.Requests.{changing, checkpointing};
-ghost use Rattle.conf_session.specs.Answers.{unread_fault};
 ghost use Rattle.conf_session.specs.Said.{said_of};
 ghost use Rattle.conf_session.specs.Replies.{Did, DidPiece, DidSaid, LeavesPrefixes, is_at_once};
 
 use crate::answer::{count_answer, export_answer, get_answer, names_answer};
 use crate::fault::SessionFault;
+use crate::parts::{Part, read_parts};
 use crate::said::{Said, read_said};
 use conf_disk::{Disk, Name};
-use conf_state::{Command, StoreFault, good_name};
-use conf_store::Store;
+use conf_state::{Command, StoreFault};
+use conf_store::{Store, import_command};
 use std::alloc::Global;
-use yaml_tree::{Limits, ReadFault, Text, read_one};
+use yaml_tree::ReadFault;
 
 /// What is answered to a piece.
 #[derive(Drop)]
@@ -36,17 +35,6 @@ pub enum Reply {
     Refused(StoreFault),
     /// The piece is no command.
     NoCommand,
-}
-
-/// Why an import is refused whose text gives no tree: for its name, if that may not be used, else for the text.
-fn unread_fault(name: &str, fault: ReadFault) -> StoreFault
-    ensures { result ≡ unread_fault (chars name.now) fault }
-{
-    if good_name(name) {
-        StoreFault::Read(fault)
-    } else {
-        StoreFault::BadName
-    }
 }
 
 /// When a command that is accepted is flushed.
@@ -151,11 +139,11 @@ fn checkpoint<D: Disk>(alloc: Global, store: &mut Store<D>) -> Result<Reply, Ses
     }
 }
 
-/// Imports a text under a name, or says why the text is refused.
+/// Imports a text under a name, or says why the name or the text is refused.
 fn import<D: Disk>(
     alloc: Global,
     store: &mut Store<D>,
-    name: Text,
+    name: &str,
     source: &str,
     way: Way,
 ) -> Result<Reply, SessionFault>
@@ -163,20 +151,66 @@ fn import<D: Disk>(
         LeavesPrefixes (D.folder store.old.disk) store.old.state }
     ensures did { store.old.reopen ≡ false →
         DidSaid (is_at_once way) D.honest D.folder D.moment D.left store.old store.new
-        (import_text (chars (text_bytes name)) (chars source.now)) result }
+        (single_part (import_text (chars name.now) (chars source.now))) result }
     ensures cause { IsErrOf result SessionFault.Device →
         HasFailed (D.failure_count store.old.disk) (D.failure_count store.new.disk) }
     ensures risen { D.failure_count store.old.disk ≤ D.failure_count store.new.disk }
     ensures now { is_at_once way ≡ true → D.honest → store.new.reopen ≡ false →
         LeavesPrefixes (D.folder store.new.disk) store.new.state }
 {
-    match read_one(alloc, source.as_bytes(), &Limits::CONFIGURATION) {
-        Ok(tree) => {
-            let name = name.into_string(alloc)?;
-            change(alloc, store, Command::Import { name, tree }, way)
-        }
+    match import_command(alloc, name, source.as_bytes()) {
+        Ok(command) => change(alloc, store, command, way),
+        Err(StoreFault::OutOfMemory) => Err(SessionFault::OutOfMemory),
+        Err(fault) => Ok(Reply::Refused(fault)),
+    }
+}
+
+/// Performs a part that is a command by itself.
+fn change_single<D: Disk>(
+    alloc: Global,
+    store: &mut Store<D>,
+    part: Part,
+    way: Way,
+) -> Result<Reply, SessionFault>
+    requires means { D.honest → store.old.reopen ≡ false →
+        LeavesPrefixes (D.folder store.old.disk) store.old.state }
+    ensures did { store.old.reopen ≡ false →
+        DidSaid (is_at_once way) D.honest D.folder D.moment D.left store.old store.new
+        (single_part (part_seen part)) result }
+    ensures cause { IsErrOf result SessionFault.Device →
+        HasFailed (D.failure_count store.old.disk) (D.failure_count store.new.disk) }
+    ensures risen { D.failure_count store.old.disk ≤ D.failure_count store.new.disk }
+    ensures now { is_at_once way ≡ true → D.honest → store.new.reopen ≡ false →
+        LeavesPrefixes (D.folder store.new.disk) store.new.state }
+{
+    match part {
+        Part::Import { name, text } => import(alloc, store, &name, &text, way),
+        Part::Plain(edit) => change(alloc, store, Command::from(edit), way),
+    }
+}
+
+/// Performs a batch. All texts in it are read first, in order; the first one that gives no tree is why it is refused.
+fn change_batch<D: Disk>(
+    alloc: Global,
+    store: &mut Store<D>,
+    parts: Vec<Part>,
+    way: Way,
+) -> Result<Reply, SessionFault>
+    requires means { D.honest → store.old.reopen ≡ false →
+        LeavesPrefixes (D.folder store.old.disk) store.old.state }
+    ensures did { store.old.reopen ≡ false →
+        DidSaid (is_at_once way) D.honest D.folder D.moment D.left store.old store.new
+        (batch_of_parts (parts_seen parts.items)) result }
+    ensures cause { IsErrOf result SessionFault.Device →
+        HasFailed (D.failure_count store.old.disk) (D.failure_count store.new.disk) }
+    ensures risen { D.failure_count store.old.disk ≤ D.failure_count store.new.disk }
+    ensures now { is_at_once way ≡ true → D.honest → store.new.reopen ≡ false →
+        LeavesPrefixes (D.folder store.new.disk) store.new.state }
+{
+    match read_parts(alloc, parts) {
+        Ok(edits) => change(alloc, store, Command::Batch { edits }, way),
         Err(ReadFault::OutOfMemory) => Err(SessionFault::OutOfMemory),
-        Err(fault) => Ok(Reply::Refused(unread_fault(&name, fault))),
+        Err(fault) => Ok(Reply::Refused(StoreFault::Read(fault))),
     }
 }
 
@@ -198,8 +232,8 @@ fn answer_said<D: Disk>(
         LeavesPrefixes (D.folder store.new.disk) store.new.state }
 {
     match said {
-        Said::Import { name, text } => import(alloc, store, name, &text, way),
-        Said::Change(command) => change(alloc, store, command, way),
+        Said::Single(part) => change_single(alloc, store, part, way),
+        Said::Batch(parts) => change_batch(alloc, store, parts, way),
         Said::Checkpoint => checkpoint(alloc, store),
         Said::Get { name, path } => Ok(get_answer(alloc, store, &name, &path)?),
         Said::Export(name) => Ok(export_answer(alloc, store, &name)?),

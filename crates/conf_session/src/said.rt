@@ -1,41 +1,36 @@
 // What command documents say.
-ghost use Rattle.std.specs.Prelude.{◌≡◌, [], ◌∷◌, false, IfOk, MatchOption, string_bytes};
-ghost use Rattle.std.specs.Str.{chars};
-ghost use Rattle.std.specs.Vec.Iter.{into_iter_items};
-ghost use Rattle.yaml_grammar.specs.Trees.{text};
+ghost use Rattle.std.specs.Prelude.{◌≡◌, [], ◌∷◌, IfOk, MatchOption};
+ghost use Rattle.yaml_grammar.specs.Trees.{sequence};
 ghost use Rattle.yaml_config.specs.Kept.{IsKept};
-ghost use Rattle.yaml_data.specs.Seen.{tree_of, members_of};
-ghost use Rattle.yaml_data.specs.TextBytes.{text_bytes};
+ghost use Rattle.yaml_data.specs.Seen.{tree_of, elements_of, members_of};
 ghost use Rattle.conf_record.specs.RecordsRead.{values};
-ghost use Rattle.conf_record.specs.Reading.{AreKept};
-ghost use Rattle.conf_session.specs.Said.{Says, said_by, import_said, set_said, delete_said, get_said};
-ghost use Rattle.conf_session.specs.Said.{export_said, names_said, checkpoint_said, is_empty_text, nothing};
-ghost use Rattle.conf_session.specs.Said.{is_one, is_one_text, are_two_texts};
+ghost use Rattle.conf_record.specs.Reading.{AreKept, AreKeptElements};
+ghost use Rattle.conf_session.specs.Said.{Says, said_by, part_from, part_said, parts_of, parts_said, batch_said};
+ghost use Rattle.conf_session.specs.Said.{get_said, export_said, names_said, checkpoint_said, is_empty_text, nothing};
 ghost use Rattle.conf_session.specs.Said.{said_of};
 
-use conf_record::{is_same, keys_are, next_text, next_value, part};
-use conf_state::Command;
+use crate::parts::{Part, last_text, last_value, part_from, parts_of, two_texts};
+use conf_record::{is_same, keys_are};
 use std::alloc::{AllocError, Global};
-use std::vec::IntoIter;
 use yaml_tree::{Limits, ReadFault, Text, Tree, read_one};
 
 /// The most bytes of a piece of a session, which is a command document, or of what comes after the last one.
-pub(crate) const PIECE_LIMIT: u64 = 4_194_304;
+pub(crate) const PIECE_LIMIT: u64 = 16_777_216;
 
 /// The limits of a command document: its bytes, its depth, and its bytes in the one style.
 const COMMAND_LIMITS: Limits = Limits {
     bytes: PIECE_LIMIT,
     depth: Limits::KEPT.depth,
-    style: 16_777_216,
+    style: 67_108_864,
 };
 
-/// What a command document says. Names and paths may be any texts: they are judged when the command is performed.
+/// What a command document says.
 #[derive(Drop)]
 pub(crate) enum Said {
-    /// `import`, with the text that is not read yet.
-    Import { name: Text, text: Text },
-    /// `set` or `delete`.
-    Change(Command),
+    /// `import`, `set` or `delete`.
+    Single(Part),
+    /// `batch`, with its elements in order.
+    Batch(Vec<Part>),
     /// `get`.
     Get { name: Text, path: Text },
     /// `export`.
@@ -50,7 +45,7 @@ pub(crate) enum Said {
 
 /// Reads a piece as a command document: a mapping with exactly the keys of a command, in their order, whose values are
 /// of the kinds that it takes. Any spelling of the document counts. A piece that gives no tree within the limits of a
-/// command (4,194,304 bytes, 66 deep, and 16,777,216 bytes in the one style), or another tree, says
+/// command (16,777,216 bytes, 131 deep, and 67,108,864 bytes in the one style), or another tree, says
 /// [`Nothing`](Said::Nothing). It fails only if memory runs out.
 pub(crate) fn read_said(alloc: Global, piece: &[u8]) -> Result<Said, AllocError>
     ensures { IfOk result (λ said. Says piece.now (said_of said)) }
@@ -72,12 +67,8 @@ fn said_by(alloc: Global, tree: Tree) -> Result<Said, AllocError>
         Tree::Seq(_) => return Ok(Said::Nothing),
         Tree::Map(pairs) => pairs,
     };
-    if keys_are(&["import", "text"], &pairs) {
-        Ok(import_said(pairs))
-    } else if keys_are(&["set", "path", "value"], &pairs) {
-        set_said(alloc, pairs)
-    } else if keys_are(&["delete", "path"], &pairs) {
-        delete_said(alloc, pairs)
+    if keys_are(&["batch"], &pairs) {
+        batch_said(alloc, pairs)
     } else if keys_are(&["get", "path"], &pairs) {
         Ok(get_said(pairs))
     } else if keys_are(&["export"], &pairs) {
@@ -87,41 +78,56 @@ fn said_by(alloc: Global, tree: Tree) -> Result<Said, AllocError>
     } else if keys_are(&["checkpoint"], &pairs) {
         Ok(checkpoint_said(pairs))
     } else {
-        Ok(Said::Nothing)
+        part_said(alloc, pairs)
     }
 }
 
-fn import_said(pairs: Vec<(Text, Tree)>) -> Said
-    ensures { said_of result ≡ import_said (values (members_of pairs.items)) }
-{
-    match two_texts(pairs) {
-        Some((name, text)) => Said::Import { name, text },
-        None => Said::Nothing,
-    }
-}
-
-fn set_said(alloc: Global, pairs: Vec<(Text, Tree)>) -> Result<Said, AllocError>
+/// What a mapping says that is a part, or else no command.
+fn part_said(alloc: Global, pairs: Vec<(Text, Tree)>) -> Result<Said, AllocError>
     requires { AreKept (values (members_of pairs.items)) }
-    ensures { IfOk result (λ said. said_of said
-        ≡ set_said (values (members_of pairs.items))) }
+    ensures { IfOk result (λ said. said_of said ≡ part_said (part_from (members_of pairs.items))) }
 {
-    let Some((name, path, value)) = set_values(pairs) else {
-        return Ok(Said::Nothing);
-    };
-    let (name, path) = as_strings(alloc, name, path)?;
-    let value = part(value);
-    Ok(Said::Change(Command::Set { name, path, value }))
+    let found = part_from(alloc, pairs)?;
+    match found {
+        Some(part) => Ok(Said::Single(part)),
+        None => Ok(Said::Nothing),
+    }
 }
 
-fn delete_said(alloc: Global, pairs: Vec<(Text, Tree)>) -> Result<Said, AllocError>
-    ensures { IfOk result (λ said. said_of said
-        ≡ delete_said (values (members_of pairs.items))) }
+/// What a `batch` says: its one value is a sequence, or it is no command.
+fn batch_said(alloc: Global, pairs: Vec<(Text, Tree)>) -> Result<Said, AllocError>
+    requires { AreKept (values (members_of pairs.items)) }
+    ensures { IfOk result (λ said. said_of said ≡ batch_said (values (members_of pairs.items))) }
 {
-    let Some((name, path)) = two_texts(pairs) else {
-        return Ok(Said::Nothing);
-    };
-    let (name, path) = as_strings(alloc, name, path)?;
-    Ok(Said::Change(Command::Delete { name, path }))
+    match batch_elements(pairs) {
+        Some(elements) => elements_said(alloc, elements),
+        None => Ok(Said::Nothing),
+    }
+}
+
+/// The elements of the one value, if that is a sequence.
+fn batch_elements(pairs: Vec<(Text, Tree)>) -> Option<Vec<Tree>>
+    ensures { MatchOption result (batch_said (values (members_of pairs.items)) ≡ nothing)
+        (λ v. values (members_of pairs.items) ≡ sequence (elements_of v.items) ∷ []) }
+{
+    match last_value(pairs.into_iter())? {
+        Tree::Text(_) => None,
+        Tree::Seq(elements) => Some(elements),
+        Tree::Map(_) => None,
+    }
+}
+
+/// What the elements of a batch say: each is a part, or it is no command.
+fn elements_said(alloc: Global, elements: Vec<Tree>) -> Result<Said, AllocError>
+    requires { AreKeptElements (elements_of elements.items) }
+    ensures { IfOk result (λ said. said_of said
+        ≡ parts_said (parts_of (elements_of elements.items))) }
+{
+    let found = parts_of(alloc, elements)?;
+    match found {
+        Some(parts) => Ok(Said::Batch(parts)),
+        None => Ok(Said::Nothing),
+    }
 }
 
 fn get_said(pairs: Vec<(Text, Tree)>) -> Said
@@ -131,67 +137,6 @@ fn get_said(pairs: Vec<(Text, Tree)>) -> Said
         Some((name, path)) => Said::Get { name, path },
         None => Said::Nothing,
     }
-}
-
-/// The two values, if they are two texts.
-fn two_texts(pairs: Vec<(Text, Tree)>) -> Option<(Text, Text)>
-    ensures { MatchOption result (are_two_texts (values (members_of pairs.items)) ≡ false)
-        (λ v. values (members_of pairs.items)
-        ≡ text (chars (text_bytes v.0)) ∷ text (chars (text_bytes v.1)) ∷ []) }
-{
-    let mut values = pairs.into_iter();
-    let one = next_text(&mut values)?;
-    let other = last_text(values)?;
-    Some((one, other))
-}
-
-/// The values of a `set`, if they are two texts and one more value.
-fn set_values(pairs: Vec<(Text, Tree)>) -> Option<(Text, Text, Tree)>
-    ensures { MatchOption result (set_said (values (members_of pairs.items)) ≡ nothing)
-        (λ v. values (members_of pairs.items)
-        ≡ text (chars (text_bytes v.0)) ∷ text (chars (text_bytes v.1)) ∷ tree_of v.2 ∷ []) }
-{
-    let mut values = pairs.into_iter();
-    let name = next_text(&mut values)?;
-    let path = next_text(&mut values)?;
-    let value = last_value(values)?;
-    Some((name, path, value))
-}
-
-/// The one value that is left, if there is exactly one and it is a text.
-fn last_text(pairs: IntoIter<(Text, Tree)>) -> Option<Text>
-    ensures { MatchOption result
-        (is_one_text (values (members_of (into_iter_items pairs))) ≡ false)
-        (λ t. values (members_of (into_iter_items pairs)) ≡ text (chars (text_bytes t)) ∷ []) }
-{
-    match last_value(pairs)? {
-        Tree::Text(text) => Some(text),
-        Tree::Seq(_) => None,
-        Tree::Map(_) => None,
-    }
-}
-
-/// The one value that is left, if there is exactly one.
-fn last_value(mut pairs: IntoIter<(Text, Tree)>) -> Option<Tree>
-    ensures { MatchOption result
-        (is_one (values (members_of (into_iter_items pairs))) ≡ false)
-        (λ t. values (members_of (into_iter_items pairs)) ≡ tree_of t ∷ []) }
-{
-    let value = next_value(&mut pairs)?;
-    match next_value(&mut pairs) {
-        Some(_) => None,
-        None => Some(value),
-    }
-}
-
-/// Two texts as strings.
-fn as_strings(alloc: Global, one: Text, other: Text) -> Result<(String, String), AllocError>
-    ensures { IfOk result (λ v. (string_bytes v.0 ≡ text_bytes one)
-        × (string_bytes v.1 ≡ text_bytes other)) }
-{
-    let one = one.into_string(alloc)?;
-    let other = other.into_string(alloc)?;
-    Ok((one, other))
 }
 
 fn export_said(pairs: Vec<(Text, Tree)>) -> Said

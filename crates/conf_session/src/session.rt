@@ -39,7 +39,7 @@ pub struct Tally {
 /// All pieces before the fault are performed and answered.
 ///
 /// - `Read`: a read failed.
-/// - `TooLong`: a piece, or what comes after the last closing line, has more than 4,194,304 bytes.
+/// - `TooLong`: a piece, or what comes after the last closing line, has more than 16,777,216 bytes.
 /// - `SessionLong`: the input has more than 1,073,741,824 bytes.
 /// - `Write`: a write failed, or took nothing. The piece whose answer was cut is performed. Nothing after it is
 ///   performed or read.

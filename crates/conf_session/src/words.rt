@@ -44,11 +44,13 @@ pub fn refusal_bytes(fault: StoreFault) -> &'static [u8]
     match fault {
         StoreFault::Path(fault) => path_refusal(fault),
         StoreFault::Read(fault) => read_refusal(fault),
+        StoreFault::EmptyBatch => b"---\nrefused: EmptyBatch\n...\n",
         StoreFault::BadName => b"---\nrefused: BadName\n...\n",
         StoreFault::NoConfig => b"---\nrefused: NoConfig\n...\n",
         StoreFault::TooDeep => b"---\nrefused: TooDeep\n...\n",
         StoreFault::ConfigLarge => b"---\nrefused: ConfigLarge\n...\n",
         StoreFault::StoreFull => b"---\nrefused: StoreFull\n...\n",
+        StoreFault::RecordLong => b"---\nrefused: RecordLong\n...\n",
         StoreFault::JournalLong => b"---\nrefused: JournalLong\n...\n",
         StoreFault::CountFull => b"---\nrefused: CountFull\n...\n",
         StoreFault::Reopen => b"---\nrefused: \"\"\n...\n",

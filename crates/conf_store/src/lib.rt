@@ -30,6 +30,7 @@ mod staging;
 mod store;
 
 pub use fault::OpenFault;
+pub use importing::import_command;
 pub use laws::{
     bytes_mean_one_state, lives_hold, old_stores_read, one_state_is_flushed, records_are_measured,
 };

@@ -2,9 +2,8 @@
 use Rattle.std.proofs.Common.{◌≡◌, refl, sym, ap, ◌∙◌, subst}
 use Rattle.std.specs.Str.{chars}
 use Rattle.yaml_data.specs.TextBytes.{text_bytes}
-use Rattle.conf_state.specs.Commands.{command_of}
-use Rattle.conf_session.specs.Said.{import_text, change, get_at, export_of, checkpoint_now}
-use Rattle.conf_session.specs.Requests.{MeansRequest, changing, checkpointing, getting, exporting, naming, bad}
+use Rattle.conf_session.specs.Said.{get_at, export_of, checkpoint_now}
+use Rattle.conf_session.specs.Requests.{MeansRequest, checkpointing, getting, exporting, naming, bad}
 use Rattle.conf_session.specs.Said.{said_of}
 use Rattle.conf_session.specs.Replies.{DidSaid, is_at_once}
 use Rattle.conf_session.specs.declared.reply.Reply.TheVariants.{NoCommand}
@@ -12,37 +11,33 @@ use Rattle.conf_session.proofs.LengthLemmas.{bad-short}
 use Rattle.conf_session.proofs.RequestLemmas.{did-said, did-checkpoint, said-read}
 use Rattle.conf_session.proofs.reply.answer_said.Goals as goal
 
-pub returns-in-Import-clause-did : goal.returns-in-Import-clause-did
-returns-in-Import-clause-did g c off =
+pub returns-in-Single-clause-did : goal.returns-in-Single-clause-did
+returns-in-Single-clause-did g c off =
     let d = g.D.Disk in
-    let same : import_text (chars (text_bytes c.in-Import.name)) (chars c.deref.result.now) ≡ said_of c.args.said =
-    ap (λ b. import_text (chars (text_bytes c.in-Import.name)) (chars b)) c.deref.ensures ∙ sym (ap said_of c.in-Import.is) in
-    subst (λ s. DidSaid (is_at_once c.args.way) d.honest d.folder d.moment d.left c.args.store.now c.import.new.store s c.import.result) same (c.import.ensures.did off)
+    subst (λ s. DidSaid (is_at_once c.args.way) d.honest d.folder d.moment d.left c.args.store.now c.change_single.new.store s c.change_single.result) (sym (ap said_of c.in-Single.is)) (c.change_single.ensures.did off)
 
-pub returns-in-Import-clause-cause : goal.returns-in-Import-clause-cause
-returns-in-Import-clause-cause g c = c.import.ensures.cause
+pub returns-in-Single-clause-cause : goal.returns-in-Single-clause-cause
+returns-in-Single-clause-cause g c = c.change_single.ensures.cause
 
-pub returns-in-Import-clause-risen : goal.returns-in-Import-clause-risen
-returns-in-Import-clause-risen g c = c.import.ensures.risen
+pub returns-in-Single-clause-risen : goal.returns-in-Single-clause-risen
+returns-in-Single-clause-risen g c = c.change_single.ensures.risen
 
-pub returns-in-Import-clause-now : goal.returns-in-Import-clause-now
-returns-in-Import-clause-now g c = c.import.ensures.now
+pub returns-in-Single-clause-now : goal.returns-in-Single-clause-now
+returns-in-Single-clause-now g c = c.change_single.ensures.now
 
-pub returns-in-Change-clause-did : goal.returns-in-Change-clause-did
-returns-in-Change-clause-did g c off =
+pub returns-in-Batch-clause-did : goal.returns-in-Batch-clause-did
+returns-in-Batch-clause-did g c off =
     let d = g.D.Disk in
-    let command = command_of c.in-Change.command in
-    subst (λ s. DidSaid (is_at_once c.args.way) d.honest d.folder d.moment d.left c.args.store.now c.change.new.store s c.change.result) (sym (ap said_of c.in-Change.is))
-    (did-said (is_at_once c.args.way) d.honest d.folder d.moment d.left c.args.store.now c.change.new.store (change command) (changing command) refl c.change.result (c.change.ensures.did off))
+    subst (λ s. DidSaid (is_at_once c.args.way) d.honest d.folder d.moment d.left c.args.store.now c.change_batch.new.store s c.change_batch.result) (sym (ap said_of c.in-Batch.is)) (c.change_batch.ensures.did off)
 
-pub returns-in-Change-clause-cause : goal.returns-in-Change-clause-cause
-returns-in-Change-clause-cause g c = c.change.ensures.cause
+pub returns-in-Batch-clause-cause : goal.returns-in-Batch-clause-cause
+returns-in-Batch-clause-cause g c = c.change_batch.ensures.cause
 
-pub returns-in-Change-clause-risen : goal.returns-in-Change-clause-risen
-returns-in-Change-clause-risen g c = c.change.ensures.risen
+pub returns-in-Batch-clause-risen : goal.returns-in-Batch-clause-risen
+returns-in-Batch-clause-risen g c = c.change_batch.ensures.risen
 
-pub returns-in-Change-clause-now : goal.returns-in-Change-clause-now
-returns-in-Change-clause-now g c = c.change.ensures.now
+pub returns-in-Batch-clause-now : goal.returns-in-Batch-clause-now
+returns-in-Batch-clause-now g c = c.change_batch.ensures.now
 
 pub returns-in-Checkpoint-clause-did : goal.returns-in-Checkpoint-clause-did
 returns-in-Checkpoint-clause-did g c off =

@@ -5,7 +5,7 @@ use Rattle.std.proofs.lemmas.Result.{err_from_is_err_and}
 use Rattle.std.specs.Prelude.{min, Ok, Err}
 use Rattle.conf_state.specs.Commands.{command_of}
 use Rattle.conf_state.specs.States.{count_limit}
-use Rattle.conf_store.specs.Calls.{RefusesCommand, outcome, has_room, journal_length}
+use Rattle.conf_store.specs.Calls.{RefusesCommand, outcome, room_for, journal_length}
 use Rattle.conf_store.specs.View.{StoreView}
 use Rattle.conf_session.specs.Requests.{changing}
 use Rattle.conf_session.specs.Answers.{longest}
@@ -25,7 +25,7 @@ returns-in-Ok-clause-did g c off =
     let ok = c.in-Ok.ensures.ok.0 in
     let here : outcome (longest (stored_of old)) old.state command ≡ Ok new.state = ap (λ n. outcome n old.state command) (longest-of old) ∙ ok.step in
     let next : c.saturating_add-next.result ≡ min (old.state.count + 1) count_limit = c.saturating_add-next.ensures ∙ ap (λ n. min (n + 1) count_limit) c.count.ensures.count in
-    let same = count-after old.state new.state command (has_room (journal_length old) old.state command) c.saturating_add-next.result ok.step ok.count next in (
+    let same = count-after old.state new.state command (room_for (journal_length old) old.state command) c.saturating_add-next.result ok.step ok.count next in (
       accepted-reply (stored_of old) c.count.ensures.limits new.state command c.in_ok-answer.answer c.saturating_add-next.result here same c.in_ok-answer.ensures,
       ok.reopen,
       command-performed (is_at_once c.args.way) d.honest d.folder d.moment d.left old new command ok.step (λ on. ok) (λ h on. c.in-Ok.ensures.reads h off) (λ h on. c.in-Ok.ensures.stages h off) (λ h. c.in-Ok.ensures.any_moment h off)

@@ -7,8 +7,8 @@ use Rattle.yaml_data.proofs.SeenLemmas.{tree_of-Text, tree_of-Seq, tree_of-Map}
 use Rattle.conf_record.specs.RecordsRead.{keys_are}
 use Rattle.conf_record.proofs.PieceLemmas.{parts_kept}
 use Rattle.conf_record.proofs.TreeLemmas.{asked}
-use Rattle.conf_session.specs.Said.{said_by, import_keys, set_keys, delete_keys, get_keys, export_keys, names_keys, checkpoint_keys}
-use Rattle.conf_session.proofs.SaidLemmas.{said-text, said-sequence, said-nothing, said-import, said-set, said-delete, said-get, said-export, said-names, said-checkpoint, import_texts, set_texts, delete_texts, get_texts, export_texts, names_texts, checkpoint_texts}
+use Rattle.conf_session.specs.Said.{said_by, batch_keys, get_keys, export_keys, names_keys, checkpoint_keys}
+use Rattle.conf_session.proofs.SaidLemmas.{said-text, said-sequence, said-batch, said-get, said-export, said-names, said-checkpoint, said-part, batch_texts, get_texts, export_texts, names_texts, checkpoint_texts}
 use Rattle.conf_session.proofs.said.said_by.Goals as goal
 
 pub returns-in-Text : goal.returns-in-Text
@@ -17,88 +17,64 @@ returns-in-Text c = sym (ap said_by (ap tree_of c.in-Text.is ∙ tree_of-Text c.
 pub returns-in-Seq : goal.returns-in-Seq
 returns-in-Seq c = sym (ap said_by (ap tree_of c.in-Seq.is ∙ tree_of-Seq c.in-Seq.field-0) ∙ said-sequence _)
 
-pub set_said-requires : goal.set_said-requires
-set_said-requires c = parts_kept (members_of c.in-Map.pairs.items) (subst IsKept (ap tree_of c.in-Map.is ∙ tree_of-Map c.in-Map.pairs) c.requires)
+pub batch_said-requires : goal.batch_said-requires
+batch_said-requires c = parts_kept (members_of c.in-Map.pairs.items) (subst IsKept (ap tree_of c.in-Map.is ∙ tree_of-Map c.in-Map.pairs) c.requires)
+
+pub part_said-requires : goal.part_said-requires
+part_said-requires c = parts_kept (members_of c.in-Map.pairs.items) (subst IsKept (ap tree_of c.in-Map.is ∙ tree_of-Map c.in-Map.pairs) c.requires)
 
 pub returns-then-keys_are : goal.returns-then-keys_are
 returns-then-keys_are c =
     let ms = members_of c.in-Map.pairs.items in
     let seen = ap said_by (ap tree_of c.in-Map.is ∙ tree_of-Map c.in-Map.pairs) in
-    let e0 : keys_are import_keys ms ≡ true = asked _ import_keys c.deref.result.now _ _ true c.keys_are.ensures import_texts c.deref.ensures.value c.if-keys_are.true in
-    c.import_said.ensures ∙ sym (seen ∙ said-import ms e0)
+    let e0 : keys_are batch_keys ms ≡ true = asked _ batch_keys c.deref.result.now _ _ true c.keys_are.ensures batch_texts c.deref.ensures.value c.if-keys_are.true in
+    IfOk-weaker c.batch_said.result _ _ (λ said e. e ∙ sym (seen ∙ said-batch ms e0)) c.batch_said.ensures
 
 pub returns-then-keys_are-2 : goal.returns-then-keys_are-2
 returns-then-keys_are-2 c =
     let ms = members_of c.in-Map.pairs.items in
     let seen = ap said_by (ap tree_of c.in-Map.is ∙ tree_of-Map c.in-Map.pairs) in
-    let e0 : keys_are import_keys ms ≡ false = asked _ import_keys c.deref.result.now _ _ false c.keys_are.ensures import_texts c.deref.ensures.value c.if-keys_are.false in
-    let e1 : keys_are set_keys ms ≡ true = asked _ set_keys c.deref-else-keys_are.result.now _ _ true c.keys_are-else-keys_are.ensures set_texts c.deref-else-keys_are.ensures.value c.if-keys_are-2.true in
-    IfOk-weaker c.set_said.result _ _ (λ said e. e ∙ sym (seen ∙ said-set ms e0 e1)) c.set_said.ensures
+    let e0 : keys_are batch_keys ms ≡ false = asked _ batch_keys c.deref.result.now _ _ false c.keys_are.ensures batch_texts c.deref.ensures.value c.if-keys_are.false in
+    let e1 : keys_are get_keys ms ≡ true = asked _ get_keys c.deref-else-keys_are.result.now _ _ true c.keys_are-else-keys_are.ensures get_texts c.deref-else-keys_are.ensures.value c.if-keys_are-2.true in
+    c.get_said.ensures ∙ sym (seen ∙ said-get ms e0 e1)
 
 pub returns-then-keys_are-3 : goal.returns-then-keys_are-3
 returns-then-keys_are-3 c =
     let ms = members_of c.in-Map.pairs.items in
     let seen = ap said_by (ap tree_of c.in-Map.is ∙ tree_of-Map c.in-Map.pairs) in
-    let e0 : keys_are import_keys ms ≡ false = asked _ import_keys c.deref.result.now _ _ false c.keys_are.ensures import_texts c.deref.ensures.value c.if-keys_are.false in
-    let e1 : keys_are set_keys ms ≡ false = asked _ set_keys c.deref-else-keys_are.result.now _ _ false c.keys_are-else-keys_are.ensures set_texts c.deref-else-keys_are.ensures.value c.if-keys_are-2.false in
-    let e2 : keys_are delete_keys ms ≡ true = asked _ delete_keys c.deref-else-keys_are-2.result.now _ _ true c.keys_are-else-keys_are-2.ensures delete_texts c.deref-else-keys_are-2.ensures.value c.if-keys_are-3.true in
-    IfOk-weaker c.delete_said.result _ _ (λ said e. e ∙ sym (seen ∙ said-delete ms e0 e1 e2)) c.delete_said.ensures
+    let e0 : keys_are batch_keys ms ≡ false = asked _ batch_keys c.deref.result.now _ _ false c.keys_are.ensures batch_texts c.deref.ensures.value c.if-keys_are.false in
+    let e1 : keys_are get_keys ms ≡ false = asked _ get_keys c.deref-else-keys_are.result.now _ _ false c.keys_are-else-keys_are.ensures get_texts c.deref-else-keys_are.ensures.value c.if-keys_are-2.false in
+    let e2 : keys_are export_keys ms ≡ true = asked _ export_keys c.deref-else-keys_are-2.result.now _ _ true c.keys_are-else-keys_are-2.ensures export_texts c.deref-else-keys_are-2.ensures.value c.if-keys_are-3.true in
+    c.export_said.ensures ∙ sym (seen ∙ said-export ms e0 e1 e2)
 
 pub returns-then-keys_are-4 : goal.returns-then-keys_are-4
 returns-then-keys_are-4 c =
     let ms = members_of c.in-Map.pairs.items in
     let seen = ap said_by (ap tree_of c.in-Map.is ∙ tree_of-Map c.in-Map.pairs) in
-    let e0 : keys_are import_keys ms ≡ false = asked _ import_keys c.deref.result.now _ _ false c.keys_are.ensures import_texts c.deref.ensures.value c.if-keys_are.false in
-    let e1 : keys_are set_keys ms ≡ false = asked _ set_keys c.deref-else-keys_are.result.now _ _ false c.keys_are-else-keys_are.ensures set_texts c.deref-else-keys_are.ensures.value c.if-keys_are-2.false in
-    let e2 : keys_are delete_keys ms ≡ false = asked _ delete_keys c.deref-else-keys_are-2.result.now _ _ false c.keys_are-else-keys_are-2.ensures delete_texts c.deref-else-keys_are-2.ensures.value c.if-keys_are-3.false in
-    let e3 : keys_are get_keys ms ≡ true = asked _ get_keys c.deref-else-keys_are-3.result.now _ _ true c.keys_are-else-keys_are-3.ensures get_texts c.deref-else-keys_are-3.ensures.value c.if-keys_are-4.true in
-    c.get_said.ensures ∙ sym (seen ∙ said-get ms e0 e1 e2 e3)
+    let e0 : keys_are batch_keys ms ≡ false = asked _ batch_keys c.deref.result.now _ _ false c.keys_are.ensures batch_texts c.deref.ensures.value c.if-keys_are.false in
+    let e1 : keys_are get_keys ms ≡ false = asked _ get_keys c.deref-else-keys_are.result.now _ _ false c.keys_are-else-keys_are.ensures get_texts c.deref-else-keys_are.ensures.value c.if-keys_are-2.false in
+    let e2 : keys_are export_keys ms ≡ false = asked _ export_keys c.deref-else-keys_are-2.result.now _ _ false c.keys_are-else-keys_are-2.ensures export_texts c.deref-else-keys_are-2.ensures.value c.if-keys_are-3.false in
+    let e3 : keys_are names_keys ms ≡ true = asked _ names_keys c.deref-else-keys_are-3.result.now _ _ true c.keys_are-else-keys_are-3.ensures names_texts c.deref-else-keys_are-3.ensures.value c.if-keys_are-4.true in
+    c.names_said.ensures ∙ sym (seen ∙ said-names ms e0 e1 e2 e3)
 
 pub returns-then-keys_are-5 : goal.returns-then-keys_are-5
 returns-then-keys_are-5 c =
     let ms = members_of c.in-Map.pairs.items in
     let seen = ap said_by (ap tree_of c.in-Map.is ∙ tree_of-Map c.in-Map.pairs) in
-    let e0 : keys_are import_keys ms ≡ false = asked _ import_keys c.deref.result.now _ _ false c.keys_are.ensures import_texts c.deref.ensures.value c.if-keys_are.false in
-    let e1 : keys_are set_keys ms ≡ false = asked _ set_keys c.deref-else-keys_are.result.now _ _ false c.keys_are-else-keys_are.ensures set_texts c.deref-else-keys_are.ensures.value c.if-keys_are-2.false in
-    let e2 : keys_are delete_keys ms ≡ false = asked _ delete_keys c.deref-else-keys_are-2.result.now _ _ false c.keys_are-else-keys_are-2.ensures delete_texts c.deref-else-keys_are-2.ensures.value c.if-keys_are-3.false in
-    let e3 : keys_are get_keys ms ≡ false = asked _ get_keys c.deref-else-keys_are-3.result.now _ _ false c.keys_are-else-keys_are-3.ensures get_texts c.deref-else-keys_are-3.ensures.value c.if-keys_are-4.false in
-    let e4 : keys_are export_keys ms ≡ true = asked _ export_keys c.deref-else-keys_are-4.result.now _ _ true c.keys_are-else-keys_are-4.ensures export_texts c.deref-else-keys_are-4.ensures.value c.if-keys_are-5.true in
-    c.export_said.ensures ∙ sym (seen ∙ said-export ms e0 e1 e2 e3 e4)
+    let e0 : keys_are batch_keys ms ≡ false = asked _ batch_keys c.deref.result.now _ _ false c.keys_are.ensures batch_texts c.deref.ensures.value c.if-keys_are.false in
+    let e1 : keys_are get_keys ms ≡ false = asked _ get_keys c.deref-else-keys_are.result.now _ _ false c.keys_are-else-keys_are.ensures get_texts c.deref-else-keys_are.ensures.value c.if-keys_are-2.false in
+    let e2 : keys_are export_keys ms ≡ false = asked _ export_keys c.deref-else-keys_are-2.result.now _ _ false c.keys_are-else-keys_are-2.ensures export_texts c.deref-else-keys_are-2.ensures.value c.if-keys_are-3.false in
+    let e3 : keys_are names_keys ms ≡ false = asked _ names_keys c.deref-else-keys_are-3.result.now _ _ false c.keys_are-else-keys_are-3.ensures names_texts c.deref-else-keys_are-3.ensures.value c.if-keys_are-4.false in
+    let e4 : keys_are checkpoint_keys ms ≡ true = asked _ checkpoint_keys c.deref-else-keys_are-4.result.now _ _ true c.keys_are-else-keys_are-4.ensures checkpoint_texts c.deref-else-keys_are-4.ensures.value c.if-keys_are-5.true in
+    c.checkpoint_said.ensures ∙ sym (seen ∙ said-checkpoint ms e0 e1 e2 e3 e4)
 
-pub returns-then-keys_are-6 : goal.returns-then-keys_are-6
-returns-then-keys_are-6 c =
+pub returns-else-keys_are-5 : goal.returns-else-keys_are-5
+returns-else-keys_are-5 c =
     let ms = members_of c.in-Map.pairs.items in
     let seen = ap said_by (ap tree_of c.in-Map.is ∙ tree_of-Map c.in-Map.pairs) in
-    let e0 : keys_are import_keys ms ≡ false = asked _ import_keys c.deref.result.now _ _ false c.keys_are.ensures import_texts c.deref.ensures.value c.if-keys_are.false in
-    let e1 : keys_are set_keys ms ≡ false = asked _ set_keys c.deref-else-keys_are.result.now _ _ false c.keys_are-else-keys_are.ensures set_texts c.deref-else-keys_are.ensures.value c.if-keys_are-2.false in
-    let e2 : keys_are delete_keys ms ≡ false = asked _ delete_keys c.deref-else-keys_are-2.result.now _ _ false c.keys_are-else-keys_are-2.ensures delete_texts c.deref-else-keys_are-2.ensures.value c.if-keys_are-3.false in
-    let e3 : keys_are get_keys ms ≡ false = asked _ get_keys c.deref-else-keys_are-3.result.now _ _ false c.keys_are-else-keys_are-3.ensures get_texts c.deref-else-keys_are-3.ensures.value c.if-keys_are-4.false in
-    let e4 : keys_are export_keys ms ≡ false = asked _ export_keys c.deref-else-keys_are-4.result.now _ _ false c.keys_are-else-keys_are-4.ensures export_texts c.deref-else-keys_are-4.ensures.value c.if-keys_are-5.false in
-    let e5 : keys_are names_keys ms ≡ true = asked _ names_keys c.deref-else-keys_are-5.result.now _ _ true c.keys_are-else-keys_are-5.ensures names_texts c.deref-else-keys_are-5.ensures.value c.if-keys_are-6.true in
-    c.names_said.ensures ∙ sym (seen ∙ said-names ms e0 e1 e2 e3 e4 e5)
-
-pub returns-then-keys_are-7 : goal.returns-then-keys_are-7
-returns-then-keys_are-7 c =
-    let ms = members_of c.in-Map.pairs.items in
-    let seen = ap said_by (ap tree_of c.in-Map.is ∙ tree_of-Map c.in-Map.pairs) in
-    let e0 : keys_are import_keys ms ≡ false = asked _ import_keys c.deref.result.now _ _ false c.keys_are.ensures import_texts c.deref.ensures.value c.if-keys_are.false in
-    let e1 : keys_are set_keys ms ≡ false = asked _ set_keys c.deref-else-keys_are.result.now _ _ false c.keys_are-else-keys_are.ensures set_texts c.deref-else-keys_are.ensures.value c.if-keys_are-2.false in
-    let e2 : keys_are delete_keys ms ≡ false = asked _ delete_keys c.deref-else-keys_are-2.result.now _ _ false c.keys_are-else-keys_are-2.ensures delete_texts c.deref-else-keys_are-2.ensures.value c.if-keys_are-3.false in
-    let e3 : keys_are get_keys ms ≡ false = asked _ get_keys c.deref-else-keys_are-3.result.now _ _ false c.keys_are-else-keys_are-3.ensures get_texts c.deref-else-keys_are-3.ensures.value c.if-keys_are-4.false in
-    let e4 : keys_are export_keys ms ≡ false = asked _ export_keys c.deref-else-keys_are-4.result.now _ _ false c.keys_are-else-keys_are-4.ensures export_texts c.deref-else-keys_are-4.ensures.value c.if-keys_are-5.false in
-    let e5 : keys_are names_keys ms ≡ false = asked _ names_keys c.deref-else-keys_are-5.result.now _ _ false c.keys_are-else-keys_are-5.ensures names_texts c.deref-else-keys_are-5.ensures.value c.if-keys_are-6.false in
-    let e6 : keys_are checkpoint_keys ms ≡ true = asked _ checkpoint_keys c.deref-else-keys_are-6.result.now _ _ true c.keys_are-else-keys_are-6.ensures checkpoint_texts c.deref-else-keys_are-6.ensures.value c.if-keys_are-7.true in
-    c.checkpoint_said.ensures ∙ sym (seen ∙ said-checkpoint ms e0 e1 e2 e3 e4 e5 e6)
-
-pub returns-else-keys_are-7 : goal.returns-else-keys_are-7
-returns-else-keys_are-7 c =
-    let ms = members_of c.in-Map.pairs.items in
-    let seen = ap said_by (ap tree_of c.in-Map.is ∙ tree_of-Map c.in-Map.pairs) in
-    let e0 : keys_are import_keys ms ≡ false = asked _ import_keys c.deref.result.now _ _ false c.keys_are.ensures import_texts c.deref.ensures.value c.if-keys_are.false in
-    let e1 : keys_are set_keys ms ≡ false = asked _ set_keys c.deref-else-keys_are.result.now _ _ false c.keys_are-else-keys_are.ensures set_texts c.deref-else-keys_are.ensures.value c.if-keys_are-2.false in
-    let e2 : keys_are delete_keys ms ≡ false = asked _ delete_keys c.deref-else-keys_are-2.result.now _ _ false c.keys_are-else-keys_are-2.ensures delete_texts c.deref-else-keys_are-2.ensures.value c.if-keys_are-3.false in
-    let e3 : keys_are get_keys ms ≡ false = asked _ get_keys c.deref-else-keys_are-3.result.now _ _ false c.keys_are-else-keys_are-3.ensures get_texts c.deref-else-keys_are-3.ensures.value c.if-keys_are-4.false in
-    let e4 : keys_are export_keys ms ≡ false = asked _ export_keys c.deref-else-keys_are-4.result.now _ _ false c.keys_are-else-keys_are-4.ensures export_texts c.deref-else-keys_are-4.ensures.value c.if-keys_are-5.false in
-    let e5 : keys_are names_keys ms ≡ false = asked _ names_keys c.deref-else-keys_are-5.result.now _ _ false c.keys_are-else-keys_are-5.ensures names_texts c.deref-else-keys_are-5.ensures.value c.if-keys_are-6.false in
-    let e6 : keys_are checkpoint_keys ms ≡ false = asked _ checkpoint_keys c.deref-else-keys_are-6.result.now _ _ false c.keys_are-else-keys_are-6.ensures checkpoint_texts c.deref-else-keys_are-6.ensures.value c.if-keys_are-7.false in
-    sym (seen ∙ said-nothing ms e0 e1 e2 e3 e4 e5 e6)
+    let e0 : keys_are batch_keys ms ≡ false = asked _ batch_keys c.deref.result.now _ _ false c.keys_are.ensures batch_texts c.deref.ensures.value c.if-keys_are.false in
+    let e1 : keys_are get_keys ms ≡ false = asked _ get_keys c.deref-else-keys_are.result.now _ _ false c.keys_are-else-keys_are.ensures get_texts c.deref-else-keys_are.ensures.value c.if-keys_are-2.false in
+    let e2 : keys_are export_keys ms ≡ false = asked _ export_keys c.deref-else-keys_are-2.result.now _ _ false c.keys_are-else-keys_are-2.ensures export_texts c.deref-else-keys_are-2.ensures.value c.if-keys_are-3.false in
+    let e3 : keys_are names_keys ms ≡ false = asked _ names_keys c.deref-else-keys_are-3.result.now _ _ false c.keys_are-else-keys_are-3.ensures names_texts c.deref-else-keys_are-3.ensures.value c.if-keys_are-4.false in
+    let e4 : keys_are checkpoint_keys ms ≡ false = asked _ checkpoint_keys c.deref-else-keys_are-4.result.now _ _ false c.keys_are-else-keys_are-4.ensures checkpoint_texts c.deref-else-keys_are-4.ensures.value c.if-keys_are-5.false in
+    IfOk-weaker c.part_said.result _ _ (λ said e. e ∙ sym (seen ∙ said-part ms e0 e1 e2 e3 e4)) c.part_said.ensures
