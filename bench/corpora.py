@@ -1,4 +1,4 @@
-"""Six corpora inside the profile, and hostile texts, to be read and measured. The same size gives the same text."""
+"""Nine corpora inside the profile, and hostile texts, to be read and measured. The same size gives the same text."""
 
 import random
 
@@ -116,6 +116,48 @@ def prose(size):
     return until(size, chapter)
 
 
+def compact(size):
+    """JSON without whitespace, as programs write it."""
+    chance = random.Random(6)
+
+    def record(number):
+        names = [chance.choice(WORDS) for _ in range(4)]
+        return (
+            f'{{"id":{number},"name":"{names[0]}-{names[1]}","at":"2024-01-{number % 28 + 1:02}T10:{number % 60:02}:00Z",'
+            f'"tags":["{names[2]}","{names[3]}"],"size":[{number % 640},{number % 480}],"open":{"true" if number % 2 else "false"}}},'
+        )
+
+    return "[" + until(size - 4, record)[:-1] + "]\n"
+
+
+def pipelines(size):
+    """Files of build pipelines: short literals of shell commands, comments and empty lines."""
+    chance = random.Random(7)
+
+    def job(number):
+        name = f"{chance.choice(WORDS)}-{number}"
+        commands = "".join(f"        {chance.choice(WORDS)} --{chance.choice(WORDS)} ${{{chance.choice(WORDS).upper()}}}\n" for _ in range(5))
+        return (
+            f"# {name}: made by hand\n{name}:\n  stage: {chance.choice(WORDS)}\n  needs: [{chance.choice(WORDS)}, {chance.choice(WORDS)}]\n"
+            f"  script:\n    - |\n{commands}    - echo \"{name} is done\"\n\n  only:\n    - main\n    - /^release-.*$/\n\n"
+        )
+
+    return until(size, job)
+
+
+def listings(size):
+    """Long sequences of short scalars, plain and quoted by turns."""
+    chance = random.Random(8)
+
+    def listing(number):
+        entries = "".join(
+            f"  - {chance.choice(WORDS)}\n" if entry % 3 else f"  - '{chance.choice(WORDS)} {entry}'\n" for entry in range(60)
+        )
+        return f"list-{number}:\n{entries}"
+
+    return until(size, listing)
+
+
 CORPORA = {
     "services": services,
     "kubernetes": kubernetes,
@@ -123,6 +165,9 @@ CORPORA = {
     "brackets": brackets,
     "nests": nests,
     "prose": prose,
+    "compact": compact,
+    "pipelines": pipelines,
+    "listings": listings,
 }
 
 # Texts that a careless reader takes more than linear time for. Some of them are refused.

@@ -1,22 +1,25 @@
 #!/usr/bin/env python3
-"""Times the reading of texts, beside libyaml and libfyaml.
+"""Times the reading of texts, beside libyaml, libfyaml and rapidyaml.
 
-It makes six corpora of 1 MiB each, and reads them to events and to a tree in a loop inside one process, as the peers
-do, and once by `confstore format` beside what libyaml takes to read and write the same text. It prints MB/s, the ratio
+It makes nine corpora of 1 MiB each, and reads them to events and to a tree in a loop inside one process, as the peers
+do, and once by `confstore format` beside what the peers take to read and write the same text. It prints MB/s, the ratio
 to the best peer, the greatest memory, how many pages of memory the system hands out in a round, and with `-i`
-instructions a byte as valgrind counts them. `bench/growth.py` says how the time a byte grows with the length of a text.
+instructions a byte as valgrind counts them. At the end come the geometric mean of the ratios and the worst corpus.
+`bench/growth.py` says how the time a byte grows with the length of a text.
 
 With malloc's own settings some of the programs give memory back in each round, and the system hands it out anew. On some
-machines that takes as long as the reading. With `-k` malloc keeps it, for the peers as for ours.
+machines that takes as long as the reading. So all is measured twice: with malloc's own settings, and with malloc keeping
+its memory, for the peers as for ours.
 
 The programs take turns, since the speed of a shared machine changes within seconds. What is printed is the median of the
 processor times of eleven turns, less the least time of a run with one round, and of the ratios of each turn. Run it on
 a quiet machine from the repository's root, after the programs are built:
 
-    ./confstore --version && (cd crates/bench_driver && rt run -- edits tree wide 1 1) && python3 bench/read.py [-i] [-k]
+    ./confstore --version && (cd crates/bench_driver && rt run -- edits tree wide 1 1) && python3 bench/read.py [-i] [-n FOLDER]
 
-A peer that is not installed is left out: `apt-get install libyaml-dev libfyaml-dev valgrind` installs both, and
-valgrind.
+With `-n FOLDER` the newest libfyaml and rapidyaml are peers too, which `bench/peers/newest.sh FOLDER` has put there. A
+peer that is not installed is left out: `apt-get install libyaml-dev libfyaml-dev valgrind` installs libyaml, an older
+libfyaml, and valgrind. With `-c NAME` one corpus alone is read.
 """
 
 import math
@@ -39,9 +42,11 @@ PEERS = {"libyaml": ("-lyaml", "libyaml-dev"), "libfyaml": ("-lfyaml", "libfyaml
 # How long the rounds of one measurement take together, in seconds, and how many turns the programs take.
 ENOUGH = 0.1
 TURNS = 11
-# The settings of glibc's malloc with which it keeps its memory.
+# The newest peers, which `bench/peers/newest.sh` builds, with what each can do.
+NEWEST = {"libfyaml": ("events", "tree", "copy"), "rapidyaml": ("tree", "copy")}
+# The settings of glibc's malloc: its own, and those with which it keeps its memory.
 KEPT = {"GLIBC_TUNABLES": "glibc.malloc.mmap_max=0:glibc.malloc.trim_threshold=17179869184"}
-SETTINGS = KEPT if "-k" in sys.argv[1:] else {}
+SETTINGS = {}
 
 
 def usage_and_output(words, source=os.devnull, settings=None):
@@ -120,6 +125,24 @@ def round_instructions(words):
     return collected(2) - collected(1)
 
 
+class Peer:
+    """A peer's driver, and the works that it can do."""
+
+    def __init__(self, program, works=("events", "tree", "copy")):
+        self.program = program
+        self.works = works
+
+
+def newest_peers(folder):
+    """The drivers in a folder that `bench/peers/newest.sh` made, each with its version in its name."""
+    with open(os.path.join(folder, "versions"), encoding="utf-8") as lines:
+        versions = re.findall(r"Version: ([0-9.]+)", lines.read())
+    return {
+        f"{name} {version}": Peer(os.path.join(folder, name), works)
+        for (name, works), version in zip(NEWEST.items(), versions)
+    }
+
+
 def built_peers(folder):
     """The peers' drivers that can be built here."""
     built = {}
@@ -128,7 +151,7 @@ def built_peers(folder):
         source = os.path.join(TOP, "bench", "peers", f"{peer}.c")
         done = subprocess.run(["cc", "-O2", "-o", program, source, library], capture_output=True, check=False)
         if done.returncode == 0:
-            built[peer] = program
+            built[peer] = Peer(program)
         else:
             print(f"{peer} is left out: install {package} to compare with it")
     return built
@@ -149,7 +172,8 @@ def megabytes(length, seconds):
 def compare(work, path, peers, counts_instructions):
     """Prints how fast a file is read, beside the peers, and returns the ratio to the best of them."""
     length = os.path.getsize(path)
-    programs = {"confstore": [DRIVER, "read"], **{name: [program] for name, program in peers.items()}}
+    peers = {name: peer for name, peer in peers.items() if work in peer.works}
+    programs = {"confstore": [DRIVER, "read"], **{name: [peer.program] for name, peer in peers.items()}}
     programs = {name: [*program, work, path] for name, program in programs.items()}
     turns = dict(zip(programs, round_turns(list(programs.values()))))
     parts = []
@@ -175,17 +199,17 @@ def style_limited(folder, make):
 
 
 def compare_format(path, peers):
-    """Prints how fast `format` is as a program, beside libyaml's reading and writing as one, and returns the ratio."""
+    """Prints how fast `format` is as a program, beside the peers' reading and writing as one, and returns the ratio."""
     length = os.path.getsize(path)
-    copies = [([peers["libyaml"], "copy", path, "1"], os.devnull)] if "libyaml" in peers else []
+    copies = [([peer.program, "copy", path, "1"], os.devnull) for peer in peers.values()]
     own, *others = turns_of([([PROGRAM, "format"], path), *copies])
     memory = greatest_memory([PROGRAM, "format"], path)
     print(f"  format confstore {megabytes(length, median(own)):6.1f} MB/s, {memory / length:4.1f} times the input in memory", end="")
-    ratio = math.nan
-    for peer in others:
-        ratio = times_as_fast(own, peer)
-        print(f" | libyaml {megabytes(length, median(peer)):6.1f} MB/s | {ratio:4.2f} times libyaml", end="")
-    print()
+    ratios = [times_as_fast(own, other) for other in others]
+    for name, other in zip(peers, others):
+        print(f" | {name} {megabytes(length, median(other)):6.1f} MB/s", end="")
+    ratio = min(ratios, default=math.nan)
+    print(f" | {ratio:4.2f} times the best peer")
     return ratio
 
 
@@ -199,18 +223,28 @@ def mean(ratios):
     return math.exp(sum(map(math.log, ratios)) / len(ratios))
 
 
-def corpora(folder, peers, counts_instructions):
+def corpora(folder, peers, counts_instructions, chosen):
     """Reads the corpora beside the peers."""
-    ratios = {"events": [], "tree": [], "format": []}
+    ratios = {"events": {}, "tree": {}, "format": {}}
     floor = greatest_memory([DRIVER, "read", "events", written(folder, "a: b\n"), "1"])
-    for name, make in CORPORA.items():
-        path = written(folder, make(MIB))
+    for name in chosen:
+        path = written(folder, CORPORA[name](MIB))
         print(f"{name}: {event_bytes(path, floor):.0f} bytes an event")
         for work in ("events", "tree"):
-            ratios[work].append(compare(work, path, peers, counts_instructions))
-        ratios["format"].append(compare_format(style_limited(folder, make), peers))
-    for work, all_ratios in ratios.items():
-        print(f"{work}: {mean(all_ratios):.2f} times the peer, in the geometric mean")
+            ratios[work][name] = compare(work, path, peers, counts_instructions)
+        ratios["format"][name] = compare_format(style_limited(folder, CORPORA[name]), peers)
+    for work, of_corpora in ratios.items():
+        worst = min(of_corpora, key=of_corpora.get)
+        print(
+            f"{work}: {mean(of_corpora.values()):.2f} times the best peer in the geometric mean, "
+            f"{of_corpora[worst]:.2f} times on the worst corpus ({worst})"
+        )
+
+
+def option(name):
+    """The word after an option, if it is given."""
+    words = sys.argv[1:]
+    return words[words.index(name) + 1] if name in words else None
 
 
 def main():
@@ -218,8 +252,15 @@ def main():
         if not os.access(program, os.X_OK):
             sys.exit(f"{program} is not built")
     counts_instructions = "-i" in sys.argv[1:] and shutil.which("valgrind") is not None
+    newest, only = option("-n"), option("-c")
+    chosen = [only] if only else list(CORPORA)
     with tempfile.TemporaryDirectory() as folder:
-        corpora(folder, built_peers(folder), counts_instructions)
+        peers = {**built_peers(folder), **(newest_peers(newest) if newest else {})}
+        print("== malloc with its own settings")
+        corpora(folder, peers, counts_instructions, chosen)
+        print("== malloc keeps its memory")
+        SETTINGS.update(KEPT)
+        corpora(folder, peers, False, chosen)
     return 0
 
 

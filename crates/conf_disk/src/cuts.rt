@@ -5,6 +5,6 @@
 pub struct Cuts {
     /// How many pending bytes of the file under `Store` are kept, and how many zeros follow.
     pub store: (usize, usize),
-    /// The same of the file under `Next`.
+    /// How many pending bytes of the file under `Next` are kept, and how many zeros follow.
     pub next: (usize, usize),
 }

@@ -75,7 +75,8 @@ pub trait Disk {
     /// disk after.
     ghost also_changes: { SaysOfChange Self } = { λ _ _ _ _. Unit {0} };
 
-    /// The same of a read of a name with a limit.
+    /// What a disk promises of a read beside the clauses below: the disk before, the name, the limit, the result, the
+    /// disk after.
     ghost also_reads: { SaysOfRead Self } = { λ _ _ _ _ _. Unit {0} };
 
     /// How often the device has failed, up to 18,446,744,073,709,551,615. From then on every other call returns

@@ -11,7 +11,7 @@ pub(crate) const OWNER_ALONE: u32 = 0o600;
 /// The bits of a mode that say who may read, write and run a file.
 const ACCESS: u32 = 0o777;
 
-/// The same bits without those of the owner.
+/// The bits of a mode that say who but the owner may read, write and run a file.
 const GROUP_AND_OTHERS: u32 = 0o77;
 
 /// What multiplies the three bits of a class to those of the group and of all others.

@@ -20,7 +20,10 @@ use yaml_flow::{KEY_LIMIT, flow_node};
 use yaml_scan::{at_most_chars, has_break, line_after, sign_at, white_end};
 
 impl<'a> Reader<'a> {
-    /// Reads a scalar, a flow collection, or the first key of a mapping. Returns what is read next.
+    /// Reads what a block node begins with, where it is no `- `: a block scalar, a flow node, or the first key of a
+    /// mapping, which it opens. Appends its events. Returns what is read next, and where.
+    ///
+    /// It fails if no block node begins so, or memory runs out.
     pub(crate) fn leaf(&mut self, text: &'a str, leaf: Leaf) -> Result<Next, ScanFault>
         requires at { IsCharBoundary text.now leaf.at }
         requires least { leaf.least ≤ 2 ^ 63 }

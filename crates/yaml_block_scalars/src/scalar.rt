@@ -263,8 +263,8 @@ pub fn literal<'a>(
 /// Returns the value of the folded scalar whose header ends at `at`, and its end (YAML 1.2.2, 8.1.3). The end is after
 /// its last text line or empty line, or `at` where it has neither.
 ///
-/// The same as [`literal`], errors included, but a break between two text lines that do not begin with whitespace is
-/// folded: it is one space, or a line feed for each empty line there.
+/// A break between two text lines that do not begin with whitespace is folded: it is one space, or a line feed for each
+/// empty line there. All else is as in a [`literal`] scalar, errors included.
 pub fn folded<'a>(
     alloc: Global,
     text: &'a str,

@@ -37,8 +37,8 @@ use Rattle.yaml_docs.specs.Documents.{DocumentRead, ExplicitNodeRead, ExplicitRe
 use Rattle.yaml_block.specs.Found.{BlockNodeRead}
 use Rattle.yaml_flow.specs.FlowNodes.{Appended}
 use Rattle.yaml_flow.proofs.Appends.{appended_none, appended_one, appended_then}
-use Rattle.yaml_docs.specs.Pieces.{PieceRead, read_as}
-use Rattle.yaml_docs.specs.declared.documents.Piece.TheVariants.{Suffix, Explicit as ExplicitPiece, Directed, Bare}
+use Rattle.yaml_docs.specs.Sections.{SectionRead, read_as}
+use Rattle.yaml_docs.specs.declared.documents.Section.TheVariants.{Suffix, Explicit as ExplicitSection, Directed, Bare}
 use Rattle.yaml_docs.proofs.TextPlaces.{StandsUpTo, place_after}
 
 -- ---- markers
@@ -189,7 +189,7 @@ explicit_found bs at old one two new end h l e f r =
 
 -- a bare document is read
 pub bare_found : (bs : List ℕ) (at : ℕ) (old one two new : List Event) (end : ℕ) → line_starts bs at ≡ true → one ≡ old ++ DocStart ∷ [] → new ≡ two ++ DocEnd ∷ []
-    → BlockNodeRead 0 false bs at one two end → PieceRead bs at Bare old new end
+    → BlockNodeRead 0 false bs at one two end → SectionRead bs at Bare old new end
 bare_found bs at old one two new end l e f r =
     let found : document_node_at true (rest bs at) ≡ Some (r.node, rest bs end) = subst (λ (bol : Bool). document_node_at bol (rest bs at) ≡ Some (r.node, rest bs end)) l r.found in
     record {
@@ -205,20 +205,20 @@ pub bare_missing : (bs : List ℕ) (at : ℕ) → line_starts bs at ≡ true →
 bare_missing bs at l h =
     let none : document_node_at true (rest bs at) ≡ None = subst (λ (bol : Bool). document_node_at bol (rest bs at) ≡ None) l h in rw none refl
 
--- a suffix is the piece there
-pub suffix_piece : (bs : List ℕ) (at : ℕ) (events : List Event) (end : ℕ) → SuffixRead bs at end → PieceRead bs at Suffix events events end
-suffix_piece bs at events end r =
+-- a suffix is the section there
+pub suffix_section : (bs : List ℕ) (at : ℕ) (events : List Event) (end : ℕ) → SuffixRead bs at end → SectionRead bs at Suffix events events end
+suffix_section bs at events end r =
     record { boundary = r.boundary; starts = r.starts; found = suffix r.comments; reads = r.reads; appended = appended_none bs events }
 
 -- so is an explicit document
-pub explicit_piece : (bs : List ℕ) (at : ℕ) (old new : List Event) (end : ℕ) → ExplicitRead bs at old new end → PieceRead bs at ExplicitPiece old new end
-explicit_piece bs at old new end r =
+pub explicit_section : (bs : List ℕ) (at : ℕ) (old new : List Event) (end : ℕ) → ExplicitRead bs at old new end → SectionRead bs at ExplicitSection old new end
+explicit_section bs at old new end r =
     let found : read_explicit document_node_at (rest bs at) ≡ Some (r.document, rest bs end) = r.reads in
     record { boundary = r.boundary; starts = r.starts; found = document (explicit r.document); reads = rw found refl; appended = r.appended }
 
 -- so is a document with a directive
-pub directed_piece : (bs : List ℕ) (at : ℕ) (old new : List Event) (end : ℕ) → DocumentRead bs at old new end → PieceRead bs at Directed old new end
-directed_piece bs at old new end r =
+pub directed_section : (bs : List ℕ) (at : ℕ) (old new : List Event) (end : ℕ) → DocumentRead bs at old new end → SectionRead bs at Directed old new end
+directed_section bs at old new end r =
     record {
       boundary = r.boundary;
       starts = r.starts;
@@ -227,11 +227,11 @@ directed_piece bs at old new end r =
       appended = r.appended;
     }
 
--- without an explicit document there is no such piece
-pub explicit_none : (text : List ℕ) → read_explicit document_node_at text ≡ None → read_as ExplicitPiece text ≡ None
+-- without an explicit document there is no such section
+pub explicit_none : (text : List ℕ) → read_explicit document_node_at text ≡ None → read_as ExplicitSection text ≡ None
 explicit_none text h = rw h refl
 
--- without a document with a directive there is no such piece
+-- without a document with a directive there is no such section
 pub directed_none : (text : List ℕ) → read_directed document_node_at text ≡ None → read_as Directed text ≡ None
 directed_none text h = ap (λ (x : Read Document). on x (λ d after. Some (document d, after))) h
 

@@ -1,6 +1,6 @@
 pub mod ClosingLines
-pub mod PieceSteps
-pub mod PieceCases
+pub mod SectionSteps
+pub mod SectionCases
 pub mod TextPlaces
 pub mod DocumentSteps
 pub mod DirectiveSteps

@@ -7,20 +7,20 @@ use Rattle.std.proofs.lemmas.Str.{IsCharBoundary-start}
 use Rattle.yaml_chars.specs.Places.{between, rest}
 use Rattle.yaml_grammar.specs.Texts.{byte_len, first, starts_line}
 use Rattle.yaml_events.specs.EventPlaces.{line_starts, without_mark}
-use Rattle.yaml_recognizers.specs.CanonicalStreams.{Piece}
-use Rattle.yaml_recognizers.specs.Recognizers.{pieces_at}
+use Rattle.yaml_recognizers.specs.CanonicalStreams.{Section}
+use Rattle.yaml_recognizers.specs.Recognizers.{sections_at}
 use Rattle.yaml_recognizers.specs.Streams.{order_mark, with_mark}
 use Rattle.yaml_recognizers.proofs.Meanings.Steps.{stream_steps}
 use Rattle.yaml_scan.proofs.LineStarts.{starts_at_beginning}
 use Rattle.yaml_docs.specs.Documents.{IsMarkEnd}
-use Rattle.yaml_docs.specs.Pieces.{flat_meaning, meaning_from, pieces_meaning, stream_meaning}
+use Rattle.yaml_docs.specs.Sections.{flat_meaning, meaning_from, sections_meaning, stream_meaning}
 use Rattle.yaml_docs.proofs.TextPlaces.{StandsUpTo, place_after}
 
-unmarked_meaning : (ps : Option (List Piece)) → flat_meaning (with_mark false ps) ≡ pieces_meaning 0 ps
+unmarked_meaning : (ps : Option (List Section)) → flat_meaning (with_mark false ps) ≡ sections_meaning 0 ps
 unmarked_meaning None = refl
 unmarked_meaning (Some ps) = refl
 
-marked_meaning : (ps : Option (List Piece)) → flat_meaning (with_mark true ps) ≡ pieces_meaning 3 ps
+marked_meaning : (ps : Option (List Section)) → flat_meaning (with_mark true ps) ≡ sections_meaning 3 ps
 marked_meaning None = refl
 marked_meaning (Some ps) = refl
 
@@ -31,7 +31,7 @@ no_mark bs u h =
       boundary = IsCharBoundary-start bs u;
       starts = inl (sym (starts_at_beginning bs 0 refl));
       unmarked = inr h;
-      reads = ap flat_meaning (stream_steps (chars bs) ∙ rw h refl) ∙ unmarked_meaning (pieces_at true true (chars bs));
+      reads = ap flat_meaning (stream_steps (chars bs) ∙ rw h refl) ∙ unmarked_meaning (sections_at true true (chars bs));
     }
 
 -- so does the empty text
@@ -47,8 +47,8 @@ other_prefix bs character after u e n =
     ] in
     no_mark bs u (ap (first order_mark) e ∙ other)
 
-marked : (bs : List ℕ) (after : List ℕ) → rest bs 0 ≡ 0xfeff ∷ after → stream_meaning (chars bs) ≡ pieces_meaning 3 (pieces_at true true after)
-marked bs after e = ap stream_meaning e ∙ (ap flat_meaning (stream_steps (0xfeff ∷ after)) ∙ marked_meaning (pieces_at true true after))
+marked : (bs : List ℕ) (after : List ℕ) → rest bs 0 ≡ 0xfeff ∷ after → stream_meaning (chars bs) ≡ sections_meaning 3 (sections_at true true after)
+marked bs after e = ap stream_meaning e ∙ (ap flat_meaning (stream_steps (0xfeff ∷ after)) ∙ marked_meaning (sections_at true true after))
 
 -- a byte order mark is passed
 pub mark_there : (bs : List ℕ) (len : ℕ) (after : List ℕ) → IsUtf8 bs → rest bs 0 ≡ 0xfeff ∷ after → len ≡ 3 → IsMarkEnd bs len
@@ -63,5 +63,5 @@ mark_there bs len after u e l = subst (λ (n : ℕ). IsMarkEnd bs n) (sym l) at_
           boundary = s.boundary;
           starts = inl (ap (λ (t : List ℕ). starts_line true (without_mark t)) s.is);
           unmarked = inl (omega arith);
-          reads = marked bs after e ∙ ap (λ (t : List ℕ). pieces_meaning 3 (pieces_at true true t)) (sym s.leaves);
+          reads = marked bs after e ∙ ap (λ (t : List ℕ). sections_meaning 3 (sections_at true true t)) (sym s.leaves);
         }

@@ -16,10 +16,10 @@ use Rattle.yaml_grammar.specs.Streams.{Stream, mark_text, stream_text}
 use Rattle.yaml_grammar.specs.Texts.{byte_len, first, starts_line}
 use Rattle.yaml_recognizers.specs.BlockScalars.{read_block}
 use Rattle.yaml_recognizers.specs.CanonicalStreams.{FlatStream}
-use Rattle.yaml_recognizers.specs.CanonicalStreams.{Piece}
+use Rattle.yaml_recognizers.specs.CanonicalStreams.{Section}
 use Rattle.yaml_recognizers.specs.FlowScalars.{read_scalar}
 use Rattle.yaml_recognizers.specs.NodePlaces.{NodePlace, NodeSpelled, NodeStands, NodeStarts, SpelledAt, StartsAt, block_at, flow_at, stream_places}
-use Rattle.yaml_recognizers.specs.Recognizers.{stream_at, pieces_at}
+use Rattle.yaml_recognizers.specs.Recognizers.{stream_at, sections_at}
 use Rattle.yaml_recognizers.specs.StandingNodes.{BlockNodeStands, FlowNodeStands}
 use Rattle.yaml_recognizers.specs.Streams.{order_mark, with_mark}
 use Rattle.yaml_recognizers.proofs.BlockScalars.BlockScalarFacts.{blocks_read}
@@ -36,18 +36,18 @@ use Rattle.yaml_docs.proofs.TextPlaces.{StandsUpTo, place_after}
 
 -- ---- a presentation has a byte order mark exactly if its text begins with one
 
-marked : (mark : Bool) (pieces : Option (List Piece)) (s : FlatStream) → with_mark mark pieces ≡ Some s → s.mark ≡ mark
+marked : (mark : Bool) (sections : Option (List Section)) (s : FlatStream) → with_mark mark sections ≡ Some s → s.mark ≡ mark
 marked mark None s e = cc
-marked mark (Some ps) s e = let is : ◌≡◌ {A = FlatStream} (record { mark = mark; pieces = ps }) s = cc in sym (ap (λ f. f.mark) is)
+marked mark (Some ps) s e = let is : ◌≡◌ {A = FlatStream} (record { mark = mark; sections = ps }) s = cc in sym (ap (λ f. f.mark) is)
 
-marked_by_test : (test : Bool) (one other : Option (List Piece)) (s : FlatStream) → (if test then with_mark true one else with_mark false other) ≡ Some s → s.mark ≡ test
+marked_by_test : (test : Bool) (one other : Option (List Section)) (s : FlatStream) → (if test then with_mark true one else with_mark false other) ≡ Some s → s.mark ≡ test
 marked_by_test true one other s e = marked true one s e
 marked_by_test false one other s e = marked false other s e
 
 mark_is_first : (text : List ℕ) (p : Stream) → Presents p text → p.mark ≡ first order_mark text
 mark_is_first text p h =
     let found : stream_at text ≡ Some (stream_form p) = (form_found read_scalar reads_scalars read_block blocks_read text p h).0 in
-    marked_by_test (first order_mark text) (pieces_at true true (drop 1 text)) (pieces_at true true text) (stream_form p) (sym (stream_steps text) ∙ found)
+    marked_by_test (first order_mark text) (sections_at true true (drop 1 text)) (sections_at true true text) (stream_form p) (sym (stream_steps text) ∙ found)
 
 -- ---- what comes before a node, without the mark
 

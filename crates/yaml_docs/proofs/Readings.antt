@@ -16,7 +16,7 @@ use Rattle.yaml_recognizers.proofs.BlockScalars.BlockScalarFacts.{blocks_read}
 use Rattle.yaml_recognizers.proofs.Meanings.Meaning.{reading_found, text_reads}
 use Rattle.yaml_recognizers.proofs.Meanings.Ranges.{stream_ranges}
 use Rattle.yaml_recognizers.proofs.Scalars.ScalarsInNodes.{reads_scalars}
-use Rattle.yaml_docs.specs.Pieces.{flat_meaning, stream_meaning}
+use Rattle.yaml_docs.specs.Sections.{flat_meaning, stream_meaning}
 use Rattle.yaml_docs.specs.Reading.{IsShortText, IsSyntax, RefusesBytes}
 use Rattle.yaml_events.specs.declared.read_fault.ReadFault.{ReadFault}
 use Rattle.yaml_events.specs.declared.read_fault.ReadFault.TheVariants.{TooLong, NotUtf8, Syntax, Documents, KeyNotText, KeyTwice, TooDeep, LargeInStyle, OutOfMemory}

@@ -1,4 +1,4 @@
--- Reading a stream from one place to the next: the events so far, and those of the pieces that are left.
+-- Reading a stream from one place to the next: the events so far, and those of the sections that are left.
 use Rattle.std.proofs.Common.{ap, append-nil, append_assoc, arith, inl, inr, length, length-append, refl, subst, sym, ◌<◌, ◌∙◌, ◌≡◌, ◌≤◌}
 use Rattle.std.proofs.Math.Nat.{add-zero, add_assoc}
 use Rattle.std.proofs.Math.Logic.{◌⊎◌}
@@ -18,13 +18,13 @@ use Rattle.yaml_events.specs.Borrowed.{BorrowsPlain}
 use Rattle.yaml_events.specs.Meant.{event_of, events_of}
 use Rattle.yaml_events.specs.EventPlaces.{line_starts}
 use Rattle.yaml_events.specs.declared.event.Event.{Event}
-use Rattle.yaml_recognizers.specs.CanonicalStreams.{line, opens, piece_events, piece_text}
+use Rattle.yaml_recognizers.specs.CanonicalStreams.{line, opens, section_events, section_text}
 use Rattle.yaml_recognizers.specs.CanonicalStreams as flat
 use Rattle.yaml_recognizers.specs.CanonicalComments.{is_line_end}
 use Rattle.yaml_recognizers.specs.Comments.{all_comments, closes_line, more_comments, read_line_end}
 use Rattle.yaml_recognizers.specs.Reading.{Read}
-use Rattle.yaml_recognizers.specs.Recognizers.{document_node_at, piece_at, pieces_at}
-use Rattle.yaml_recognizers.specs.Streams.{order_mark, read_directed, read_explicit, read_piece, suffix_with}
+use Rattle.yaml_recognizers.specs.Recognizers.{document_node_at, section_at, sections_at}
+use Rattle.yaml_recognizers.specs.Streams.{order_mark, read_directed, read_explicit, read_section, suffix_with}
 use Rattle.yaml_recognizers.proofs.Separation.CommentsDepth.{comments_step}
 use Rattle.yaml_recognizers.proofs.Separation.CommentsSound.{LineOf, all_sound, line_is_end, line_sound}
 use Rattle.yaml_recognizers.proofs.Basics.LineStarts.{byte_len_joined, line_or_end, line_starts as line_start}
@@ -33,10 +33,10 @@ use Rattle.yaml_scan.specs.Lines.{IsLineStart, IsSolidLine}
 use Rattle.yaml_scan.specs.declared.lines.Line.{Line}
 use Rattle.yaml_flow.proofs.Appends.{appended_means}
 use Rattle.yaml_docs.specs.Documents.{IsMarkEnd}
-use Rattle.yaml_docs.specs.Pieces.{BeginsPiece, PieceRead, ReadUpTo, and_then, ends_document, meaning_from, pieces_meaning, read_as, stream_meaning}
-use Rattle.yaml_docs.specs.declared.documents.Piece.{Piece}
-use Rattle.yaml_docs.specs.declared.documents.Piece.TheVariants.{Suffix, Explicit, Directed, Bare}
-use Rattle.yaml_docs.proofs.PieceSteps.{no_more_pieces, no_piece, piece_filled, piece_spells, piece_step}
+use Rattle.yaml_docs.specs.Sections.{BeginsSection, SectionRead, ReadUpTo, and_then, ends_document, meaning_from, sections_meaning, read_as, stream_meaning}
+use Rattle.yaml_docs.specs.declared.documents.Section.{Section}
+use Rattle.yaml_docs.specs.declared.documents.Section.TheVariants.{Suffix, Explicit, Directed, Bare}
+use Rattle.yaml_docs.proofs.SectionSteps.{no_more_sections, no_section, section_filled, section_spells, section_step}
 use Rattle.yaml_docs.proofs.TextPlaces.{between_is, spelled_end, starts_between}
 
 -- ---- lines of white space and comments
@@ -45,8 +45,8 @@ nothing_more : (m : Option (List grammar.Event)) → and_then [] m ≡ m
 nothing_more None = refl
 nothing_more (Some es) = refl
 
-one_line_read : (opened : Bool) (text rest : List ℕ) (e : LineEnd) → read_line_end true text ≡ Some (e, rest) → LineOf true text e rest → piece_at opened true text ≡ Some (line e, rest)
-unfolding read_piece
+one_line_read : (opened : Bool) (text rest : List ℕ) (e : LineEnd) → read_line_end true text ≡ Some (e, rest) → LineOf true text e rest → section_at opened true text ≡ Some (line e, rest)
+unfolding read_section
 one_line_read opened text rest e h l =
     let there : is_line_end text ≡ true = subst (λ (t : List ℕ). is_line_end t ≡ true) (sym l.0) (line_is_end true e rest l.1) in
     rw (there, h) refl
@@ -55,16 +55,16 @@ pair_parts : {A B : Type 0} (a c : A) (b d : B) → ◌≡◌ {A = A × B} (a, b
 pair_parts {A} {B} a c b d h = (ap (λ (p : A × B). p.0) h, ap (λ (p : A × B). p.1) h)
 
 lines_skipped : (es : List LineEnd) (opened : Bool) (text rest : List ℕ) (at : ℕ) → all_comments true text ≡ (es, rest)
-    → pieces_meaning at (pieces_at opened true text) ≡ pieces_meaning (at + byte_len (comments_text es)) (pieces_at opened true rest)
+    → sections_meaning at (sections_at opened true text) ≡ sections_meaning (at + byte_len (comments_text es)) (sections_at opened true rest)
 lines_skipped [] opened text rest at h =
     let spelled : text ≡ comments_text (all_comments true text).0 ++ (all_comments true text).1 = (all_sound true text).0 in
     let same : text ≡ rest = spelled ∙ ap (λ (c : List LineEnd × List ℕ). comments_text c.0 ++ c.1) h in
-    ap (λ (t : List ℕ). pieces_meaning at (pieces_at opened true t)) same ∙ ap (λ (n : ℕ). pieces_meaning n (pieces_at opened true rest)) (sym (add-zero at))
+    ap (λ (t : List ℕ). sections_meaning at (sections_at opened true t)) same ∙ ap (λ (n : ℕ). sections_meaning n (sections_at opened true rest)) (sym (add-zero at))
 lines_skipped (e ∷ es) opened text rest at h = of_line (λ t place k. lines_skipped es opened t rest place k) (read_line_end true text) refl
   where
     of_line : ((t : List ℕ) (place : ℕ) → all_comments true t ≡ (es, rest)
-        → pieces_meaning place (pieces_at opened true t) ≡ pieces_meaning (place + byte_len (comments_text es)) (pieces_at opened true rest)) → (r : Read LineEnd) → read_line_end true text ≡ r
-        → pieces_meaning at (pieces_at opened true text) ≡ pieces_meaning (at + byte_len (comments_text (e ∷ es))) (pieces_at opened true rest)
+        → sections_meaning place (sections_at opened true t) ≡ sections_meaning (place + byte_len (comments_text es)) (sections_at opened true rest)) → (r : Read LineEnd) → read_line_end true text ≡ r
+        → sections_meaning at (sections_at opened true text) ≡ sections_meaning (at + byte_len (comments_text (e ∷ es))) (sections_at opened true rest)
     of_line again None q =
         let none : ◌≡◌ {A = List LineEnd × List ℕ} ([], text) (e ∷ es, rest) = sym (comments_step true text ∙ ap (more_comments text (λ t. all_comments true t)) q) ∙ h in
         let no : [] ≡ e ∷ es = (pair_parts [] (e ∷ es) text rest none).0 in
@@ -81,9 +81,9 @@ lines_skipped (e ∷ es) opened text rest at h = of_line (λ t place k. lines_sk
         let place : ℕ = at + byte_len (line_end_text r.0) in
         let same_len : byte_len (line_end_text r.0 ++ comments_text es) ≡ byte_len (line_end_text e ++ comments_text es) = ap (λ (x : LineEnd). byte_len (line_end_text x ++ comments_text es)) first in
         let place_is : place + byte_len (comments_text es) ≡ at + byte_len (comments_text (e ∷ es)) = omega (arith, byte_len_joined (line_end_text r.0) (comments_text es), same_len) in
-        piece_step opened text r.1 (line r.0) at (one_line_read opened text r.1 r.0 q l) (line_start true r.0 r.1 l.1)
-        ∙ (nothing_more (pieces_meaning place (pieces_at opened true r.1))
-        ∙ (again r.1 place later ∙ ap (λ (n : ℕ). pieces_meaning n (pieces_at opened true rest)) place_is))
+        section_step opened text r.1 (line r.0) at (one_line_read opened text r.1 r.0 q l) (line_start true r.0 r.1 l.1)
+        ∙ (nothing_more (sections_meaning place (sections_at opened true r.1))
+        ∙ (again r.1 place later ∙ ap (λ (n : ℕ). sections_meaning n (sections_at opened true rest)) place_is))
 
 later_unmarked : (bs : List ℕ) (at next : ℕ) → at ≤ next → (0 < at) ⊎ (first order_mark (rest bs at) ≡ false) → (0 < next) ⊎ (first order_mark (rest bs next) ≡ false)
 later_unmarked bs at next l (inl p) = inl (omega arith)
@@ -92,7 +92,7 @@ later_unmarked bs at next l (inr f) = elim (cases_lt at next) [
   | inr k ↦ (let e : at ≡ next = omega arith in inr (subst (λ (n : ℕ). first order_mark (rest bs n) ≡ false) e f))
 ]
 
--- comment lines before a piece are passed
+-- comment lines before a section are passed
 pub lines_passed : (bs : List ℕ) (opened : Bool) (at : ℕ) (events : List Event) (next : Line) → IsUtf8 bs → ReadUpTo bs opened at events → IsSolidLine true bs at next → IsLineStart bs next.start
     → ReadUpTo bs opened next.start events
 lines_passed bs opened at events next u r s starts =
@@ -100,8 +100,8 @@ lines_passed bs opened at events next u r s starts =
     let spelled : rest bs at ≡ comments_text c.0 ++ rest bs next.start = (all_sound true (rest bs at)).0 ∙ ap (λ (t : List ℕ). comments_text c.0 ++ t) s.leaves in
     let place : next.start ≡ at + byte_len (comments_text c.0) = spelled_end bs at next.start (comments_text c.0) u r.boundary s.boundary spelled in
     let same : meaning_from opened bs at ≡ meaning_from opened bs next.start =
-    lines_skipped c.0 opened (rest bs at) c.1 at refl ∙ (ap (λ (t : List ℕ). pieces_meaning (at + byte_len (comments_text c.0)) (pieces_at opened true t)) s.leaves
-    ∙ ap (λ (n : ℕ). pieces_meaning n (pieces_at opened true (rest bs next.start))) (sym place)) in
+    lines_skipped c.0 opened (rest bs at) c.1 at refl ∙ (ap (λ (t : List ℕ). sections_meaning (at + byte_len (comments_text c.0)) (sections_at opened true t)) s.leaves
+    ∙ ap (λ (n : ℕ). sections_meaning n (sections_at opened true (rest bs next.start))) (sym place)) in
     record {
       boundary = s.boundary;
       starts = starts;
@@ -110,14 +110,14 @@ lines_passed bs opened at events next u r s starts =
       borrows = r.borrows;
     }
 
--- ---- pieces
+-- ---- sections
 
 joined_after : (es fs : List grammar.Event) (m : Option (List grammar.Event)) → and_then es (and_then fs m) ≡ and_then (es ++ fs) m
 joined_after es fs None = refl
 joined_after es fs (Some gs) = ap (λ (x : List grammar.Event). Some x) (sym (append_assoc es fs gs))
 
--- what may follow a piece is said from its kind
-opens_as : (piece : Piece) (opened : Bool) (text rest : List ℕ) (p : flat.Piece) → read_as piece text ≡ Some (p, rest) → opens opened p ≡ ends_document piece
+-- what may follow a section is said from its kind
+opens_as : (section : Section) (opened : Bool) (text rest : List ℕ) (p : flat.Section) → read_as section text ≡ Some (p, rest) → opens opened p ≡ ends_document section
 opens_as Suffix opened text rest p h =
     let c : List LineEnd × List ℕ = all_comments false (drop 3 text) in
     elim (chosen (closes_line c) (Some (flat.suffix c.0, c.1)) None (Some (p, rest)) h) [
@@ -147,36 +147,36 @@ starts_or_ends : (bs : List ℕ) (at end : ℕ) (xs : List ℕ) → line_starts 
 starts_or_ends bs at end xs e (inl l) = or_left _ _ (sym e ∙ l)
 starts_or_ends bs at end xs e (inr n) = or_right _ _ (ap is_empty n)
 
--- a piece is read, with its events and its end
-pub record PiecePassed (bs : List ℕ) (at : ℕ) (piece : Piece) (end : ℕ) (new : List Event) : Type 0 where
+-- a section is read, with its events and its end
+pub record SectionPassed (bs : List ℕ) (at : ℕ) (section : Section) (end : ℕ) (new : List Event) : Type 0 where
   pub onward : at < end
-  pub read : ReadUpTo bs (ends_document piece) end new
+  pub read : ReadUpTo bs (ends_document section) end new
 
 -- after it the next one may be read
-pub piece_passed : (bs : List ℕ) (opened : Bool) (at : ℕ) (piece : Piece) (old new : List Event) (end : ℕ) → IsUtf8 bs → ReadUpTo bs opened at old → is_empty (rest bs at) ≡ false
-    → BeginsPiece opened (rest bs at) piece → PieceRead bs at piece old new end → PiecePassed bs at piece end new
-piece_passed bs opened at piece old new end u r n b p =
-    let found : piece_at opened true (rest bs at) ≡ Some (p.found, rest bs end) = b.reads ∙ p.reads in
-    let spells : rest bs at ≡ piece_text p.found ++ rest bs end = piece_spells opened (rest bs at) (rest bs end) p.found found in
-    let place : end ≡ at + byte_len (piece_text p.found) = spelled_end bs at end (piece_text p.found) u r.boundary p.boundary spells in
-    let long : 1 ≤ byte_len (piece_text p.found) = some_bytes (piece_text p.found) (piece_filled opened (rest bs at) (rest bs end) p.found found) in
-    let line_is : line_starts bs end ≡ starts_line true (piece_text p.found) =
+pub section_passed : (bs : List ℕ) (opened : Bool) (at : ℕ) (section : Section) (old new : List Event) (end : ℕ) → IsUtf8 bs → ReadUpTo bs opened at old → is_empty (rest bs at) ≡ false
+    → BeginsSection opened (rest bs at) section → SectionRead bs at section old new end → SectionPassed bs at section end new
+section_passed bs opened at section old new end u r n b p =
+    let found : section_at opened true (rest bs at) ≡ Some (p.found, rest bs end) = b.reads ∙ p.reads in
+    let spells : rest bs at ≡ section_text p.found ++ rest bs end = section_spells opened (rest bs at) (rest bs end) p.found found in
+    let place : end ≡ at + byte_len (section_text p.found) = spelled_end bs at end (section_text p.found) u r.boundary p.boundary spells in
+    let long : 1 ≤ byte_len (section_text p.found) = some_bytes (section_text p.found) (section_filled opened (rest bs at) (rest bs end) p.found found) in
+    let line_is : line_starts bs end ≡ starts_line true (section_text p.found) =
     starts_between bs at end u (omega arith) r.boundary p.boundary r.unmarked
-    ∙ (ap (λ (bol : Bool). starts_line bol (between bs at end)) (starts_here bs at r.starts n) ∙ ap (starts_line true) (between_is bs at end (piece_text p.found) u r.boundary p.boundary spells)) in
-    let step : meaning_from opened bs at ≡ and_then (piece_events p.found at) (meaning_from (ends_document piece) bs end) =
-    piece_step opened (rest bs at) (rest bs end) p.found at found (starts_or_ends bs at end (piece_text p.found) line_is p.starts)
-    ∙ (ap (λ (place' : ℕ). and_then (piece_events p.found at) (pieces_meaning place' (pieces_at (opens opened p.found) true (rest bs end)))) (sym place)
-    ∙ ap (λ (o : Bool). and_then (piece_events p.found at) (meaning_from o bs end)) (opens_as piece opened (rest bs at) (rest bs end) p.found p.reads)) in
-    let events : events_of new ≡ events_of old ++ piece_events p.found at =
-    appended_means bs old new (piece_events p.found at) p.appended in
+    ∙ (ap (λ (bol : Bool). starts_line bol (between bs at end)) (starts_here bs at r.starts n) ∙ ap (starts_line true) (between_is bs at end (section_text p.found) u r.boundary p.boundary spells)) in
+    let step : meaning_from opened bs at ≡ and_then (section_events p.found at) (meaning_from (ends_document section) bs end) =
+    section_step opened (rest bs at) (rest bs end) p.found at found (starts_or_ends bs at end (section_text p.found) line_is p.starts)
+    ∙ (ap (λ (place' : ℕ). and_then (section_events p.found at) (sections_meaning place' (sections_at (opens opened p.found) true (rest bs end)))) (sym place)
+    ∙ ap (λ (o : Bool). and_then (section_events p.found at) (meaning_from o bs end)) (opens_as section opened (rest bs at) (rest bs end) p.found p.reads)) in
+    let events : events_of new ≡ events_of old ++ section_events p.found at =
+    appended_means bs old new (section_events p.found at) p.appended in
     record {
       onward = omega arith;
       read = record {
         boundary = p.boundary;
         starts = p.starts;
         unmarked = inl (omega arith);
-        reads = r.reads ∙ (ap (and_then (events_of old)) step ∙ (joined_after (events_of old) (piece_events p.found at) (meaning_from (ends_document piece) bs end)
-            ∙ ap (λ (x : List grammar.Event). and_then x (meaning_from (ends_document piece) bs end)) (sym events)));
+        reads = r.reads ∙ (ap (and_then (events_of old)) step ∙ (joined_after (events_of old) (section_events p.found at) (meaning_from (ends_document section) bs end)
+            ∙ ap (λ (x : List grammar.Event). and_then x (meaning_from (ends_document section) bs end)) (sym events)));
         borrows = subst (λ (es : List Event). All (BorrowsPlain bs) es) (sym p.appended.is) (All-append (BorrowsPlain bs) old p.appended.more r.borrows p.appended.borrows);
       };
     }
@@ -186,13 +186,13 @@ piece_passed bs opened at piece old new end u r n b p =
 -- at the end of the text everything is read
 pub text_ends : (bs : List ℕ) (opened : Bool) (at : ℕ) (events : List Event) → ReadUpTo bs opened at events → length bs ≤ at → stream_meaning (chars bs) ≡ Some (events_of events)
 text_ends bs opened at events r l =
-    let none : pieces_at opened true (rest bs at) ≡ Some [] = no_more_pieces opened (rest bs at) (ap is_empty (rest-end bs at l)) in
-    r.reads ∙ (ap (λ (m : Option (List flat.Piece)). and_then (events_of events) (pieces_meaning at m)) none ∙ ap (λ (x : List grammar.Event). Some x) (append-nil (events_of events)))
+    let none : sections_at opened true (rest bs at) ≡ Some [] = no_more_sections opened (rest bs at) (ap is_empty (rest-end bs at l)) in
+    r.reads ∙ (ap (λ (m : Option (List flat.Section)). and_then (events_of events) (sections_meaning at m)) none ∙ ap (λ (x : List grammar.Event). Some x) (append-nil (events_of events)))
 
--- where no piece is, the text means nothing
-pub no_meaning : (bs : List ℕ) (opened : Bool) (at : ℕ) (events : List Event) → ReadUpTo bs opened at events → is_empty (rest bs at) ≡ false → piece_at opened true (rest bs at) ≡ None
+-- where no section is, the text means nothing
+pub no_meaning : (bs : List ℕ) (opened : Bool) (at : ℕ) (events : List Event) → ReadUpTo bs opened at events → is_empty (rest bs at) ≡ false → section_at opened true (rest bs at) ≡ None
     → stream_meaning (chars bs) ≡ None
-no_meaning bs opened at events r n h = r.reads ∙ ap (λ (m : Option (List flat.Piece)). and_then (events_of events) (pieces_meaning at m)) (no_piece opened (rest bs at) n h)
+no_meaning bs opened at events r n h = r.reads ∙ ap (λ (m : Option (List flat.Section)). and_then (events_of events) (sections_meaning at m)) (no_section opened (rest bs at) n h)
 
 -- after the byte order mark nothing is read yet
 pub mark_passed : (bs : List ℕ) (at : ℕ) → IsMarkEnd bs at → ReadUpTo bs true at []

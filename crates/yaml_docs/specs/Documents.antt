@@ -17,7 +17,7 @@ use Rattle.yaml_recognizers.specs.Recognizers.{document_node_at}
 use Rattle.yaml_recognizers.specs.Streams.{explicit_with, order_mark, suffix_with, read_directed, read_explicit}
 use Rattle.yaml_scan.specs.Lines.{IsLineStart}
 use Rattle.yaml_flow.specs.FlowNodes.{Appended}
-use Rattle.yaml_docs.specs.Pieces.{meaning_from, stream_meaning}
+use Rattle.yaml_docs.specs.Sections.{meaning_from, stream_meaning}
 
 -- the place after a byte order mark at the start of a text, or its start
 pub record IsMarkEnd (text : List ℕ) (end : ℕ) : Type 0 where

@@ -1,6 +1,6 @@
 pub mod NextClosing
 pub mod Reading
-pub mod Pieces
+pub mod Sections
 pub mod Documents
 pub mod Directives
 pub mod Cutting

@@ -7,7 +7,7 @@ use memchr::memmem;
 /// The line that closes a text: three dots and a line feed.
 pub(crate) const CLOSING_LINE: &[u8] = b"...\n";
 
-/// The same after the end of another line.
+/// That line after the end of the line before it.
 pub(crate) const LINE_AND_CLOSING_LINE: &[u8] = b"\n...\n";
 
 /// Returns the first place after `at` that is just after a closing line: a line of exactly `...` and a line feed.

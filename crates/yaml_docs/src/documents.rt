@@ -8,12 +8,12 @@ ghost use Rattle.yaml_events.specs.EventPlaces.{line_starts, Refuses};
 ghost use Rattle.yaml_recognizers.specs.BlockNodes.{omits};
 ghost use Rattle.yaml_recognizers.specs.CanonicalComments.{is_line_end};
 ghost use Rattle.yaml_recognizers.specs.Comments.{all_comments};
-ghost use Rattle.yaml_recognizers.specs.Recognizers.{piece_at};
+ghost use Rattle.yaml_recognizers.specs.Recognizers.{section_at};
 ghost use Rattle.yaml_chars.specs.Signs.{dash, dot};
 ghost use Rattle.yaml_recognizers.specs.Streams.{marker_of};
 ghost use Rattle.yaml_docs.specs.Documents.{ExplicitRead, NoExplicit, DocumentRead, NoDirected};
 ghost use Rattle.yaml_docs.specs.Documents.{IsMarkEnd, IsOmitted, SuffixRead, NoSuffix, ExplicitNodeRead, NoExplicitNode};
-ghost use Rattle.yaml_docs.specs.Pieces.{Begins, BeginsPiece, PieceRead, ends_document, read_as, stream_meaning};
+ghost use Rattle.yaml_docs.specs.Sections.{Begins, BeginsSection, SectionRead, ends_document, read_as, stream_meaning};
 
 use crate::directive::directive_end;
 use std::alloc::Global;
@@ -25,7 +25,7 @@ use yaml_scan::{Line, Marker, is_marker, is_marker_of, line_after, solid_line, s
 
 /// What begins at a line of a stream that holds more than whitespace and a comment.
 #[derive(Clone, Copy, Debug, PartialEq, Eq)]
-pub(crate) enum Piece {
+pub(crate) enum Section {
     /// `...`, which ends a document (9.1.2).
     Suffix,
     /// `---` and a document (9.1.4).
@@ -47,22 +47,22 @@ pub(crate) fn stream<'a>(alloc: Global, text: &'a str) -> Result<Events<'a>, Sca
     // Whether a bare document or a directive may begin at `at`.
     let mut opened = true;
     let mut at = mark_end(text);
-    'pieces: loop {
+    'sections: loop {
         let line = solid_line(text, at);
         if line.start == text.len() {
             return Ok(events);
         }
-        let piece = piece_at(text, line, opened)?;
-        at = piece_end(alloc, &mut events, text, line.start, piece)?;
-        opened = ends_document(piece);
+        let section = section_at(text, line, opened)?;
+        at = section_end(alloc, &mut events, text, line.start, section)?;
+        opened = ends_document(section);
     }
 }
 
-/// Returns whether a piece ends the document before it, so that a bare document or a directive may follow.
-fn ends_document(piece: Piece) -> bool
-    ensures { result ≡ ends_document piece }
+/// Returns whether a section ends the document before it, so that a bare document or a directive may follow.
+fn ends_document(section: Section) -> bool
+    ensures { result ≡ ends_document section }
 {
-    matches!(piece, Piece::Suffix)
+    matches!(section, Section::Suffix)
 }
 
 /// Returns the end of the byte order mark that `text` begins with (5.2), or 0.
@@ -77,19 +77,19 @@ fn mark_end(text: &str) -> usize
 
 /// Returns what begins at a line that holds more than whitespace and a comment. A bare document or a directive may
 /// begin there only if `opened` is true.
-fn piece_at(text: &str, line: Line, opened: bool) -> Result<Piece, ScanFault>
+fn section_at(text: &str, line: Line, opened: bool) -> Result<Section, ScanFault>
     requires at { IsCharBoundary text.now line.start }
     requires first { IsCharBoundary text.now line.first }
     requires solid { is_line_end (rest text.now line.start) ≡ false }
-    ensures found { IfOk result (BeginsPiece opened (rest text.now line.start)) }
+    ensures found { IfOk result (BeginsSection opened (rest text.now line.start)) }
     ensures none { IfErr result (λ fault.
-        Refuses fault (piece_at opened true (rest text.now line.start) ≡ None)) }
+        Refuses fault (section_at opened true (rest text.now line.start) ≡ None)) }
 {
     if is_marker_of(text, line.start, Marker::DocumentEnd) {
-        return Ok(Piece::Suffix);
+        return Ok(Section::Suffix);
     }
     if is_marker_of(text, line.start, Marker::DirectivesEnd) {
-        return Ok(Piece::Explicit);
+        return Ok(Section::Explicit);
     }
     if !opened {
         return Err(ScanFault::At {
@@ -98,9 +98,9 @@ fn piece_at(text: &str, line: Line, opened: bool) -> Result<Piece, ScanFault>
         });
     }
     if stands_at(text, line.start, b'%') {
-        return Ok(Piece::Directed);
+        return Ok(Section::Directed);
     }
-    Ok(Piece::Bare)
+    Ok(Section::Bare)
 }
 
 /// Returns why neither a bare document nor a directive may begin at a line after a document.
@@ -114,25 +114,25 @@ fn why_not_opened(text: &str, line: Line) -> Why
     }
 }
 
-/// Appends the events of the piece that begins at `at`, and returns its end.
-fn piece_end<'a>(
+/// Appends the events of the section that begins at `at`, and returns its end.
+fn section_end<'a>(
     alloc: Global,
     events: &mut Events<'a>,
     text: &'a str,
     at: usize,
-    piece: Piece,
+    section: Section,
 ) -> Result<usize, ScanFault>
     requires at { IsCharBoundary text.now at }
     requires line { line_starts text.now at ≡ true }
-    requires begins { Begins piece (rest text.now at) }
-    ensures reads { IfOk result (PieceRead text.now at piece events.old events.new) }
-    ensures none { IfErr result (λ fault. Refuses fault (read_as piece (rest text.now at) ≡ None)) }
+    requires begins { Begins section (rest text.now at) }
+    ensures reads { IfOk result (SectionRead text.now at section events.old events.new) }
+    ensures none { IfErr result (λ fault. Refuses fault (read_as section (rest text.now at) ≡ None)) }
 {
-    match piece {
-        Piece::Suffix => suffix_end(text, at),
-        Piece::Explicit => explicit_end(alloc, events, text, at),
-        Piece::Directed => directed_end(alloc, events, text, at),
-        Piece::Bare => bare_end(alloc, events, text, at),
+    match section {
+        Section::Suffix => suffix_end(text, at),
+        Section::Explicit => explicit_end(alloc, events, text, at),
+        Section::Directed => directed_end(alloc, events, text, at),
+        Section::Bare => bare_end(alloc, events, text, at),
     }
 }
 
@@ -161,9 +161,9 @@ fn bare_end<'a>(
 ) -> Result<usize, ScanFault>
     requires at { IsCharBoundary text.now at }
     requires line { line_starts text.now at ≡ true }
-    ensures reads { IfOk result (PieceRead text.now at Piece.Bare events.old events.new) }
+    ensures reads { IfOk result (SectionRead text.now at Section.Bare events.old events.new) }
     ensures none { IfErr result (λ fault.
-        Refuses fault (read_as Piece.Bare (rest text.now at) ≡ None)) }
+        Refuses fault (read_as Section.Bare (rest text.now at) ≡ None)) }
 {
     events.push(Event::DocStart)?;
     let end = block_node(alloc, events, text, at, -1, BlockContext::Bin)?;

@@ -453,8 +453,8 @@ fn innermost(outer: &[Open], at: usize) -> usize {
     }
 }
 
-/// The same as [`collection`], with the list of the brackets around the innermost open one, the outermost first. The
-/// list is empty at first. After a failure it has those where the reading stopped.
+/// Reads the flow collection at `at`, as [`collection`] does. `outer` is the list of the brackets around the innermost
+/// open one, the outermost first. It is empty at first. After a failure it has those where the reading stopped.
 #[inline(always)]
 fn collection_end<'a>(
     alloc: Global,

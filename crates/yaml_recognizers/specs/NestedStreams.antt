@@ -4,7 +4,7 @@ use Rattle.std.specs.Prelude.{List, [], ◌∷◌, Option, Some, None}
 use Rattle.yaml_grammar.specs.Separation.{LineEnd}
 use Rattle.yaml_grammar.specs.Streams.{Document, bare, explicit, directed, Part, suffixes, further, Stream}
 use Rattle.yaml_grammar.specs.Streams.{line as line_part}
-use Rattle.yaml_recognizers.specs.CanonicalStreams.{Piece, suffix, line, document, FlatStream}
+use Rattle.yaml_recognizers.specs.CanonicalStreams.{Section, suffix, line, document, FlatStream}
 
 -- lines, perhaps a document, and what follows
 pub record Opened : Type 0 where
@@ -14,26 +14,26 @@ pub record Opened : Type 0 where
 
 abbrev mutual
   -- where a document may come without `---`
-  pub opened_pieces : List Piece → Opened
-  opened_pieces [] = record { prefix = []; document = None; parts = [] }
-  opened_pieces (line e ∷ ps) =
-      let more = opened_pieces ps in record { prefix = e ∷ more.prefix; document = more.document; parts = more.parts }
-  opened_pieces (document d ∷ ps) = record { prefix = []; document = Some d; parts = closed_pieces ps }
-  opened_pieces (suffix comments ∷ ps) =
-      let more = opened_pieces ps in
+  pub opened_sections : List Section → Opened
+  opened_sections [] = record { prefix = []; document = None; parts = [] }
+  opened_sections (line e ∷ ps) =
+      let more = opened_sections ps in record { prefix = e ∷ more.prefix; document = more.document; parts = more.parts }
+  opened_sections (document d ∷ ps) = record { prefix = []; document = Some d; parts = closed_sections ps }
+  opened_sections (suffix comments ∷ ps) =
+      let more = opened_sections ps in
       record { prefix = []; document = None; parts = suffixes comments [] more.prefix more.document ∷ more.parts }
 
   -- after a document; a bare document and a directive come there in no stream that fits
-  pub closed_pieces : List Piece → List Part
-  closed_pieces [] = []
-  closed_pieces (line e ∷ ps) = line_part e ∷ closed_pieces ps
-  closed_pieces (document (explicit x) ∷ ps) = further x ∷ closed_pieces ps
-  closed_pieces (document (bare n) ∷ ps) = closed_pieces ps
-  closed_pieces (document (directed blank version comments x) ∷ ps) = further x ∷ closed_pieces ps
-  closed_pieces (suffix comments ∷ ps) =
-      let more = opened_pieces ps in suffixes comments [] more.prefix more.document ∷ more.parts
+  pub closed_sections : List Section → List Part
+  closed_sections [] = []
+  closed_sections (line e ∷ ps) = line_part e ∷ closed_sections ps
+  closed_sections (document (explicit x) ∷ ps) = further x ∷ closed_sections ps
+  closed_sections (document (bare n) ∷ ps) = closed_sections ps
+  closed_sections (document (directed blank version comments x) ∷ ps) = further x ∷ closed_sections ps
+  closed_sections (suffix comments ∷ ps) =
+      let more = opened_sections ps in suffixes comments [] more.prefix more.document ∷ more.parts
 
 -- the stream of a flat stream
 abbrev pub nested_stream : FlatStream → Stream
-nested_stream s = let o = opened_pieces s.pieces in record
+nested_stream s = let o = opened_sections s.sections in record
     { mark = s.mark; prefix = o.prefix; document = o.document; parts = o.parts }

@@ -8,12 +8,12 @@ use Rattle.yaml_grammar.specs.FlowNodes.{Flow, Entries, Entry, Value, flow_text,
 use Rattle.yaml_grammar.specs.BlockNodes.{Node, Items, Pairs, Pair, Indented}
 use Rattle.yaml_recognizers.specs.Reading.{Read}
 use Rattle.yaml_recognizers.specs.CanonicalFlowNodes.{canonical_flow}
-use Rattle.yaml_recognizers.specs.CanonicalStreams.{Piece, FlatStream}
+use Rattle.yaml_recognizers.specs.CanonicalStreams.{Section, FlatStream}
 use Rattle.yaml_recognizers.specs.FlowScalars.{read_scalar, scalar_ends}
 use Rattle.yaml_recognizers.specs.BlockScalars.{read_block}
 use Rattle.yaml_recognizers.specs.FlowNodes.{whole_flow, whole_entries, whole_entry, whole_value, flow_ends}
 use Rattle.yaml_recognizers.specs.BlockNodes.{block_key_at, deep_items, deep_pairs, deep_pair, deep_indented, whole_node}
-use Rattle.yaml_recognizers.specs.Streams.{read_piece, read_pieces, read_stream}
+use Rattle.yaml_recognizers.specs.Streams.{read_section, read_sections, read_stream}
 
 -- [161] ns-flow-node, 7.5, at n in a context; the Bool says whether it is at the start of a line
 abbrev pub flow_node_at : ℕ → FlowContext → Bool → List ℕ → Read Flow
@@ -82,13 +82,13 @@ block_indented_at k shallow text = deep_indented block_key_in flow_leaf_at read_
 abbrev pub document_node_at : Bool → List ℕ → Read Node
 document_node_at bol text = block_node_at 0 false bol text
 
--- a piece of a stream; opened says whether a bare document or a directive is allowed there
-abbrev pub piece_at : Bool → Bool → List ℕ → Read Piece
-piece_at opened bol text = read_piece document_node_at opened bol text
+-- a section of a stream; opened says whether a bare document or a directive is allowed there
+abbrev pub section_at : Bool → Bool → List ℕ → Read Section
+section_at opened bol text = read_section document_node_at opened bol text
 
--- all pieces up to the end of a text
-abbrev pub pieces_at : Bool → Bool → List ℕ → Option (List Piece)
-pieces_at opened bol text = read_pieces document_node_at (suc (length text)) opened bol text
+-- all sections up to the end of a text
+abbrev pub sections_at : Bool → Bool → List ℕ → Option (List Section)
+sections_at opened bol text = read_sections document_node_at (suc (length text)) opened bol text
 
 -- [211] l-yaml-stream, 9.2: a whole text
 abbrev pub stream_at : List ℕ → Option FlatStream

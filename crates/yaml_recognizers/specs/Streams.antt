@@ -12,7 +12,7 @@ use Rattle.yaml_chars.specs.Signs.{byte_order_mark, dash, dot, percent_sign}
 use Rattle.yaml_recognizers.specs.Prefixes.{take_while, drop_while}
 use Rattle.yaml_recognizers.specs.Reading.{Read, on}
 use Rattle.yaml_recognizers.specs.CanonicalComments.{is_line_end}
-use Rattle.yaml_recognizers.specs.CanonicalStreams.{Piece, suffix, line, document, FlatStream, piece_text, opens}
+use Rattle.yaml_recognizers.specs.CanonicalStreams.{Section, suffix, line, document, FlatStream, section_text, opens}
 use Rattle.yaml_recognizers.specs.Comments.{read_line_end, all_comments, closes_line}
 use Rattle.yaml_recognizers.specs.BlockNodes.{omits, whole_node}
 
@@ -64,15 +64,15 @@ read_directed node_at text =
     if begins (codes "%YAML") text
     then version_with node_at (take_while white (drop 5 text)) (drop_while white (drop 5 text)) else None
 
--- ---- pieces
+-- ---- sections
 
 -- [205] l-document-suffix, 9.1.2
-abbrev pub suffix_with : List LineEnd × List ℕ → Read Piece
+abbrev pub suffix_with : List LineEnd × List ℕ → Read Section
 suffix_with c = if closes_line c then Some (suffix c.0, c.1) else None
 
--- one piece; opened says whether a bare document or a directive may come here
-unfoldable pub read_piece : (Bool → List ℕ → Read Node) → Bool → Bool → List ℕ → Read Piece
-read_piece node_at opened bol text =
+-- one section; opened says whether a bare document or a directive may come here
+unfoldable pub read_section : (Bool → List ℕ → Read Node) → Bool → Bool → List ℕ → Read Section
+read_section node_at opened bol text =
     if is_line_end text then on (read_line_end bol text) (λ e rest. Some (line e, rest))
     else if bol && marker_of dot text then suffix_with (all_comments false (drop 3 text))
     else if bol && marker_of dash text
@@ -81,36 +81,36 @@ read_piece node_at opened bol text =
     else if opened then on (node_at bol text) (λ n rest. Some (document (bare n), rest))
     else None
 
--- a piece before others
-abbrev pub piece_and : Piece → Option (List Piece) → Option (List Piece)
-piece_and p None = None
-piece_and p (Some ps) = Some (p ∷ ps)
+-- a section before others
+abbrev pub section_and : Section → Option (List Section) → Option (List Section)
+section_and p None = None
+section_and p (Some ps) = Some (p ∷ ps)
 
--- the pieces, from the first one
-abbrev pub more_pieces : (Piece → List ℕ → Option (List Piece)) → Read Piece → Option (List Piece)
-more_pieces again None = None
-more_pieces again (Some r) = piece_and r.0 (again r.0 r.1)
+-- the sections, from the first one
+abbrev pub more_sections : (Section → List ℕ → Option (List Section)) → Read Section → Option (List Section)
+more_sections again None = None
+more_sections again (Some r) = section_and r.0 (again r.0 r.1)
 
--- all pieces up to the end of the text, fewer than this number
-unfoldable pub read_pieces : (Bool → List ℕ → Read Node) → ℕ → Bool → Bool → List ℕ → Option (List Piece)
-read_pieces node_at zero opened bol text = None
-read_pieces node_at (suc fuel) opened bol text =
+-- all sections up to the end of the text, fewer than this number
+unfoldable pub read_sections : (Bool → List ℕ → Read Node) → ℕ → Bool → Bool → List ℕ → Option (List Section)
+read_sections node_at zero opened bol text = None
+read_sections node_at (suc fuel) opened bol text =
     if is_empty text then Some []
-    else more_pieces (λ p rest. read_pieces node_at fuel (opens opened p) (starts_line bol (piece_text p)) rest)
-    (read_piece node_at opened bol text)
+    else more_sections (λ p rest. read_sections node_at fuel (opens opened p) (starts_line bol (section_text p)) rest)
+    (read_section node_at opened bol text)
 
 -- ---- streams
 
--- a flat stream, from its mark and pieces
-abbrev pub with_mark : Bool → Option (List Piece) → Option FlatStream
+-- a flat stream, from its mark and sections
+abbrev pub with_mark : Bool → Option (List Section) → Option FlatStream
 with_mark mark None = None
-with_mark mark (Some ps) = Some (record { mark = mark; pieces = ps })
+with_mark mark (Some ps) = Some (record { mark = mark; sections = ps })
 
 -- a whole text
 abbrev pub stream_of : (Bool → List ℕ → Read Node) → List ℕ → Option FlatStream
 stream_of node_at text =
-    if first order_mark text then with_mark true (read_pieces node_at (suc (length text)) true true (drop 1 text))
-    else with_mark false (read_pieces node_at (suc (length text)) true true text)
+    if first order_mark text then with_mark true (read_sections node_at (suc (length text)) true true (drop 1 text))
+    else with_mark false (read_sections node_at (suc (length text)) true true text)
 
 -- a whole text, over recognizers of scalars
 abbrev pub read_stream : (ℕ → FlowContext → Bool → List ℕ → Read Scalar) → (ℕ → List ℕ → Read BlockScalar) → List ℕ

@@ -4,11 +4,11 @@ ghost use Rattle.std.specs.Prelude.{◌≡◌, ℕ, Bool, true, false, if◌then
 ghost use Rattle.yaml_grammar.specs.Texts.{is_empty, first, starts_line};
 ghost use Rattle.yaml_grammar.specs.Streams.{Part, Stream, parts_text, fits, stream_events};
 ghost use Rattle.yaml_grammar.specs.Reads.{Presents, CanRead};
-ghost use Rattle.yaml_recognizers.specs.CanonicalStreams.{piece_text, opens, FlatStream, flat_text, canonical_stream, flat_events};
+ghost use Rattle.yaml_recognizers.specs.CanonicalStreams.{section_text, opens, FlatStream, flat_text, canonical_stream, flat_events};
 ghost use Rattle.yaml_recognizers.specs.StandingNodes.{EndsNode};
 ghost use Rattle.yaml_recognizers.specs.NestedStreams.{nested_stream};
-ghost use Rattle.yaml_recognizers.specs.Recognizers.{piece_at, pieces_at, stream_at};
-ghost use Rattle.yaml_recognizers.specs.Streams.{order_mark, more_pieces, with_mark};
+ghost use Rattle.yaml_recognizers.specs.Recognizers.{section_at, sections_at, stream_at};
+ghost use Rattle.yaml_recognizers.specs.Streams.{order_mark, more_sections, with_mark};
 
 /// Each stream that is canonical is found.
 pub fn stream_found()
@@ -34,15 +34,15 @@ pub fn stream_once()
         → flat_text one ≡ flat_text other → one ≡ other }
 {}
 
-/// The recognizers of streams and their pieces in terms of one another, without a bound on the number of pieces.
+/// The recognizers of streams and their sections in terms of one another, without a bound on the number of sections.
 pub fn stream_steps()
     ensures stream { (text : List ℕ) → stream_at text
-        ≡ (if first order_mark text then with_mark true (pieces_at true true (drop 1 text))
-        else with_mark false (pieces_at true true text)) }
-    ensures pieces { (opened bol : Bool) (text : List ℕ) → pieces_at opened bol text
-        ≡ (if is_empty text then Some [] else more_pieces (λ p rest.
-        pieces_at (opens opened p) (starts_line bol (piece_text p)) rest)
-        (piece_at opened bol text)) }
+        ≡ (if first order_mark text then with_mark true (sections_at true true (drop 1 text))
+        else with_mark false (sections_at true true text)) }
+    ensures sections { (opened bol : Bool) (text : List ℕ) → sections_at opened bol text
+        ≡ (if is_empty text then Some [] else more_sections (λ p rest.
+        sections_at (opens opened p) (starts_line bol (section_text p)) rest)
+        (section_at opened bol text)) }
 {}
 
 /// For a canonical stream there is a presentation in the grammar's own form, with the same text and meaning.

@@ -10,7 +10,7 @@ pub enum Class {
     /// Whitespace, and the ASCII characters that are plain anywhere after the first character of a plain scalar
     /// outside of brackets (7.3.3).
     Words,
-    /// The same between brackets.
+    /// Whitespace, and the ASCII characters that are plain there between brackets.
     WordsInside,
     /// The characters that are themselves on a line in single quotes (7.3.2).
     SingleQuoted,
@@ -110,7 +110,7 @@ fn count_of_eight(bytes: &[u8], at: usize, class: Class) -> usize
     8
 }
 
-/// The same as [`passed_end`], byte by byte.
+/// Returns the end of the run of characters of a class at `at`, byte by byte, as [`passed_end`] does in blocks.
 fn last_passed_end(bytes: &[u8], at: usize, class: Class) -> usize
     requires { at ≤ length bytes.now }
     ensures passed { ArePassed (test_of class) bytes.now at result }

@@ -68,7 +68,7 @@ pub fn nb_at(text: &str, at: usize) -> Option<usize>
     decoded_nb_at(text, at)
 }
 
-/// The same as [`nb_at`], by the character itself.
+/// Returns the end of the `nb` character at `at`, whatever its bytes; `None` if there is none.
 fn decoded_nb_at(text: &str, at: usize) -> Option<usize>
     requires { IsCharBoundary text.now at }
     ensures found { IfSome result (IsNb text.now at) }

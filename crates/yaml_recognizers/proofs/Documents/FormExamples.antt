@@ -7,17 +7,17 @@ use Rattle.yaml_grammar.specs.FlowNodes.{scalar}
 use Rattle.yaml_grammar.specs.FlowScalars.{plain}
 use Rattle.yaml_grammar.specs.Separation.{LineEnd, Sep, inline, lf, lines}
 use Rattle.yaml_grammar.specs.Streams.{Part, Stream, bare, fits, line, stream_text}
-use Rattle.yaml_recognizers.specs.CanonicalStreams.{Piece, document, line as line_piece}
+use Rattle.yaml_recognizers.specs.CanonicalStreams.{Section, document, line as line_section}
 use Rattle.yaml_recognizers.proofs.Documents.StreamsForm.{stream_form}
 
 -- two presentations of a text that fit, and their one form
-record Share (one other : Stream) (source : List ℕ) (pieces : List Piece) : Type 0 where
+record Share (one other : Stream) (source : List ℕ) (sections : List Section) : Type 0 where
   one_spells : stream_text one ≡ source
   one_fits : fits one ≡ true
-  one_form : stream_form one ≡ record { mark = false; pieces = pieces }
+  one_form : stream_form one ≡ record { mark = false; sections = sections }
   other_spells : stream_text other ≡ source
   other_fits : fits other ≡ true
-  other_form : stream_form other ≡ record { mark = false; pieces = pieces }
+  other_form : stream_form other ≡ record { mark = false; sections = sections }
 
 abbrev newline : LineEnd
 newline = record { blank = []; comment = None; stop = Some lf }
@@ -58,7 +58,7 @@ comment_before :
     (stream_of (note ∷ []) (word_after (inline []) []) [])
     (stream_of [] (word_after (lines (note ∷ []) []) []) [])
     (codes "#c\na")
-    (line_piece note ∷ document (bare (word_after (inline []) [])) ∷ [])
+    (line_section note ∷ document (bare (word_after (inline []) [])) ∷ [])
 comment_before = record { one_spells = refl; one_fits = refl; one_form = refl; other_spells = refl; other_fits = refl; other_form = refl }
 
 -- ---- at the start of a line, white is no separation over lines
@@ -100,5 +100,5 @@ white_stays :
     (stream_of [] (scalar_of true []) (line tab ∷ []))
     (stream_of [] (scalar_of false []) (line tab ∷ []))
     (codes "|-\n a\n\t")
-    (document (bare (scalar_of false [])) ∷ line_piece tab ∷ [])
+    (document (bare (scalar_of false [])) ∷ line_section tab ∷ [])
 white_stays = record { one_spells = refl; one_fits = refl; one_form = refl; other_spells = refl; other_fits = refl; other_form = refl }

@@ -9,12 +9,12 @@ use Rattle.yaml_grammar.specs.Separation.{LineEnd, comment_fits, comment_line_fi
 use Rattle.yaml_grammar.specs.Streams.{Document, bare, directed, document_events, document_fits, document_text, explicit, explicit_events, explicit_fits, explicit_text, fits, mark_text, stream_events, optional_document_events, optional_document_fits, part_fits, part_text, parts_events, parts_fit, parts_text, stream_text, suffix_fits, suffix_text, suffixes}
 use Rattle.yaml_grammar.specs.Texts.{byte_len, ends_word, is_empty, optional, starts_line}
 use Rattle.yaml_recognizers.specs.CanonicalComments.{canonical_comments}
-use Rattle.yaml_recognizers.specs.CanonicalStreams.{FlatStream, Piece, canonical_document, canonical_explicit, canonical_pieces, canonical_stream, document, flat_events, flat_text, line, pieces_events, pieces_text, suffix}
-use Rattle.yaml_recognizers.specs.NestedStreams.{Opened, closed_pieces, nested_stream, opened_pieces}
+use Rattle.yaml_recognizers.specs.CanonicalStreams.{FlatStream, Section, canonical_document, canonical_explicit, canonical_sections, canonical_stream, document, flat_events, flat_text, line, sections_events, sections_text, suffix}
+use Rattle.yaml_recognizers.specs.NestedStreams.{Opened, closed_sections, nested_stream, opened_sections}
 use Rattle.yaml_recognizers.proofs.Meanings.CanonicalFits.{comments_fit_too, document_fits_too, explicit_fits_too}
 use Rattle.yaml_recognizers.proofs.Separation.LineEnds.{LineParts, line_parts}
 use Rattle.yaml_recognizers.proofs.Basics.LineStarts.{byte_len_joined, comments_start, line_not_end, line_starts, starts_joined}
-use Rattle.yaml_recognizers.proofs.Documents.StreamsComplete.{piece_some}
+use Rattle.yaml_recognizers.proofs.Documents.StreamsComplete.{section_some}
 
 -- ---- what it spells
 
@@ -35,25 +35,25 @@ suffix_opened comments o text t =
     ap (λ u. suffix_text comments ++ u) t ∙ (regrouped ∙ ap (λ u. u ++ parts_text o.parts) (sym (suffixes_text comments o.prefix o.document)))
 
 mutual
-  -- it spells the pieces
-  opened_spells : (ps : List Piece) (bol : Bool) → canonical_pieces ps true bol ≡ true → pieces_text ps ≡ opened_text (opened_pieces ps)
+  -- it spells the sections
+  opened_spells : (ps : List Section) (bol : Bool) → canonical_sections ps true bol ≡ true → sections_text ps ≡ opened_text (opened_sections ps)
   opened_spells [] bol h = refl
   opened_spells (line e ∷ ps) bol h =
-      let more : pieces_text ps ≡ opened_text (opened_pieces ps) = opened_spells ps (starts_line bol (line_end_text e)) (and_parts _ _ h).1 in
-      ap (λ u. line_end_text e ++ u) more ∙ sym (append_assoc (line_end_text e) (comments_text (opened_pieces ps).prefix) _)
+      let more : sections_text ps ≡ opened_text (opened_sections ps) = opened_spells ps (starts_line bol (line_end_text e)) (and_parts _ _ h).1 in
+      ap (λ u. line_end_text e ++ u) more ∙ sym (append_assoc (line_end_text e) (comments_text (opened_sections ps).prefix) _)
   opened_spells (document d ∷ ps) bol h = ap (λ u. document_text d ++ u) (closed_spells ps (starts_line bol (document_text d)) (and_parts _ _ h).1)
   opened_spells (suffix comments ∷ ps) bol h =
-      suffix_opened comments (opened_pieces ps) (pieces_text ps) (opened_spells ps (starts_line bol (suffix_text comments)) (and_parts _ _ h).1)
+      suffix_opened comments (opened_sections ps) (sections_text ps) (opened_spells ps (starts_line bol (suffix_text comments)) (and_parts _ _ h).1)
 
   -- and so does what comes after a document
-  closed_spells : (ps : List Piece) (bol : Bool) → canonical_pieces ps false bol ≡ true → pieces_text ps ≡ parts_text (closed_pieces ps)
+  closed_spells : (ps : List Section) (bol : Bool) → canonical_sections ps false bol ≡ true → sections_text ps ≡ parts_text (closed_sections ps)
   closed_spells [] bol h = refl
   closed_spells (line e ∷ ps) bol h = ap (λ u. line_end_text e ++ u) (closed_spells ps (starts_line bol (line_end_text e)) (and_parts _ _ h).1)
   closed_spells (document (explicit x) ∷ ps) bol h = ap (λ u. explicit_text x ++ u) (closed_spells ps (starts_line bol (explicit_text x)) (and_parts _ _ h).1)
   closed_spells (document (bare n) ∷ ps) bol h = absurd (false≢true h)
   closed_spells (document (directed blank version comments x) ∷ ps) bol h = absurd (false≢true h)
   closed_spells (suffix comments ∷ ps) bol h =
-      suffix_opened comments (opened_pieces ps) (pieces_text ps) (opened_spells ps (starts_line bol (suffix_text comments)) (and_parts _ _ h).1)
+      suffix_opened comments (opened_sections ps) (sections_text ps) (opened_spells ps (starts_line bol (suffix_text comments)) (and_parts _ _ h).1)
 
 -- ---- what it has to meet
 
@@ -97,15 +97,15 @@ suffix_starts : (comments : List LineEnd) (bol : Bool) (text : List ℕ) → bol
 suffix_starts comments bol text h = comments_start false comments text (and_parts _ _ (and_parts _ _ h).1).0
 
 mutual
-  -- pieces where a document may come fit
-  opened_fits : (ps : List Piece) (bol : Bool) → canonical_pieces ps true bol ≡ true → bol || is_empty (pieces_text ps) ≡ true → OpenedFits bol (opened_pieces ps)
+  -- sections where a document may come fit
+  opened_fits : (ps : List Section) (bol : Bool) → canonical_sections ps true bol ≡ true → bol || is_empty (sections_text ps) ≡ true → OpenedFits bol (opened_sections ps)
   opened_fits [] bol h b = record { prefix = refl; document = refl; parts = refl }
   opened_fits (line e ∷ ps) bol h b =
-      let o : Opened = opened_pieces ps in
+      let o : Opened = opened_sections ps in
       let start : Bool = starts_line bol (line_end_text e) in
-      let q : (comment_line_fits bol e (pieces_text ps) ≡ true) × (canonical_pieces ps true start ≡ true) = and_parts _ _ h in
-      let more : OpenedFits start o = opened_fits ps start q.1 (line_starts bol e (pieces_text ps) q.0) in
-      let here : comment_line_fits true e (opened_text o) ≡ true = subst (λ (u : List ℕ). comment_line_fits true e u ≡ true) (opened_spells ps start q.1) (line_at_start bol e (pieces_text ps) q.0) in
+      let q : (comment_line_fits bol e (sections_text ps) ≡ true) × (canonical_sections ps true start ≡ true) = and_parts _ _ h in
+      let more : OpenedFits start o = opened_fits ps start q.1 (line_starts bol e (sections_text ps) q.0) in
+      let here : comment_line_fits true e (opened_text o) ≡ true = subst (λ (u : List ℕ). comment_line_fits true e u ≡ true) (opened_spells ps start q.1) (line_at_start bol e (sections_text ps) q.0) in
       let s : starts_line bol (comments_text (e ∷ o.prefix) ++ optional document_text o.document) ≡ starts_line start (comments_text o.prefix ++ optional document_text o.document) =
       ap (starts_line bol) (append_assoc (line_end_text e) (comments_text o.prefix) (optional document_text o.document))
       ∙ starts_joined bol (line_end_text e) (comments_text o.prefix ++ optional document_text o.document) in
@@ -115,10 +115,10 @@ mutual
         parts = subst (λ (c : Bool). parts_fit o.parts c [] ≡ true) (sym s) more.parts;
       }
   opened_fits (document d ∷ ps) bol h b =
-      let q : (canonical_document d true bol (pieces_text ps) ≡ true) × (canonical_pieces ps false (starts_line bol (document_text d)) ≡ true) = and_parts _ _ h in
-      let e : is_empty (document_text d ++ pieces_text ps) ≡ false = (piece_some (document d) true bol (pieces_text ps) q.0).0 in
-      let start : bol ≡ true = line_not_end bol (document_text d ++ pieces_text ps) b e in
-      let fit : document_fits d true (pieces_text ps) ≡ true = subst (λ (c : Bool). document_fits d c (pieces_text ps) ≡ true) start (document_fits_too d true bol (pieces_text ps) q.0) in
+      let q : (canonical_document d true bol (sections_text ps) ≡ true) × (canonical_sections ps false (starts_line bol (document_text d)) ≡ true) = and_parts _ _ h in
+      let e : is_empty (document_text d ++ sections_text ps) ≡ false = (section_some (document d) true bol (sections_text ps) q.0).0 in
+      let start : bol ≡ true = line_not_end bol (document_text d ++ sections_text ps) b e in
+      let fit : document_fits d true (sections_text ps) ≡ true = subst (λ (c : Bool). document_fits d c (sections_text ps) ≡ true) start (document_fits_too d true bol (sections_text ps) q.0) in
       record {
         prefix = refl;
         document = subst (λ (u : List ℕ). document_fits d true u ≡ true) (closed_spells ps (starts_line bol (document_text d)) q.1) fit;
@@ -126,32 +126,32 @@ mutual
       }
   opened_fits (suffix comments ∷ ps) bol h b =
       let start : Bool = starts_line bol (suffix_text comments) in
-      let q : (bol && ends_word (comments_text comments ++ pieces_text ps) && canonical_comments false comments (pieces_text ps) ≡ true) × (canonical_pieces ps true start ≡ true) = and_parts _ _ h in
+      let q : (bol && ends_word (comments_text comments ++ sections_text ps) && canonical_comments false comments (sections_text ps) ≡ true) × (canonical_sections ps true start ≡ true) = and_parts _ _ h in
       record {
         prefix = refl;
         document = refl;
-        parts = suffix_parts comments (opened_pieces ps) bol (pieces_text ps) q.0 (opened_spells ps start q.1) (opened_fits ps start q.1 (suffix_starts comments bol (pieces_text ps) q.0));
+        parts = suffix_parts comments (opened_sections ps) bol (sections_text ps) q.0 (opened_spells ps start q.1) (opened_fits ps start q.1 (suffix_starts comments bol (sections_text ps) q.0));
       }
 
-  -- and so do pieces after a document
-  closed_fits : (ps : List Piece) (bol : Bool) → canonical_pieces ps false bol ≡ true → parts_fit (closed_pieces ps) bol [] ≡ true
+  -- and so do sections after a document
+  closed_fits : (ps : List Section) (bol : Bool) → canonical_sections ps false bol ≡ true → parts_fit (closed_sections ps) bol [] ≡ true
   closed_fits [] bol h = refl
   closed_fits (line e ∷ ps) bol h =
       let start : Bool = starts_line bol (line_end_text e) in
-      let q : (comment_line_fits bol e (pieces_text ps) ≡ true) × (canonical_pieces ps false start ≡ true) = and_parts _ _ h in
-      let t : pieces_text ps ≡ parts_text (closed_pieces ps) ++ [] = closed_spells ps start q.1 ∙ sym (append-nil (parts_text (closed_pieces ps))) in
+      let q : (comment_line_fits bol e (sections_text ps) ≡ true) × (canonical_sections ps false start ≡ true) = and_parts _ _ h in
+      let t : sections_text ps ≡ parts_text (closed_sections ps) ++ [] = closed_spells ps start q.1 ∙ sym (append-nil (parts_text (closed_sections ps))) in
       and_from _ _ (subst (λ (u : List ℕ). comment_line_fits bol e u ≡ true) t q.0) (closed_fits ps start q.1)
   closed_fits (document (explicit x) ∷ ps) bol h =
       let start : Bool = starts_line bol (explicit_text x) in
-      let q : (canonical_explicit x bol (pieces_text ps) ≡ true) × (canonical_pieces ps false start ≡ true) = and_parts _ _ h in
-      let t : pieces_text ps ≡ parts_text (closed_pieces ps) ++ [] = closed_spells ps start q.1 ∙ sym (append-nil (parts_text (closed_pieces ps))) in
-      and_from _ _ (subst (λ (u : List ℕ). explicit_fits x bol u ≡ true) t (explicit_fits_too x bol (pieces_text ps) q.0)) (closed_fits ps start q.1)
+      let q : (canonical_explicit x bol (sections_text ps) ≡ true) × (canonical_sections ps false start ≡ true) = and_parts _ _ h in
+      let t : sections_text ps ≡ parts_text (closed_sections ps) ++ [] = closed_spells ps start q.1 ∙ sym (append-nil (parts_text (closed_sections ps))) in
+      and_from _ _ (subst (λ (u : List ℕ). explicit_fits x bol u ≡ true) t (explicit_fits_too x bol (sections_text ps) q.0)) (closed_fits ps start q.1)
   closed_fits (document (bare n) ∷ ps) bol h = absurd (false≢true h)
   closed_fits (document (directed blank version comments x) ∷ ps) bol h = absurd (false≢true h)
   closed_fits (suffix comments ∷ ps) bol h =
       let start : Bool = starts_line bol (suffix_text comments) in
-      let q : (bol && ends_word (comments_text comments ++ pieces_text ps) && canonical_comments false comments (pieces_text ps) ≡ true) × (canonical_pieces ps true start ≡ true) = and_parts _ _ h in
-      suffix_parts comments (opened_pieces ps) bol (pieces_text ps) q.0 (opened_spells ps start q.1) (opened_fits ps start q.1 (suffix_starts comments bol (pieces_text ps) q.0))
+      let q : (bol && ends_word (comments_text comments ++ sections_text ps) && canonical_comments false comments (sections_text ps) ≡ true) × (canonical_sections ps true start ≡ true) = and_parts _ _ h in
+      suffix_parts comments (opened_sections ps) bol (sections_text ps) q.0 (opened_spells ps start q.1) (opened_fits ps start q.1 (suffix_starts comments bol (sections_text ps) q.0))
 
 -- ---- what it means
 
@@ -174,11 +174,11 @@ suffix_events comments o at =
     ap (λ n. optional_document_events o.document n ++ parts_events o.parts (at + a + b + c)) one ∙ ap (λ n. optional_document_events o.document (at + a + 0 + b) ++ parts_events o.parts n) two
 
 mutual
-  -- it means what the pieces mean
-  opened_means : (ps : List Piece) (bol : Bool) (at : ℕ) → canonical_pieces ps true bol ≡ true → pieces_events ps at ≡ opened_events (opened_pieces ps) at
+  -- it means what the sections mean
+  opened_means : (ps : List Section) (bol : Bool) (at : ℕ) → canonical_sections ps true bol ≡ true → sections_events ps at ≡ opened_events (opened_sections ps) at
   opened_means [] bol at h = refl
   opened_means (line e ∷ ps) bol at h =
-      let o : Opened = opened_pieces ps in
+      let o : Opened = opened_sections ps in
       let l : ℕ = byte_len (line_end_text e) in
       let both : byte_len (comments_text (e ∷ o.prefix)) ≡ l + byte_len (comments_text o.prefix) = byte_len_joined (line_end_text e) (comments_text o.prefix) in
       let n : at + l + byte_len (comments_text o.prefix) ≡ at + byte_len (comments_text (e ∷ o.prefix)) = omega arith in
@@ -187,14 +187,14 @@ mutual
   opened_means (document d ∷ ps) bol at h =
       let n : at ≡ at + 0 = omega arith in
       ap (λ es. document_events d at ++ es) (closed_means ps (starts_line bol (document_text d)) (at + byte_len (document_text d)) (and_parts _ _ h).1)
-      ∙ ap (λ k. document_events d k ++ parts_events (closed_pieces ps) (k + byte_len (document_text d))) n
+      ∙ ap (λ k. document_events d k ++ parts_events (closed_sections ps) (k + byte_len (document_text d))) n
   opened_means (suffix comments ∷ ps) bol at h =
       let n : at ≡ at + 0 + 0 = omega arith in
       opened_means ps (starts_line bol (suffix_text comments)) (at + byte_len (suffix_text comments)) (and_parts _ _ h).1
-      ∙ (suffix_events comments (opened_pieces ps) at ∙ ap (parts_events (suffixes comments [] (opened_pieces ps).prefix (opened_pieces ps).document ∷ (opened_pieces ps).parts)) n)
+      ∙ (suffix_events comments (opened_sections ps) at ∙ ap (parts_events (suffixes comments [] (opened_sections ps).prefix (opened_sections ps).document ∷ (opened_sections ps).parts)) n)
 
   -- and so does what comes after a document
-  closed_means : (ps : List Piece) (bol : Bool) (at : ℕ) → canonical_pieces ps false bol ≡ true → pieces_events ps at ≡ parts_events (closed_pieces ps) at
+  closed_means : (ps : List Section) (bol : Bool) (at : ℕ) → canonical_sections ps false bol ≡ true → sections_events ps at ≡ parts_events (closed_sections ps) at
   closed_means [] bol at h = refl
   closed_means (line e ∷ ps) bol at h = closed_means ps (starts_line bol (line_end_text e)) (at + byte_len (line_end_text e)) (and_parts _ _ h).1
   closed_means (document (explicit x) ∷ ps) bol at h =
@@ -202,24 +202,24 @@ mutual
   closed_means (document (bare n) ∷ ps) bol at h = absurd (false≢true h)
   closed_means (document (directed blank version comments x) ∷ ps) bol at h = absurd (false≢true h)
   closed_means (suffix comments ∷ ps) bol at h =
-      opened_means ps (starts_line bol (suffix_text comments)) (at + byte_len (suffix_text comments)) (and_parts _ _ h).1 ∙ suffix_events comments (opened_pieces ps) at
+      opened_means ps (starts_line bol (suffix_text comments)) (at + byte_len (suffix_text comments)) (and_parts _ _ h).1 ∙ suffix_events comments (opened_sections ps) at
 
 -- ---- together
 
 -- the nested form spells the same
 pub nested_spells : (s : FlatStream) → canonical_stream s ≡ true → stream_text (nested_stream s) ≡ flat_text s
 nested_spells s h =
-    let o : Opened = opened_pieces s.pieces in
+    let o : Opened = opened_sections s.sections in
     let regrouped : stream_text (nested_stream s) ≡ mark_text s.mark ++ opened_text o = simp append_assoc in
-    regrouped ∙ ap (λ u. mark_text s.mark ++ u) (sym (opened_spells s.pieces true h))
+    regrouped ∙ ap (λ u. mark_text s.mark ++ u) (sym (opened_spells s.sections true h))
 
 -- it fits
 pub nested_fits : (s : FlatStream) → canonical_stream s ≡ true → fits (nested_stream s) ≡ true
-nested_fits s h = let f = opened_fits s.pieces true h refl in and_from _ _ (and_from _ _ f.prefix f.document) f.parts
+nested_fits s h = let f = opened_fits s.sections true h refl in and_from _ _ (and_from _ _ f.prefix f.document) f.parts
 
 -- it means the same
 pub nested_means : (s : FlatStream) → canonical_stream s ≡ true → stream_events (nested_stream s) ≡ flat_events s
-nested_means s h = sym (opened_means s.pieces true (if s.mark then 3 else 0) h)
+nested_means s h = sym (opened_means s.sections true (if s.mark then 3 else 0) h)
 
 -- so it is a presentation of the text
 pub nested_presents : (s : FlatStream) → canonical_stream s ≡ true → Presents (nested_stream s) (flat_text s)

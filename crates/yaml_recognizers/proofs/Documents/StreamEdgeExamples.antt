@@ -6,7 +6,7 @@ use Rattle.std.specs.Prelude.{List, [], ◌∷◌, ◌++◌, codes}
 use Rattle.yaml_grammar.specs.Events.{document_start, document_end, seq_start, seq_end, map_start, map_end, scalar_event, plain_style, double_style, literal_style, folded_style}
 use Rattle.yaml_recognizers.specs.FlowNodes.{read_flow}
 use Rattle.yaml_recognizers.specs.BlockNodes.{read_node}
-use Rattle.yaml_recognizers.specs.Streams.{read_explicit, read_piece, read_pieces}
+use Rattle.yaml_recognizers.specs.Streams.{read_explicit, read_section, read_sections}
 use Rattle.yaml_recognizers.specs.Repeated.{repeated}
 use Rattle.yaml_recognizers.specs.Joins.{read_empty, after_blank, read_join}
 use Rattle.yaml_recognizers.specs.QuotedScalars.{read_held, read_quoted_line, read_quoted, read_single_one, single_closes, read_single, read_item, double_closes, read_double}
@@ -26,7 +26,7 @@ where_comments_begin =
     ∷ []
 
 where_comments_begin_found : found where_comments_begin ≡ wanted where_comments_begin
-unfolding read_flow read_node read_explicit read_piece read_pieces repeated read_empty after_blank read_join read_held read_quoted_line read_quoted read_single_one single_closes read_single read_item double_closes read_double read_run read_plain_line read_plain last_of last_char plain_ends read_scalar scalar_ends
+unfolding read_flow read_node read_explicit read_section read_sections repeated read_empty after_blank read_join read_held read_quoted_line read_quoted read_single_one single_closes read_single read_item double_closes read_double read_run read_plain_line read_plain last_of last_char plain_ends read_scalar scalar_ends
 where_comments_begin_found = refl
 
 -- ---- scalars over several lines, and characters that aren't allowed in them
@@ -45,7 +45,7 @@ scalars_over_lines =
     ∷ []
 
 scalars_over_lines_found : found scalars_over_lines ≡ wanted scalars_over_lines
-unfolding read_flow read_node read_explicit read_piece read_pieces repeated read_empty after_blank read_join read_held read_quoted_line read_quoted read_single_one single_closes read_single read_item double_closes read_double read_run read_plain_line read_plain last_of last_char plain_ends read_scalar scalar_ends
+unfolding read_flow read_node read_explicit read_section read_sections repeated read_empty after_blank read_join read_held read_quoted_line read_quoted read_single_one single_closes read_single read_item double_closes read_double read_run read_plain_line read_plain last_of last_char plain_ends read_scalar scalar_ends
 scalars_over_lines_found = refl
 
 -- ---- a key of a block mapping is on one line
@@ -61,7 +61,7 @@ keys_over_lines =
     ∷ []
 
 keys_over_lines_found : found keys_over_lines ≡ wanted keys_over_lines
-unfolding read_flow read_node read_explicit read_piece read_pieces repeated read_empty after_blank read_join read_held read_quoted_line read_quoted read_single_one single_closes read_single read_item double_closes read_double read_run read_plain_line read_plain last_of last_char plain_ends read_scalar scalar_ends
+unfolding read_flow read_node read_explicit read_section read_sections repeated read_empty after_blank read_join read_held read_quoted_line read_quoted read_single_one single_closes read_single read_item double_closes read_double read_run read_plain_line read_plain last_of last_char plain_ends read_scalar scalar_ends
 keys_over_lines_found = refl
 
 -- ---- entries between brackets
@@ -85,7 +85,7 @@ entries =
     ∷ []
 
 entries_found : found entries ≡ wanted entries
-unfolding read_flow read_node read_explicit read_piece read_pieces repeated read_empty after_blank read_join read_held read_quoted_line read_quoted read_single_one single_closes read_single read_item double_closes read_double read_run read_plain_line read_plain last_of last_char plain_ends read_scalar scalar_ends
+unfolding read_flow read_node read_explicit read_section read_sections repeated read_empty after_blank read_join read_held read_quoted_line read_quoted read_single_one single_closes read_single read_item double_closes read_double read_run read_plain_line read_plain last_of last_char plain_ends read_scalar scalar_ends
 entries_found = refl
 
 -- ---- headers of block scalars, and comments after them
@@ -106,7 +106,7 @@ block_scalars =
     ∷ []
 
 block_scalars_found : found block_scalars ≡ wanted block_scalars
-unfolding read_flow read_node read_explicit read_piece read_pieces repeated read_empty after_blank read_join read_held read_quoted_line read_quoted read_single_one single_closes read_single read_item double_closes read_double read_run read_plain_line read_plain last_of last_char plain_ends read_scalar scalar_ends
+unfolding read_flow read_node read_explicit read_section read_sections repeated read_empty after_blank read_join read_held read_quoted_line read_quoted read_single_one single_closes read_single read_item double_closes read_double read_run read_plain_line read_plain last_of last_char plain_ends read_scalar scalar_ends
 block_scalars_found = refl
 
 -- ---- directives, and the marks of documents
@@ -123,5 +123,5 @@ directives_and_marks =
     ∷ []
 
 directives_and_marks_found : found directives_and_marks ≡ wanted directives_and_marks
-unfolding read_flow read_node read_explicit read_piece read_pieces repeated read_empty after_blank read_join read_held read_quoted_line read_quoted read_single_one single_closes read_single read_item double_closes read_double read_run read_plain_line read_plain last_of last_char plain_ends read_scalar scalar_ends
+unfolding read_flow read_node read_explicit read_section read_sections repeated read_empty after_blank read_join read_held read_quoted_line read_quoted read_single_one single_closes read_single read_item double_closes read_double read_run read_plain_line read_plain last_of last_char plain_ends read_scalar scalar_ends
 directives_and_marks_found = refl

@@ -6,7 +6,7 @@ use Rattle.yaml_grammar.specs.Events.{Event, document_start, document_end, seq_s
 use Rattle.yaml_recognizers.specs.CanonicalStreams.{FlatStream, flat_events}
 use Rattle.yaml_recognizers.specs.FlowNodes.{read_flow}
 use Rattle.yaml_recognizers.specs.BlockNodes.{read_node}
-use Rattle.yaml_recognizers.specs.Streams.{read_explicit, read_piece, read_pieces}
+use Rattle.yaml_recognizers.specs.Streams.{read_explicit, read_section, read_sections}
 use Rattle.yaml_recognizers.specs.Repeated.{repeated}
 use Rattle.yaml_recognizers.specs.Joins.{read_empty, after_blank, read_join}
 use Rattle.yaml_recognizers.specs.QuotedScalars.{read_held, read_quoted_line, read_quoted, read_single_one, single_closes, read_single, read_item, double_closes, read_double}
@@ -76,7 +76,7 @@ documents =
     ∷ []
 
 documents_found : found documents ≡ wanted documents
-unfolding read_flow read_node read_explicit read_piece read_pieces repeated read_empty after_blank read_join read_held read_quoted_line read_quoted read_single_one single_closes read_single read_item double_closes read_double read_run read_plain_line read_plain last_of last_char plain_ends read_scalar scalar_ends
+unfolding read_flow read_node read_explicit read_section read_sections repeated read_empty after_blank read_join read_held read_quoted_line read_quoted read_single_one single_closes read_single read_item double_closes read_double read_run read_plain_line read_plain last_of last_char plain_ends read_scalar scalar_ends
 documents_found = refl
 
 -- ---- directives
@@ -103,7 +103,7 @@ directives =
     ∷ []
 
 directives_found : found directives ≡ wanted directives
-unfolding read_flow read_node read_explicit read_piece read_pieces repeated read_empty after_blank read_join read_held read_quoted_line read_quoted read_single_one single_closes read_single read_item double_closes read_double read_run read_plain_line read_plain last_of last_char plain_ends read_scalar scalar_ends
+unfolding read_flow read_node read_explicit read_section read_sections repeated read_empty after_blank read_join read_held read_quoted_line read_quoted read_single_one single_closes read_single read_item double_closes read_double read_run read_plain_line read_plain last_of last_char plain_ends read_scalar scalar_ends
 directives_found = refl
 
 -- ---- byte order marks, comments, breaks, and texts without a document
@@ -129,7 +129,7 @@ marks_and_comments =
     ∷ []
 
 marks_and_comments_found : found marks_and_comments ≡ wanted marks_and_comments
-unfolding read_flow read_node read_explicit read_piece read_pieces repeated read_empty after_blank read_join read_held read_quoted_line read_quoted read_single_one single_closes read_single read_item double_closes read_double read_run read_plain_line read_plain last_of last_char plain_ends read_scalar scalar_ends
+unfolding read_flow read_node read_explicit read_section read_sections repeated read_empty after_blank read_join read_held read_quoted_line read_quoted read_single_one single_closes read_single read_item double_closes read_double read_run read_plain_line read_plain last_of last_char plain_ends read_scalar scalar_ends
 marks_and_comments_found = refl
 
 -- ---- plain scalars
@@ -150,7 +150,7 @@ plain_scalars =
     ∷ []
 
 plain_scalars_found : found plain_scalars ≡ wanted plain_scalars
-unfolding read_flow read_node read_explicit read_piece read_pieces repeated read_empty after_blank read_join read_held read_quoted_line read_quoted read_single_one single_closes read_single read_item double_closes read_double read_run read_plain_line read_plain last_of last_char plain_ends read_scalar scalar_ends
+unfolding read_flow read_node read_explicit read_section read_sections repeated read_empty after_blank read_join read_held read_quoted_line read_quoted read_single_one single_closes read_single read_item double_closes read_double read_run read_plain_line read_plain last_of last_char plain_ends read_scalar scalar_ends
 plain_scalars_found = refl
 
 -- ---- quoted scalars
@@ -176,7 +176,7 @@ quoted_scalars =
     ∷ []
 
 quoted_scalars_found : found quoted_scalars ≡ wanted quoted_scalars
-unfolding read_flow read_node read_explicit read_piece read_pieces repeated read_empty after_blank read_join read_held read_quoted_line read_quoted read_single_one single_closes read_single read_item double_closes read_double read_run read_plain_line read_plain last_of last_char plain_ends read_scalar scalar_ends
+unfolding read_flow read_node read_explicit read_section read_sections repeated read_empty after_blank read_join read_held read_quoted_line read_quoted read_single_one single_closes read_single read_item double_closes read_double read_run read_plain_line read_plain last_of last_char plain_ends read_scalar scalar_ends
 quoted_scalars_found = refl
 
 -- ---- block scalars
@@ -217,7 +217,7 @@ block_scalars =
     ∷ []
 
 block_scalars_found : found block_scalars ≡ wanted block_scalars
-unfolding read_flow read_node read_explicit read_piece read_pieces repeated read_empty after_blank read_join read_held read_quoted_line read_quoted read_single_one single_closes read_single read_item double_closes read_double read_run read_plain_line read_plain last_of last_char plain_ends read_scalar scalar_ends
+unfolding read_flow read_node read_explicit read_section read_sections repeated read_empty after_blank read_join read_held read_quoted_line read_quoted read_single_one single_closes read_single read_item double_closes read_double read_run read_plain_line read_plain last_of last_char plain_ends read_scalar scalar_ends
 block_scalars_found = refl
 
 -- ---- block collections
@@ -252,7 +252,7 @@ block_collections =
     ∷ []
 
 block_collections_found : found block_collections ≡ wanted block_collections
-unfolding read_flow read_node read_explicit read_piece read_pieces repeated read_empty after_blank read_join read_held read_quoted_line read_quoted read_single_one single_closes read_single read_item double_closes read_double read_run read_plain_line read_plain last_of last_char plain_ends read_scalar scalar_ends
+unfolding read_flow read_node read_explicit read_section read_sections repeated read_empty after_blank read_join read_held read_quoted_line read_quoted read_single_one single_closes read_single read_item double_closes read_double read_run read_plain_line read_plain last_of last_char plain_ends read_scalar scalar_ends
 block_collections_found = refl
 
 -- ---- flow collections
@@ -289,7 +289,7 @@ flow_collections =
     ∷ []
 
 flow_collections_found : found flow_collections ≡ wanted flow_collections
-unfolding read_flow read_node read_explicit read_piece read_pieces repeated read_empty after_blank read_join read_held read_quoted_line read_quoted read_single_one single_closes read_single read_item double_closes read_double read_run read_plain_line read_plain last_of last_char plain_ends read_scalar scalar_ends
+unfolding read_flow read_node read_explicit read_section read_sections repeated read_empty after_blank read_join read_held read_quoted_line read_quoted read_single_one single_closes read_single read_item double_closes read_double read_run read_plain_line read_plain last_of last_char plain_ends read_scalar scalar_ends
 flow_collections_found = refl
 
 -- ---- keys of 1,024 characters and more
@@ -319,5 +319,5 @@ long_keys =
     ∷ []
 
 long_keys_found : found long_keys ≡ wanted long_keys
-unfolding read_flow read_node read_explicit read_piece read_pieces repeated read_empty after_blank read_join read_held read_quoted_line read_quoted read_single_one single_closes read_single read_item double_closes read_double read_run read_plain_line read_plain last_of last_char plain_ends read_scalar scalar_ends
+unfolding read_flow read_node read_explicit read_section read_sections repeated read_empty after_blank read_join read_held read_quoted_line read_quoted read_single_one single_closes read_single read_item double_closes read_double read_run read_plain_line read_plain last_of last_char plain_ends read_scalar scalar_ends
 long_keys_found = refl

@@ -1,4 +1,4 @@
--- What the node of a document and the pieces of a stream begin with, and what ends a document.
+-- What the node of a document and the sections of a stream begin with, and what ends a document.
 use Rattle.std.proofs.Common.{ap, append_assoc, arith, inl, inr, length-append, refl, subst, sym, ◌∙◌, ◌≡◌, ◌≤◌}
 use Rattle.std.specs.Prelude.{Bool, List, [], codes, false, flat_map, if◌then◌else◌, length, nat_le, not, suc, true, zero, ℕ, ◌&&◌, ◌++◌, ◌==◌, ◌||◌, ◌∷◌}
 use Rattle.std.proofs.lemmas.Bool.{and_left, and_parts, and_right, eqb-true, false≢true, le-ltb, or_cases, or_from, or_left, or_right}
@@ -16,7 +16,7 @@ use Rattle.yaml_recognizers.specs.CanonicalBlockNodes.{canonical_items, canonica
 use Rattle.yaml_recognizers.specs.CanonicalBlockScalars.{canonical_block}
 use Rattle.yaml_recognizers.specs.CanonicalComments.{canonical_comments, canonical_sep, is_line_end}
 use Rattle.yaml_recognizers.specs.CanonicalFlowNodes.{canonical_flow}
-use Rattle.yaml_recognizers.specs.CanonicalStreams.{Piece, canonical_explicit, canonical_pieces, document, line, piece_text, pieces_text, suffix}
+use Rattle.yaml_recognizers.specs.CanonicalStreams.{Section, canonical_explicit, canonical_sections, document, line, section_text, sections_text, suffix}
 use Rattle.yaml_recognizers.specs.Comments.{all_comments}
 use Rattle.yaml_recognizers.specs.Ends.{block_node_stops, solid}
 use Rattle.yaml_recognizers.specs.Prefixes.{sign}
@@ -281,18 +281,18 @@ explicit_ends (nothing comments) bol rest h =
     (and_parts _ _ p.0).1
 
 -- after a document comes the end, a marker, or a line of whitespace or a comment
-pub document_ended : (ps : List Piece) (bol : Bool) → canonical_pieces ps false bol ≡ true → block_node_stops 0 false (pieces_text ps) ≡ true
+pub document_ended : (ps : List Section) (bol : Bool) → canonical_sections ps false bol ≡ true → block_node_stops 0 false (sections_text ps) ≡ true
 document_ended [] bol h = refl
 document_ended (suffix comments ∷ ps) bol h =
-    let p : (bol && ends_word (comments_text comments ++ pieces_text ps) && canonical_comments false comments (pieces_text ps) ≡ true)
-    × (canonical_pieces ps true (starts_line bol (piece_text (suffix comments))) ≡ true) = and_parts _ _ h in
-    let q : (bol && ends_word (comments_text comments ++ pieces_text ps) ≡ true) × (canonical_comments false comments (pieces_text ps) ≡ true) = and_parts _ _ p.0 in
-    marked 0 false (pieces_text (suffix comments ∷ ps)) (and_parts _ _ q.0).1
+    let p : (bol && ends_word (comments_text comments ++ sections_text ps) && canonical_comments false comments (sections_text ps) ≡ true)
+    × (canonical_sections ps true (starts_line bol (section_text (suffix comments))) ≡ true) = and_parts _ _ h in
+    let q : (bol && ends_word (comments_text comments ++ sections_text ps) ≡ true) × (canonical_comments false comments (sections_text ps) ≡ true) = and_parts _ _ p.0 in
+    marked 0 false (sections_text (suffix comments ∷ ps)) (and_parts _ _ q.0).1
 document_ended (line e ∷ ps) bol h =
-    let p : (comment_line_fits bol e (pieces_text ps) ≡ true) × (canonical_pieces ps false (starts_line bol (line_end_text e)) ≡ true) = and_parts _ _ h in
-    or_left _ _ (or_right (is_empty (pieces_text (line e ∷ ps)) || marker (pieces_text (line e ∷ ps))) _ (line_is_end bol e (pieces_text ps) p.0))
+    let p : (comment_line_fits bol e (sections_text ps) ≡ true) × (canonical_sections ps false (starts_line bol (line_end_text e)) ≡ true) = and_parts _ _ h in
+    or_left _ _ (or_right (is_empty (sections_text (line e ∷ ps)) || marker (sections_text (line e ∷ ps))) _ (line_is_end bol e (sections_text ps) p.0))
 document_ended (document (bare n) ∷ ps) bol h = absurd (false≢true h)
 document_ended (document (explicit x) ∷ ps) bol h =
-    let p : (canonical_explicit x bol (pieces_text ps) ≡ true) × (canonical_pieces ps false (starts_line bol (explicit_text x)) ≡ true) = and_parts _ _ h in
-    marked 0 false (pieces_text (document (explicit x) ∷ ps)) (explicit_ends x bol (pieces_text ps) p.0)
+    let p : (canonical_explicit x bol (sections_text ps) ≡ true) × (canonical_sections ps false (starts_line bol (explicit_text x)) ≡ true) = and_parts _ _ h in
+    marked 0 false (sections_text (document (explicit x) ∷ ps)) (explicit_ends x bol (sections_text ps) p.0)
 document_ended (document (directed blank version comments x) ∷ ps) bol h = absurd (false≢true h)

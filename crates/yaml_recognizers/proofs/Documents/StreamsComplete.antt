@@ -11,11 +11,11 @@ use Rattle.yaml_grammar.specs.Texts.{begins, ends_word, first, is_empty, marker,
 use Rattle.yaml_recognizers.specs.BlockNodes.{omits}
 use Rattle.yaml_recognizers.specs.CanonicalBlockNodes.{canonical_node}
 use Rattle.yaml_recognizers.specs.CanonicalComments.{canonical_comments, is_line_end}
-use Rattle.yaml_recognizers.specs.CanonicalStreams.{FlatStream, Piece, canonical_explicit, canonical_piece, canonical_pieces, canonical_stream, document, flat_text, line, opens, piece_text, pieces_text, suffix}
+use Rattle.yaml_recognizers.specs.CanonicalStreams.{FlatStream, Section, canonical_explicit, canonical_section, canonical_sections, canonical_stream, document, flat_text, line, opens, section_text, sections_text, suffix}
 use Rattle.yaml_recognizers.specs.Comments.{all_comments, closes_line}
 use Rattle.yaml_recognizers.specs.Ends.{block_node_stops}
 use Rattle.yaml_recognizers.specs.Reading.{Read, on}
-use Rattle.yaml_recognizers.specs.Streams.{directed_with, marker_of, more_pieces, order_mark, percent, piece_and, read_directed, read_explicit, read_piece, read_pieces, read_version, stream_of, suffix_with, with_mark}
+use Rattle.yaml_recognizers.specs.Streams.{directed_with, marker_of, more_sections, order_mark, percent, section_and, read_directed, read_explicit, read_section, read_sections, read_version, stream_of, suffix_with, with_mark}
 use Rattle.yaml_recognizers.proofs.Block.BlockNodesBegin.{closes}
 use Rattle.yaml_recognizers.proofs.Separation.CommentsComplete.{comments_all, line_end_read}
 use Rattle.yaml_recognizers.proofs.Separation.CommentsSound.{line_is_end}
@@ -65,19 +65,19 @@ line_no_mark (c ∷ cs) h = elim (cases_eq c 0xfeff) [
   | inr n ↦ ne_eqb c 0xfeff n
 ]
 
--- what a piece asks of the text after it
-abbrev pub Follows : Piece → List ℕ → Type 0
+-- what a section asks of the text after it
+abbrev pub Follows : Section → List ℕ → Type 0
 Follows (suffix comments) after = Unit {0}
 Follows (line e) after = Unit {0}
 Follows (document d) after = block_node_stops 0 false after ≡ true
 
--- what follows a piece ends it
-pub follows : (p : Piece) (ps : List Piece) (opened bol : Bool) → canonical_pieces ps (opens opened p) bol ≡ true → Follows p (pieces_text ps)
+-- what follows a section ends it
+pub follows : (p : Section) (ps : List Section) (opened bol : Bool) → canonical_sections ps (opens opened p) bol ≡ true → Follows p (sections_text ps)
 follows (suffix comments) ps opened bol h = tt
 follows (line e) ps opened bol h = tt
 follows (document d) ps opened bol h = document_ended ps bol h
 
--- ---- what pieces begin with
+-- ---- what sections begin with
 
 -- what starts with `---` isn't empty, and starts with no byte order mark
 explicit_some : (x : Explicit) (rest : List ℕ) → (is_empty (explicit_text x ++ rest) ≡ false) × (first order_mark (explicit_text x ++ rest) ≡ false)
@@ -93,40 +93,40 @@ line_more : (text rest : List ℕ) → not (is_empty text) ≡ true → is_empty
 line_more [] rest h = absurd (false≢true h)
 line_more (c ∷ cs) rest h = refl
 
--- a piece that fits isn't empty, and starts with no byte order mark
-pub piece_some : (p : Piece) (opened bol : Bool) (rest : List ℕ) → canonical_piece p opened bol rest ≡ true
-    → (is_empty (piece_text p ++ rest) ≡ false) × (first order_mark (piece_text p ++ rest) ≡ false)
-piece_some (suffix comments) opened bol rest h = (refl, refl)
-piece_some (line e) opened bol rest h =
+-- a section that fits isn't empty, and starts with no byte order mark
+pub section_some : (p : Section) (opened bol : Bool) (rest : List ℕ) → canonical_section p opened bol rest ≡ true
+    → (is_empty (section_text p ++ rest) ≡ false) × (first order_mark (section_text p ++ rest) ≡ false)
+section_some (suffix comments) opened bol rest h = (refl, refl)
+section_some (line e) opened bol rest h =
     (line_more (line_end_text e) rest (and_parts _ _ h).0, line_no_mark (line_end_text e ++ rest) (line_is_end bol e rest h))
-piece_some (document (bare n)) opened bol rest h =
+section_some (document (bare n)) opened bol rest h =
     let p : (opened && not (is_line_end (node_text n ++ rest)) ≡ true) × (canonical_node n 0 false bol rest ≡ true) = and_parts _ _ h in
     let b : Bare bol (node_text n ++ rest) = bare_some n bol rest p.1 (not-true _ (and_parts _ _ p.0).1) in
     (b.some, (not_reserved (node_text n ++ rest) b.unreserved).1)
-piece_some (document (explicit x)) opened bol rest h = explicit_some x rest
-piece_some (document (directed blank version comments x)) opened bol rest h = (refl, refl)
+section_some (document (explicit x)) opened bol rest h = explicit_some x rest
+section_some (document (directed blank version comments x)) opened bol rest h = (refl, refl)
 
 -- what starts with `---` has a character
 explicit_long : (x : Explicit) → 1 ≤ length (explicit_text x)
 explicit_long (content n) = omega arith
 explicit_long (nothing comments) = omega arith
 
--- a piece isn't empty
-pub piece_long : (p : Piece) (opened bol : Bool) (rest : List ℕ) → canonical_piece p opened bol rest ≡ true → 1 ≤ length (piece_text p)
-piece_long (suffix comments) opened bol rest h = omega arith
-piece_long (line e) opened bol rest h = line_long bol e rest h
-piece_long (document (bare n)) opened bol rest h = node_long n 0 false bol rest (and_parts _ _ h).1
-piece_long (document (explicit x)) opened bol rest h = explicit_long x
-piece_long (document (directed blank version comments x)) opened bol rest h = omega arith
+-- a section isn't empty
+pub section_long : (p : Section) (opened bol : Bool) (rest : List ℕ) → canonical_section p opened bol rest ≡ true → 1 ≤ length (section_text p)
+section_long (suffix comments) opened bol rest h = omega arith
+section_long (line e) opened bol rest h = line_long bol e rest h
+section_long (document (bare n)) opened bol rest h = node_long n 0 false bol rest (and_parts _ _ h).1
+section_long (document (explicit x)) opened bol rest h = explicit_long x
+section_long (document (directed blank version comments x)) opened bol rest h = omega arith
 
--- there are no more pieces than characters
-pieces_long : (ps : List Piece) (opened bol : Bool) → canonical_pieces ps opened bol ≡ true → length ps ≤ length (pieces_text ps)
-pieces_long [] opened bol h = omega arith
-pieces_long (p ∷ ps) opened bol h =
-    let q : (canonical_piece p opened bol (pieces_text ps) ≡ true) × (canonical_pieces ps (opens opened p) (starts_line bol (piece_text p)) ≡ true) = and_parts _ _ h in
-    let l : 1 ≤ length (piece_text p) = piece_long p opened bol (pieces_text ps) q.0 in
-    let m : length ps ≤ length (pieces_text ps) = pieces_long ps (opens opened p) (starts_line bol (piece_text p)) q.1 in
-    omega (arith, l, m, length-append (piece_text p) (pieces_text ps))
+-- there are no more sections than characters
+sections_long : (ps : List Section) (opened bol : Bool) → canonical_sections ps opened bol ≡ true → length ps ≤ length (sections_text ps)
+sections_long [] opened bol h = omega arith
+sections_long (p ∷ ps) opened bol h =
+    let q : (canonical_section p opened bol (sections_text ps) ≡ true) × (canonical_sections ps (opens opened p) (starts_line bol (section_text p)) ≡ true) = and_parts _ _ h in
+    let l : 1 ≤ length (section_text p) = section_long p opened bol (sections_text ps) q.0 in
+    let m : length ps ≤ length (sections_text ps) = sections_long ps (opens opened p) (starts_line bol (section_text p)) q.1 in
+    omega (arith, l, m, length-append (section_text p) (sections_text ps))
 
 -- ---- what is canonical is read
 
@@ -171,8 +171,8 @@ module _ (node_at : Bool → List ℕ → Read Node)
       (ap (λ r. on r (λ x' rest'. Some (directed blank version comments x', rest'))) (explicit_read x after h e))))
 
   explicit_step : (x : Explicit) (opened : Bool) (text : List ℕ) (r : Read Explicit) → is_line_end text ≡ false → marker_of 46 text ≡ false → marker_of 45 text ≡ true → read_explicit node_at text ≡ r
-      → read_piece node_at opened true text ≡ on r (λ x' rest. Some (document (explicit x'), rest))
-  unfolding read_piece
+      → read_section node_at opened true text ≡ on r (λ x' rest. Some (document (explicit x'), rest))
+  unfolding read_section
   explicit_step x opened text r l m d e = rw (l, m, d) (ap (λ s. on s (λ x' rest. Some (document (explicit x'), rest))) e)
 
   dashes : (x : Explicit) (after : List ℕ) → canonical_explicit x true after ≡ true
@@ -180,18 +180,18 @@ module _ (node_at : Bool → List ℕ → Read Node)
   dashes (content n) after h = (refl, refl, (and_parts _ _ h).0)
   dashes (nothing comments) after h = (refl, refl, (and_parts _ _ h).0)
 
-  -- a piece that is canonical is read
-  piece_read : (p : Piece) (opened bol : Bool) (after : List ℕ) → canonical_piece p opened bol after ≡ true → Follows p after → read_piece node_at opened bol (piece_text p ++ after) ≡ Some (p, after)
-  unfolding read_piece
-  piece_read (suffix comments) opened bol after h f =
+  -- a section that is canonical is read
+  section_read : (p : Section) (opened bol : Bool) (after : List ℕ) → canonical_section p opened bol after ≡ true → Follows p after → read_section node_at opened bol (section_text p ++ after) ≡ Some (p, after)
+  unfolding read_section
+  section_read (suffix comments) opened bol after h f =
       let text : List ℕ = comments_text comments ++ after in
       let p : (bol && ends_word text ≡ true) × (canonical_comments false comments after ≡ true) = and_parts _ _ h in
       let q : (bol ≡ true) × (ends_word text ≡ true) = and_parts _ _ p.0 in
       let c : closes_line (comments, after) ≡ true = closes comments after p.1 in
       rw (q.0, q.1) (ap suffix_with (comments_all false comments after p.1) ∙ rw c refl)
-  piece_read (line e) opened bol after h f =
+  section_read (line e) opened bol after h f =
       rw (line_is_end bol e after h) (ap (λ r. on r (λ e' rest. Some (line e', rest))) (line_end_read bol e after h))
-  piece_read (document (bare n)) opened bol after h f =
+  section_read (document (bare n)) opened bol after h f =
       let text : List ℕ = node_text n ++ after in
       let p : (opened && not (is_line_end text) ≡ true) × (canonical_node n 0 false bol after ≡ true) = and_parts _ _ h in
       let q : (opened ≡ true) × (not (is_line_end text) ≡ true) = and_parts _ _ p.0 in
@@ -202,15 +202,15 @@ module _ (node_at : Bool → List ℕ → Read Node)
       let o : first percent text ≡ false = (not_reserved text b.unreserved).0 in
       let d : opened && bol && first percent text ≡ false = and_right _ _ o in
       rw (l, dots, marks, d, q.0) (ap (λ r. on r (λ n' rest. Some (document (bare n'), rest))) (node_read n bol after p.1 f))
-  piece_read (document (explicit x)) opened false after h f = absurd (no_explicit x after h)
+  section_read (document (explicit x)) opened false after h f = absurd (no_explicit x after h)
     where
       no_explicit : (y : Explicit) (rest : List ℕ) → canonical_explicit y false rest ≡ true → ⊥
       no_explicit (content n) rest k = false≢true k
       no_explicit (nothing comments) rest k = false≢true k
-  piece_read (document (explicit x)) opened true after h f =
+  section_read (document (explicit x)) opened true after h f =
       let d = dashes x after h in
       explicit_step x opened (explicit_text x ++ after) (Some (x, after)) d.0 d.1 d.2 (explicit_read x after h f)
-  piece_read (document (directed blank version comments x)) opened bol after h f =
+  section_read (document (directed blank version comments x)) opened bol after h f =
       let p : (opened && bol && list_all white blank && not (is_empty blank) && canonical_comments false comments (explicit_text x ++ after) ≡ true) × (canonical_explicit x true after ≡ true) = and_parts _ _ h in
       let q : (opened && bol && list_all white blank && not (is_empty blank) ≡ true) × (canonical_comments false comments (explicit_text x ++ after) ≡ true) = and_parts _ _ p.0 in
       let r : (opened && bol && list_all white blank ≡ true) × (not (is_empty blank) ≡ true) = and_parts _ _ q.0 in
@@ -218,32 +218,32 @@ module _ (node_at : Bool → List ℕ → Read Node)
       let t : (opened ≡ true) × (bol ≡ true) = and_parts _ _ s.0 in
       rw (t.0, t.1) (ap (λ u. on u (λ d rest. Some (document d, rest))) (directed_read blank version comments x after s.1 (not-true _ r.1) q.1 p.1 f))
 
-  pieces_read : (ps : List Piece) (fuel : ℕ) (opened bol : Bool) → length ps < fuel → canonical_pieces ps opened bol ≡ true → read_pieces node_at fuel opened bol (pieces_text ps) ≡ Some ps
-  unfolding read_pieces
-  pieces_read [] zero opened bol l h = absurd (omega arith)
-  pieces_read (p ∷ ps) zero opened bol l h = absurd (omega arith)
-  pieces_read [] (suc fuel) opened bol l h = refl
-  pieces_read (p ∷ ps) (suc fuel) opened bol l h =
-      let rest : List ℕ = pieces_text ps in
-      let q : (canonical_piece p opened bol rest ≡ true) × (canonical_pieces ps (opens opened p) (starts_line bol (piece_text p)) ≡ true) = and_parts _ _ h in
-      let e : is_empty (piece_text p ++ rest) ≡ false = (piece_some p opened bol rest q.0).0 in
-      let one : read_piece node_at opened bol (piece_text p ++ rest) ≡ Some (p, rest) = piece_read p opened bol rest q.0 (follows p ps opened (starts_line bol (piece_text p)) q.1) in
-      let more : read_pieces node_at fuel (opens opened p) (starts_line bol (piece_text p)) rest ≡ Some ps = pieces_read ps fuel (opens opened p) (starts_line bol (piece_text p)) (omega arith) q.1 in
-      rw e (ap (more_pieces (λ p' rest'. read_pieces node_at fuel (opens opened p') (starts_line bol (piece_text p')) rest')) one ∙ ap (piece_and p) more)
+  sections_read : (ps : List Section) (fuel : ℕ) (opened bol : Bool) → length ps < fuel → canonical_sections ps opened bol ≡ true → read_sections node_at fuel opened bol (sections_text ps) ≡ Some ps
+  unfolding read_sections
+  sections_read [] zero opened bol l h = absurd (omega arith)
+  sections_read (p ∷ ps) zero opened bol l h = absurd (omega arith)
+  sections_read [] (suc fuel) opened bol l h = refl
+  sections_read (p ∷ ps) (suc fuel) opened bol l h =
+      let rest : List ℕ = sections_text ps in
+      let q : (canonical_section p opened bol rest ≡ true) × (canonical_sections ps (opens opened p) (starts_line bol (section_text p)) ≡ true) = and_parts _ _ h in
+      let e : is_empty (section_text p ++ rest) ≡ false = (section_some p opened bol rest q.0).0 in
+      let one : read_section node_at opened bol (section_text p ++ rest) ≡ Some (p, rest) = section_read p opened bol rest q.0 (follows p ps opened (starts_line bol (section_text p)) q.1) in
+      let more : read_sections node_at fuel (opens opened p) (starts_line bol (section_text p)) rest ≡ Some ps = sections_read ps fuel (opens opened p) (starts_line bol (section_text p)) (omega arith) q.1 in
+      rw e (ap (more_sections (λ p' rest'. read_sections node_at fuel (opens opened p') (starts_line bol (section_text p')) rest')) one ∙ ap (section_and p) more)
 
-  pieces_no_mark : (ps : List Piece) (opened bol : Bool) → canonical_pieces ps opened bol ≡ true → first order_mark (pieces_text ps) ≡ false
-  pieces_no_mark [] opened bol h = refl
-  pieces_no_mark (p ∷ ps) opened bol h = (piece_some p opened bol (pieces_text ps) (and_parts _ _ h).0).1
+  sections_no_mark : (ps : List Section) (opened bol : Bool) → canonical_sections ps opened bol ≡ true → first order_mark (sections_text ps) ≡ false
+  sections_no_mark [] opened bol h = refl
+  sections_no_mark (p ∷ ps) opened bol h = (section_some p opened bol (sections_text ps) (and_parts _ _ h).0).1
 
-  stream_read_marked : (mark : Bool) (ps : List Piece) → canonical_pieces ps true true ≡ true → stream_of node_at (mark_text mark ++ pieces_text ps) ≡ Some (record { mark = mark; pieces = ps })
+  stream_read_marked : (mark : Bool) (ps : List Section) → canonical_sections ps true true ≡ true → stream_of node_at (mark_text mark ++ sections_text ps) ≡ Some (record { mark = mark; sections = ps })
   stream_read_marked true ps h =
-      let l : length ps ≤ length (pieces_text ps) = pieces_long ps true true h in
-      ap (with_mark true) (pieces_read ps (suc (suc (length (pieces_text ps)))) true true (omega arith) h)
+      let l : length ps ≤ length (sections_text ps) = sections_long ps true true h in
+      ap (with_mark true) (sections_read ps (suc (suc (length (sections_text ps)))) true true (omega arith) h)
   stream_read_marked false ps h =
-      let l : length ps ≤ length (pieces_text ps) = pieces_long ps true true h in
-      let m : first order_mark (pieces_text ps) ≡ false = pieces_no_mark ps true true h in
-      rw m (ap (with_mark false) (pieces_read ps (suc (length (pieces_text ps))) true true (omega arith) h))
+      let l : length ps ≤ length (sections_text ps) = sections_long ps true true h in
+      let m : first order_mark (sections_text ps) ≡ false = sections_no_mark ps true true h in
+      rw m (ap (with_mark false) (sections_read ps (suc (length (sections_text ps))) true true (omega arith) h))
 
   -- a canonical stream is read
   pub stream_read : (s : FlatStream) → canonical_stream s ≡ true → stream_of node_at (flat_text s) ≡ Some s
-  stream_read s h = stream_read_marked s.mark s.pieces h
+  stream_read s h = stream_read_marked s.mark s.sections h

@@ -1,60 +1,60 @@
--- The recognizer of streams by its steps, where the count of pieces is no matter.
+-- The recognizer of streams by its steps, where the count of sections is no matter.
 use Rattle.std.proofs.Common.{ap, arith, length-append, refl, ◌<◌, ◌≡◌, ◌≤◌}
 use Rattle.std.specs.Prelude.{Bool, List, None, Option, Some, [], drop, false, if◌then◌else◌, length, suc, true, zero, ℕ, ◌∷◌}
 use Rattle.yaml_grammar.specs.BlockNodes.{Node}
 use Rattle.yaml_grammar.specs.Texts.{first, is_empty, starts_line}
-use Rattle.yaml_recognizers.specs.CanonicalStreams.{Piece, opens, piece_text}
+use Rattle.yaml_recognizers.specs.CanonicalStreams.{Section, opens, section_text}
 use Rattle.yaml_recognizers.specs.Reading.{Read}
-use Rattle.yaml_recognizers.specs.Streams.{more_pieces, order_mark, piece_and, read_piece, read_pieces, stream_of, with_mark}
+use Rattle.yaml_recognizers.specs.Streams.{more_sections, order_mark, section_and, read_section, read_sections, stream_of, with_mark}
 use Rattle.yaml_recognizers.proofs.Block.BlockNodesSound.{NodeOf}
 use Rattle.yaml_recognizers.proofs.Basics.Reading.{Sound, cond_same, sound_is}
-use Rattle.yaml_recognizers.proofs.Documents.StreamsComplete.{piece_long}
-use Rattle.yaml_recognizers.proofs.Documents.StreamsSound.{PieceOf, piece_sound}
+use Rattle.yaml_recognizers.proofs.Documents.StreamsComplete.{section_long}
+use Rattle.yaml_recognizers.proofs.Documents.StreamsSound.{SectionOf, section_sound}
 
--- recognizers that agree on what is left read the same pieces
-more_same : (again again' : Piece → List ℕ → Option (List Piece)) (r : Read Piece) → ((p : Piece) (rest : List ℕ) → r ≡ Some (p, rest) → again p rest ≡ again' p rest) → more_pieces again r ≡ more_pieces again' r
+-- recognizers that agree on what is left read the same sections
+more_same : (again again' : Section → List ℕ → Option (List Section)) (r : Read Section) → ((p : Section) (rest : List ℕ) → r ≡ Some (p, rest) → again p rest ≡ again' p rest) → more_sections again r ≡ more_sections again' r
 more_same again again' None f = refl
-more_same again again' (Some r) f = ap (piece_and r.0) (f r.0 r.1 refl)
+more_same again again' (Some r) f = ap (section_and r.0) (f r.0 r.1 refl)
 
 module _ (node_at : Bool → List ℕ → Read Node) (node_sound : (bol : Bool) (text : List ℕ) → Sound (NodeOf 0 false bol text) (node_at bol text)) where
-  -- after a piece less is left
-  piece_left : (opened bol : Bool) (text : List ℕ) (p : Piece) (rest : List ℕ) → read_piece node_at opened bol text ≡ Some (p, rest) → suc (length rest) ≤ length text
-  piece_left opened bol text p rest q =
-      let s : PieceOf opened bol text p rest = sound_is (PieceOf opened bol text) (read_piece node_at opened bol text) (p, rest) (piece_sound node_at node_sound opened bol text) q in
-      omega (arith, ap length s.0, length-append (piece_text p) rest, piece_long p opened bol rest s.1)
+  -- after a section less is left
+  section_left : (opened bol : Bool) (text : List ℕ) (p : Section) (rest : List ℕ) → read_section node_at opened bol text ≡ Some (p, rest) → suc (length rest) ≤ length text
+  section_left opened bol text p rest q =
+      let s : SectionOf opened bol text p rest = sound_is (SectionOf opened bol text) (read_section node_at opened bol text) (p, rest) (section_sound node_at node_sound opened bol text) q in
+      omega (arith, ap length s.0, length-append (section_text p) rest, section_long p opened bol rest s.1)
 
   -- with any count that is enough
-  pieces_same : (fuel fuel' : ℕ) (opened bol : Bool) (text : List ℕ) → length text < fuel → length text < fuel' → read_pieces node_at fuel opened bol text ≡ read_pieces node_at fuel' opened bol text
-  unfolding read_pieces
-  pieces_same zero fuel' opened bol text l l' = absurd (omega arith)
-  pieces_same (suc fuel) zero opened bol text l l' = absurd (omega arith)
-  pieces_same (suc fuel) (suc fuel') opened bol text l l' =
+  sections_same : (fuel fuel' : ℕ) (opened bol : Bool) (text : List ℕ) → length text < fuel → length text < fuel' → read_sections node_at fuel opened bol text ≡ read_sections node_at fuel' opened bol text
+  unfolding read_sections
+  sections_same zero fuel' opened bol text l l' = absurd (omega arith)
+  sections_same (suc fuel) zero opened bol text l l' = absurd (omega arith)
+  sections_same (suc fuel) (suc fuel') opened bol text l l' =
       cond_same (is_empty text) _ _ _ _ (λ _. refl)
-      (λ _. more_same _ _ (read_piece node_at opened bol text) (λ p rest q.
-      let r : suc (length rest) ≤ length text = piece_left opened bol text p rest q in
-      pieces_same fuel fuel' (opens opened p) (starts_line bol (piece_text p)) rest (omega arith) (omega arith)))
+      (λ _. more_same _ _ (read_section node_at opened bol text) (λ p rest q.
+      let r : suc (length rest) ≤ length text = section_left opened bol text p rest q in
+      sections_same fuel fuel' (opens opened p) (starts_line bol (section_text p)) rest (omega arith) (omega arith)))
 
-  abbrev pieces_in : Bool → Bool → List ℕ → Option (List Piece)
-  pieces_in opened bol text = read_pieces node_at (suc (length text)) opened bol text
+  abbrev sections_in : Bool → Bool → List ℕ → Option (List Section)
+  sections_in opened bol text = read_sections node_at (suc (length text)) opened bol text
 
-  -- pieces, from the first one
-  pub pieces_step : (opened bol : Bool) (text : List ℕ) → pieces_in opened bol text
-      ≡ (if is_empty text then Some [] else more_pieces (λ p rest. pieces_in (opens opened p) (starts_line bol (piece_text p)) rest) (read_piece node_at opened bol text))
-  unfolding read_pieces
-  pieces_step opened bol text =
+  -- sections, from the first one
+  pub sections_step : (opened bol : Bool) (text : List ℕ) → sections_in opened bol text
+      ≡ (if is_empty text then Some [] else more_sections (λ p rest. sections_in (opens opened p) (starts_line bol (section_text p)) rest) (read_section node_at opened bol text))
+  unfolding read_sections
+  sections_step opened bol text =
       cond_same (is_empty text) _ _ _ _ (λ _. refl)
-      (λ _. more_same _ _ (read_piece node_at opened bol text) (λ p rest q.
-      let r : suc (length rest) ≤ length text = piece_left opened bol text p rest q in
-      pieces_same (length text) (suc (length rest)) (opens opened p) (starts_line bol (piece_text p)) rest (omega arith) (omega arith)))
+      (λ _. more_same _ _ (read_section node_at opened bol text) (λ p rest q.
+      let r : suc (length rest) ≤ length text = section_left opened bol text p rest q in
+      sections_same (length text) (suc (length rest)) (opens opened p) (starts_line bol (section_text p)) rest (omega arith) (omega arith)))
 
   drop_left : (text : List ℕ) → length (drop 1 text) ≤ length text
   drop_left [] = omega arith
   drop_left (x ∷ xs) = omega arith
 
-  -- a stream, from its mark and pieces
+  -- a stream, from its mark and sections
   pub stream_step : (text : List ℕ) → stream_of node_at text
-      ≡ (if first order_mark text then with_mark true (pieces_in true true (drop 1 text)) else with_mark false (pieces_in true true text))
+      ≡ (if first order_mark text then with_mark true (sections_in true true (drop 1 text)) else with_mark false (sections_in true true text))
   stream_step text =
       let l : length (drop 1 text) ≤ length text = drop_left text in
       cond_same (first order_mark text) _ _ _ _
-      (λ _. ap (with_mark true) (pieces_same (suc (length text)) (suc (length (drop 1 text))) true true (drop 1 text) (omega arith) (omega arith))) (λ _. refl)
+      (λ _. ap (with_mark true) (sections_same (suc (length text)) (suc (length (drop 1 text))) true true (drop 1 text) (omega arith) (omega arith))) (λ _. refl)

@@ -10,12 +10,12 @@ use Rattle.std.specs.List.{list_all}
 use Rattle.yaml_grammar.specs.Texts.{begins, ends_word, first, is_empty, starts_line}
 use Rattle.yaml_recognizers.specs.BlockNodes.{omits}
 use Rattle.yaml_recognizers.specs.CanonicalComments.{canonical_comments, is_line_end}
-use Rattle.yaml_recognizers.specs.CanonicalStreams.{FlatStream, Piece, canonical_document, canonical_explicit, canonical_piece, canonical_pieces, canonical_stream, document, flat_text, line, opens, piece_text, pieces_text, suffix}
+use Rattle.yaml_recognizers.specs.CanonicalStreams.{FlatStream, Section, canonical_document, canonical_explicit, canonical_section, canonical_sections, canonical_stream, document, flat_text, line, opens, section_text, sections_text, suffix}
 use Rattle.yaml_recognizers.specs.Comments.{all_comments, closes_line, read_line_end}
 use Rattle.yaml_recognizers.specs.Ends.{block_node_stops}
 use Rattle.yaml_recognizers.specs.Prefixes.{drop_while, take_while}
 use Rattle.yaml_recognizers.specs.Reading.{Read, on}
-use Rattle.yaml_recognizers.specs.Streams.{directed_with, explicit_with, marker_of, more_pieces, order_mark, percent, piece_and, read_directed, read_explicit, read_piece, read_pieces, read_version, stream_of, suffix_with, version_with, with_mark}
+use Rattle.yaml_recognizers.specs.Streams.{directed_with, explicit_with, marker_of, more_sections, order_mark, percent, section_and, read_directed, read_explicit, read_section, read_sections, read_version, stream_of, suffix_with, version_with, with_mark}
 use Rattle.yaml_recognizers.proofs.Block.BlockNodesSound.{NodeOf, tail_fit}
 use Rattle.yaml_recognizers.proofs.Separation.CommentsSound.{CommentsOf, LineOf, all_sound, line_sound}
 use Rattle.yaml_recognizers.proofs.Basics.Prefixes.{take_while_every, take_while_split}
@@ -26,9 +26,9 @@ use Rattle.yaml_recognizers.proofs.Documents.StreamsComplete.{begins_split}
 abbrev pub ExplicitOf : List ℕ → Explicit → List ℕ → Type 0
 ExplicitOf text x rest = (text ≡ explicit_text x ++ rest) × (canonical_explicit x true rest ≡ true)
 
--- the piece is canonical at the start of the text, before the rest
-abbrev pub PieceOf : Bool → Bool → List ℕ → Piece → List ℕ → Type 0
-PieceOf opened bol text p rest = (text ≡ piece_text p ++ rest) × (canonical_piece p opened bol rest ≡ true)
+-- the section is canonical at the start of the text, before the rest
+abbrev pub SectionOf : Bool → Bool → List ℕ → Section → List ℕ → Type 0
+SectionOf opened bol text p rest = (text ≡ section_text p ++ rest) × (canonical_section p opened bol rest ≡ true)
 
 -- a directive, with the document after it
 abbrev DirectedOf : List ℕ → Document → List ℕ → Type 0
@@ -112,11 +112,11 @@ module _ (node_at : Bool → List ℕ → Read Node) (node_sound : (bol : Bool) 
       after_percent text (take_while white (drop 5 text)) (drop_while white (drop 5 text)) (t ∙ ap (λ u. codes "%YAML" ++ u) s) (take_while_every white (drop 5 text)))
       (λ _. tt)
 
-  suffix_sound : (opened bol : Bool) (text : List ℕ) → bol ≡ true → marker_of 46 text ≡ true → Sound (PieceOf opened bol text) (suffix_with (all_comments false (drop 3 text)))
+  suffix_sound : (opened bol : Bool) (text : List ℕ) → bol ≡ true → marker_of 46 text ≡ true → Sound (SectionOf opened bol text) (suffix_with (all_comments false (drop 3 text)))
   suffix_sound opened bol text b h =
       let p : (begins (codes "...") text ≡ true) × (ends_word (drop 3 text) ≡ true) = and_parts _ _ h in
       let c : List LineEnd × List ℕ = all_comments false (drop 3 text) in
-      cond_both (closes_line c) (Some (suffix c.0, c.1)) None (Sound (PieceOf opened bol text))
+      cond_both (closes_line c) (Some (suffix c.0, c.1)) None (Sound (SectionOf opened bol text))
       (λ k.
       let cs : ClosedOf (drop 3 text) c = closed_sound (drop 3 text) k in (
         begins_split (codes "...") text p.0 ∙ ap (λ u. codes "..." ++ u) cs.0,
@@ -131,44 +131,44 @@ module _ (node_at : Bool → List ℕ → Read Node) (node_sound : (bol : Bool) 
   in_directed d opened bol rest o b h =
       subst (λ (a : Bool). canonical_document d a bol rest ≡ true) (sym o) (subst (λ (c : Bool). canonical_document d true c rest ≡ true) (sym b) h)
 
-  -- a piece that is read is canonical
-  pub piece_sound : (opened bol : Bool) (text : List ℕ) → Sound (PieceOf opened bol text) (read_piece node_at opened bol text)
-  unfolding read_piece
-  piece_sound opened bol text =
-      let P : Read Piece → Type 0 = Sound (PieceOf opened bol text) in
-      let bare_at : Read Piece = if opened then on (node_at bol text) (λ n rest. Some (document (bare n), rest)) else None in
-      let directed_at : Read Piece = if opened && bol && first percent text then on (read_directed node_at text) (λ d rest. Some (document d, rest)) else bare_at in
-      let explicit_at : Read Piece = if bol && marker_of 45 text then on (read_explicit node_at text) (λ x rest. Some (document (explicit x), rest)) else directed_at in
+  -- a section that is read is canonical
+  pub section_sound : (opened bol : Bool) (text : List ℕ) → Sound (SectionOf opened bol text) (read_section node_at opened bol text)
+  unfolding read_section
+  section_sound opened bol text =
+      let P : Read Section → Type 0 = Sound (SectionOf opened bol text) in
+      let bare_at : Read Section = if opened then on (node_at bol text) (λ n rest. Some (document (bare n), rest)) else None in
+      let directed_at : Read Section = if opened && bol && first percent text then on (read_directed node_at text) (λ d rest. Some (document d, rest)) else bare_at in
+      let explicit_at : Read Section = if bol && marker_of 45 text then on (read_explicit node_at text) (λ x rest. Some (document (explicit x), rest)) else directed_at in
       cond_both (is_line_end text) (on (read_line_end bol text) (λ e rest. Some (line e, rest))) (if bol && marker_of 46 text then suffix_with (all_comments false (drop 3 text)) else explicit_at) P
-      (λ _. sound_on (LineOf bol text) (PieceOf opened bol text) (read_line_end bol text) (λ e rest. Some (line e, rest)) (line_sound bol text) (λ e rest q. q))
+      (λ _. sound_on (LineOf bol text) (SectionOf opened bol text) (read_line_end bol text) (λ e rest. Some (line e, rest)) (line_sound bol text) (λ e rest q. q))
       (λ l. cond_both (bol && marker_of 46 text) (suffix_with (all_comments false (drop 3 text))) explicit_at P
       (λ h. let p : (bol ≡ true) × (marker_of 46 text ≡ true) = and_parts _ _ h in suffix_sound opened bol text p.0 p.1)
       (λ _. cond_both (bol && marker_of 45 text) (on (read_explicit node_at text) (λ x rest. Some (document (explicit x), rest))) directed_at P
       (λ h. let p : (bol ≡ true) × (marker_of 45 text ≡ true) = and_parts _ _ h in
-      sound_on (ExplicitOf text) (PieceOf opened bol text) (read_explicit node_at text) (λ x rest. Some (document (explicit x), rest)) (explicit_sound text)
+      sound_on (ExplicitOf text) (SectionOf opened bol text) (read_explicit node_at text) (λ x rest. Some (document (explicit x), rest)) (explicit_sound text)
       (λ x rest q. (q.0, at_line_start x bol rest p.0 q.1)))
       (λ _. cond_both (opened && bol && first percent text) (on (read_directed node_at text) (λ d rest. Some (document d, rest))) bare_at P
       (λ h. let p : (opened && bol ≡ true) × (first percent text ≡ true) = and_parts _ _ h in
       let o : (opened ≡ true) × (bol ≡ true) = and_parts _ _ p.0 in
-      sound_on (DirectedOf text) (PieceOf opened bol text) (read_directed node_at text) (λ d rest. Some (document d, rest)) (directed_sound text)
+      sound_on (DirectedOf text) (SectionOf opened bol text) (read_directed node_at text) (λ d rest. Some (document d, rest)) (directed_sound text)
       (λ d rest q. (q.0, in_directed d opened bol rest o.0 o.1 q.1)))
       (λ _. cond_both opened (on (node_at bol text) (λ n rest. Some (document (bare n), rest))) None P
-      (λ o. sound_on (NodeOf 0 false bol text) (PieceOf opened bol text) (node_at bol text) (λ n rest. Some (document (bare n), rest)) (node_sound bol text)
+      (λ o. sound_on (NodeOf 0 false bol text) (SectionOf opened bol text) (node_at bol text) (λ n rest. Some (document (bare n), rest)) (node_sound bol text)
       (λ n rest q. (q.0, and_from _ _ (and_from _ _ o (not_from_false _ (subst (λ (u : List ℕ). is_line_end u ≡ false) q.0 l))) q.1)))
       (λ _. tt)))))
 
-  abbrev AllOf : Bool → Bool → List ℕ → Option (List Piece) → Type 0
+  abbrev AllOf : Bool → Bool → List ℕ → Option (List Section) → Type 0
   AllOf opened bol text None = Unit {0}
-  AllOf opened bol text (Some ps) = (text ≡ pieces_text ps) × (canonical_pieces ps opened bol ≡ true)
+  AllOf opened bol text (Some ps) = (text ≡ sections_text ps) × (canonical_sections ps opened bol ≡ true)
 
-  and_sound : (opened bol : Bool) (text : List ℕ) (p : Piece) (rest : List ℕ) (r : Option (List Piece)) → PieceOf opened bol text p rest → AllOf (opens opened p) (starts_line bol (piece_text p)) rest r
-      → AllOf opened bol text (piece_and p r)
+  and_sound : (opened bol : Bool) (text : List ℕ) (p : Section) (rest : List ℕ) (r : Option (List Section)) → SectionOf opened bol text p rest → AllOf (opens opened p) (starts_line bol (section_text p)) rest r
+      → AllOf opened bol text (section_and p r)
   and_sound opened bol text p rest None s q = tt
   and_sound opened bol text p rest (Some ps) s q =
-      (s.0 ∙ ap (λ u. piece_text p ++ u) q.0, and_from _ _ (subst (λ (u : List ℕ). canonical_piece p opened bol u ≡ true) q.0 s.1) q.1)
+      (s.0 ∙ ap (λ u. section_text p ++ u) q.0, and_from _ _ (subst (λ (u : List ℕ). canonical_section p opened bol u ≡ true) q.0 s.1) q.1)
 
-  more_sound : (opened bol : Bool) (text : List ℕ) (again : Piece → List ℕ → Option (List Piece)) (r : Read Piece) → Sound (PieceOf opened bol text) r
-      → ((p : Piece) (rest : List ℕ) → AllOf (opens opened p) (starts_line bol (piece_text p)) rest (again p rest)) → AllOf opened bol text (more_pieces again r)
+  more_sound : (opened bol : Bool) (text : List ℕ) (again : Section → List ℕ → Option (List Section)) (r : Read Section) → Sound (SectionOf opened bol text) r
+      → ((p : Section) (rest : List ℕ) → AllOf (opens opened p) (starts_line bol (section_text p)) rest (again p rest)) → AllOf opened bol text (more_sections again r)
   more_sound opened bol text again None s f = tt
   more_sound opened bol text again (Some r) s f = and_sound opened bol text r.0 r.1 (again r.0 r.1) s (f r.0 r.1)
 
@@ -176,21 +176,21 @@ module _ (node_at : Bool → List ℕ → Read Node) (node_sound : (bol : Bool) 
   empty_is [] h = refl
   empty_is (c ∷ cs) h = absurd (false≢true h)
 
-  pieces_sound : (fuel : ℕ) (opened bol : Bool) (text : List ℕ) → AllOf opened bol text (read_pieces node_at fuel opened bol text)
-  unfolding read_pieces
-  pieces_sound zero opened bol text = tt
-  pieces_sound (suc fuel) opened bol text =
-      cond_both (is_empty text) (Some []) (more_pieces (λ p rest. read_pieces node_at fuel (opens opened p) (starts_line bol (piece_text p)) rest) (read_piece node_at opened bol text)) (AllOf opened bol text)
+  sections_sound : (fuel : ℕ) (opened bol : Bool) (text : List ℕ) → AllOf opened bol text (read_sections node_at fuel opened bol text)
+  unfolding read_sections
+  sections_sound zero opened bol text = tt
+  sections_sound (suc fuel) opened bol text =
+      cond_both (is_empty text) (Some []) (more_sections (λ p rest. read_sections node_at fuel (opens opened p) (starts_line bol (section_text p)) rest) (read_section node_at opened bol text)) (AllOf opened bol text)
       (λ e. (empty_is text e, refl))
-      (λ _. more_sound opened bol text (λ p rest. read_pieces node_at fuel (opens opened p) (starts_line bol (piece_text p)) rest) (read_piece node_at opened bol text) (piece_sound opened bol text)
-      (λ p rest. pieces_sound fuel (opens opened p) (starts_line bol (piece_text p)) rest))
+      (λ _. more_sound opened bol text (λ p rest. read_sections node_at fuel (opens opened p) (starts_line bol (section_text p)) rest) (read_section node_at opened bol text) (section_sound opened bol text)
+      (λ p rest. sections_sound fuel (opens opened p) (starts_line bol (section_text p)) rest))
 
   -- the text is that of a canonical stream
   abbrev pub StreamOf : List ℕ → Option FlatStream → Type 0
   StreamOf text None = Unit {0}
   StreamOf text (Some s) = (text ≡ flat_text s) × (canonical_stream s ≡ true)
 
-  marked_sound : (mark : Bool) (text after : List ℕ) (r : Option (List Piece)) → text ≡ mark_text mark ++ after → AllOf true true after r → StreamOf text (with_mark mark r)
+  marked_sound : (mark : Bool) (text after : List ℕ) (r : Option (List Section)) → text ≡ mark_text mark ++ after → AllOf true true after r → StreamOf text (with_mark mark r)
   marked_sound mark text after None t a = tt
   marked_sound mark text after (Some ps) t a = (t ∙ ap (λ u. mark_text mark ++ u) a.0, a.1)
 
@@ -200,9 +200,9 @@ module _ (node_at : Bool → List ℕ → Read Node) (node_sound : (bol : Bool) 
 
   stream_sound : (text : List ℕ) → StreamOf text (stream_of node_at text)
   stream_sound text =
-      cond_both (first order_mark text) (with_mark true (read_pieces node_at (suc (length text)) true true (drop 1 text))) (with_mark false (read_pieces node_at (suc (length text)) true true text)) (StreamOf text)
-      (λ m. marked_sound true text (drop 1 text) (read_pieces node_at (suc (length text)) true true (drop 1 text)) (order_head text m) (pieces_sound (suc (length text)) true true (drop 1 text)))
-      (λ _. marked_sound false text text (read_pieces node_at (suc (length text)) true true text) refl (pieces_sound (suc (length text)) true true text))
+      cond_both (first order_mark text) (with_mark true (read_sections node_at (suc (length text)) true true (drop 1 text))) (with_mark false (read_sections node_at (suc (length text)) true true text)) (StreamOf text)
+      (λ m. marked_sound true text (drop 1 text) (read_sections node_at (suc (length text)) true true (drop 1 text)) (order_head text m) (sections_sound (suc (length text)) true true (drop 1 text)))
+      (λ _. marked_sound false text text (read_sections node_at (suc (length text)) true true text) refl (sections_sound (suc (length text)) true true text))
 
   -- a stream that is read is canonical and has the text
   pub stream_is : (text : List ℕ) (s : FlatStream) → stream_of node_at text ≡ Some s → (text ≡ flat_text s) × (canonical_stream s ≡ true)

@@ -7,13 +7,13 @@ use Rattle.yaml_grammar.specs.FlowScalars.{outer}
 use Rattle.yaml_grammar.specs.Texts.{first, is_empty, starts_line}
 use Rattle.yaml_recognizers.specs.BlockNodes.{asked_key, indented_node, key_value, more_items, more_pairs, node_below, opens_pair}
 use Rattle.yaml_recognizers.specs.BlockScalars.{read_block}
-use Rattle.yaml_recognizers.specs.CanonicalStreams.{opens, piece_text}
+use Rattle.yaml_recognizers.specs.CanonicalStreams.{opens, section_text}
 use Rattle.yaml_recognizers.specs.Comments.{all_comments}
 use Rattle.yaml_recognizers.specs.FlowScalars.{read_scalar}
 use Rattle.yaml_recognizers.specs.Prefixes.{past, sign}
 use Rattle.yaml_recognizers.specs.Reading.{on}
-use Rattle.yaml_recognizers.specs.Recognizers.{block_indented_at, block_items_at, block_key_in, block_node_at, block_pair_at, block_pairs_at, document_node_at, flow_leaf_at, flow_node_at, piece_at, pieces_at, stream_at}
-use Rattle.yaml_recognizers.specs.Streams.{more_pieces, order_mark, with_mark}
+use Rattle.yaml_recognizers.specs.Recognizers.{block_indented_at, block_items_at, block_key_in, block_node_at, block_pair_at, block_pairs_at, document_node_at, flow_leaf_at, flow_node_at, section_at, sections_at, stream_at}
+use Rattle.yaml_recognizers.specs.Streams.{more_sections, order_mark, with_mark}
 use Rattle.yaml_recognizers.proofs.Block.BlockKeys.{WholeKey, whole_key}
 use Rattle.yaml_recognizers.proofs.Block.BlockNodesDepth.{indented_step, items_step, node_step, pair_step, pairs_step}
 use Rattle.yaml_recognizers.proofs.Block.BlockNodesSound.{BlockOf, FlowOf, KeyOf, NodeOf}
@@ -22,7 +22,7 @@ use Rattle.yaml_recognizers.proofs.BlockScalars.BlockScalarFacts.{blocks_read}
 use Rattle.yaml_recognizers.proofs.Flow.FlowNodesWhole.{whole_flow_read, whole_flow_sound}
 use Rattle.yaml_recognizers.proofs.Basics.Reading.{Sound, sound_of, sound_to}
 use Rattle.yaml_recognizers.proofs.Scalars.ScalarsInNodes.{reads_scalars}
-use Rattle.yaml_recognizers.proofs.Documents.StreamsDepth.{pieces_step, stream_step}
+use Rattle.yaml_recognizers.proofs.Documents.StreamsDepth.{sections_step, stream_step}
 
 -- a key that is read fits
 key_parts_of : (bol : Bool) (text : List ℕ) → Sound (KeyOf bol text) (block_key_in bol text)
@@ -74,11 +74,11 @@ indented_steps k shallow text = indented_step block_key_in flow_leaf_at read_blo
 document_sound : (bol : Bool) (text : List ℕ) → Sound (NodeOf 0 false bol text) (document_node_at bol text)
 document_sound bol text = whole_node_sound read_scalar reads_scalars read_block blocks_read 0 false bol text
 
--- a stream, from its mark and pieces
-pub stream_steps : (text : List ℕ) → stream_at text ≡ (if first order_mark text then with_mark true (pieces_at true true (drop 1 text)) else with_mark false (pieces_at true true text))
+-- a stream, from its mark and sections
+pub stream_steps : (text : List ℕ) → stream_at text ≡ (if first order_mark text then with_mark true (sections_at true true (drop 1 text)) else with_mark false (sections_at true true text))
 stream_steps text = stream_step document_node_at document_sound text
 
--- pieces, from the first one
-pub pieces_steps : (opened bol : Bool) (text : List ℕ) → pieces_at opened bol text
-    ≡ (if is_empty text then Some [] else more_pieces (λ p rest. pieces_at (opens opened p) (starts_line bol (piece_text p)) rest) (piece_at opened bol text))
-pieces_steps opened bol text = pieces_step document_node_at document_sound opened bol text
+-- sections, from the first one
+pub sections_steps : (opened bol : Bool) (text : List ℕ) → sections_at opened bol text
+    ≡ (if is_empty text then Some [] else more_sections (λ p rest. sections_at (opens opened p) (starts_line bol (section_text p)) rest) (section_at opened bol text))
+sections_steps opened bol text = sections_step document_node_at document_sound opened bol text

@@ -4,8 +4,8 @@ use Rattle.yaml_chars.specs.Places.{rest}
 use Rattle.yaml_events.specs.EventPlaces.{line_starts}
 use Rattle.yaml_recognizers.specs.Recognizers.{document_node_at}
 use Rattle.yaml_scan.proofs.Outcomes.{fault_passed}
-use Rattle.yaml_docs.specs.Pieces.{read_as}
-use Rattle.yaml_docs.specs.declared.documents.Piece.TheVariants.{Bare}
+use Rattle.yaml_docs.specs.Sections.{read_as}
+use Rattle.yaml_docs.specs.declared.documents.Section.TheVariants.{Bare}
 use Rattle.yaml_docs.proofs.DocumentSteps.{bare_found, bare_missing}
 use Rattle.yaml_docs.proofs.documents.bare_end.Goals as goal
 

@@ -4,68 +4,68 @@ use Rattle.std.specs.Str.{chars}
 use Rattle.std.proofs.lemmas.Result.{err_from_is_err_and}
 use Rattle.yaml_chars.specs.Places.{rest}
 use Rattle.yaml_grammar.specs.Texts.{is_empty}
-use Rattle.yaml_recognizers.specs.Recognizers.{piece_at}
+use Rattle.yaml_recognizers.specs.Recognizers.{section_at}
 use Rattle.yaml_scan.proofs.Outcomes.{fault_passed}
-use Rattle.yaml_docs.specs.Pieces.{ReadUpTo, ends_document, read_as, stream_meaning}
+use Rattle.yaml_docs.specs.Sections.{ReadUpTo, ends_document, read_as, stream_meaning}
 use Rattle.yaml_docs.proofs.DocumentSteps.{some_left}
-use Rattle.yaml_docs.proofs.StreamSteps.{PiecePassed, lines_passed, mark_passed, no_meaning, piece_passed, starts_here, text_ends}
+use Rattle.yaml_docs.proofs.StreamSteps.{SectionPassed, lines_passed, mark_passed, no_meaning, section_passed, starts_here, text_ends}
 use Rattle.yaml_docs.proofs.documents.stream.Goals as goal
 
 pub returns-then-line-text-clause-found : goal.returns-then-line-text-clause-found
 returns-then-line-text-clause-found c =
     let text = c.args.text.now in
     let line = c.solid_line-line.result in
-    let read : ReadUpTo text c.pieces.opened line.start c.pieces.events =
-    lines_passed text c.pieces.opened c.pieces.at c.pieces.events line c.utf8.text c.pieces.invariant c.solid_line-line.ensures.found (c.solid_line-line.ensures.starts c.pieces.invariant.starts) in
-    text_ends text c.pieces.opened line.start c.pieces.events read (omega arith)
+    let read : ReadUpTo text c.sections.opened line.start c.sections.events =
+    lines_passed text c.sections.opened c.sections.at c.sections.events line c.utf8.text c.sections.invariant c.solid_line-line.ensures.found (c.solid_line-line.ensures.starts c.sections.invariant.starts) in
+    text_ends text c.sections.opened line.start c.sections.events read (omega arith)
 
-pub returns-in_err-piece-clause-none : goal.returns-in_err-piece-clause-none
-returns-in_err-piece-clause-none c =
+pub returns-in_err-section-clause-none : goal.returns-in_err-section-clause-none
+returns-in_err-section-clause-none c =
     let text = c.args.text.now in
     let line = c.solid_line-line.result in
     let found = c.solid_line-line.ensures.found in
-    let read : ReadUpTo text c.pieces.opened line.start c.pieces.events =
-    lines_passed text c.pieces.opened c.pieces.at c.pieces.events line c.utf8.text c.pieces.invariant found (c.solid_line-line.ensures.starts c.pieces.invariant.starts) in
+    let read : ReadUpTo text c.sections.opened line.start c.sections.events =
+    lines_passed text c.sections.opened c.sections.at c.sections.events line c.utf8.text c.sections.invariant found (c.solid_line-line.ensures.starts c.sections.invariant.starts) in
     let before : line.start < length text = omega (arith, found.boundary.0) in
-    fault_passed c.from_residual.result c.in_err-piece.field-0.0 (piece_at c.pieces.opened true (rest text line.start) ≡ None) (stream_meaning (chars text) ≡ None)
-    (no_meaning text c.pieces.opened line.start c.pieces.events read (some_left text line.start c.utf8.text found.boundary before)) c.in_err-piece.ensures.none
+    fault_passed c.from_residual.result c.in_err-section.field-0.0 (section_at c.sections.opened true (rest text line.start) ≡ None) (stream_meaning (chars text) ≡ None)
+    (no_meaning text c.sections.opened line.start c.sections.events read (some_left text line.start c.utf8.text found.boundary before)) c.in_err-section.ensures.none
     (err_from_is_err_and c.from_residual.result c.from_residual.ensures.1)
 
-pub piece_end-requires-clause-line : goal.piece_end-requires-clause-line
-piece_end-requires-clause-line c =
+pub section_end-requires-clause-line : goal.section_end-requires-clause-line
+section_end-requires-clause-line c =
     let text = c.args.text.now in
     let line = c.solid_line-line.result in
     let found = c.solid_line-line.ensures.found in
     let before : line.start < length text = omega (arith, found.boundary.0) in
-    starts_here text line.start (c.solid_line-line.ensures.starts c.pieces.invariant.starts) (some_left text line.start c.utf8.text found.boundary before)
+    starts_here text line.start (c.solid_line-line.ensures.starts c.sections.invariant.starts) (some_left text line.start c.utf8.text found.boundary before)
 
 pub returns-in_err-at-clause-none : goal.returns-in_err-at-clause-none
 returns-in_err-at-clause-none c =
     let text = c.args.text.now in
     let line = c.solid_line-line.result in
     let found = c.solid_line-line.ensures.found in
-    let read : ReadUpTo text c.pieces.opened line.start c.pieces.events =
-    lines_passed text c.pieces.opened c.pieces.at c.pieces.events line c.utf8.text c.pieces.invariant found (c.solid_line-line.ensures.starts c.pieces.invariant.starts) in
+    let read : ReadUpTo text c.sections.opened line.start c.sections.events =
+    lines_passed text c.sections.opened c.sections.at c.sections.events line c.utf8.text c.sections.invariant found (c.solid_line-line.ensures.starts c.sections.invariant.starts) in
     let before : line.start < length text = omega (arith, found.boundary.0) in
-    fault_passed c.from_residual-in_err-at.result c.in_err-at.field-0.0 (read_as c.in_ok-piece.piece (rest text line.start) ≡ None) (stream_meaning (chars text) ≡ None)
-    (λ h. no_meaning text c.pieces.opened line.start c.pieces.events read (some_left text line.start c.utf8.text found.boundary before) (c.in_ok-piece.ensures.found.reads ∙ h))
+    fault_passed c.from_residual-in_err-at.result c.in_err-at.field-0.0 (read_as c.in_ok-section.section (rest text line.start) ≡ None) (stream_meaning (chars text) ≡ None)
+    (λ h. no_meaning text c.sections.opened line.start c.sections.events read (some_left text line.start c.utf8.text found.boundary before) (c.in_ok-section.ensures.found.reads ∙ h))
     c.in_err-at.ensures.none (err_from_is_err_and c.from_residual-in_err-at.result c.from_residual-in_err-at.ensures.1)
 
-passed : (c : goal.After-ends_document-opened) → PiecePassed c.args.text.now c.solid_line-line.result.start c.in_ok-piece.piece c.in_ok-at.at c.piece_end.new.events
+passed : (c : goal.After-ends_document-opened) → SectionPassed c.args.text.now c.solid_line-line.result.start c.in_ok-section.section c.in_ok-at.at c.section_end.new.events
 passed c =
     let text = c.args.text.now in
     let line = c.solid_line-line.result in
     let found = c.solid_line-line.ensures.found in
-    let read : ReadUpTo text c.pieces.opened line.start c.pieces.events =
-    lines_passed text c.pieces.opened c.pieces.at c.pieces.events line c.utf8.text c.pieces.invariant found (c.solid_line-line.ensures.starts c.pieces.invariant.starts) in
+    let read : ReadUpTo text c.sections.opened line.start c.sections.events =
+    lines_passed text c.sections.opened c.sections.at c.sections.events line c.utf8.text c.sections.invariant found (c.solid_line-line.ensures.starts c.sections.invariant.starts) in
     let before : line.start < length text = omega (arith, found.boundary.0) in
-    piece_passed text c.pieces.opened line.start c.in_ok-piece.piece c.pieces.events c.piece_end.new.events c.in_ok-at.at c.utf8.text read
-    (some_left text line.start c.utf8.text found.boundary before) c.in_ok-piece.ensures.found c.in_ok-at.ensures.reads
+    section_passed text c.sections.opened line.start c.in_ok-section.section c.sections.events c.section_end.new.events c.in_ok-at.at c.utf8.text read
+    (some_left text line.start c.utf8.text found.boundary before) c.in_ok-section.ensures.found c.in_ok-at.ensures.reads
 
-pub pieces-smaller : goal.pieces-smaller
-pieces-smaller c =
+pub sections-smaller : goal.sections-smaller
+sections-smaller c =
     let onward = (passed c).onward in
     omega (arith, onward, c.solid_line-line.ensures.found.above, c.in_ok-at.ensures.reads.boundary.0)
 
-pub pieces-preserved : goal.pieces-preserved
-pieces-preserved c = subst (λ (o : Bool). ReadUpTo c.args.text.now o c.in_ok-at.at c.piece_end.new.events) (sym c.ends_document-opened.ensures) (passed c).read
+pub sections-preserved : goal.sections-preserved
+sections-preserved c = subst (λ (o : Bool). ReadUpTo c.args.text.now o c.in_ok-at.at c.section_end.new.events) (sym c.ends_document-opened.ensures) (passed c).read

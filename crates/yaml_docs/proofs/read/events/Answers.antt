@@ -4,7 +4,7 @@ use Rattle.std.specs.Str.{IsUtf8, chars}
 use Rattle.yaml_events.specs.Meant.{events_of}
 use Rattle.yaml_events.specs.EventPlaces.{Refuses}
 use Rattle.yaml_events.specs.declared.fault.ScanFault.{ScanFault}
-use Rattle.yaml_docs.specs.Pieces.{stream_meaning}
+use Rattle.yaml_docs.specs.Sections.{stream_meaning}
 use Rattle.yaml_docs.proofs.Readings.{bytes_read, nothing_read, ranges_read, syntax_refused}
 use Rattle.yaml_docs.proofs.read.events.Goals as goal
 

@@ -1,4 +1,4 @@
--- What the pieces of a stream mean: those of a whole text, and those from a place on.
+-- What the sections of a stream mean: those of a whole text, and those from a place on.
 use Rattle.std.specs.Prelude.{◌≡◌, ℕ, ◌<◌, Bool, true, false, List, ◌++◌, Option, Some, None, drop, All}
 use Rattle.std.proofs.Math.Logic.{◌⊎◌}
 use Rattle.std.specs.Str.{IsCharBoundary, chars}
@@ -10,25 +10,25 @@ use Rattle.yaml_events.specs.Borrowed.{BorrowsPlain}
 use Rattle.yaml_events.specs.Meant.{events_of}
 use Rattle.yaml_events.specs.declared.event.Event.{Event}
 use Rattle.yaml_recognizers.specs.CanonicalStreams as flat
-use Rattle.yaml_recognizers.specs.CanonicalStreams.{FlatStream, piece_events, pieces_events, flat_events}
+use Rattle.yaml_recognizers.specs.CanonicalStreams.{FlatStream, section_events, sections_events, flat_events}
 use Rattle.yaml_recognizers.specs.Comments.{all_comments}
 use Rattle.yaml_recognizers.specs.Reading.{Read, on}
-use Rattle.yaml_recognizers.specs.Recognizers.{document_node_at, piece_at, pieces_at, stream_at}
+use Rattle.yaml_recognizers.specs.Recognizers.{document_node_at, section_at, sections_at, stream_at}
 use Rattle.yaml_chars.specs.Signs.{dash, dot}
 use Rattle.yaml_recognizers.specs.Streams.{marker_of, order_mark, read_directed, read_explicit, suffix_with}
 use Rattle.yaml_scan.specs.Lines.{IsLineStart}
 use Rattle.yaml_flow.specs.FlowNodes.{Appended}
-use Rattle.yaml_docs.specs.declared.documents.Piece.{Piece}
-use Rattle.yaml_docs.specs.declared.documents.Piece.TheVariants.{Suffix, Explicit, Directed, Bare}
+use Rattle.yaml_docs.specs.declared.documents.Section.{Section}
+use Rattle.yaml_docs.specs.declared.documents.Section.TheVariants.{Suffix, Explicit, Directed, Bare}
 
--- what the pieces from a place on mean, if there are any
-abbrev pub pieces_meaning : ℕ → Option (List flat.Piece) → Option (List grammar.Event)
-pieces_meaning at None = None
-pieces_meaning at (Some pieces) = Some (pieces_events pieces at)
+-- what the sections from a place on mean, if there are any
+abbrev pub sections_meaning : ℕ → Option (List flat.Section) → Option (List grammar.Event)
+sections_meaning at None = None
+sections_meaning at (Some sections) = Some (sections_events sections at)
 
--- the events of the pieces from a place on, where a line starts; opened: a bare document or a directive may be there
+-- the events of the sections from a place on, where a line starts; opened: a bare document or a directive may be there
 abbrev pub meaning_from : Bool → List ℕ → ℕ → Option (List grammar.Event)
-meaning_from opened text at = pieces_meaning at (pieces_at opened true (rest text at))
+meaning_from opened text at = sections_meaning at (sections_at opened true (rest text at))
 
 -- the events of a stream, if one is read
 abbrev pub flat_meaning : Option FlatStream → Option (List grammar.Event)
@@ -44,43 +44,43 @@ abbrev pub and_then : List grammar.Event → Option (List grammar.Event) → Opt
 and_then events None = None
 and_then events (Some more) = Some (events ++ more)
 
--- ---- pieces at places of a text
+-- ---- sections at places of a text
 
--- what the recognizer reads where such a piece begins
-abbrev pub read_as : Piece → List ℕ → Read flat.Piece
+-- what the recognizer reads where such a section begins
+abbrev pub read_as : Section → List ℕ → Read flat.Section
 read_as Suffix text = suffix_with (all_comments false (drop 3 text))
 read_as Explicit text = on (read_explicit document_node_at text) (λ x after. Some (flat.document (explicit x), after))
 read_as Directed text = on (read_directed document_node_at text) (λ d after. Some (flat.document d, after))
 read_as Bare text = on (document_node_at true text) (λ n after. Some (flat.document (bare n), after))
 
--- a bare document or a directive may follow such a piece
-abbrev pub ends_document : Piece → Bool
+-- a bare document or a directive may follow such a section
+abbrev pub ends_document : Section → Bool
 ends_document Suffix = true
 ends_document Explicit = false
 ends_document Directed = false
 ends_document Bare = false
 
--- a piece with a marker begins with it
-abbrev pub Begins : Piece → List ℕ → Type 0
+-- a section with a marker begins with it
+abbrev pub Begins : Section → List ℕ → Type 0
 Begins Suffix text = marker_of dot text ≡ true
 Begins Explicit text = marker_of dash text ≡ true
 Begins Directed text = Unit {0}
 Begins Bare text = Unit {0}
 
--- the text begins with such a piece, if with any
-pub record BeginsPiece (opened : Bool) (text : List ℕ) (piece : Piece) : Type 0 where
-  pub begins : Begins piece text
-  pub reads : piece_at opened true text ≡ read_as piece text
+-- the text begins with such a section, if with any
+pub record BeginsSection (opened : Bool) (text : List ℕ) (section : Section) : Type 0 where
+  pub begins : Begins section text
+  pub reads : section_at opened true text ≡ read_as section text
 
--- the piece from one place to another is read, and its events are appended
-pub record PieceRead (text : List ℕ) (at : ℕ) (piece : Piece) (old new : List Event) (end : ℕ) : Type 0 where
+-- the section from one place to another is read, and its events are appended
+pub record SectionRead (text : List ℕ) (at : ℕ) (section : Section) (old new : List Event) (end : ℕ) : Type 0 where
   pub boundary : IsCharBoundary text end
   pub starts : IsLineStart text end
-  pub found : flat.Piece
-  pub reads : read_as piece (rest text at) ≡ Some (found, rest text end)
-  pub appended : Appended text old new (piece_events found at)
+  pub found : flat.Section
+  pub reads : read_as section (rest text at) ≡ Some (found, rest text end)
+  pub appended : Appended text old new (section_events found at)
 
--- The events of the whole text are these, and then those of the pieces from the place on.
+-- The events of the whole text are these, and then those of the sections from the place on.
 pub record ReadUpTo (text : List ℕ) (opened : Bool) (at : ℕ) (events : List Event) : Type 0 where
   pub boundary : IsCharBoundary text at
   pub starts : IsLineStart text at

@@ -1,0 +1,203 @@
+"""A node: a follower with its store, and a Unix socket for clients.
+
+A client sends one JSON object a line, and gets one back for each, in order.
+
+    {"import": NAME, "text": TEXT}                       {"ok": COUNT} once the log has it and this node performed it
+    {"set": NAME, "path": POINTER, "value": TREE}        the same
+    {"delete": NAME, "path": POINTER}                    the same
+    {"batch": [EDIT, ..]}                                the same, all edits or none
+    {"get": NAME, "path": POINTER}                       {"value": TREE}, of what this node holds
+    {"export": NAME}                                     {"text": TEXT}
+    {"names": ""}                                        {"names": [NAME, ..]}
+
+A refusal is `{"refused": WORD}`, with the words of a session. `{"failed": WORD}` says that nothing is known of the
+command yet: it may be in the log or not. An object may have two more keys, first of all: `id`, a text of the client's
+own for a change, under which it is in the log at most once, however often it is sent; and `fresh` with the value `yes`
+for a question, which is then answered after all changes that were acknowledged anywhere before it was asked.
+"""
+
+from __future__ import annotations
+
+import argparse
+import json
+import os
+import signal
+import socket
+import socketserver
+import sys
+import threading
+import uuid
+from collections import OrderedDict
+from typing import Any, Dict, Optional
+
+from confstore import ConfstoreError, NotATree, NotText, Refused as StoreRefused, Store
+
+from .entries import Refused, edits_of, entry_of
+from .etcd import Etcd, Unavailable
+from .follower import Answer, Follower
+
+# How many seconds a client waits for an answer at most.
+PATIENCE = 30.0
+
+# How many answers are kept for clients that come back for them.
+KEPT = 100_000
+
+# The longest line of a client.
+LONGEST_LINE = 2_000_000
+
+Request = Dict[str, Any]
+
+
+class Answers:
+    """What entries were answered, the last ones."""
+
+    def __init__(self) -> None:
+        self._lock = threading.Lock()
+        self._answers: "OrderedDict[int, Answer]" = OrderedDict()
+
+    def keep(self, number: int, answer: Answer) -> None:
+        with self._lock:
+            self._answers[number] = answer
+            if len(self._answers) > KEPT:
+                self._answers.popitem(last=False)
+
+    def of(self, number: int) -> Optional[Answer]:
+        with self._lock:
+            return self._answers.get(number)
+
+
+class Node:
+    """Answers the requests of clients."""
+
+    def __init__(self, folder: str, members: "list[str]", cluster: str, program: Optional[str], base_after: int) -> None:
+        self._members = members
+        self._log = f"/confstore/{cluster}/log/".encode()
+        self._answers = Answers()
+        self._local = threading.local()
+        self.follower = Follower(
+            folder, members, cluster, program=program, base_after=base_after, told=self._answers.keep
+        )  # fmt: skip
+
+    def _etcd(self) -> Etcd:
+        """A client of etcd for this thread."""
+        if not hasattr(self._local, "etcd"):
+            self._local.etcd = Etcd(self._members, PATIENCE)
+        return self._local.etcd
+
+    def answer(self, request: Request) -> Dict[str, Any]:
+        """What is answered to a request."""
+        identity, fresh = request.pop("id", None), request.pop("fresh", None) == "yes"
+        try:
+            if tuple(request) in (("get", "path"), ("export",), ("names",)):
+                return self._read(request, fresh)
+            return self._change(request, identity)
+        except (Refused, StoreRefused) as refused:
+            return {"refused": refused.word}
+        except (NotATree, NotText):
+            return {"refused": "BadCommand"}
+        except (Unavailable, ConfstoreError, OSError) as error:
+            return {"failed": type(error).__name__}
+
+    def _change(self, request: Request, identity: Optional[str]) -> Dict[str, Any]:
+        """Puts a change into the log, and waits until it was performed here."""
+        entry = entry_of(edits_of(request))
+        key = self._log + (identity or uuid.uuid4().hex).encode()
+        number, _ = self._etcd().create(key, entry)
+        if not self.follower.wait_for(number, PATIENCE):
+            return {"failed": "TimedOut"}
+        return dict(self._answers.of(number) or {"failed": "Forgotten"})
+
+    def _read(self, request: Request, fresh: bool) -> Dict[str, Any]:
+        """Answers a question from the store of this node."""
+        if fresh and not self.follower.wait_for(self._etcd().last_created(self._log), PATIENCE):
+            return {"failed": "TimedOut"}
+        store = self.follower.store
+        if store is None:
+            return {"failed": "Closed"}
+        return _read_from(store, request)
+
+
+def _read_from(store: Store, request: Request) -> Dict[str, Any]:
+    if "get" in request:
+        return {"value": store.get(str(request["get"]), str(request["path"]))}
+    if "export" in request:
+        return {"text": store.export(str(request["export"]))}
+    return {"names": store.names()}
+
+
+class _Handler(socketserver.StreamRequestHandler):
+    """One client."""
+
+    def handle(self) -> None:
+        while line := self.rfile.readline(LONGEST_LINE):
+            if not line.endswith(b"\n"):
+                return
+            try:
+                request = json.loads(line)
+            except ValueError:
+                request = None
+            node: Node = self.server.node  # type: ignore[attr-defined]
+            answer = node.answer(request) if isinstance(request, dict) else {"refused": "BadCommand"}
+            self.wfile.write(json.dumps(answer, ensure_ascii=False).encode("utf-8", "surrogatepass") + b"\n")
+
+
+class _Server(socketserver.ThreadingMixIn, socketserver.UnixStreamServer):
+    daemon_threads = True
+    request_queue_size = 64
+
+
+def main() -> int:
+    parser = argparse.ArgumentParser(description="One node of a replicated store.")
+    parser.add_argument("socket", help="the Unix socket for clients, which is made")
+    parser.add_argument("folder", help="the folder of this node's store, which is made if it is missing")
+    parser.add_argument("members", nargs="+", help="the members of etcd, each as HOST:PORT")
+    parser.add_argument("--cluster", default="default", help="the name of the cluster, its prefix in etcd")
+    parser.add_argument("--program", help="the program confstore; else CONFSTORE, or confstore on the PATH")
+    parser.add_argument("--base-after", type=int, default=1000, help="how many entries come between two bases in etcd")
+    words = parser.parse_args()
+    node = Node(words.folder, words.members, words.cluster, words.program, words.base_after)
+    if os.path.exists(words.socket):
+        os.unlink(words.socket)
+    with _Server(words.socket, _Handler) as server:
+        server.node = node  # type: ignore[attr-defined]
+        node.follower.start()
+
+        def end(*_: object) -> None:
+            threading.Thread(target=server.shutdown, daemon=True).start()
+
+        signal.signal(signal.SIGTERM, end)
+        signal.signal(signal.SIGINT, end)
+        print("ready", flush=True)
+        server.serve_forever(0.1)
+    node.follower.end()
+    node.follower.join(10)
+    os.unlink(words.socket)
+    return 0
+
+
+class Client:
+    """A client of a node, for Python. One thread at a time may use it."""
+
+    def __init__(self, path: str, timeout: float = 2 * PATIENCE) -> None:
+        self._socket = socket.socket(socket.AF_UNIX)
+        self._socket.settimeout(timeout)
+        self._socket.connect(path)
+        self._file = self._socket.makefile("rwb")
+
+    def ask(self, request: Request) -> Dict[str, Any]:
+        """What the node answers. Raises `OSError` if the node goes."""
+        self._file.write(json.dumps(request).encode() + b"\n")
+        self._file.flush()
+        line = self._file.readline()
+        if not line.endswith(b"\n"):
+            raise ConnectionError("the node closed the connection")
+        answer: Dict[str, Any] = json.loads(line)
+        return answer
+
+    def close(self) -> None:
+        self._file.close()
+        self._socket.close()
+
+
+if __name__ == "__main__":
+    sys.exit(main())
