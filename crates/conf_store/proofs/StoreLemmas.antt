@@ -98,6 +98,7 @@ room-cut is bytes size =
   where
     record-cut : nat_lt record_limit (min bytes greatest) ≡ nat_lt record_limit bytes
     record-cut = grind (arith, nat_tests)
+
     file-cut : nat_le (size + min bytes greatest) store_limit ≡ nat_le (size + bytes) store_limit
     file-cut = grind (arith, nat_tests)
 

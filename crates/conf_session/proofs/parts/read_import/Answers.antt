@@ -10,9 +10,11 @@ use Rattle.conf_state.specs.Commands.{import_as}
 use Rattle.conf_session.proofs.parts.read_import.Goals as goal
 
 pub returns-in_ok-name-in-Ok-clause-ok : goal.returns-in_ok-name-in-Ok-clause-ok
-returns-in_ok-name-in-Ok-clause-ok c =
-    (tree_of c.in-Ok.tree, subst (λ b. Gives (chars b) config_limits (tree_of c.in-Ok.tree)) c.as_bytes.ensures.value c.in-Ok.ensures.given.gives,
-    ap (λ b. import_as (chars b) (tree_of c.in-Ok.tree)) c.in_ok-name-in-Ok.ensures)
+returns-in_ok-name-in-Ok-clause-ok c = (
+  tree_of c.in-Ok.tree,
+  subst (λ b. Gives (chars b) config_limits (tree_of c.in-Ok.tree)) c.as_bytes.ensures.value c.in-Ok.ensures.given.gives,
+  ap (λ b. import_as (chars b) (tree_of c.in-Ok.tree)) c.in_ok-name-in-Ok.ensures,
+)
 
 pub returns-in-Err-clause-refused : goal.returns-in-Err-clause-refused
 returns-in-Err-clause-refused c some =
