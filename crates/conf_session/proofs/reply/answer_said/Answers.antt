@@ -58,10 +58,10 @@ returns-in-Checkpoint-clause-now g c at = c.checkpoint.ensures.now
 pub returns-in_ok-get_answer-in-Get-clause-did : goal.returns-in_ok-get_answer-in-Get-clause-did
 returns-in_ok-get_answer-in-Get-clause-did g c off =
     let d = g.D.Disk in
-    let name = chars c.deref-in-Get.result.now in
-    let path = chars c.deref-in-Get-2.result.now in
+    let name = chars c.deref.result.now in
+    let path = chars c.deref-in-Get.result.now in
     let same : get_at name path ≡ said_of c.args.said =
-    ap (λ b. get_at (chars b) path) c.deref-in-Get.ensures ∙ ap (λ b. get_at (chars (text_bytes c.in-Get.name)) (chars b)) c.deref-in-Get-2.ensures ∙ sym (ap said_of c.in-Get.is) in
+    ap (λ b. get_at (chars b) path) c.deref.ensures ∙ ap (λ b. get_at (chars (text_bytes c.in-Get.name)) (chars b)) c.deref-in-Get.ensures ∙ sym (ap said_of c.in-Get.is) in
     said-read (is_at_once c.args.way) d.honest d.folder d.moment d.left c.args.store.now off (λ image h is. g.met.D.Disk.only_now c.args.store.now.disk image h is) c.requires.means
     (said_of c.args.said) (getting name path) (subst (λ s. MeansRequest s (getting name path)) same refl) tt c.in_ok-get_answer-in-Get.field-0 c.in_ok-get_answer-in-Get.ensures
 

@@ -18,8 +18,8 @@ returns-in-Ok-clause-did g c off =
     did-said (is_at_once c.args.way) d.honest d.folder d.moment d.left c.args.store.now c.change.new.store (batch_of_parts parts) (changing (batch edits)) (inl (edits, c.in-Ok.ensures.ok, refl))
     c.change.result (c.change.ensures.did off)
 
-pub returns-clause-did : goal.returns-clause-did
-returns-clause-did g c off =
+pub returns-in-Err-clause-did : goal.returns-in-Err-clause-did
+returns-in-Err-clause-did g c off =
     let d = g.D.Disk in
     let f = c.in-Err.fault in
     let some : f ≢ OutOfMemory = search rules in
