@@ -2,9 +2,8 @@
 """Presses keys in bash, zsh and fish, as far as they are installed, and looks at what their completions make of them.
 
 Each shell runs in a terminal of its own with only the file of `completions/`. A line is typed up to a TAB, and the
-words that it then has are those with which `confstore` is called. Names of configurations come from a real store by
-`confstore names`; where the program lacks that word, a stand-in writes them, and a line says so. Then the words that
-`confstore --help` lists are looked up in the three files and in docs/man/confstore.1.
+words that it then has are those with which `confstore` is called. Then the words that `confstore --help` lists are
+looked up in the three files and in docs/man/confstore.1.
 
 Run it from the repository's root after the program is built; it takes some seconds:
 
@@ -35,21 +34,15 @@ SHELLS = {
     "fish": (["fish", "--no-config", "-i"], f"source {FOLDER}/confstore.fish"),
 }
 
-# What is typed before a TAB, and the words that confstore is called with then. The store `store` has `app` and `web`.
+# What is typed before a TAB, and the words that confstore is called with then.
 LINES = [
     ("exp", "export"),
-    ("sal", "salvage"),
+    ("ini", "init"),
     ("run --gr", "run --group"),
     ("run --group sto", "run --group store"),
-    ("get store w", "get store web"),
-    ("get store/ w", "get store/ web"),
-    ("export store ap", "export store app"),
-    ("delete store w", "delete store web"),
-    ("get --at 3 store w", "get --at 3 store web"),
-    ("set store w", "set store web"),
+    ("export sto", "export store"),
+    ("set --ya", "set --yaml"),
     ("import store app fil", "import store app file.yaml"),
-    ("check fil", "check file.yaml"),
-    ("log --y", "log --yaml"),
 ]
 
 # How many seconds a shell may take to start, and to say what its words are.
@@ -65,17 +58,11 @@ def store_with_names(top):
 
 
 def put_program(top):
-    """A program that says its words, and has the real one say the names."""
-    has_names = subprocess.run([PROGRAM, "names", os.path.join(top, "store")], capture_output=True, check=False)
-    if has_names.returncode == 0:
-        names = f'exec {PROGRAM} "$@"'
-    else:
-        print("the program has no word `names`: a stand-in writes them")
-        names = '[ -d "$2" ] && printf "web\\napp\\n"; exit'
+    """A program that says its words."""
     folder = os.path.join(top, "bin")
     os.mkdir(folder)
     path = os.path.join(folder, "confstore")
-    write_file(path, f'#!/bin/sh\nif [ "$1" = names ]; then {names}; fi\necho "called: $*."\n'.encode())
+    write_file(path, b'#!/bin/sh\necho "called: $*."\n')
     os.chmod(path, 0o755)
     return folder
 

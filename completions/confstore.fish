@@ -1,7 +1,6 @@
 # Completion of confstore for fish: put it into a folder of `fish_complete_path`.
-# Names of configurations come from `confstore names`, which takes no lock and changes nothing.
 
-set -l stores run export import set delete checkpoint init names get log verify salvage
+set -l stores run export import set delete checkpoint init
 
 # The words after the subcommand that are no options and no option's value.
 function __confstore_places
@@ -10,7 +9,7 @@ function __confstore_places
     for word in (commandline -opc)[3..-1]
         if test $is_value = 1
             set is_value 0
-        else if contains -- $word --at --checkpoint-after
+        else if test $word = --checkpoint-after
             set is_value 1
         else if not string match -q -- '-?*' $word
             set -a places $word
@@ -28,12 +27,6 @@ function __confstore_at
     and contains -- "$words[2]" $argv[2..-1]
 end
 
-function __confstore_names
-    set -l words (commandline -opc)
-    set -l places (__confstore_places)
-    command $words[1] names (string replace -r '^~' $HOME -- $places[1]) 2>/dev/null
-end
-
 complete -c confstore -f
 complete -c confstore -l help -d 'Say what the word does'
 complete -c confstore -n __fish_use_subcommand -l version -d 'Write the version'
@@ -44,25 +37,12 @@ complete -c confstore -n __fish_use_subcommand -a set -d 'Set the value at a poi
 complete -c confstore -n __fish_use_subcommand -a delete -d 'Take out a value, or a configuration'
 complete -c confstore -n __fish_use_subcommand -a checkpoint -d 'Make the store file as short as its state'
 complete -c confstore -n __fish_use_subcommand -a init -d 'Make an empty store'
-complete -c confstore -n __fish_use_subcommand -a names -d 'Write the names of the configurations'
-complete -c confstore -n __fish_use_subcommand -a get -d 'Write the value at a pointer'
-complete -c confstore -n __fish_use_subcommand -a log -d 'Write the records of the store file'
-complete -c confstore -n __fish_use_subcommand -a verify -d 'Say what opening would find'
-complete -c confstore -n __fish_use_subcommand -a salvage -d 'Make a store of what a damaged one still means'
 complete -c confstore -n __fish_use_subcommand -a format -d 'Write a text in the one style'
 complete -c confstore -n __fish_use_subcommand -a check -d 'Write where a text departs from the one style'
 complete -c confstore -n __fish_use_subcommand -a help -d 'Say what a word does'
 
 complete -c confstore -n "__confstore_at 0 $stores" -a '(__fish_complete_directories)'
-complete -c confstore -n '__confstore_at 1 export import set delete get' -a '(__confstore_names)'
-complete -c confstore -n '__confstore_at 1 salvage' -a '(__fish_complete_directories)'
 complete -c confstore -n '__confstore_at 2 import' -F
-complete -c confstore -n '__fish_seen_subcommand_from format check' -F
 complete -c confstore -n '__fish_seen_subcommand_from run' -l group -d 'Sync once for all commands at hand'
 complete -c confstore -n '__fish_seen_subcommand_from run' -l checkpoint-after -x -d 'Make checkpoints meanwhile'
-complete -c confstore -n '__fish_seen_subcommand_from names get log' -l at -x -d 'As of this command'
-complete -c confstore -n '__fish_seen_subcommand_from get' -l raw -d 'Write a text as its bytes'
-complete -c confstore -n '__fish_seen_subcommand_from log' -l yaml -d 'Write the records themselves'
 complete -c confstore -n '__fish_seen_subcommand_from set' -l yaml -d 'Read the value as a text'
-complete -c confstore -n '__fish_seen_subcommand_from format' -s i -d 'Replace the files'
-complete -c confstore -n '__fish_seen_subcommand_from format' -l check -d 'Change nothing'
