@@ -1,8 +1,8 @@
 #!/usr/bin/env python3
 """Tries the settings of docs/EDITORS.md, the hook of git, and the two examples.
 
-Vim and Emacs run in batch mode, as far as they are installed, and read lines as `confstore check FILE` prints them; the
-pattern for VS Code is tried on the same lines. Where the program's `check` takes files, its own lines are among them.
+Vim and Emacs run in batch mode, as far as they are installed, and read lines as `clients/confstore-check` prints them;
+the pattern for VS Code is tried on the same lines. Those that the script prints of a file are among them.
 The hook is run in a repository of its own, with files that differ between the index and the working tree.
 
 Run it from the repository's root after the program is built; it takes some seconds:
@@ -61,14 +61,14 @@ def block_of(language):
 
 
 def lines_of(top, failures):
-    """The lines to be tried, those of the program among them if its `check` takes files."""
+    """The lines to be tried, those that `confstore-check` prints of a file among them."""
     write_file(os.path.join(top, "own.yaml"), SPACED)
-    done = subprocess.run([PROGRAM, "check", "own.yaml"], cwd=top, capture_output=True, check=False)
-    if done.returncode == 2:
-        print("left out: this program's `check` takes no files")
-        return LINES
+    script = os.path.join(TOP, "clients", "confstore-check")
+    environment = {**os.environ, "CONFSTORE": PROGRAM}
+    done = subprocess.run([script, "own.yaml"], cwd=top, env=environment, capture_output=True, check=False)
+    failures.expect("the status of confstore-check", done.returncode, 1)
     own = [line for line in done.stdout.decode().splitlines() if ": S1" in line]
-    failures.expect("the program's lines", [line.split(" ")[0] for line in own], ["own.yaml:2:"])
+    failures.expect("the script's lines", [line.split(" ")[0] for line in own], ["own.yaml:2:"])
     return LINES + [(line, ("own.yaml", 2, 0, line.split(": ", 1)[1])) for line in own]
 
 
