@@ -3,9 +3,10 @@
 
 Stores lie on machines by their names' hash, some are busier than others (Zipf), and commands come at random. A machine's
 disk makes one sync after the other. A session that holds commands waits for its turn, and then one sync takes all that
-wait for it, up to a group. With `--copies 3` each store is replicated: a command first goes over the link to the leader
-of the log, which waits for the faster of the two others, and then comes back and is performed here, which takes the
-sync of the store as before. The log's own disks are not modelled beyond one sync for each command's way.
+wait for it, up to a group. With `--copies 3` each store is on three machines, whose disks sync it alike: a command first
+goes over the link to the leader of the log, which waits for the faster of the two others, and then comes back and is
+performed here, which takes the sync of the store as before. The log's own disks are not modelled beyond one sync for
+each command's way.
 
     bench/scale_model.py [--stores N] [--machines N] [--commands PER_SECOND] [--sync MS] [--link MS] [--copies 1|3]
                          [--skew EXPONENT] [--group N] [--seconds N] [--sample MACHINES] [--seed N]
@@ -28,8 +29,10 @@ def weights_of(stores, skew):
     return [weight / whole for weight in raw]
 
 
-def machine_of(store, machines):
-    return zlib.crc32(f"store-{store}".encode()) % machines
+def machines_of(store, machines, copies):
+    """The machines that hold a store, by its name's hash; its clients are at the first."""
+    first = zlib.crc32(f"store-{store}".encode()) % machines
+    return [(first + copy) % machines for copy in range(copies)]
 
 
 def arrivals(chance, shares, rate, seconds):
@@ -44,8 +47,8 @@ def arrivals(chance, shares, rate, seconds):
     return sorted(times)
 
 
-def run_machine(chance, shares, words):
-    """The times that commands wait on one machine, and how long its disk syncs."""
+def run_machine(chance, shares, own, words):
+    """The times that the commands of a machine's own clients wait, and how long its disk syncs, for all its stores."""
     link, sync = words.link / 1000, words.sync / 1000
     coming = []
     for at, store in arrivals(chance, shares, words.commands, words.seconds):
@@ -68,7 +71,8 @@ def run_machine(chance, shares, words):
         store = turns.popleft()
         now += sync
         busy += sync
-        waits += [now - at for at in waiting[store][: words.group]]
+        if store in own:
+            waits += [now - at for at in waiting[store][: words.group]]
         rest = waiting.pop(store)[words.group :]
         if rest:
             waiting[store] = rest
@@ -91,14 +95,18 @@ def main():
     parser.add_argument("--seed", type=int, default=1)
     words = parser.parse_args()
     shares = [{} for _ in range(words.machines)]
+    own = [set() for _ in range(words.machines)]
     for store, share in enumerate(weights_of(words.stores, words.skew)):
-        shares[machine_of(store, words.machines)][store] = share
+        holders = machines_of(store, words.machines, words.copies)
+        own[holders[0]].add(store)
+        for machine in holders:
+            shares[machine][store] = share
     by_load = sorted(range(words.machines), key=lambda machine: -sum(shares[machine].values()))
     step = max(words.machines // words.sample, 1)
     print("machine    commands a second   disk busy   waits in ms: median, 99 of 100, longest")
     for machine in by_load[::step][: words.sample]:
         chance = random.Random(words.seed * 1_000_003 + machine)
-        waits, busy = run_machine(chance, shares[machine], words)
+        waits, busy = run_machine(chance, shares[machine], own[machine], words)
         waits.sort()
         if not waits:
             continue
