@@ -7,7 +7,7 @@ library under the built program (shims/refuse.c) refuses one allocation. Then th
 answers to the commands before the one that met it. A new session has to find the state after exactly these commands:
 the one that met it changed nothing.
 
-Run it from the repository's root after the program is built. It takes some 15 seconds, and needs a C compiler:
+Run it from the repository's root after the program is built. It takes some 20 seconds, and needs a C compiler:
 
     ./confstore --version && python3 checks/refuse_session_allocations.py
 
@@ -20,7 +20,7 @@ import shutil
 import sys
 import tempfile
 
-from lib.stories import LARGE, LOOK, NEW, TORN
+from lib.stories import BATCHES, LARGE, LOOK, NEW, TORN
 from lib.store_runs import Failures, compiled, need_program, session, write_file
 
 OUT_OF_MEMORY = (1, "confstore: OutOfMemory\n")
@@ -72,7 +72,7 @@ def main():
     failures = Failures()
     with tempfile.TemporaryDirectory() as top:
         compiled("refuse.c", top)
-        for story in (NEW, TORN, NEW.in_groups(), TORN.in_groups(), LARGE):
+        for story in (NEW, TORN, BATCHES, NEW.in_groups(), TORN.in_groups(), BATCHES.in_groups(), LARGE):
             refuse_each(top, story, failures)
     return failures.report()
 

@@ -1,4 +1,4 @@
-"""Two sessions whose every fault is tried: their commands, what is answered, and what the store then holds."""
+"""Sessions whose every fault is tried: their commands, what is answered, and what the store then holds."""
 
 import copy
 
@@ -72,6 +72,29 @@ TORN = Story(
     ],
     [False, True, False, False, True],
     [looked(1, "x"), looked(2, "z"), looked(3, None)],
+)
+
+# Batches over a new folder, one of which is refused for its last edit.
+BATCHES = Story(
+    "batches",
+    {},
+    [
+        (
+            'batch:\n  - import: app\n    text: "port: 80"\n  - set: app\n    path: /port\n    value: 81\n...\n',
+            '---\nok: "1"\n...\n',
+        ),
+        (
+            'batch:\n  - set: app\n    path: /port\n    value: 82\n  - delete: gone\n    path: ""\n...\n',
+            "---\nrefused: NoConfig\n...\n",
+        ),
+        (
+            'batch:\n  - delete: app\n    path: ""\n  - import: app\n    text: "x: v"\n  - set: app\n    path: /z\n    value: w\n...\n',
+            '---\nok: "2"\n...\n',
+        ),
+        ('delete: app\npath: ""\n...\n', '---\nok: "3"\n...\n'),
+    ],
+    [True, False, True, True],
+    [looked(0, None), looked(1, 'port: "81"'), looked(2, "x: v\n  z: w"), looked(3, None)],
 )
 
 # A store whose base takes several slices. Each command has as many bytes of a comment as a read may bring, so that no

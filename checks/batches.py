@@ -1,0 +1,140 @@
+#!/usr/bin/env python3
+"""Random batches through the built program, beside the model of lib/store_model.py, refused ones among them.
+
+Each store gets some batches and single edits over few names, so that names leave and come again, edits meet, and many
+are refused: in the middle of a batch, too. After each command the answer says whether it was accepted, and at the end
+the names and the texts have to be those of the model. Then the file is cut at random places, with zeros after some of
+them: what opens has to be the state after some first commands, each whole.
+
+    checks/batches.py [BATCHES]
+
+It needs the built program and PyYAML, and takes about a minute for 4,000 batches. The last line is 'N passed, M
+failed', and the status is 0 if M is 0.
+"""
+
+import json
+import os
+import random
+import sys
+import tempfile
+
+import yaml
+
+from lib.store_model import Refused, edited, meaning, tree_of
+from lib.store_runs import GROUPED, SINGLE, Failures, need_program, read_file, session, write_file
+
+BATCHES = int(sys.argv[1]) if len(sys.argv) > 1 else 4000
+# How many commands a store gets, and how often its file is cut.
+COMMANDS = 40
+CUTS = 12
+NAMES = ("a", "b", "c", "d", "Bad")
+PATHS = ("", "/k", "/l/-", "/l/0", "/l/7", "/k/x", "no")
+VALUES = ("x", "text of a value", '{k: v, l: [m, n]}', "[]", '"y"')
+
+
+def some_edit(chance):
+    """An edit as a session's command has it: its keys and values, each value as a text of YAML."""
+    name = chance.choice(NAMES if chance.random() < 0.1 else NAMES[:4])
+    kind = chance.randrange(10)
+    if kind < 4:
+        return {"import": name, "text": chance.choice(VALUES)}
+    path = chance.choice(PATHS)
+    if kind < 8:
+        return {"set": name, "path": path, "value": chance.choice(VALUES)}
+    return {"delete": name, "path": path}
+
+
+def spelled(edit):
+    """The lines of an edit. The value of a set stands as it is, and all other texts are quoted."""
+    return [f"{key}: {text if key == 'value' else json.dumps(text)}" for key, text in edit.items()]
+
+
+def command_of(edits, is_batch):
+    if not is_batch:
+        return "\n".join(spelled(edits[0])) + "\n...\n"
+    if not edits:
+        return "batch: []\n...\n"
+    lines = [("  - " if number == 0 else "    ") + line for edit in edits for number, line in enumerate(spelled(edit))]
+    return "batch:\n" + "\n".join(lines) + "\n...\n"
+
+
+def performed(configs, edits):
+    """What edits make of the configurations, by the model. Raises Refused."""
+    if not edits:
+        raise Refused
+    for edit in edits:
+        values = [tree_of(yaml.compose(text, yaml.CBaseLoader)) if key in ("text", "value") else text for key, text in edit.items()]
+        keys = tuple("tree" if key == "text" else key for key in edit)
+        configs = edited(configs, keys, values)
+    return configs
+
+
+def look(folder):
+    """The names of a store and the tree of each, as the program gives them."""
+    status, answers, errors = session(folder, b"names:\n...\n")
+    if status:
+        return errors
+    names = yaml.load(answers, yaml.CBaseLoader)["names"]
+    commands = "".join(f'get: {name}\npath: ""\n...\n' for name in names).encode()
+    _, answers, _ = session(folder, commands)
+    values = [tree_of(node) for node in yaml.compose_all(answers, yaml.CBaseLoader)]
+    return {name: value[0][1] for name, value in zip(names, values)}
+
+
+def try_cuts(chance, top, content, states, failures, about):
+    """Opens prefixes of a file, some with zeros after them, and looks that each means a state that the store had."""
+    for cut in range(CUTS):
+        kept = chance.randrange(47, len(content) + 1)
+        part = content[:kept] + b"\0" * chance.choice((0, 0, 1, 40))
+        configs, count, _ = meaning(part)
+        folder = os.path.join(top, f"cut{cut}")
+        os.makedirs(folder, exist_ok=True)
+        write_file(os.path.join(folder, "store.yaml"), part)
+        found = look(folder)
+        failures.expect(f"{about}, {kept} bytes", found, configs)
+        failures.expect(f"{about}, {kept} bytes: a state that was", configs == states[count], True)
+
+
+def try_store(chance, top, words, failures, about):
+    """Sends random commands to a store. Returns how many batches there were, and how many of them were refused."""
+    folder = os.path.join(top, "folder")
+    os.mkdir(folder)
+    commands, wanted, states, batches, refused = [], [], [{}], 0, 0
+    for _ in range(COMMANDS):
+        is_batch = chance.random() < 0.8
+        edits = [some_edit(chance) for _ in range(chance.choice((0, 1, 1, 2, 2, 3, 3, 4, 6)) if is_batch else 1)]
+        commands.append(command_of(edits, is_batch))
+        batches += is_batch
+        try:
+            states.append(performed(states[-1], edits))
+            wanted.append(f'ok: "{len(states) - 1}"')
+        except Refused:
+            wanted.append("refused" if edits else "refused: EmptyBatch")
+            refused += is_batch
+    status, answers, errors = session(folder, "".join(commands).encode(), words)
+    failures.expect(f"{about}: status", (status, errors), (0, ""))
+    found = [answer.split("\n")[1] for answer in answers.decode().split("...\n")[:-1]]
+    for number, (one, other) in enumerate(zip(found, wanted)):
+        is_right = one.startswith("refused: ") if other == "refused" else one == other
+        failures.expect(f"{about}, command {number}: {commands[number]!r} is answered {one}", is_right, True)
+    failures.expect(f"{about}: answers", len(found), len(wanted))
+    failures.expect(f"{about}: state", look(folder), states[-1])
+    failures.expect(f"{about}: order", list(look(folder)), list(states[-1]))
+    try_cuts(chance, top, read_file(os.path.join(folder, "store.yaml")), states, failures, about)
+    return batches, refused
+
+
+def main():
+    need_program()
+    failures, done, refused, number = Failures(), 0, 0, 0
+    while done < BATCHES:
+        with tempfile.TemporaryDirectory() as top:
+            words = SINGLE if number % 2 else GROUPED
+            more, others = try_store(random.Random(number), top, words, failures, f"store {number}")
+        done, refused, number = done + more, refused + others, number + 1
+    print(f"{done} batches in {number} stores, {refused} of them refused")
+    return failures.report()
+
+
+if __name__ == "__main__":
+    sys.exit(main())
