@@ -8,12 +8,12 @@ use Rattle.conf_disk.specs.Folder.{Folder, bytes_under}
 use Rattle.conf_disk.specs.Image.{Image, IsImage}
 use Rattle.conf_disk.specs.Moments.{LeavesOnly, TimeGoesOn}
 use Rattle.conf_disk.proofs.Moments.{LeavesOnly-joined, LeavesOnly-now, LeavesOnly-weaker}
-use Rattle.conf_state.specs.Commands.{Command as GivenCommand, command_of, import_as, text_of}
+use Rattle.conf_state.specs.Commands.{Command as GivenCommand, command_of, import_as, single, text_of}
 use Rattle.conf_state.specs.States.{Contents}
 use Rattle.conf_state.specs.Steps.{after, step}
 use Rattle.conf_state.specs.declared.fault.StoreFault.{StoreFault}
-use Rattle.conf_state.specs.declared.fault.StoreFault.TheVariants.{BadName, NoConfig, Path, Read, TooDeep, ConfigLarge, StoreFull, JournalLong, CountFull, Reopen, Device, OutOfMemory}
-use Rattle.conf_store.specs.Calls.{has_room, journal_length, outcome}
+use Rattle.conf_state.specs.declared.fault.StoreFault.TheVariants.{EmptyBatch, BadName, NoConfig, Path, Read, TooDeep, ConfigLarge, StoreFull, RecordLong, JournalLong, CountFull, Reopen, Device, OutOfMemory}
+use Rattle.conf_store.specs.Calls.{room_for, journal_length, outcome}
 use Rattle.conf_store.specs.Durable.{AfterPrefix, AllImagesMean, NothingWaits}
 use Rattle.conf_store.specs.Meaning.{FileMeans}
 use Rattle.conf_store.specs.View.{StoreView}
@@ -37,14 +37,14 @@ pub record Led (change : Change) (before end : Contents) : Type 0 where
   pub leads : after before commands ≡ Ok end
 
 accepted-leads : StepsNeedRoom → (size : ℕ) (s end : Contents) (command : GivenCommand) → outcome size s command ≡ Ok end → after s (command ∷ []) ≡ Ok end
-accepted-leads room size s end command e = after-done s end command (accepted-anyway room s end command (has_room size s command) e)
+accepted-leads room size s end command e = after-done s end command (accepted-anyway room s end command (room_for size s command) e)
 
 -- a change that was made
 pub made-led : StepsNeedRoom → {D : Type 0} (old new : StoreView D) (change : Change) → Makes old change new → Led change old.state new.state
 made-led room old new (Import name text) made = record {
-  commands = import_as (text_of name) made.tree ∷ [];
+  commands = single (import_as (text_of name) made.tree) ∷ [];
   of = (made.tree, made.reads, refl);
-  leads = accepted-leads room (journal_length old) old.state new.state (import_as (text_of name) made.tree) made.accepts.step;
+  leads = accepted-leads room (journal_length old) old.state new.state (single (import_as (text_of name) made.tree)) made.accepts.step;
 }
 made-led room old new (Perform command) made = record {
   commands = command_of command ∷ [];
@@ -56,9 +56,9 @@ made-led room old new Checkpoint made = record { commands = []; of = refl; leads
 -- a change in which the device failed
 device-led : StepsNeedRoom → {D : Type 0} (old new : StoreView D) (change : Change) → RefusesChange old change new Device → Led change old.state new.state
 device-led room old new (Import name text) refuses = record {
-  commands = import_as (text_of name) refuses.tree ∷ [];
+  commands = single (import_as (text_of name) refuses.tree) ∷ [];
   of = (refuses.tree, refuses.reads, refl);
-  leads = accepted-leads room (journal_length old) old.state new.state (import_as (text_of name) refuses.tree) refuses.refuses;
+  leads = accepted-leads room (journal_length old) old.state new.state (single (import_as (text_of name) refuses.tree)) refuses.refuses;
 }
 device-led room old new (Perform command) refuses = record {
   commands = command_of command ∷ [];
@@ -69,6 +69,7 @@ device-led room old new Checkpoint refuses = record { commands = []; of = refl; 
 
 is-device : (fault : StoreFault) → (fault ≡ Device) ⊎ (fault ≢ Device)
 is-device Device = inl refl
+is-device EmptyBatch = inr (λ e. cc)
 is-device BadName = inr (λ e. cc)
 is-device NoConfig = inr (λ e. cc)
 is-device (Path fault) = inr (λ e. cc)
@@ -76,6 +77,7 @@ is-device (Read fault) = inr (λ e. cc)
 is-device TooDeep = inr (λ e. cc)
 is-device ConfigLarge = inr (λ e. cc)
 is-device StoreFull = inr (λ e. cc)
+is-device RecordLong = inr (λ e. cc)
 is-device JournalLong = inr (λ e. cc)
 is-device CountFull = inr (λ e. cc)
 is-device Reopen = inr (λ e. cc)

@@ -8,7 +8,7 @@ use Rattle.conf_disk.specs.Image.{Image, IsImage}
 use Rattle.conf_disk.specs.Moments.{LeavesOnly}
 use Rattle.conf_disk.specs.declared.disk.Name.TheVariants.{Store}
 use Rattle.conf_state.specs.BaseTexts.{base_bytes}
-use Rattle.conf_state.specs.Commands.{Command as GivenCommand, command_of, import_as, text_of}
+use Rattle.conf_state.specs.Commands.{Command as GivenCommand, command_of, import_as, single, text_of}
 use Rattle.conf_state.specs.States.{Contents}
 use Rattle.conf_state.specs.declared.fault.StoreFault.{StoreFault}
 use Rattle.conf_state.specs.declared.fault.StoreFault.TheVariants.{Reopen, Device, OutOfMemory}
@@ -82,7 +82,7 @@ CannotChange honest folder moment since failures old change new fault = ⊥
 -- what a change performs: the command of an import or of an edit; a checkpoint performs none
 abbrev pub Performs : Change → List GivenCommand → Type 0
 Performs (Import name text) commands =
-    (tree : Tree) × IsRead text.items config_limits tree × (commands ≡ import_as (text_of name) tree ∷ [])
+    (tree : Tree) × IsRead text.items config_limits tree × (commands ≡ single (import_as (text_of name) tree) ∷ [])
 Performs (Perform command) commands = commands ≡ command_of command ∷ []
 Performs Checkpoint commands = commands ≡ []
 

@@ -67,9 +67,10 @@ fn apply(alloc: Global, store: &mut Store<FusedDisk<MemoryDisk>>) -> Result<u64,
         name: String::from_str(alloc, "b")?,
         tree: tree_of(alloc, b"[]")?,
     };
-    store.apply(Command::Batch {
-        edits: vec![in alloc; first, second, third]?,
-    })
+    let Ok(edits) = vec![in alloc; first, second, third] else {
+        return Err(StoreFault::OutOfMemory);
+    };
+    store.apply(Command::Batch { edits })
 }
 
 /// The tree of a text.

@@ -28,7 +28,10 @@ pub(crate) fn delete(alloc: Global, name: &str, path: &str) -> Result<Command, S
 pub(crate) fn batch(alloc: Global, written: &[&str]) -> Result<Command, StoreFault> {
     let mut edits = Vec::new(alloc);
     for words in written {
-        edits.push(edit(alloc, words)?)?;
+        let edit = edit(alloc, words)?;
+        if edits.push(edit).is_err() {
+            return Err(StoreFault::OutOfMemory);
+        }
     }
     Ok(Command::Batch { edits })
 }
