@@ -50,8 +50,8 @@ fn run(rt: &HostRuntime, folder: &str) -> io::Result<ExitCode> {
 }
 
 /// Prints a configuration, or why there is none.
-fn print_result(rt: &HostRuntime, result: Result<String, DeployFault>) -> io::Result<ExitCode> {
-    match result {
+fn print_result(rt: &HostRuntime, deployed: Result<String, DeployFault>) -> io::Result<ExitCode> {
+    match deployed {
         Ok(text) => {
             print!(rt; "{text}")?;
             Ok(ExitCode::from(0))
