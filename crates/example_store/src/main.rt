@@ -9,7 +9,7 @@ mod deploy;
 
 use conf_folder::FolderDisk;
 use deploy::{DeployFault, deploy};
-use std::io::{Read, Write};
+use std::io::Read;
 use std::process::ExitCode;
 use std::{env, io};
 use test_disks::MemoryDisk;
