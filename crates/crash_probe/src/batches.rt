@@ -107,14 +107,27 @@ fn open_cut(
         return Ok(false);
     };
     let store = opened(alloc, image)?;
-    match (store.count(), store.export("a"), store.export("b")) {
-        (0, Err(StoreFault::NoConfig), Err(StoreFault::NoConfig)) => {
+    match store.count() {
+        0 if is_missing(&store, "a") && is_missing(&store, "b") => {
             found.none = found.none.saturating_add(1);
         }
-        (1, Ok(a), Ok(b)) if a.as_str() == "z\n" && b.as_str() == "[]\n" => {
+        1 if holds(&store, "a", "z\n") && holds(&store, "b", "[]\n") => {
             found.all = found.all.saturating_add(1);
         }
-        (count, _, _) => return Err(Wrong::Count(count)),
+        count => return Err(Wrong::Count(count)),
     }
     Ok(true)
+}
+
+/// Whether a store has no configuration of a name.
+fn is_missing(store: &Store<MemoryDisk>, name: &str) -> bool {
+    matches!(store.export(name), Err(StoreFault::NoConfig))
+}
+
+/// Whether a store exports a text for a name.
+fn holds(store: &Store<MemoryDisk>, name: &str, text: &str) -> bool {
+    match store.export(name) {
+        Ok(held) => held.as_str() == text,
+        Err(_) => false,
+    }
 }
