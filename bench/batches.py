@@ -60,7 +60,8 @@ def cost(top, configurations, commands):
     """What commands cost beyond opening and closing their store."""
     folder = os.path.join(top, "store")
     filled(folder, configurations)
-    taken = instructions(folder, commands) - instructions(folder, "")
+    before = instructions(folder, "")
+    taken = instructions(folder, commands) - before
     shutil.rmtree(folder)
     return taken
 
