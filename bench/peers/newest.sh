@@ -12,8 +12,8 @@ folder=$(mkdir -p "$1" && cd "$1" && pwd)
 suite=${2:-unstable}
 peers=$(cd "$(dirname "${BASH_SOURCE[0]}")" && pwd)
 lists=$folder/apt
-root=$folder/root
-mkdir -p "$lists/lists/partial" "$lists/archives/partial" "$root" "$folder/packages"
+tree=$folder/unpacked
+mkdir -p "$lists/lists/partial" "$lists/archives/partial" "$tree" "$folder/packages"
 : >"$lists/status"
 
 # apt over the suite alone, with lists of its own.
@@ -30,13 +30,13 @@ apt_of_suite apt-get update
     cd "$folder/packages"
     apt_of_suite apt-get download libfyaml-dev libfyaml0 libryml-dev libryml0.16 libc4core-dev libc4core0.6 debugbreak \
         libc6 libstdc++6 libgcc-s1
-    for package in *.deb; do dpkg-deb -x "$package" "$root"; done
+    for package in *.deb; do dpkg-deb -x "$package" "$tree"; done
     for package in libfyaml0_*.deb libryml0*_*.deb; do dpkg-deb -f "$package" Package Version | tr '\n' ' '; echo; done
 ) >"$folder/versions"
 
-libraries=$root/usr/lib/x86_64-linux-gnu
-loader=$(find "$root" -name 'ld-linux-x86-64.so.2' | head -n 1)
+libraries=$tree/usr/lib/x86_64-linux-gnu
+loader=$(find "$tree" -name 'ld-linux-x86-64.so.2' | head -n 1)
 run_by_loader=(-Wl,--dynamic-linker="$loader" -Wl,-rpath,"$libraries" -Wl,--allow-shlib-undefined)
-cc -O2 -I "$root/usr/include" -o "$folder/libfyaml" "$peers/libfyaml.c" -L "$libraries" -lfyaml "${run_by_loader[@]}"
-c++ -O2 -std=c++17 -DC4CORE_NO_FAST_FLOAT -I "$root/usr/include" -o "$folder/rapidyaml" "$peers/rapidyaml.cpp" -L "$libraries" -lryml -lc4core \
+cc -O2 -I "$tree/usr/include" -o "$folder/libfyaml" "$peers/libfyaml.c" -L "$libraries" -lfyaml "${run_by_loader[@]}"
+c++ -O2 -std=c++17 -DC4CORE_NO_FAST_FLOAT -I "$tree/usr/include" -o "$folder/rapidyaml" "$peers/rapidyaml.cpp" -L "$libraries" -lryml -lc4core \
     "${run_by_loader[@]}"

@@ -15,7 +15,7 @@ if [ "$(id -u)" -ne 0 ] && [ -z "${FAKEROOTKEY:-}" ]; then
 fi
 folder=$(mktemp -d) || exit 1
 trap 'rm -rf "$folder"' EXIT
-root=$folder/root
+tree=$folder/unpacked
 passed=0
 failed=0
 
@@ -31,42 +31,42 @@ try() { # NAME COMMAND..
 }
 
 in_root() {
-    dpkg --root="$root" --force-script-chrootless --force-depends --log=/dev/null "$@"
+    dpkg --root="$tree" --force-script-chrootless --force-depends --log=/dev/null "$@"
 }
 
 is_same() { cmp <("$@" 2>&1) <(printf '%s\n' "$wanted"); }
 has_page() { man --warnings -E UTF-8 -l -Tutf8 "$1" >/dev/null; }
 has_no_warning() { [ -z "$(man --warnings -E UTF-8 -l -Tutf8 -Z "$1" 2>&1 >/dev/null)" ]; }
-is_removed() { [ -z "$(find "$root/usr" -type f -o -type l 2>/dev/null)" ]; }
+is_removed() { [ -z "$(find "$tree/usr" -type f -o -type l 2>/dev/null)" ]; }
 verifies_unit() {
     local unit=$folder/confstore@try.service
-    sed "s|=/usr|=$root/usr|; s|^\(User\|Group\)=.*|\1=root|" "$root/usr/lib/systemd/system/confstore@.service" >"$unit"
+    sed "s|=/usr|=$tree/usr|; s|^\(User\|Group\)=.*|\1=root|" "$tree/usr/lib/systemd/system/confstore@.service" >"$unit"
     [ -z "$(systemd-analyze verify --man=no --recursive-errors=no "$unit" 2>&1)" ]
 }
 works() {
     mkdir "$folder/store" &&
-        printf '%s\n' 'import: web' 'text: "port: 80"' ... | "$root/usr/bin/confstore" run "$folder/store" >/dev/null &&
-        [ "$("$root/usr/bin/confstore" export "$folder/store" web)" = 'port: "80"' ]
+        printf '%s\n' 'import: web' 'text: "port: 80"' ... | "$tree/usr/bin/confstore" run "$folder/store" >/dev/null &&
+        [ "$("$tree/usr/bin/confstore" export "$folder/store" web)" = 'port: "80"' ]
 }
 
-mkdir -p "$root/etc" "$root/var/lib/dpkg/info" "$root/var/lib/dpkg/updates" && : >"$root/var/lib/dpkg/status"
+mkdir -p "$tree/etc" "$tree/var/lib/dpkg/info" "$tree/var/lib/dpkg/updates" && : >"$tree/var/lib/dpkg/status"
 package=$("$top/packaging/deb/build.sh" "$folder/one" "$program") || exit 1
 again=$("$top/packaging/deb/build.sh" "$folder/two" "$program") || exit 1
 try "the same package twice" cmp "$package" "$again"
 try "install" in_root --install "$package"
 wanted=$("$program" --version)
-command -v systemd-sysusers >/dev/null && try "the user" grep -q '^confstore:' "$root/etc/passwd"
-try "the program" is_same "$root/usr/bin/confstore" --version
+command -v systemd-sysusers >/dev/null && try "the user" grep -q '^confstore:' "$tree/etc/passwd"
+try "the program" is_same "$tree/usr/bin/confstore" --version
 try "a store" works
-for page in "$root"/usr/share/man/man*/*.gz; do
+for page in "$tree"/usr/share/man/man*/*.gz; do
     try "$(basename "$page")" has_page "$page"
     try "no warning in $(basename "$page")" has_no_warning "$page"
 done
-try "bash's completions" bash -n "$root/usr/share/bash-completion/completions/confstore"
-command -v zsh >/dev/null && try "zsh's completions" zsh -n "$root/usr/share/zsh/vendor-completions/_confstore"
+try "bash's completions" bash -n "$tree/usr/share/bash-completion/completions/confstore"
+command -v zsh >/dev/null && try "zsh's completions" zsh -n "$tree/usr/share/zsh/vendor-completions/_confstore"
 command -v fish >/dev/null &&
-    try "fish's completions" fish -n "$root/usr/share/fish/vendor_completions.d/confstore.fish"
-try "the server" "$root/usr/lib/confstore/serve.py" --help
+    try "fish's completions" fish -n "$tree/usr/share/fish/vendor_completions.d/confstore.fish"
+try "the server" "$tree/usr/lib/confstore/serve.py" --help
 command -v systemd-analyze >/dev/null && try "the unit" verifies_unit
 try "what is installed" in_root --verify confstore
 try "remove" in_root --purge confstore
