@@ -124,9 +124,27 @@ def try_store(chance, top, words, failures, about):
     return batches, refused
 
 
+def answered(failures, about, command, answer, size):
+    """A session of one command in a new folder: its answer, and the size of the store after it beyond 47 bytes."""
+    with tempfile.TemporaryDirectory() as folder:
+        _, answers, _ = session(folder, command, SINGLE)
+        found = (answers, os.path.getsize(os.path.join(folder, "store.yaml")) - 47)
+        failures.expect(about, found, (f"---\n{answer}\n...\n".encode(), size))
+
+
+def try_longest_record(failures):
+    """Seven imports whose record has 67,108,864 bytes, the most that a file may add, and then one letter more."""
+    items = b",".join([b"x"] * 1_048_576)
+    lists = b"".join(b"- import: %c\n  text: \"[%s]\"\n" % (name, items) for name in b"abcdef")
+    for letters, answer, size in ((4_194_110, 'ok: "1"', 67_108_864), (4_194_111, "refused: RecordLong", 0)):
+        command = b"batch:\n" + lists + b"- import: g\n  text: " + b"z" * letters + b"\n...\n"
+        answered(failures, f"a record with a text of {letters} letters", command, answer, size)
+
+
 def main():
     need_program()
     failures, done, refused, number = Failures(), 0, 0, 0
+    try_longest_record(failures)
     while done < BATCHES:
         with tempfile.TemporaryDirectory() as top:
             words = SINGLE if number % 2 else GROUPED
