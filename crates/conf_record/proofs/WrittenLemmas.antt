@@ -81,38 +81,38 @@ number_spelled bs n utf8 e =
 abbrev style_by : Bool → Bool → ℕ → ScalarStyle
 style_by plain literal feeds = if plain then Plain else if literal then literal_style feeds else Double
 
-abbrev lines_by : Bool → Bool → ℕ → List ℕ → List ℕ
-lines_by plain literal feeds value =
-    if plain then value ++ codes "\n" else if literal then literal_mark feeds ++ codes "\n" ++ literal_lines 2 true value
+abbrev lines_by : ℕ → Bool → Bool → ℕ → List ℕ → List ℕ
+lines_by i plain literal feeds value =
+    if plain then value ++ codes "\n" else if literal then literal_mark feeds ++ codes "\n" ++ literal_lines i true value
     else in_double_quotes value ++ codes "\n"
 
 abbrev indented_by : Bool → Bool → List ℕ → ℕ
 indented_by plain literal value = if plain then 0 else if literal then indented_literal_lines true value else 0
 
-plain_by : (value : List ℕ) (plain literal : Bool) (feeds : ℕ) → Plain ≡ style_by plain literal feeds
-    → (lines_by plain literal feeds value ≡ value ++ codes "\n") × (indented_by plain literal value ≡ 0)
-plain_by value true literal feeds e = (refl, refl)
-plain_by value false true zero e = absurd (let other : Plain ≡ LiteralStrip = e in cc)
-plain_by value false true (suc zero) e = absurd (let other : Plain ≡ LiteralClip = e in cc)
-plain_by value false true (suc (suc n)) e = absurd (let other : Plain ≡ LiteralKeep = e in cc)
-plain_by value false false feeds e = absurd (let other : Plain ≡ Double = e in cc)
+plain_by : (i : ℕ) (value : List ℕ) (plain literal : Bool) (feeds : ℕ) → Plain ≡ style_by plain literal feeds
+    → (lines_by i plain literal feeds value ≡ value ++ codes "\n") × (indented_by plain literal value ≡ 0)
+plain_by i value true literal feeds e = (refl, refl)
+plain_by i value false true zero e = absurd (let other : Plain ≡ LiteralStrip = e in cc)
+plain_by i value false true (suc zero) e = absurd (let other : Plain ≡ LiteralClip = e in cc)
+plain_by i value false true (suc (suc n)) e = absurd (let other : Plain ≡ LiteralKeep = e in cc)
+plain_by i value false false feeds e = absurd (let other : Plain ≡ Double = e in cc)
 
-double_by : (value : List ℕ) (plain literal : Bool) (feeds : ℕ) → Double ≡ style_by plain literal feeds
-    → (lines_by plain literal feeds value ≡ in_double_quotes value ++ codes "\n") × (indented_by plain literal value ≡ 0)
-double_by value true literal feeds e = absurd (let other : Double ≡ Plain = e in cc)
-double_by value false true zero e = absurd (let other : Double ≡ LiteralStrip = e in cc)
-double_by value false true (suc zero) e = absurd (let other : Double ≡ LiteralClip = e in cc)
-double_by value false true (suc (suc n)) e = absurd (let other : Double ≡ LiteralKeep = e in cc)
-double_by value false false feeds e = (refl, refl)
+double_by : (i : ℕ) (value : List ℕ) (plain literal : Bool) (feeds : ℕ) → Double ≡ style_by plain literal feeds
+    → (lines_by i plain literal feeds value ≡ in_double_quotes value ++ codes "\n") × (indented_by plain literal value ≡ 0)
+double_by i value true literal feeds e = absurd (let other : Double ≡ Plain = e in cc)
+double_by i value false true zero e = absurd (let other : Double ≡ LiteralStrip = e in cc)
+double_by i value false true (suc zero) e = absurd (let other : Double ≡ LiteralClip = e in cc)
+double_by i value false true (suc (suc n)) e = absurd (let other : Double ≡ LiteralKeep = e in cc)
+double_by i value false false feeds e = (refl, refl)
 
 -- a plain text is its own line
 pub plain_line : (line : List ℕ) → IsUtf8 line → Plain ≡ value_style (chars line) → IsLineOf line (chars line)
 plain_line line utf8 is =
     let cs = chars line in
-    let by = plain_by cs (plain_in_style cs) (literal_in_style cs) (feeds_at_end cs) is in
+    let by : (i : ℕ) → _ = λ i. plain_by i cs (plain_in_style cs) (literal_in_style cs) (feeds_at_end cs) is in
     record {
-      written = ap encode_utf8_all by.0 ∙ after cs (codes "\n") refl ∙ ap (λ bs. bs ++ codes "\n") (encodes-chars line utf8);
-      flat = by.1;
+      written = λ i. ap encode_utf8_all (by i).0 ∙ after cs (codes "\n") refl ∙ ap (λ bs. bs ++ codes "\n") (encodes-chars line utf8);
+      flat = (by 0).1;
     }
 
 -- so is a text in double quotes of which no character needs an escape
@@ -120,30 +120,30 @@ pub quoted_line : (quoted bytes : List ℕ) → quoted ≡ bytes ++ double_quote
     → IsLineOf (double_quote ∷ quoted) (chars bytes)
 quoted_line quoted bytes is alone double =
     let cs = chars bytes in
-    let by = double_by cs (plain_in_style cs) (literal_in_style cs) (feeds_at_end cs) double in
+    let by : (i : ℕ) → _ = λ i. double_by i cs (plain_in_style cs) (literal_in_style cs) (feeds_at_end cs) double in
     let ascii = every-IsAscii stands_alone stands_alone-below bytes alone in
     let itself : quoted_chars cs ≡ bytes = ap quoted_chars (chars-IsAscii bytes ascii) ∙ quoted_chars-alone bytes alone in
     let mark = codes "\"" in
     record {
-      written =
-          ap encode_utf8_all by.0
+      written = λ i.
+          ap encode_utf8_all (by i).0
           ∙ ap (λ xs. encode_utf8_all (mark ++ xs ++ mark ++ codes "\n")) itself
           ∙ after (mark ++ bytes ++ mark) (codes "\n") refl
           ∙ ap (λ bs. bs ++ codes "\n") (after (mark ++ bytes) mark refl ∙ ap (λ bs. bs ++ mark) (before mark bytes refl ∙ ap (λ bs. mark ++ bs) (encodes-IsAscii bytes ascii)))
           ∙ ap (λ bs. (double_quote ∷ bs) ++ codes "\n") (sym is);
-      flat = by.1;
+      flat = (by 0).1;
     }
 
 -- ---- a text on one line as a configuration
 
 module _ (line value : List ℕ) (is : IsLineOf line value) where
   line_bytes : byte_len (scalar_lines 2 value) ≡ length line + 1
-  line_bytes = omega (arith, byte_len-encoded (scalar_lines 2 value), ap length is.written, length-append line (line_feed ∷ []))
+  line_bytes = omega (arith, byte_len-encoded (scalar_lines 2 value), ap length (is.written 2), length-append line (line_feed ∷ []))
 
   -- it is within the limits if the line is short
   pub line_config : (t : Tree) → t ≡ text value → IsText value → length line < config_limits.style → IsConfigLine line t
   line_config t seen texts short = subst (IsConfigLine line) (sym seen) (record {
-    written = before (codes " ") (scalar_lines 2 value) refl ∙ ap (λ bs. space_char ∷ bs) is.written;
+    written = λ i. before (codes " ") (scalar_lines (i + 2) value) refl ∙ ap (λ bs. space_char ∷ bs) (is.written (i + 2));
     kept = record { texts = texts; keys = refl; deep = omega arith; long = omega (arith, line_bytes) };
     small = record { deep = omega arith; bytes = omega (arith, line_bytes) };
   })

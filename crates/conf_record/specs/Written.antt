@@ -10,14 +10,14 @@ use Rattle.conf_record.specs.Records.{edit_members}
 use Rattle.conf_record.specs.RecordsRead.{IsEdit}
 use Rattle.conf_record.specs.SmallCommands.{IsSmallTree, IsSmallEdit}
 
--- the text as a value is this line alone, in the one style
+-- the text as a value is this line alone, in the one style, at whatever indentation
 pub record IsLineOf (line value : List ℕ) : Type 0 where
-  pub written : encode_utf8_all (scalar_lines 2 value) ≡ line ++ line_feed ∷ []
+  pub written : (indent : ℕ) → encode_utf8_all (scalar_lines indent value) ≡ line ++ line_feed ∷ []
   pub flat : indented_scalar_lines value ≡ 0
 
--- a configuration whose value is this line alone, after a key
+-- a configuration whose value is this line alone, after a key at whatever indentation
 pub record IsConfigLine (line : List ℕ) (t : Tree) : Type 0 where
-  pub written : encode_utf8_all (value_at t 0) ≡ space_char ∷ (line ++ line_feed ∷ [])
+  pub written : (indent : ℕ) → encode_utf8_all (value_at t indent) ≡ space_char ∷ (line ++ line_feed ∷ [])
   pub kept : IsKept t
   pub small : IsSmallTree t
 

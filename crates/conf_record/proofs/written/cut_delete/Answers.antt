@@ -17,7 +17,7 @@ returns c =
     let own : IsWritten lines (delete_at (chars name) (chars path)) = record {
       written =
           delete_lines (chars name) (chars path) lines c.in-Some.after_name.now c.in-Some-cut_text.end.now
-          c.in-Some.ensures c.in-Some-cut_text.ensures (c.is_end.ensures c.if-not-is_end.false);
+          (c.in-Some.ensures 2) (c.in-Some-cut_text.ensures 2) (c.is_end.ensures c.if-not-is_end.false);
       is = subst (λ bs. IsText (chars bs)) c.in_ok-path.ensures.ok texts;
       small = (sym c.good_name.ensures.named ∙ c.if-not-good_name.false, c.in_ok-short.ensures c.if-not-short.false);
     } in

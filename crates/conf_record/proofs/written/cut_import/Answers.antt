@@ -16,7 +16,7 @@ returns c =
     let own : IsWritten lines (import_as (chars name) tree) = record {
       written =
           import_lines (chars name) tree lines c.in-Some.after_name.now line c.in-Some-cut_line.end.now
-          c.in-Some.ensures c.in-Some-cut_line.ensures (c.is_end.ensures c.if-not-is_end.false) config.written;
+          (c.in-Some.ensures 2) c.in-Some-cut_line.ensures (c.is_end.ensures c.if-not-is_end.false) (config.written 0);
       is = config.kept;
       small = (sym c.good_name.ensures.named ∙ c.if-not-good_name.false, config.small);
     } in

@@ -21,7 +21,7 @@ returns c =
     let own : IsWritten lines (set_at (chars name) (chars path) value) = record {
       written =
           set_lines (chars name) (chars path) value lines c.in-Some.after_name.now c.in-Some-cut_text.after_path.now line c.in-Some-cut_line.end.now
-          c.in-Some.ensures c.in-Some-cut_text.ensures c.in-Some-cut_line.ensures (c.is_end.ensures c.if-not-is_end.false) config.written;
+          (c.in-Some.ensures 2) (c.in-Some-cut_text.ensures 2) c.in-Some-cut_line.ensures (c.is_end.ensures c.if-not-is_end.false) (config.written 0);
       is = (subst (λ bs. IsText (chars bs)) c.in_ok-path.ensures.ok texts, config.kept);
       small = (sym c.good_name.ensures.named ∙ c.if-not-good_name.false, c.in_ok-short.ensures c.if-not-short.false, config.small);
     } in
