@@ -14,6 +14,7 @@ mod base_reader;
 mod base_writer;
 mod command_reader;
 mod documents;
+mod edit_lines;
 mod fields;
 mod laws;
 pub mod lines;

@@ -1,20 +1,20 @@
 // Records as a store writes them, taken apart line by line.
-ghost use Rattle.std.specs.Prelude.{◌≡◌, ◌≤◌, ◌++◌, codes, decimal, encode_utf8_all, IfOk, IfSome, IsTrue};
-ghost use Rattle.conf_state.specs.Commands.{edit_of, command_of};
+ghost use Rattle.std.specs.Prelude.{◌≡◌, ◌≤◌, ◌++◌, codes, decimal, encode_utf8_all, map, IfOk, IfSome, IsTrue};
+ghost use Rattle.conf_state.specs.Commands.{edit_of, command_of, single, batch};
 ghost use Rattle.conf_state.specs.States.{count_limit};
 ghost use Rattle.conf_record.specs.Documents.{IsRecord};
-ghost use Rattle.conf_record.specs.Written.{IsWritten};
+ghost use Rattle.conf_record.specs.Written.{IsWritten, ElementsWritten, lines_of};
 
+use crate::edit_lines::{EditLines, Place, cut_edit, made_edit};
 use crate::fields::number_from;
 use crate::laws::records_read;
-use crate::lines::{cut_line, cut_text, is_short_path, line_config};
-use conf_state::{Command, Edit, good_name};
+use crate::lines::cut_line;
+use conf_state::{Command, Edit, RECORD_LIMIT};
 use std::alloc::{AllocError, Global};
 use std::str;
 
-/// The record of a single edit that the bytes are, if they are the very text that
-/// [`record_text`](crate::record_text) writes for it, and each text in it is on one line without an escape. `None` says
-/// nothing of the bytes. It fails only if memory runs out.
+/// The record that the bytes are, if they are the very text that [`record_text`](crate::record_text) writes for it, and
+/// each text in it is on one line without an escape. `None` says nothing of the bytes. It fails only if memory runs out.
 pub(crate) fn written_record(
     alloc: Global,
     bytes: &[u8],
@@ -22,16 +22,19 @@ pub(crate) fn written_record(
     ensures { IfOk result (λ read. IfSome read (λ r. IsRecord bytes.now (command_of r.0) r.1)) }
 {
     records_read();
+    if bytes.len() as u64 > RECORD_LIMIT {
+        return Ok(None);
+    }
     let Ok(text) = str::from_utf8(bytes) else {
         return Ok(None);
     };
     let Some((number, lines)) = cut_number(text) else {
         return Ok(None);
     };
-    let Some(edit) = cut_edit(alloc, lines)? else {
+    let Some(command) = cut_command(alloc, lines)? else {
         return Ok(None);
     };
-    Ok(Some((Command::from(edit), number)))
+    Ok(Some((command, number)))
 }
 
 /// The number at the start of a record, and the lines after it.
@@ -60,96 +63,77 @@ fn digits_number(digits: &str) -> Option<u64>
     number_from(digits)
 }
 
-/// The edit on the lines after the number.
-fn cut_edit(alloc: Global, lines: &str) -> Result<Option<Edit>, AllocError>
-    ensures { IfOk result (λ cut. IfSome cut (λ edit. IsWritten lines.now (edit_of edit))) }
+/// The command on the lines after the number.
+fn cut_command(alloc: Global, lines: &str) -> Result<Option<Command>, AllocError>
+    ensures { IfOk result (λ cut. IfSome cut
+        (λ command. IsWritten lines.now (command_of command))) }
 {
-    if lines.starts_with("set: ") {
-        cut_set(alloc, lines)
-    } else if lines.starts_with("delete: ") {
-        cut_delete(alloc, lines)
-    } else {
-        cut_import(alloc, lines)
+    match lines.strip_prefix("batch:\n") {
+        Some(elements) => cut_batch(alloc, elements),
+        None => cut_alone(alloc, lines),
     }
 }
 
-/// The set on the lines.
-fn cut_set(alloc: Global, lines: &str) -> Result<Option<Edit>, AllocError>
-    ensures { IfOk result (λ cut. IfSome cut (λ edit. IsWritten lines.now (edit_of edit))) }
+/// The single edit on the lines after the number.
+fn cut_alone(alloc: Global, lines: &str) -> Result<Option<Command>, AllocError>
+    ensures { IfOk result (λ cut. IfSome cut
+        (λ command. IsWritten lines.now (command_of command))) }
 {
-    let Some((name, after_name)) = cut_text(lines, "set: ") else {
-        return Ok(None);
-    };
-    let Some((path, after_path)) = cut_text(after_name, "path: ") else {
-        return Ok(None);
-    };
-    let Some((value, end)) = cut_line(after_path, "value: ") else {
+    let Some((edit, end)) = cut_edit(lines, Place::Alone) else {
         return Ok(None);
     };
     if !is_end(end) {
         return Ok(None);
     }
-    if !good_name(name) {
-        return Ok(None);
-    }
-    let short = is_short_path(alloc, path)?;
-    if !short {
-        return Ok(None);
-    }
-    let Some(value) = line_config(alloc, value)? else {
+    let Some(edit) = made_edit(alloc, edit)? else {
         return Ok(None);
     };
-    let name = String::from_str(alloc, name)?;
-    let path = String::from_str(alloc, path)?;
-    Ok(Some(Edit::Set { name, path, value }))
+    Ok(Some(Command::from(edit)))
 }
 
-/// The delete on the lines.
-fn cut_delete(alloc: Global, lines: &str) -> Result<Option<Edit>, AllocError>
-    ensures { IfOk result (λ cut. IfSome cut (λ edit. IsWritten lines.now (edit_of edit))) }
+/// The batch whose elements these lines are.
+fn cut_batch(alloc: Global, elements: &str) -> Result<Option<Command>, AllocError>
+    ensures { IfOk result (λ cut. IfSome cut
+        (λ command. IsWritten (codes "batch:\n" ++ elements.now) (command_of command))) }
 {
-    let Some((name, after_name)) = cut_text(lines, "delete: ") else {
+    let Some(edits) = cut_elements(alloc, elements)? else {
         return Ok(None);
     };
-    let Some((path, end)) = cut_text(after_name, "path: ") else {
-        return Ok(None);
-    };
-    if !is_end(end) {
+    if edits.is_empty() {
         return Ok(None);
     }
-    if !good_name(name) {
-        return Ok(None);
-    }
-    let short = is_short_path(alloc, path)?;
-    if !short {
-        return Ok(None);
-    }
-    let name = String::from_str(alloc, name)?;
-    let path = String::from_str(alloc, path)?;
-    Ok(Some(Edit::Delete { name, path }))
+    Ok(Some(Command::Batch { edits }))
 }
 
-/// The import on the lines.
-fn cut_import(alloc: Global, lines: &str) -> Result<Option<Edit>, AllocError>
-    ensures { IfOk result (λ cut. IfSome cut (λ edit. IsWritten lines.now (edit_of edit))) }
+/// The edits of the elements on these lines, up to the end of the document.
+fn cut_elements(alloc: Global, elements: &str) -> Result<Option<Vec<Edit>>, AllocError>
+    ensures { IfOk result (λ cut. IfSome cut
+        (λ edits. ElementsWritten elements.now (map edit_of edits.items) (codes "...\n"))) }
 {
-    let Some((name, after_name)) = cut_text(lines, "import: ") else {
-        return Ok(None);
-    };
-    let Some((tree, end)) = cut_line(after_name, "tree: ") else {
-        return Ok(None);
-    };
-    if !is_end(end) {
-        return Ok(None);
+    let mut edits = Vec::new(alloc);
+    let mut left = elements;
+    while !is_end(left) {
+        let Some((edit, after)) = cut_element(left) else {
+            return Ok(None);
+        };
+        let Some(edit) = made_edit(alloc, edit)? else {
+            return Ok(None);
+        };
+        edits.push(edit)?;
+        left = after;
     }
-    if !good_name(name) {
-        return Ok(None);
-    }
-    let Some(tree) = line_config(alloc, tree)? else {
-        return Ok(None);
+    Ok(Some(edits))
+}
+
+/// The edit of the element that the lines begin with, and the lines after it.
+fn cut_element(lines: &str) -> Option<(EditLines<'_>, &str)>
+    ensures { IfSome result (λ cut. lines.now
+        ≡ codes "  - " ++ (lines_of cut.0 4 ++ cut.1.now)) }
+{
+    let Some(members) = lines.strip_prefix("  - ") else {
+        return None;
     };
-    let name = String::from_str(alloc, name)?;
-    Ok(Some(Edit::Import { name, tree }))
+    cut_edit(members, Place::InBatch)
 }
 
 /// Whether this is the last line of a document.
