@@ -3,7 +3,7 @@ use Rattle.std.proofs.lemmas.Str.Pattern.{strip_suffix_char}
 use Rattle.std.specs.List.{list_all}
 use Rattle.yaml_writer.specs.Runs.{stands_alone}
 use Rattle.conf_record.proofs.WrittenLemmas.{quoted_line}
-use Rattle.conf_record.proofs.written.quoted_text.Goals as goal
+use Rattle.conf_record.proofs.lines.quoted_text.Goals as goal
 
 pub returns-in-Double : goal.returns-in-Double
 returns-in-Double c =

@@ -2,7 +2,7 @@ use Rattle.std.proofs.Common.{sym, subst, arith}
 use Rattle.yaml_data.specs.Seen.{tree_of}
 use Rattle.conf_record.specs.Written.{IsConfigLine}
 use Rattle.conf_record.proofs.WrittenLemmas.{text_config}
-use Rattle.conf_record.proofs.written.line_config.Goals as goal
+use Rattle.conf_record.proofs.lines.line_config.Goals as goal
 
 pub with_size-requires-clause-kept : goal.with_size-requires-clause-kept
 with_size-requires-clause-kept c =

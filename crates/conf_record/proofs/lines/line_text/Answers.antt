@@ -2,7 +2,7 @@ use Rattle.std.proofs.Common.{Some, IfSome, subst, sym, lit<}
 use Rattle.std.proofs.lemmas.Str.Pattern.{strip_prefix_char}
 use Rattle.std.specs.Str.{chars}
 use Rattle.conf_record.specs.Written.{IsLineOf}
-use Rattle.conf_record.proofs.written.line_text.Goals as goal
+use Rattle.conf_record.proofs.lines.line_text.Goals as goal
 
 pub returns-in-Some : goal.returns-in-Some
 returns-in-Some c =

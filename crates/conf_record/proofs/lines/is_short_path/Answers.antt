@@ -1,7 +1,7 @@
 use Rattle.std.proofs.Common.{sym, ◌∙◌, arith}
 use Rattle.std.proofs.lemmas.Result.{IfOk-weaker}
 use Rattle.yaml_writer.proofs.ByteLemmas.{byte_len-chars}
-use Rattle.conf_record.proofs.written.is_short_path.Goals as goal
+use Rattle.conf_record.proofs.lines.is_short_path.Goals as goal
 
 pub returns-then-is_unescaped_path : goal.returns-then-is_unescaped_path
 returns-then-is_unescaped_path c =

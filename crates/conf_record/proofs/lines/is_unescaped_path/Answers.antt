@@ -1,7 +1,7 @@
 use Rattle.std.proofs.Common.{sym, ◌∙◌}
 use Rattle.std.specs.Str.{chars}
 use Rattle.conf_record.proofs.WrittenLemmas.{unescaped_path}
-use Rattle.conf_record.proofs.written.is_unescaped_path.Goals as goal
+use Rattle.conf_record.proofs.lines.is_unescaped_path.Goals as goal
 
 pub returns-then-starts_with_slash : goal.returns-then-starts_with_slash
 returns-then-starts_with_slash c = λ is.

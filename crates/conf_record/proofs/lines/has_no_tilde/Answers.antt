@@ -3,7 +3,7 @@ use Rattle.std.proofs.lemmas.Iterator.{YieldsList-from_chars}
 use Rattle.std.proofs.lemmas.Iterator.Search.{all_from_yields_List}
 use borrow.Author.Tests.{tests}
 use Rattle.conf_record.specs.SmallCommands.{is_no_tilde}
-use Rattle.conf_record.proofs.written.has_no_tilde.Goals as goal
+use Rattle.conf_record.proofs.lines.has_no_tilde.Goals as goal
 
 pub returns : goal.returns
 returns c =
