@@ -1,4 +1,5 @@
--- A reader's bytes, cut into pieces as they are read.
+-- A reader's bytes, cut into pieces as they are read. `longest` and `most` are how many bytes a piece, or what comes after
+-- the last one, and the whole pieces may have.
 use Rattle.std.specs.Prelude.{◌≡◌, ℕ, ◌+◌, ◌<◌, ◌≤◌, Bool, true, false, List, [], ◌++◌, length, slice_range, Option, Result, Ok, Err}
 use Rattle.std.specs.Io.KnownBytes.{Consumes, IsAtEnd}
 use Rattle.yaml_grammar.specs.Closings.{ClosesAt, ClosesOnce}
@@ -15,11 +16,10 @@ ahead pieces = slice_range pieces.chunk.items pieces.start pieces.end
 abbrev pub bytes_read : Pieces → ℕ
 bytes_read pieces = pieces.total
 
--- the most bytes of a piece, or of what comes after the last one
+-- the most bytes of a piece, and of the whole input
 abbrev pub piece_limit : Pieces → ℕ
 piece_limit pieces = pieces.cutter.max
 
--- the most bytes of the whole input
 abbrev pub input_limit : Pieces → ℕ
 input_limit pieces = pieces.limit
 
@@ -27,146 +27,138 @@ input_limit pieces = pieces.limit
 abbrev pub piece_or_rest : Pieces → List ℕ
 piece_or_rest pieces = pieces.cutter.bytes
 
--- What holds between two calls: a piece may be as long as the chunk, which has its size; the bytes ahead lie in it, and
--- no limit is passed.
-pub record IsSound (pieces : Pieces) : Type 0 where
-  pub max : 65536 ≤ piece_limit pieces
+-- What holds between two calls: the limits are these, and a piece may be as long as the chunk, which has its size; the
+-- bytes ahead lie in it, and no limit is passed.
+pub record IsSound (longest most : ℕ) (pieces : Pieces) : Type 0 where
+  pub max : piece_limit pieces ≡ longest
+  pub whole : input_limit pieces ≡ most
+  pub chunk : 65536 ≤ longest
   pub room : length pieces.chunk.items ≡ 65536
   pub ordered : pieces.start ≤ pieces.end
   pub within : pieces.end ≤ 65536
-  pub total : pieces.total ≤ input_limit pieces
-
--- the limits are what they were
-pub record KeepsLimits (old new : Pieces) : Type 0 where
-  pub piece : piece_limit new ≡ piece_limit old
-  pub whole : input_limit new ≡ input_limit old
+  pub total : pieces.total ≤ most
 
 -- no closing line ends within as many bytes as a piece may have, and there are more bytes
-pub record IsOverlong (limit : ℕ) (bytes : List ℕ) : Type 0 where
-  pub unclosed : (place : ℕ) → place ≤ limit → ClosesAt bytes place → ⊥
-  pub long : limit < length bytes
+pub record IsOverlong (longest : ℕ) (bytes : List ℕ) : Type 0 where
+  pub unclosed : (place : ℕ) → place ≤ longest → ClosesAt bytes place → ⊥
+  pub long : longest < length bytes
 
 -- ---- taking in what was read
 
 -- the bytes ahead close the piece
-pub record FeedsPiece (old new : Pieces) : Type 0 where
-  pub limits : KeepsLimits old new
-  pub sound : IsSound new
+pub record FeedsPiece (longest most : ℕ) (old new : Pieces) : Type 0 where
+  pub sound : IsSound longest most new
   pub joined : piece_or_rest old ++ ahead old ≡ piece_or_rest new ++ ahead new
   pub piece : ClosesOnce (piece_or_rest new)
-  pub short : length (piece_or_rest new) ≤ piece_limit old
+  pub short : length (piece_or_rest new) ≤ longest
   pub total : new.total ≡ old.total
 
 -- all bytes ahead are taken in, and close nothing
-pub record FeedsAll (old new : Pieces) : Type 0 where
-  pub limits : KeepsLimits old new
-  pub sound : IsSound new
+pub record FeedsAll (longest most : ℕ) (old new : Pieces) : Type 0 where
+  pub sound : IsSound longest most new
   pub joined : piece_or_rest old ++ ahead old ≡ piece_or_rest new
   pub used : ahead new ≡ []
   pub unclosed : Unclosed (piece_or_rest new)
-  pub short : length (piece_or_rest new) ≤ piece_limit old
+  pub short : length (piece_or_rest new) ≤ longest
   pub total : new.total ≡ old.total
 
-abbrev pub Feeds : Pieces → Pieces → Result Bool PiecesFault → Type 0
-Feeds old new (Ok true) = FeedsPiece old new
-Feeds old new (Ok false) = FeedsAll old new
-Feeds old new (Err fault.TooLong) = IsOverlong (piece_limit old) (piece_or_rest old ++ ahead old)
-Feeds old new (Err fault.OutOfMemory) = Unit {0}
-Feeds old new (Err fault) = ⊥
+abbrev pub Feeds : ℕ → ℕ → Pieces → Pieces → Result Bool PiecesFault → Type 0
+Feeds longest most old new (Ok true) = FeedsPiece longest most old new
+Feeds longest most old new (Ok false) = FeedsAll longest most old new
+Feeds longest most old new (Err fault.TooLong) = IsOverlong longest (piece_or_rest old ++ ahead old)
+Feeds longest most old new (Err fault.OutOfMemory) = Unit {0}
+Feeds longest most old new (Err fault) = ⊥
 
 -- ---- reading once
 
 -- Some bytes were read, and are ahead. `given` and `left` are what the reader has before and after, where it is known.
-pub record FillsSome (given left : Option (List ℕ)) (old new : Pieces) : Type 0 where
-  pub limits : KeepsLimits old new
-  pub sound : IsSound new
+pub record FillsSome (longest most : ℕ) (given left : Option (List ℕ)) (old new : Pieces) : Type 0 where
+  pub sound : IsSound longest most new
   pub taken : Consumes given left (ahead new)
   pub some : 0 < length (ahead new)
   pub held : piece_or_rest new ≡ piece_or_rest old
   pub total : new.total ≡ old.total + length (ahead new)
 
 -- the reader is at its end
-pub record FillsNone (given left : Option (List ℕ)) (old new : Pieces) : Type 0 where
-  pub limits : KeepsLimits old new
-  pub sound : IsSound new
+pub record FillsNone (longest most : ℕ) (given left : Option (List ℕ)) (old new : Pieces) : Type 0 where
+  pub sound : IsSound longest most new
   pub taken : Consumes given left []
   pub at_end : IsAtEnd left
   pub held : piece_or_rest new ≡ piece_or_rest old
   pub used : ahead new ≡ []
   pub total : new.total ≡ old.total
 
--- as many bytes as the input may have were read before, and now at least one more
-pub record FillsBeyond (given left : Option (List ℕ)) (old : Pieces) : Type 0 where
+-- as many bytes as an input may have were read before, and now at least one more
+pub record FillsBeyond (most : ℕ) (given left : Option (List ℕ)) (old : Pieces) : Type 0 where
   pub more : List ℕ
   pub taken : Consumes given left more
   pub some : 0 < length more
-  pub full : old.total ≡ input_limit old
+  pub full : old.total ≡ most
 
-abbrev pub Fills : Option (List ℕ) → Option (List ℕ) → Pieces → Pieces → Result Bool PiecesFault → Type 0
-Fills given left old new (Ok true) = FillsSome given left old new
-Fills given left old new (Ok false) = FillsNone given left old new
-Fills given left old new (Err fault.Read) = Consumes given left []
-Fills given left old new (Err fault.InputLong) = FillsBeyond given left old
-Fills given left old new (Err fault) = ⊥
+abbrev pub Fills : ℕ → ℕ → Option (List ℕ) → Option (List ℕ) → Pieces → Pieces → Result Bool PiecesFault → Type 0
+Fills longest most given left old new (Ok true) = FillsSome longest most given left old new
+Fills longest most given left old new (Ok false) = FillsNone longest most given left old new
+Fills longest most given left old new (Err fault.Read) = Consumes given left []
+Fills longest most given left old new (Err fault.InputLong) = FillsBeyond most given left old
+Fills longest most given left old new (Err fault) = ⊥
 
 -- ---- the next piece
 
 -- there is a next piece, of bytes that were ahead and of bytes that were read now
-pub record AdvancesToPiece (given left : Option (List ℕ)) (old new : Pieces) : Type 0 where
-  pub limits : KeepsLimits old new
+pub record AdvancesToPiece (longest most : ℕ) (given left : Option (List ℕ)) (old new : Pieces) : Type 0 where
   pub more : List ℕ
   pub taken : Consumes given left more
-  pub sound : IsSound new
+  pub sound : IsSound longest most new
   pub joined : ahead old ++ more ≡ piece_or_rest new ++ ahead new
   pub piece : ClosesOnce (piece_or_rest new)
-  pub short : length (piece_or_rest new) ≤ piece_limit old
+  pub short : length (piece_or_rest new) ≤ longest
   pub total : new.total ≡ old.total + length more
 
--- the reader was read to its end, and what comes after the last piece closes nothing
-pub record AdvancesToEnd (given left : Option (List ℕ)) (old new : Pieces) : Type 0 where
+-- the input was read to its end, and what comes after the last piece closes nothing
+pub record AdvancesToEnd (longest most : ℕ) (given left : Option (List ℕ)) (old new : Pieces) : Type 0 where
   pub more : List ℕ
   pub taken : Consumes given left more
   pub at_end : IsAtEnd left
   pub joined : ahead old ++ more ≡ piece_or_rest new
   pub unclosed : Unclosed (piece_or_rest new)
-  pub short : length (piece_or_rest new) ≤ piece_limit old
-  pub total : old.total + length more ≤ input_limit old
+  pub short : length (piece_or_rest new) ≤ longest
+  pub total : old.total + length more ≤ most
 
 -- a read failed, and the bytes before it close no further piece
-pub record FailsToRead (given left : Option (List ℕ)) (old : Pieces) : Type 0 where
+pub record FailsToRead (longest : ℕ) (given left : Option (List ℕ)) (old : Pieces) : Type 0 where
   pub more : List ℕ
   pub taken : Consumes given left more
   pub unclosed : Unclosed (ahead old ++ more)
-  pub short : length (ahead old ++ more) ≤ piece_limit old
+  pub short : length (ahead old ++ more) ≤ longest
 
 -- no closing line comes within the limit of a piece
-pub record FindsTooLong (given left : Option (List ℕ)) (old : Pieces) : Type 0 where
+pub record FindsTooLong (longest : ℕ) (given left : Option (List ℕ)) (old : Pieces) : Type 0 where
   pub more : List ℕ
   pub taken : Consumes given left more
-  pub overlong : IsOverlong (piece_limit old) (ahead old ++ more)
+  pub overlong : IsOverlong longest (ahead old ++ more)
 
--- as many bytes as the input may have were read, which close no further piece, and then at least one more
-pub record FindsInputLong (given left : Option (List ℕ)) (old : Pieces) : Type 0 where
+-- as many bytes as an input may have were read, which close no further piece, and then at least one more
+pub record FindsInputLong (longest most : ℕ) (given left : Option (List ℕ)) (old : Pieces) : Type 0 where
   pub more : List ℕ
   pub beyond : List ℕ
   pub taken : Consumes given left (more ++ beyond)
   pub some : 0 < length beyond
   pub unclosed : Unclosed (ahead old ++ more)
-  pub short : length (ahead old ++ more) ≤ piece_limit old
-  pub full : old.total + length more ≡ input_limit old
+  pub short : length (ahead old ++ more) ≤ longest
+  pub full : old.total + length more ≡ most
 
 -- memory ran out, after some bytes were read or none
 pub record RunsOutOfMemory (given left : Option (List ℕ)) : Type 0 where
   pub more : List ℕ
   pub taken : Consumes given left more
 
-abbrev pub Advances : Option (List ℕ) → Option (List ℕ) → Pieces → Pieces → Result Bool PiecesFault → Type 0
-Advances given left old new (Ok true) = AdvancesToPiece given left old new
-Advances given left old new (Ok false) = AdvancesToEnd given left old new
-Advances given left old new (Err fault.Read) = FailsToRead given left old
-Advances given left old new (Err fault.TooLong) = FindsTooLong given left old
-Advances given left old new (Err fault.InputLong) = FindsInputLong given left old
-Advances given left old new (Err fault.OutOfMemory) = RunsOutOfMemory given left
+abbrev pub Advances : ℕ → ℕ → Option (List ℕ) → Option (List ℕ) → Pieces → Pieces → Result Bool PiecesFault → Type 0
+Advances longest most given left old new (Ok true) = AdvancesToPiece longest most given left old new
+Advances longest most given left old new (Ok false) = AdvancesToEnd longest most given left old new
+Advances longest most given left old new (Err fault.Read) = FailsToRead longest given left old
+Advances longest most given left old new (Err fault.TooLong) = FindsTooLong longest given left old
+Advances longest most given left old new (Err fault.InputLong) = FindsInputLong longest most given left old
+Advances longest most given left old new (Err fault.OutOfMemory) = RunsOutOfMemory given left
 
 -- ---- the next piece, without a read
 
@@ -175,15 +167,14 @@ abbrev pub HasPieceAhead : Pieces → Type 0
 HasPieceAhead pieces = (place : ℕ) × ClosesAt (ahead pieces) place
 
 -- the next piece is of bytes that were ahead
-pub record AdvancesWithin (old new : Pieces) : Type 0 where
-  pub limits : KeepsLimits old new
-  pub sound : IsSound new
+pub record AdvancesWithin (longest most : ℕ) (old new : Pieces) : Type 0 where
+  pub sound : IsSound longest most new
   pub joined : ahead old ≡ piece_or_rest new ++ ahead new
   pub piece : ClosesOnce (piece_or_rest new)
-  pub short : length (piece_or_rest new) ≤ piece_limit old
+  pub short : length (piece_or_rest new) ≤ longest
   pub total : new.total ≡ old.total
 
-abbrev pub AdvancesAhead : Pieces → Pieces → Result (Unit {0}) PiecesFault → Type 0
-AdvancesAhead old new (Ok done) = AdvancesWithin old new
-AdvancesAhead old new (Err fault.OutOfMemory) = Unit {0}
-AdvancesAhead old new (Err fault) = ⊥
+abbrev pub AdvancesAhead : ℕ → ℕ → Pieces → Pieces → Result (Unit {0}) PiecesFault → Type 0
+AdvancesAhead longest most old new (Ok done) = AdvancesWithin longest most old new
+AdvancesAhead longest most old new (Err fault.OutOfMemory) = Unit {0}
+AdvancesAhead longest most old new (Err fault) = ⊥

@@ -60,10 +60,8 @@ impl Pieces {
         longest_input: usize,
     ) -> Result<Pieces, AllocError>
         requires { 65536 ≤ longest_piece }
-        ensures sound { IfOk result IsSound }
+        ensures sound { IfOk result (IsSound longest_piece longest_input) }
         ensures unread { IfOk result (λ pieces. (ahead pieces ≡ []) × (bytes_read pieces ≡ 0)) }
-        ensures limits { IfOk result (λ pieces. (piece_limit pieces ≡ longest_piece)
-            × (input_limit pieces ≡ longest_input)) }
     {
         Ok(Pieces {
             cutter: Cutter::new(alloc, longest_piece),
@@ -86,9 +84,9 @@ impl Pieces {
     /// - `InputLong`: the input has more bytes than it may have, and the first that many close no further piece.
     /// - `OutOfMemory`: there is no memory for the piece.
     pub fn advance<R: Read>(&mut self, reader: &mut R) -> Result<bool, PiecesFault>
-        requires { IsSound self.old }
-        ensures { Advances (R.remaining reader.old) (R.remaining reader.new)
-            self.old self.new result }
+        requires { IsSound (piece_limit self.old) (input_limit self.old) self.old }
+        ensures { Advances (piece_limit self.old) (input_limit self.old)
+            (R.remaining reader.old) (R.remaining reader.new) self.old self.new result }
     {
         self.cutter.clear();
         'parts: loop {
@@ -103,7 +101,7 @@ impl Pieces {
 
     /// Returns whether the bytes that were read close a further piece, so that there is one without a read.
     pub fn has_piece_ahead(&self) -> bool
-        requires { IsSound self.now }
+        requires { IsSound (piece_limit self.now) (input_limit self.now) self.now }
         ensures { (result ≡ true) ↔ HasPieceAhead self.now }
     {
         next_close(&self.chunk[self.start..self.end], 0).is_some()
@@ -114,9 +112,10 @@ impl Pieces {
     /// # Errors
     /// `OutOfMemory`: there is no memory for the piece. After it nothing is promised of the input.
     pub fn advance_ahead(&mut self) -> Result<(), PiecesFault>
-        requires sound { IsSound self.old }
+        requires sound { IsSound (piece_limit self.old) (input_limit self.old) self.old }
         requires ahead { HasPieceAhead self.old }
-        ensures { AdvancesAhead self.old self.new result }
+        ensures { AdvancesAhead (piece_limit self.old) (input_limit self.old)
+            self.old self.new result }
     {
         self.cutter.clear();
         match self.feed() {
@@ -135,9 +134,9 @@ impl Pieces {
 
     /// Appends what was read to the piece, up to the piece's end. Returns whether the piece is complete.
     fn feed(&mut self) -> Result<bool, PiecesFault>
-        requires sound { IsSound self.old }
+        requires sound { IsSound (piece_limit self.old) (input_limit self.old) self.old }
         requires unclosed { Unclosed self.old.cutter.bytes }
-        ensures { Feeds self.old self.new result }
+        ensures { Feeds (piece_limit self.old) (input_limit self.old) self.old self.new result }
     {
         match self.cutter.feed(&self.chunk[self.start..self.end]) {
             Ok(fed) => {
@@ -152,9 +151,10 @@ impl Pieces {
     /// Reads once. Returns whether there was anything to read. At the limit of the input it looks whether there is one
     /// byte more.
     fn fill<R: Read>(&mut self, reader: &mut R) -> Result<bool, PiecesFault>
-        requires sound { IsSound self.old }
+        requires sound { IsSound (piece_limit self.old) (input_limit self.old) self.old }
         requires used { ahead self.old ≡ [] }
-        ensures { Fills (R.remaining reader.old) (R.remaining reader.new) self.old self.new result }
+        ensures { Fills (piece_limit self.old) (input_limit self.old)
+            (R.remaining reader.old) (R.remaining reader.new) self.old self.new result }
     {
         let room = CHUNK.min(self.limit - self.total).max(1);
         match read_prefix(reader, &mut self.chunk, room) {
