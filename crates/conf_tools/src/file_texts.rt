@@ -1,8 +1,8 @@
 // The tools for the text of a file that was named, over any reader and writer.
-ghost use Rattle.std.specs.Prelude.{◌≡◌, ◌⊎◌, ◌++◌, IfErr, IfOk, OnOk, codes, string_bytes};
+ghost use Rattle.std.specs.Prelude.{◌≡◌, ◌⊎◌, ◌++◌, IfErr, IfOk, OnOk, codes, true};
 ghost use Rattle.std.specs.Io.KnownBytes.{Appends, Keeps};
-ghost use Rattle.conf_tools.specs.FileTexts.{ChecksFile, Lists, Restyles, StopsInFile, StopsInReading, file_line, file_report, words_of};
-ghost use Rattle.conf_tools.specs.Tools.{ReadsAtMost, most_input};
+ghost use Rattle.conf_tools.specs.FileTexts.{Adds, ChecksFile, Lists, Restyles, StopsInFile, StopsInReading, file_line, file_report, name_line, words_of};
+ghost use Rattle.conf_tools.specs.Tools.{ReadsAtMost, Stops, most_input};
 
 use crate::input::read_up_to;
 use crate::texts::{MOST_INPUT, ToolFault, write_whole};
@@ -10,7 +10,7 @@ use itoa::Buffer;
 use std::alloc::{AllocError, Global};
 use std::io::{Read, Write};
 use yaml_style::{Finding, Rule, check};
-use yaml_tree::{Limits, format_one};
+use yaml_tree::{Limits, ReadFault, format_one};
 
 /// What a text is in the one style.
 #[derive(Debug, PartialEq, Eq, Drop)]
@@ -42,9 +42,9 @@ pub fn restyle<R: Read>(alloc: Global, reader: &mut R) -> Result<Restyled, ToolF
     }
 }
 
-/// Reads a text from `reader` to its end, and returns whether it is another text than its tree has in the one style.
-/// Then it writes the file's name and a line feed to `writer`. It reads at most one byte more than the 4,194,304 that a
-/// text may have.
+/// Reads a text from `reader` to its end, and returns whether its tree has another text in the one style. If so, it
+/// writes the file's name and a line feed to `writer`. It reads at most one byte more than the 4,194,304 that a text may
+/// have.
 ///
 /// # Errors
 ///
@@ -75,7 +75,13 @@ pub fn list_changed<R: Read, W: Write>(
 }
 
 /// Writes a file's name and a line feed, and flushes the writer.
-fn write_name<W: Write>(alloc: Global, writer: &mut W, file: &str) -> Result<(), ToolFault> {
+fn write_name<W: Write>(alloc: Global, writer: &mut W, file: &str) -> Result<(), ToolFault>
+    ensures ok { OnOk result (Appends (W.contents writer.old) (W.contents writer.new)
+        (name_line file.now true)) }
+    ensures faults { IfErr result (λ fault. (fault ≡ ToolFault.Output)
+        ⊎ ((fault ≡ ToolFault.Read ReadFault.OutOfMemory)
+        × Keeps (W.contents writer.old) (W.contents writer.new))) }
+{
     let mut line = Vec::new(alloc);
     line.extend_from_slice(file.as_bytes())?;
     line.extend_from_slice(b"\n")?;
@@ -90,8 +96,8 @@ fn write_name<W: Write>(alloc: Global, writer: &mut W, file: &str) -> Result<(),
 /// # Errors
 ///
 /// - [`ToolFault::Input`] if the reader fails. Nothing is written.
-/// - [`ToolFault::Read`] if the text is refused, or memory runs out. Nothing is written, but some of the lines may be
-///   if memory ran out.
+/// - [`ToolFault::Read`] if the text is refused, when nothing is written, or memory runs out, when some of the lines may
+///   be written.
 /// - [`ToolFault::Output`] if the writer fails. Some of the lines may be written.
 pub fn check_file<R: Read, W: Write>(
     alloc: Global,
@@ -123,7 +129,13 @@ fn write_file_report<W: Write>(
     writer: &mut W,
     file: &str,
     findings: &[Finding],
-) -> Result<(), ToolFault> {
+) -> Result<(), ToolFault>
+    ensures ok { OnOk result (Appends (W.contents writer.old) (W.contents writer.new)
+        (file_report file.now findings.now)) }
+    ensures faults { IfErr result (λ fault. (fault ≡ ToolFault.Output)
+        ⊎ ((fault ≡ ToolFault.Read ReadFault.OutOfMemory)
+        × Adds (W.contents writer.old) (W.contents writer.new))) }
+{
     for finding in findings {
         let line = file_line(alloc, file, finding)?;
         if writer.write_all(&line).is_err() {
@@ -137,7 +149,9 @@ fn write_file_report<W: Write>(
 }
 
 /// The line of one finding of a file. It fails only if memory runs out.
-fn file_line(alloc: Global, file: &str, finding: &Finding) -> Result<Vec<u8>, AllocError> {
+fn file_line(alloc: Global, file: &str, finding: &Finding) -> Result<Vec<u8>, AllocError>
+    ensures { IfOk result (λ line. line.items ≡ file_line file.now finding.now) }
+{
     let mut digits = Buffer::new();
     let mut line = Vec::new(alloc);
     line.extend_from_slice(file.as_bytes())?;
@@ -152,7 +166,9 @@ fn file_line(alloc: Global, file: &str, finding: &Finding) -> Result<Vec<u8>, Al
 }
 
 /// What a finding of the rule says of its line.
-fn words_of(rule: Rule) -> &'static str {
+fn words_of(rule: Rule) -> &'static str
+    ensures { result.now ≡ words_of rule }
+{
     match rule {
         Rule::TrailingWhitespace => "the line ends in a space or TAB",
         Rule::LineEnd => "the line does not end in LF",

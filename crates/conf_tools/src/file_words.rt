@@ -1,6 +1,6 @@
 // What `format` and `check` do with files and standard input.
-ghost use Rattle.std.specs.Prelude.{◌≡◌};
-ghost use Rattle.conf_tools.specs.Statuses.{Performs, code_of, status_of, worst};
+ghost use Rattle.std.specs.Prelude.{◌≡◌, ◌≤◌};
+ghost use Rattle.conf_tools.specs.Statuses.{FormatsSome, Performs, TriesFiles, TriesText, code_of, status_of, worst};
 
 use crate::change_words::STANDARD_INPUT;
 use crate::file_texts::{Restyled, check_file, list_changed, restyle};
@@ -37,6 +37,15 @@ impl Formatting {
     }
 }
 
+/// What is written of a file.
+#[derive(Clone, Copy)]
+enum Report {
+    /// A line for each of its findings.
+    Findings,
+    /// Its name, if its text is another one in the one style.
+    Name,
+}
+
 /// The files that the words name.
 fn files_of<'w, 'a>(words: &'w ArgMatches<'a>) -> &'w [&'a str] {
     words.get_strs(FILE).unwrap_or_default()
@@ -60,8 +69,24 @@ pub(crate) fn format_words<F: Files<File = File>, R: Read, W: Write, E: Write>(
         (Formatting::Write, [file]) => format_file(rt, alloc, file, reader, writer, errors),
         (Formatting::Write, _) => refuse(errors, "more than one FILE needs -i or --check"),
         (Formatting::InPlace, files) => replace_files(rt, alloc, files, errors),
-        (Formatting::Check, []) => list_files(rt, alloc, &[STANDARD_INPUT], reader, writer, errors),
-        (Formatting::Check, files) => list_files(rt, alloc, files, reader, writer, errors),
+        (Formatting::Check, []) => try_files(
+            rt,
+            alloc,
+            Report::Name,
+            &[STANDARD_INPUT],
+            reader,
+            writer,
+            errors,
+        ),
+        (Formatting::Check, files) => try_files(
+            rt,
+            alloc,
+            Report::Name,
+            files,
+            reader,
+            writer,
+            errors,
+        ),
     }
 }
 
@@ -82,7 +107,7 @@ pub(crate) fn check_words<F: Files<File = File>, R: Read, W: Write, E: Write>(
     if files.is_empty() {
         return check_input(alloc, reader, writer, errors);
     }
-    check_files(rt, alloc, files, reader, writer, errors)
+    try_files(rt, alloc, Report::Findings, files, reader, writer, errors)
 }
 
 /// Writes the text of `reader` in the one style.
@@ -91,7 +116,10 @@ fn format_input<R: Read, W: Write, E: Write>(
     reader: &mut R,
     writer: &mut W,
     errors: &mut E,
-) -> Status {
+) -> Status
+    ensures { Performs (R.remaining reader.old) (R.remaining reader.new)
+        (W.contents writer.old) (W.contents writer.new) (code_of result) }
+{
     match format_text(alloc, reader, writer) {
         Ok(()) => Status::Done,
         Err(fault) => write_fault(errors, fault),
@@ -104,7 +132,10 @@ fn check_input<R: Read, W: Write, E: Write>(
     reader: &mut R,
     writer: &mut W,
     errors: &mut E,
-) -> Status {
+) -> Status
+    ensures { Performs (R.remaining reader.old) (R.remaining reader.new)
+        (W.contents writer.old) (W.contents writer.new) (code_of result) }
+{
     match check_text(alloc, reader, writer) {
         Ok(0) => Status::Done,
         Ok(_) => Status::Found,
@@ -120,7 +151,10 @@ fn format_file<F: Files<File = File>, R: Read, W: Write, E: Write>(
     reader: &mut R,
     writer: &mut W,
     errors: &mut E,
-) -> Status {
+) -> Status
+    ensures { Performs (R.remaining reader.old) (R.remaining reader.new)
+        (W.contents writer.old) (W.contents writer.new) (code_of result) }
+{
     match format_named(rt, alloc, file, reader, writer) {
         Ok(()) => Status::Done,
         Err(ToolFault::Output) => write_fault(errors, ToolFault::Output),
@@ -134,7 +168,10 @@ fn format_named<F: Files<File = File>, R: Read, W: Write>(
     file: &str,
     reader: &mut R,
     writer: &mut W,
-) -> Result<(), ToolFault> {
+) -> Result<(), ToolFault>
+    ensures { FormatsSome (R.remaining reader.old) (R.remaining reader.new)
+        (W.contents writer.old) (W.contents writer.new) result }
+{
     if file == STANDARD_INPUT {
         return format_text(alloc, reader, writer);
     }
@@ -150,7 +187,9 @@ fn replace_files<F: Files<File = File>, E: Write>(
     alloc: Global,
     files: &[&str],
     errors: &mut E,
-) -> Status {
+) -> Status
+    ensures { code_of result ≤ 3 }
+{
     if files.contains(&STANDARD_INPUT) {
         return refuse(errors, "standard input can't be replaced");
     }
@@ -178,21 +217,23 @@ fn restyle_file<F: Files<File = File>>(rt: &F, alloc: Global, file: &str) -> Res
     }
 }
 
-/// Writes the name of each file whose text is another one in the one style. Every file is tried, unless the writer
-/// fails.
-fn list_files<F: Files<File = File>, R: Read, W: Write, E: Write>(
+/// Reports on each file. Every file is tried, unless the writer fails.
+fn try_files<F: Files<File = File>, R: Read, W: Write, E: Write>(
     rt: &F,
     alloc: Global,
+    report: Report,
     files: &[&str],
     reader: &mut R,
     writer: &mut W,
     errors: &mut E,
-) -> Status {
+) -> Status
+    ensures { TriesFiles (R.remaining reader.old) (R.remaining reader.new)
+        (W.contents writer.old) (W.contents writer.new) result }
+{
     let mut status = Status::Done;
     for file in files {
-        match list_named(rt, alloc, file, reader, writer) {
-            Ok(false) => {}
-            Ok(true) => status = worst(status, Status::Found),
+        match try_file(rt, alloc, report, file, reader, writer) {
+            Ok(found) => status = worst(status, found),
             Err(ToolFault::Output) => return write_fault(errors, ToolFault::Output),
             Err(fault) => status = worst(status, write_file_fault(errors, file, fault)),
         }
@@ -200,56 +241,49 @@ fn list_files<F: Files<File = File>, R: Read, W: Write, E: Write>(
     status
 }
 
-fn list_named<F: Files<File = File>, R: Read, W: Write>(
+/// Reports on a file, or on `reader` for `-`.
+fn try_file<F: Files<File = File>, R: Read, W: Write>(
     rt: &F,
     alloc: Global,
+    report: Report,
     file: &str,
     reader: &mut R,
     writer: &mut W,
-) -> Result<bool, ToolFault> {
+) -> Result<Status, ToolFault>
+    ensures { TriesText (R.remaining reader.old) (R.remaining reader.new)
+        (W.contents writer.old) (W.contents writer.new) result }
+{
     if file == STANDARD_INPUT {
-        return list_changed(alloc, file, reader, writer);
+        return try_text(alloc, report, file, reader, writer);
     }
     match File::open(rt, file) {
-        Ok(mut opened) => list_changed(alloc, file, &mut opened, writer),
+        Ok(mut opened) => try_text(alloc, report, file, &mut opened, writer),
         Err(_) => Err(ToolFault::Input),
     }
 }
 
-/// Writes the findings of each file. Every file is tried, unless the writer fails.
-fn check_files<F: Files<File = File>, R: Read, W: Write, E: Write>(
-    rt: &F,
+/// Reports on the text of a file.
+fn try_text<R: Read, W: Write>(
     alloc: Global,
-    files: &[&str],
-    reader: &mut R,
-    writer: &mut W,
-    errors: &mut E,
-) -> Status {
-    let mut status = Status::Done;
-    for file in files {
-        match check_named(rt, alloc, file, reader, writer) {
-            Ok(0) => {}
-            Ok(_) => status = worst(status, Status::Found),
-            Err(ToolFault::Output) => return write_fault(errors, ToolFault::Output),
-            Err(fault) => status = worst(status, write_file_fault(errors, file, fault)),
-        }
-    }
-    status
-}
-
-fn check_named<F: Files<File = File>, R: Read, W: Write>(
-    rt: &F,
-    alloc: Global,
+    report: Report,
     file: &str,
     reader: &mut R,
     writer: &mut W,
-) -> Result<u64, ToolFault> {
-    if file == STANDARD_INPUT {
-        return check_file(alloc, file, reader, writer);
-    }
-    match File::open(rt, file) {
-        Ok(mut opened) => check_file(alloc, file, &mut opened, writer),
-        Err(_) => Err(ToolFault::Input),
+) -> Result<Status, ToolFault>
+    ensures { TriesText (R.remaining reader.old) (R.remaining reader.new)
+        (W.contents writer.old) (W.contents writer.new) result }
+{
+    match report {
+        Report::Findings => match check_file(alloc, file, reader, writer) {
+            Ok(0) => Ok(Status::Done),
+            Ok(_) => Ok(Status::Found),
+            Err(fault) => Err(fault),
+        },
+        Report::Name => match list_changed(alloc, file, reader, writer) {
+            Ok(false) => Ok(Status::Done),
+            Ok(true) => Ok(Status::Found),
+            Err(fault) => Err(fault),
+        },
     }
 }
 
