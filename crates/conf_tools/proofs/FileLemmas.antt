@@ -1,12 +1,14 @@
 -- What files that were tried say of the program's status.
-use Rattle.std.proofs.Common.{ℕ, List, [], ◌++◌, sym, ◌∙◌, arith, append-nil, inr}
+use Rattle.std.proofs.Common.{◌≡◌, ℕ, List, [], ◌∷◌, ◌++◌, sym, ap, ◌∙◌, subst, arith, append_assoc, append-nil, inr}
 use Rattle.std.specs.Prelude.{Option, Some, None, Ok, Err}
 use Rattle.std.specs.Io.KnownBytes.{Appends, Consumes, Keeps}
-use Rattle.std.proofs.KnownBytes.{Appends-trans, Consumes-nil, Consumes-trans, Keeps-trans}
+use Rattle.std.proofs.KnownBytes.{Appends-trans, Consumes-nil, Consumes-trans, Keeps-refl, Keeps-trans}
 use Rattle.yaml_events.specs.declared.read_fault.ReadFault.TheVariants.{TooLong, NotUtf8, Syntax, Documents, KeyNotText, KeyTwice, TooDeep, LargeInStyle, OutOfMemory}
-use Rattle.conf_tools.specs.FileTexts.{Adds, StopsInFile}
+use Rattle.yaml_events.specs.declared.read_fault.ReadFault.{ReadFault}
+use Rattle.yaml_style.specs.declared.finding.Finding.{Finding}
+use Rattle.conf_tools.specs.FileTexts.{Adds, StopsInFile, StopsInReading, file_line, file_report}
 use Rattle.conf_tools.specs.Statuses.{Performs, FormatsSome, TakesBytes, TriesFiles, TriesText, code_of, status_of, worst}
-use Rattle.conf_tools.specs.Tools.{ReadsAtMost, Stops}
+use Rattle.conf_tools.specs.Tools.{ReadsAtMost, RefusesInput, Stops}
 use Rattle.conf_tools.specs.declared.program.Status.{Status}
 use Rattle.conf_tools.specs.declared.program.Status.TheVariants.{Done, Found, Refused, WrongWords, Device}
 use Rattle.conf_tools.specs.declared.texts.ToolFault.{ToolFault}
@@ -39,15 +41,15 @@ takes_at_most given left most reads = (reads.bytes, reads.taken)
 
 module _ (g l m h w v : Option (List ℕ)) where
   -- one more file, after those of which a status is known
-  pub after_status : (worst_so_far found : Status) → TriesFiles g l h w worst_so_far → TriesText l m w v (Ok found)
-      → TriesFiles g m h v (worst worst_so_far found)
+  pub after_status : (worst_so_far status : Status) → TriesFiles g l h w worst_so_far → TriesText l m w v (Ok status)
+      → TriesFiles g m h v (worst worst_so_far status)
   after_status Done Done before one = (takes_both g l m before.0 one.0, Keeps-trans h w v before.1 one.1)
   after_status Done Found before one = (takes_both g l m before.0 one.0, adds_both h w v (adds_none h w before.1) one.1)
   after_status Found Done before one = (takes_both g l m before.0 one.0, adds_both h w v before.1 (adds_none w v one.1))
   after_status Found Found before one = (takes_both g l m before.0 one.0, adds_both h w v before.1 one.1)
   after_status Refused Done before one = (takes_both g l m before.0 one.0, adds_both h w v before.1 (adds_none w v one.1))
   after_status Refused Found before one = (takes_both g l m before.0 one.0, adds_both h w v before.1 one.1)
-  after_status WrongWords found before one = absurd before
+  after_status WrongWords status before one = absurd before
   after_status Device Done before one = takes_both g l m before one.0
   after_status Device Found before one = takes_both g l m before one.0
   after_status worst_so_far Refused before one = absurd one
@@ -157,3 +159,74 @@ not_listed given left held written Input takes stops = (takes, adds_none held wr
 not_listed given left held written Output takes stops = takes
 not_listed given left held written (Read fault) takes stops =
     (takes, adds_none held written (not_formatted given left held written given left (Read fault) stops))
+
+-- ---- one text
+
+-- a text that is refused, of which no line was written
+pub refused_file : (given left held : Option (List ℕ)) (fault : ReadFault) → Stops given left held held (Read fault)
+    → StopsInFile given left held held (Read fault)
+refused_file given left held TooLong stops = stops
+refused_file given left held (NotUtf8 at) stops = stops
+refused_file given left held (Syntax line column why) stops = stops
+refused_file given left held (Documents count) stops = stops
+refused_file given left held KeyNotText stops = stops
+refused_file given left held KeyTwice stops = stops
+refused_file given left held TooDeep stops = stops
+refused_file given left held LargeInStyle stops = stops
+refused_file given left held OutOfMemory stops = adds_none held held stops
+
+-- a text that is refused, where nothing is written
+pub refused_reading : (given left : Option (List ℕ)) (fault : ReadFault) → Stops given left None None (Read fault)
+    → StopsInReading given left (Read fault)
+refused_reading given left TooLong stops = stops
+refused_reading given left (NotUtf8 at) stops = stops
+refused_reading given left (Syntax line column why) stops = stops
+refused_reading given left (Documents count) stops = stops
+refused_reading given left KeyNotText stops = stops
+refused_reading given left KeyTwice stops = stops
+refused_reading given left TooDeep stops = stops
+refused_reading given left LargeInStyle stops = stops
+refused_reading given left OutOfMemory stops = stops
+
+unwritten : (given left held : Option (List ℕ)) (fault : ReadFault) → RefusesInput given left None None fault
+    → RefusesInput given left held held fault
+unwritten given left held fault refused =
+    record { bytes = refused.bytes; read = refused.read; refuses = refused.refuses; keeps = Keeps-refl held }
+
+-- the same of a writer that was not used
+pub stops_unwritten : (given left held : Option (List ℕ)) (fault : ToolFault) → StopsInReading given left fault
+    → Stops given left held held fault
+stops_unwritten given left held Input stops = Keeps-refl held
+stops_unwritten given left held Output stops = absurd stops
+stops_unwritten given left held (Read TooLong) stops = unwritten given left held TooLong stops
+stops_unwritten given left held (Read (NotUtf8 at)) stops = unwritten given left held (NotUtf8 at) stops
+stops_unwritten given left held (Read (Syntax line column why)) stops = unwritten given left held (Syntax line column why) stops
+stops_unwritten given left held (Read (Documents count)) stops = unwritten given left held (Documents count) stops
+stops_unwritten given left held (Read KeyNotText) stops = unwritten given left held KeyNotText stops
+stops_unwritten given left held (Read KeyTwice) stops = unwritten given left held KeyTwice stops
+stops_unwritten given left held (Read TooDeep) stops = unwritten given left held TooDeep stops
+stops_unwritten given left held (Read LargeInStyle) stops = unwritten given left held LargeInStyle stops
+stops_unwritten given left held (Read OutOfMemory) stops = Keeps-refl held
+
+-- ---- the lines of a file
+
+-- what was written of a file, before the lines of the findings that are left, is all of its lines
+abbrev pub WritesUpTo : Option (List ℕ) → Option (List ℕ) → List ℕ → List Finding → List ℕ → Type 0
+WritesUpTo held written file rest all = (lines : List ℕ) × Appends held written lines × (lines ++ file_report file rest ≡ all)
+
+-- the line of one more finding was written
+pub one_line_written : (held now written : Option (List ℕ)) (file line all : List ℕ) (f : Finding) (rest more : List Finding)
+    → WritesUpTo held now file rest all → Appends now written line → line ≡ file_line file f → rest ≡ f ∷ more
+    → WritesUpTo held written file more all
+one_line_written held now written file line all f rest more (lines, before, whole) appends is split = (
+  lines ++ line,
+  Appends-trans held now written lines line before appends,
+  ap (λ l. lines ++ l ++ file_report file more) is
+  ∙ append_assoc lines (file_line file f) (file_report file more) ∙ ap (λ fs. lines ++ file_report file fs) (sym split) ∙ whole,
+)
+
+-- where no finding is left, all lines were written
+pub all_lines_written : (held written : Option (List ℕ)) (file all : List ℕ) (rest : List Finding) → rest ≡ []
+    → WritesUpTo held written file rest all → Appends held written all
+all_lines_written held written file all rest none (lines, before, whole) =
+    subst (λ ls. Appends held written ls) (sym (append-nil lines) ∙ ap (λ fs. lines ++ file_report file fs) (sym none) ∙ whole) before

@@ -55,7 +55,7 @@ performs_refused honest folder moment since failures grouping old new StoreExist
 pub performs_change : {given left held written : Option (List ℕ)} (status : ℕ) → status ≤ 3 → TakesSome given left → Keeps held written → Performs given left held written status
 performs_change status known takes keeps = record {
   known = known;
-  done = λ e. ⊎_elim (λ none. inr (inr (inr (inl none)))) (λ some. inr (inr (inr (inr (some, keeps))))) takes;
+  done = λ e. ⊎_elim (λ none. inr (inr (inr (inl none)))) (λ some. inr (inr (inr (inr (inl (some, keeps)))))) takes;
   refused = λ e. inr (inr (inl keeps));
   wrong = λ e. keeps;
 }

@@ -1,5 +1,5 @@
 -- What a tool has read and written for the text of a file that was named.
-use Rattle.std.specs.Prelude.{◌≡◌, ◌≢◌, ℕ, Bool, true, false, List, [], ◌∷◌, ◌++◌, Option, None, length, codes, decimal, encode_utf8_all, string_bytes}
+use Rattle.std.specs.Prelude.{◌≡◌, ◌≢◌, ⊤, ℕ, Bool, true, false, List, [], ◌∷◌, ◌++◌, Option, None, length, codes, decimal, encode_utf8_all, string_bytes}
 use Rattle.std.specs.Io.KnownBytes.{Appends, Consumes, IsAtEnd, Keeps}
 use Rattle.yaml_grammar.specs.Style.{style_text}
 use Rattle.yaml_grammar.specs.Trees.{Tree}
@@ -35,9 +35,9 @@ pub record Restyles (given left : Option (List ℕ)) (restyled : Restyled) : Typ
 
 -- what holds if a text is not read; memory may run out before everything is read
 abbrev pub StopsInReading : Option (List ℕ) → Option (List ℕ) → ToolFault → Type 0
-StopsInReading given left Input = Unit {0}
+StopsInReading given left Input = ⊤
 StopsInReading given left Output = ⊥
-StopsInReading given left (Read ReadFault.OutOfMemory) = Unit {0}
+StopsInReading given left (Read ReadFault.OutOfMemory) = ⊤
 StopsInReading given left (Read fault) = RefusesInput given left None None fault
 
 -- what is written of a file: a line of its name, if its text would change

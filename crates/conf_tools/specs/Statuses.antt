@@ -1,5 +1,5 @@
 -- The program's statuses, and what each says of its input and output.
-use Rattle.std.specs.Prelude.{◌≡◌, ◌⊎◌, ℕ, ◌<◌, ◌≤◌, nat_lt, if◌then◌else◌, List, Option, Result, Ok, Err, encode_utf8_all}
+use Rattle.std.specs.Prelude.{◌≡◌, ◌⊎◌, ⊤, ℕ, ◌<◌, ◌≤◌, nat_lt, if◌then◌else◌, List, Option, Result, Ok, Err, encode_utf8_all}
 use Rattle.std.specs.Io.KnownBytes.{Appends, Consumes, Keeps}
 use Rattle.yaml_grammar.specs.Style.{style_text}
 use Rattle.yaml_grammar.specs.Trees.{Tree}
@@ -113,7 +113,7 @@ abbrev pub FormatsSome : Option (List ℕ) → Option (List ℕ) → Option (Lis
 FormatsSome given left held written (Ok done) =
     Formats given left held written
     ⊎ (Keeps given left × (tree : Tree) × Appends held written (encode_utf8_all (style_text tree)))
-FormatsSome given left held written (Err Output) = Unit {0}
+FormatsSome given left held written (Err Output) = ⊤
 FormatsSome given left held written (Err fault) = Keeps held written
 
 -- At 0 the input was formatted, or checked and nothing found in it, or its commands were answered, or nothing of it was

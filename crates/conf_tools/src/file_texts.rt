@@ -138,9 +138,9 @@ fn write_file_report<W: Write>(
 {
     for finding in findings {
         let line = file_line(alloc, file, finding)?;
-        if writer.write_all(&line).is_err() {
+        let Ok(()) = writer.write_all(&line) else {
             return Err(ToolFault::Output);
-        }
+        };
     }
     match writer.flush() {
         Ok(()) => Ok(()),
