@@ -43,6 +43,9 @@ LINES = [
     ("export sto", "export store"),
     ("set --ya", "set --yaml"),
     ("import store app fil", "import store app file.yaml"),
+    ("format --in", "format --in-place"),
+    ("format -i fil", "format -i file.yaml"),
+    ("check fil", "check file.yaml"),
 ]
 
 # How many seconds a shell may take to start, and to say what its words are.

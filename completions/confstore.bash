@@ -6,6 +6,7 @@ _confstore_options() {
     case $1 in
     run) echo '--group --checkpoint-after --help' ;;
     set) echo '--yaml --help' ;;
+    format) echo '-i --in-place --check --help' ;;
     *) echo '--help' ;;
     esac
 }
@@ -36,11 +37,10 @@ _confstore() {
         return
     fi
     case $word:$place in
-    import:2)
+    import:2 | format:* | check:*)
         compopt -o filenames
         mapfile -t COMPREPLY < <(compgen -f -- "$current")
         ;;
-    format:* | check:*) ;;
     *:0)
         compopt -o filenames
         mapfile -t COMPREPLY < <(compgen -d -- "$current")

@@ -14,7 +14,6 @@ mod fault;
 mod folder;
 mod lock;
 mod making;
-mod owner;
 mod plain;
 
 pub use disk::FolderDisk;

@@ -5,7 +5,8 @@ use Rattle.conf_disk.specs.Folder.{Folder}
 use Rattle.conf_disk.specs.Image.{Image}
 use Rattle.conf_store.specs.declared.fault.OpenFault.TheVariants as OpenFault
 use Rattle.conf_tools.specs.Stores.{RunsOn}
-use Rattle.conf_tools.specs.Statuses.{Performs, TakesSome, FindsSome, AnswersSome, code_of, status_of_store}
+use Rattle.conf_tools.specs.Statuses.{Performs, TakesSome, FindsSome, AnswersSome, TriesFiles, code_of, status_of_store}
+use Rattle.conf_tools.specs.declared.program.Status.TheVariants.{Found}
 use Rattle.conf_tools.specs.declared.stores.Grouping.{Grouping}
 use Rattle.conf_tools.specs.declared.stores.StoreToolFault.{StoreToolFault}
 use Rattle.conf_tools.specs.declared.stores.StoreToolFault.TheVariants.{Folder as InFolder, Open, Session, Export, Output as StoreOutput, Refused, StoreExists}
@@ -20,7 +21,8 @@ at_three = record {
 }
 
 at_one : {given left held written : Option (List ℕ)}
-    → FindsSome given left held written ⊎ AnswersSome given left held written ⊎ Keeps held written → Performs given left held written 1
+    → FindsSome given left held written ⊎ AnswersSome given left held written ⊎ Keeps held written ⊎ TriesFiles given left held written Found
+    → Performs given left held written 1
 at_one why = record {
   known = omega arith;
   done = λ e. absurd (omega (arith, e));
@@ -33,10 +35,10 @@ pub performs_refused : {D : Type 0} (honest : Type 0) (folder : D → Folder) (m
     → (fault : StoreToolFault) → RunsOn honest folder moment since failures given left held written grouping old (Err (new, fault))
     → Performs given left held written (code_of (status_of_store fault))
 performs_refused honest folder moment since failures grouping old new (InFolder fault) runs = absurd runs
-performs_refused honest folder moment since failures grouping old new (Open OpenFault.NotAStore) runs = at_one (inr (inr runs.1))
-performs_refused honest folder moment since failures grouping old new (Open (OpenFault.Damaged number)) runs = at_one (inr (inr runs.1))
+performs_refused honest folder moment since failures grouping old new (Open OpenFault.NotAStore) runs = at_one (inr (inr (inl runs.1)))
+performs_refused honest folder moment since failures grouping old new (Open (OpenFault.Damaged number)) runs = at_one (inr (inr (inl runs.1)))
 performs_refused honest folder moment since failures grouping old new (Open OpenFault.Device) runs = at_three
-performs_refused honest folder moment since failures grouping old new (Open OpenFault.OutOfMemory) runs = at_one (inr (inr runs.1))
+performs_refused honest folder moment since failures grouping old new (Open OpenFault.OutOfMemory) runs = at_one (inr (inr (inl runs.1)))
 performs_refused honest folder moment since failures grouping old new (Session SessionFaults.Read) runs = at_three
 performs_refused honest folder moment since failures grouping old new (Session (SessionFaults.Write count)) runs = at_three
 performs_refused honest folder moment since failures grouping old new (Session SessionFaults.TooLong) runs = at_one (inr (inl (runs.start, runs.file, grouping, SessionFaults.TooLong, runs.work, runs.answers)))
@@ -53,8 +55,8 @@ performs_refused honest folder moment since failures grouping old new StoreExist
 pub performs_change : {given left held written : Option (List ℕ)} (status : ℕ) → status ≤ 3 → TakesSome given left → Keeps held written → Performs given left held written status
 performs_change status known takes keeps = record {
   known = known;
-  done = λ e. ⊎_elim (λ none. inr (inr (inr (inl none)))) (λ some. inr (inr (inr (inr (some, keeps))))) takes;
-  refused = λ e. inr (inr keeps);
+  done = λ e. ⊎_elim (λ none. inr (inr (inr (inl none)))) (λ some. inr (inr (inr (inr (inl (some, keeps)))))) takes;
+  refused = λ e. inr (inr (inl keeps));
   wrong = λ e. keeps;
 }
 

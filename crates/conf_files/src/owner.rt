@@ -6,7 +6,7 @@ use std::io;
 use std::os::unix::fs::{MetadataExt, PermissionsExt, fchown};
 
 /// The mode of a new file until it has that of the file that it will replace.
-pub(crate) const OWNER_ALONE: u32 = 0o600;
+pub const OWNER_ALONE: u32 = 0o600;
 
 /// The bits of a mode that say who may read, write and run a file.
 const ACCESS: u32 = 0o777;
@@ -20,7 +20,10 @@ const BOTH: u32 = 0o11;
 /// Gives a new file the owner, the group and the mode of the file that it will replace. Where the owner or the group
 /// may not be given, it stays as it is, and the mode is narrower: nobody but a new owner gets access that they did not
 /// have.
-pub(crate) fn take_after(file: &File, replaced: &Metadata) -> io::Result<()> {
+///
+/// # Errors
+/// If the system refuses to look at the file, or to give it the mode. It may have the new owner then.
+pub fn take_after(file: &File, replaced: &Metadata) -> io::Result<()> {
     if !is_of_same_owner_and_group(&file.metadata()?, replaced) {
         give_owner_and_group(file, replaced);
     }
