@@ -8,7 +8,6 @@ pub mod AnswerLemmas
 pub mod ReplyLemmas
 pub mod SaidLemmas
 pub mod PartLemmas
-pub mod InputLemmas
 pub mod OutputLemmas
 pub mod TurnLemmas
 pub mod TendLemmas
