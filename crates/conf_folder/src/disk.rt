@@ -64,7 +64,7 @@ fn path_in(alloc: Global, folder: &str, name: &str) -> Result<String, AllocError
 }
 
 /// The bytes of a file, or `TooLong` if it has more than `max`.
-fn read_up_to(alloc: Global, file: File, max: u64) -> io::Result<Content> {
+fn file_content(alloc: Global, file: File, max: u64) -> io::Result<Content> {
     if file.metadata()?.len() > max {
         return Ok(Content::TooLong);
     }
@@ -276,7 +276,7 @@ impl<'r, R: Files<File = File>> FolderDisk<'r, R> {
     /// Reads the file under a name, if there is one. A file of more than `max` bytes is `TooLong`.
     fn try_read(&self, alloc: Global, name: Name, max: u64) -> io::Result<Content> {
         match open_to_read(self.rt, self.path(name)?) {
-            Ok(file) => read_up_to(alloc, file, max),
+            Ok(file) => file_content(alloc, file, max),
             Err(error) if error.kind() == ErrorKind::NotFound => Ok(Content::Missing),
             Err(error) => Err(error),
         }

@@ -21,6 +21,7 @@ pub mod lines;
 mod parts;
 mod read;
 mod record;
+mod record_sink;
 mod written;
 
 pub use base_writer::base_text;

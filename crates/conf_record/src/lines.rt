@@ -89,7 +89,7 @@ fn quoted_text(quoted: &str) -> Option<&str>
 
 /// Whether each byte is an ASCII character that needs no escape between double quotes. It does not stop at the first
 /// that is none, so that many bytes can be tested at once.
-fn are_alone(bytes: &[u8]) -> bool
+pub fn are_alone(bytes: &[u8]) -> bool
     ensures { result ≡ list_all stands_alone bytes.now }
 {
     let mut all = true;

@@ -7,6 +7,8 @@ pub mod RoundLemmas
 pub mod AnswerLemmas
 pub mod ReplyLemmas
 pub mod SaidLemmas
+pub mod LinesPresented
+pub mod CommandLineLemmas
 pub mod PartLemmas
 pub mod OutputLemmas
 pub mod TurnLemmas

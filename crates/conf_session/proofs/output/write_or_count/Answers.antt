@@ -2,7 +2,7 @@ use Rattle.std.proofs.Common.{◌≡◌, ◌-◌, ◌≤◌, length, take, drop,
 use Rattle.std.specs.Io.KnownBytes.{Appends}
 use Rattle.std.proofs.lemmas.List.{take_all}
 use Rattle.conf_session.proofs.OutputLemmas.{appends-more}
-use Rattle.conf_session.proofs.output.write_whole.Goals as goal
+use Rattle.conf_session.proofs.output.write_or_count.Goals as goal
 
 pub parts-preserved : goal.parts-preserved
 parts-preserved g c =

@@ -1,6 +1,6 @@
 use Rattle.std.proofs.Common.{◌≤◌, ◌-◌, length, take}
 use Rattle.std.specs.Io.KnownBytes.{Appends}
-use Rattle.conf_session.proofs.output.write_whole.Given as goal
+use Rattle.conf_session.proofs.output.write_or_count.Given as goal
 
 abbrev pub invariant-parts : goal.invariant-parts
 invariant-parts g l = record {
