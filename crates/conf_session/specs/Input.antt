@@ -71,7 +71,11 @@ Advances given left old new (Err fault) = ⊥
 abbrev pub HasPieceAhead : Input → Type 0
 HasPieceAhead input = reading.HasPieceAhead input.pieces
 
+-- the next piece is of bytes that were ahead
+abbrev pub AdvancesWithin : Input → Input → Type 0
+AdvancesWithin old new = reading.AdvancesWithin piece_limit session_limit old.pieces new.pieces
+
 abbrev pub AdvancesAhead : Input → Input → Result (Unit {0}) SessionFault → Type 0
-AdvancesAhead old new (Ok done) = reading.AdvancesWithin piece_limit session_limit old.pieces new.pieces
+AdvancesAhead old new (Ok done) = AdvancesWithin old new
 AdvancesAhead old new (Err fault.OutOfMemory) = Unit {0}
 AdvancesAhead old new (Err fault) = ⊥
