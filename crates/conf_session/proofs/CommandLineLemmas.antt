@@ -1,28 +1,27 @@
 -- What commands that are spelled one key a line say.
-use Rattle.std.proofs.Common.{◌≡◌, refl, sym, ap, subst, ◌∙◌, inl, arith, ◌≤◌, ◌<◌, append_assoc}
-use Rattle.std.specs.Prelude.{ℕ, ◌+◌, ◌*◌, Bool, true, false, not, ◌&&◌, ◌||◌, nat_lt, List, [], ◌∷◌, ◌++◌, codes, length, max}
+use Rattle.std.proofs.Common.{◌≡◌, refl, sym, ap, subst, ◌∙◌, inl, arith, ◌≤◌, append_assoc}
+use Rattle.std.specs.Prelude.{ℕ, ◌+◌, ◌*◌, Bool, true, false, nat_lt, List, [], ◌∷◌, ◌++◌, codes, length}
 use Rattle.std.specs.List.{list_all}
 use Rattle.std.specs.Str.{chars, IsUtf8, IsAscii}
 use Rattle.std.proofs.lemmas.Bool.{and_parts, and_from, ltb-true}
 use Rattle.std.proofs.lemmas.Bool.Decides.{nat_tests}
 use Rattle.std.proofs.lemmas.Str.{chars-IsAscii, IsUtf8-from_ascii}
-use Rattle.yaml_chars.specs.Classes.{code_point, in_range, is_in}
+use Rattle.yaml_chars.specs.Classes.{code_point}
 use Rattle.yaml_grammar.specs.Texts.{IsText, byte_len}
-use Rattle.yaml_grammar.specs.Trees.{Tree, text, mapping, AreTextMembers, members_depth}
-use Rattle.yaml_grammar.specs.Style.{letter, word_char, plain_in_style, key_text, long_key, key_lines, value_at, scalar_lines, members_after}
+use Rattle.yaml_grammar.specs.Trees.{text, mapping, AreTextMembers, members_depth}
+use Rattle.yaml_grammar.specs.Style.{word_char, plain_in_style, long_key, key_lines, value_at, members_after}
 use Rattle.yaml_grammar.specs.Reads.{Good, Gives}
 use Rattle.yaml_recognizers.proofs.OneStyle.Characters.{every_joined}
 use Rattle.yaml_data.proofs.CharacterLemmas.{every-IsAscii}
 use Rattle.yaml_writer.specs.BudgetLaws.{byte_len-append}
 use Rattle.yaml_writer.specs.Runs.{stands_alone}
 use Rattle.yaml_writer.proofs.ByteLemmas.{byte_len-chars}
-use Rattle.yaml_config.specs.Kept.{IsKept, own_limits}
+use Rattle.yaml_config.specs.Kept.{IsKept}
 use Rattle.yaml_config.proofs.TextTreeLemmas.{chars-IsText}
-use Rattle.yaml_tree.specs.Reading.{IsRead}
 use Rattle.conf_state.specs.Commands.{set_at, delete_at}
 use Rattle.conf_record.proofs.SizeLemmas.{scalar_most}
 use Rattle.conf_session.specs.Said.{Said, Says, command_limits, piece_limit, import_text, plain, single_part, get_at, said_by, part_from}
-use Rattle.conf_session.specs.CommandLines.{Spelling, bare, quoted, Line, spelled, bare_char, begins_bare, stands, IsSpelled, IsField, AreTwoFields, line_text, lines_text, members_of_lines, IsLine, AreLines, IsCommandLines}
+use Rattle.conf_session.specs.CommandLines.{Spelling, bare, quoted, Line, spelled, bare_char, begins_bare, stands, IsField, AreTwoFields, line_text, lines_text, members_of_lines, IsLine, AreLines, IsCommandLines}
 use Rattle.conf_session.proofs.LinesPresented.{Unambiguous, KeysAreText, marker_text, document_of, lines_give}
 
 -- ---- all is ASCII
@@ -129,7 +128,7 @@ lines_say one marked piece lines said is utf8 short command =
     let ls : List Line = command.first ∷ command.more in
     let same : piece ≡ document_of marked ls = is ∙ ap (λ t. marker_text marked ++ t) command.is in
     let itself : chars piece ≡ document_of marked ls =
-        ap chars same ∙ chars-IsAscii (document_of marked ls) (low_ascii (document_of marked ls) (document_low marked ls command.are)) in
+    ap chars same ∙ chars-IsAscii (document_of marked ls) (low_ascii (document_of marked ls) (document_low marked ls command.are)) in
     let bytes : byte_len (document_of marked ls) ≡ length piece = ap byte_len (sym itself) ∙ byte_len-chars piece utf8 in
     let flat = members_flat ls in
     let style = members_bytes ls command.are in
@@ -141,7 +140,7 @@ lines_say one marked piece lines said is utf8 short command =
       long = omega (arith, style, within, bytes, short);
     } in
     let gives = lines_give one marked command.first command.more command_limits command.are (keys_are_text ls command.are)
-        (low_is_text (document_of marked ls) (document_low marked ls command.are)) (omega (arith, bytes, short)) good in
+    (low_is_text (document_of marked ls) (document_low marked ls command.are)) (omega (arith, bytes, short)) good in
     inl (mapping (members_of_lines ls), record { utf8 = utf8; gives = subst (λ cs. Gives cs command_limits (mapping (members_of_lines ls))) (sym itself) gives }, command.says)
 
 -- ---- lines of keys as commands

@@ -10,7 +10,6 @@ pub mod SaidLemmas
 pub mod LinesPresented
 pub mod CommandLineLemmas
 pub mod PartLemmas
-pub mod InputLemmas
 pub mod OutputLemmas
 pub mod TurnLemmas
 pub mod TendLemmas

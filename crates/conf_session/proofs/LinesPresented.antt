@@ -1,19 +1,18 @@
 -- Lines of keys and texts are a document that reads as their mapping: a presentation of it, which fits and means it.
-use Rattle.std.proofs.Common.{◌≡◌, refl, sym, ◌∙◌, ap, inl, inr, arith, ◌<◌, ◌≤◌, append_assoc, append-nil, subst}
-use Rattle.std.specs.Prelude.{ℕ, zero, suc, ◌+◌, Bool, true, false, cond, not, ◌&&◌, ◌||◌, ◌==◌, nat_lt, List, [], ◌∷◌, ◌++◌, codes, map, flat_map, length, Some, None, if◌then◌else◌}
+use Rattle.std.proofs.Common.{◌≡◌, refl, sym, ◌∙◌, ap, arith, ◌<◌, ◌≤◌, append_assoc, append-nil, subst}
+use Rattle.std.specs.Prelude.{ℕ, ◌+◌, Bool, true, false, not, ◌&&◌, ◌||◌, List, [], ◌∷◌, ◌++◌, codes, map, flat_map, length, Some, None}
 use Rattle.std.specs.List.{list_all}
 use Rattle.std.proofs.lemmas.Bool.{and_parts, and_from, or_left, or_right, not-true, not_from_false, le-leb, ltb-false, leb-true, agree_below_at, false≢true}
-use Rattle.yaml_chars.specs.Classes.{in_range, is_in, nb_json, ns, white, indicator, line_break}
-use Rattle.yaml_grammar.specs.Texts.{IsText, first, starts_line, byte_len}
-use Rattle.yaml_grammar.specs.Separation.{LineEnd}
-use Rattle.yaml_grammar.specs.FlowScalars.{QuotedChar, raw, quoted_char_text, quoted_char_fits, quoted_char_value, char_value, plain_text, values, Scalar, plain, double, scalar_text, scalar_value, scalar_fits, outer, block_key, safe, plain_run}
-use Rattle.yaml_grammar.specs.FlowNodes.{Flow, scalar, flow_text, flow_fits, short_key}
-use Rattle.yaml_grammar.specs.BlockNodes.{Node, flow, pairs, Pairs, pair, pair_and, Pair, keyed, node_text, node_fits, node_events, pair_text, pair_fits, pair_events, pairs_text, pairs_fit, pairs_events}
+use Rattle.yaml_chars.specs.Classes.{is_in, ns, white, indicator, line_break}
+use Rattle.yaml_grammar.specs.Texts.{IsText, starts_line, byte_len}
+use Rattle.yaml_grammar.specs.FlowScalars.{raw, quoted_char_text, quoted_char_fits, quoted_char_value, char_value, plain_text, values, Scalar, plain, double, scalar_text, scalar_value, scalar_fits, outer, block_key, plain_run}
+use Rattle.yaml_grammar.specs.FlowNodes.{scalar, flow_text, flow_fits, short_key}
+use Rattle.yaml_grammar.specs.BlockNodes.{Node, flow, pairs, Pairs, pair, pair_and, Pair, keyed, node_text, pair_text, pair_fits, pairs_text, pairs_fit, pairs_events}
 use Rattle.yaml_grammar.specs.Streams.{Stream, Document, bare as bare_document, explicit, content, suffixes, stream_text, stream_events, fits}
 use Rattle.yaml_grammar.specs.Events.{Event, as_document, map_start, map_end, document_end}
-use Rattle.yaml_grammar.specs.Trees.{Tree, text, mapping, Members, no_member, member, Shape, scalar_of, map_from, map_to, document_from, document_to, shape, shapes, tree_shapes, members_shapes, IsTreeOf}
-use Rattle.yaml_grammar.specs.Style.{plain_in_style, key_text, long_key}
-use Rattle.yaml_grammar.specs.Reads.{Presents, CanRead, Reads, Limits, Good, Gives}
+use Rattle.yaml_grammar.specs.Trees.{mapping, scalar_of, map_from, map_to, document_from, document_to, shape, shapes, members_shapes, IsTreeOf}
+use Rattle.yaml_grammar.specs.Style.{plain_in_style, key_text}
+use Rattle.yaml_grammar.specs.Reads.{Presents, CanRead, Limits, Good, Gives}
 use Rattle.yaml_recognizers.proofs.OneStyle.Presented.{feed, one_space, word_flow}
 use Rattle.yaml_recognizers.proofs.OneStyle.ScalarsFit.{word_flow_fits}
 use Rattle.yaml_recognizers.proofs.OneStyle.Spelled.{word_flow_spelled}
@@ -148,10 +147,10 @@ pair_on_fits : (l : Line) (bol : Bool) (after : List ℕ) → IsLine l → plain
 pair_on_fits l bol after is word t =
     let value : Node = flow one_space (scalar (scalar_as l.spelling l.value)) (feed ∷ []) in
     let key_fits = subst (λ f. flow_fits f 0 block_key bol (58 ∷ (node_text value ++ after)) ≡ true) (key_flow l.key word)
-        (word_flow_fits l.key 0 block_key bol (58 ∷ (node_text value ++ after)) (λ x. refl) t) in
+    (word_flow_fits l.key 0 block_key bol (58 ∷ (node_text value ++ after)) (λ x. refl) t) in
     let long : length (key_text l.key) ≤ 1000 = ltb-false 1000 (length (key_text l.key)) is.short in
     let same : flow_text (scalar (plain l.key [])) ++ [] ≡ key_text l.key =
-        append-nil _ ∙ ap flow_text (sym (key_flow l.key word)) ∙ word_flow_spelled l.key in
+    append-nil _ ∙ ap flow_text (sym (key_flow l.key word)) ∙ word_flow_spelled l.key in
     let short : short_key (scalar (plain l.key [])) [] ≡ true = rw same (le-leb (length (key_text l.key)) 1024 (omega (arith, long))) in
     and_from _ _ (and_from _ _ (and_from _ _ key_fits refl) short)
     (and_from _ _ (and_from _ _ refl (scalar_as_fits l.spelling l.value (10 ∷ after) is.stands)) refl)

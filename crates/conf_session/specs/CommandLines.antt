@@ -1,5 +1,5 @@
 -- Commands that are spelled one key a line. Each text is ASCII, and so its bytes are its characters.
-use Rattle.std.specs.Prelude.{◌≡◌, ℕ, Bool, true, false, not, ◌&&◌, List, [], ◌∷◌, ◌++◌, codes, if◌then◌else◌}
+use Rattle.std.specs.Prelude.{◌≡◌, ℕ, Bool, true, false, not, ◌&&◌, List, [], ◌∷◌, ◌++◌, codes}
 use Rattle.std.specs.List.{list_all}
 use Rattle.yaml_chars.specs.Signs.{double_quote, line_feed}
 use Rattle.yaml_chars.specs.Classes.{in_range, is_in, indicator}

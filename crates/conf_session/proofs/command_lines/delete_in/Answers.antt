@@ -1,4 +1,4 @@
-use Rattle.std.proofs.Common.{◌≡◌, string_bytes, subst, sym, ap, ◌∙◌}
+use Rattle.std.proofs.Common.{◌≡◌, subst, sym, ap, ◌∙◌}
 use Rattle.std.specs.Str.{chars}
 use Rattle.conf_state.specs.Commands.{delete_at, text_of}
 use Rattle.conf_session.specs.Said.{single_part, plain}

@@ -1,4 +1,4 @@
-use Rattle.std.proofs.Common.{◌≡◌, string_bytes, subst, sym, ap, ◌∙◌, codes, arith}
+use Rattle.std.proofs.Common.{◌≡◌, subst, sym, ap, ◌∙◌, codes, arith}
 use Rattle.std.specs.Str.{chars}
 use Rattle.yaml_grammar.specs.Trees.{text}
 use Rattle.yaml_config.specs.Kept.{IsKept}
@@ -30,6 +30,6 @@ returns c =
     let name_is : text_of c.in_ok-name.name ≡ name = ap chars c.in_ok-name.ensures.ok ∙ spelled_chars one.spelling name one.stands in
     let path_is : text_of c.in_ok-path.path ≡ path = ap chars c.in_ok-path.ensures.ok ∙ spelled_chars two.spelling path two.stands in
     let value_is : tree_of c.part-value.result ≡ text value =
-        ap tree_of c.part-value.ensures ∙ tree_of-Text c.in_ok-new.field-0 ∙ ap (λ bs. text (chars bs)) c.in_ok-new.ensures
-        ∙ ap text (spelled_chars three.spelling value three.stands) in
+    ap tree_of c.part-value.ensures ∙ tree_of-Text c.in_ok-new.field-0 ∙ ap (λ bs. text (chars bs)) c.in_ok-new.ensures
+    ∙ ap text (spelled_chars three.spelling value three.stands) in
     subst (IsCommandLines lines) (λ i. single_part (plain (set_at (sym name_is i) (sym path_is i) (sym value_is i)))) own
