@@ -19,7 +19,7 @@ TARGET = os.path.join(TOP, "docs", "speed.svg")
 WORKS = {"events": "to events", "tree": "to a tree", "format": "reading and writing"}
 COLOURS = {"confstore": "#1b6ca8", "libyaml": "#888888", "libfyaml": "#d1495b", "rapidyaml": "#edae49"}
 # In pixels: the column of names, the width of a panel and the space behind it, a row, and the lines above and below.
-NAMES, PANEL, SPACE, ROW, ABOVE, BELOW = 84, 250, 22, 24, 58, 26
+NAMES, PANEL, SPACE, ROW, ABOVE, BELOW = 84, 250, 36, 24, 58, 26
 # The ends of the axis in MB/s, and its marks.
 SLOWEST, FASTEST, TICKS = 3, 1000, (3, 10, 30, 100, 300, 1000)
 
