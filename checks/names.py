@@ -8,7 +8,8 @@
 - docs/FAULTS.md: the first cells of its tables have each variant of the faults that the program prints, and no other
   name, and the table of statuses has those of the code.
 - docs/STORE.md: each number of the table of limits is in the code, and each fault of it is one.
-- docs/ARCHITECTURE.md: the tables have each crate of crates.txt, and the last cell of one its files to read first.
+- docs/ARCHITECTURE.md: the tables have each crate of crates.txt, and the last cell of one its files to read first; the
+  functions of the drawing of a command's way are in their files.
 - docs/TRUSTED.md: each file of definitions is there.
 - docs/GUIDE.md and README.md: each word behind `confstore` is one of the program's; the guide has all of them.
 - crates.txt: a library that a line names is in the files of the line's crate, and from no crate are there more than
@@ -31,6 +32,8 @@ MOST_WAYS = 5000
 # The enums of faults that the program prints, and the names that it prints for what isn't a variant of that name.
 FAULTS = ["Why", "ReadFault", "StoreFault", "PathFault", "OpenFault", "FolderFault", "SessionFault"]
 PRINTED = {"BadCommand", "Input", "Output", "StoreExists"}
+# A line of the drawing of a command's way: a crate or none, functions of it, words, and the files that have them.
+DRAWN = re.compile(r"^ +(\w+)? {2,}([a-zA-Z_:, ]+?)(?::| {2,}).*? {2,}([\w., ]+\.rt)$", re.M)
 # The status of the script `./confstore`, and the words that are clap's.
 SCRIPT_STATUS = "4"
 CLAP_WORDS = {"help"}
@@ -177,6 +180,17 @@ def wrong_in_architecture():
         yield f"docs/ARCHITECTURE.md: `{crate}` is not in both its tables and crates.txt"
 
 
+def wrong_in_drawing():
+    """The names in the drawing of a command's way; a line without a crate is of the one before."""
+    crate = ""
+    for here, what, files in DRAWN.findall(page("docs/ARCHITECTURE.md")):
+        crate = here or crate
+        text = "\n".join(text_of(f"{crate}/src/{file}") for file in files.split(", "))
+        for name in re.findall(r"\w+", what):
+            if not has_word(name, text):
+                yield f"docs/ARCHITECTURE.md: {crate} has no `{name}` in {files}"
+
+
 def missing_definitions():
     folder = ""
     for row in rows_of("docs/TRUSTED.md"):
@@ -227,7 +241,7 @@ def many_ways():
 
 def main():
     looks = (missing_in_rules, missing_in_claims, wrong_in_faults, wrong_statuses, wrong_limits, wrong_in_architecture,
-             missing_definitions, wrong_words, unused_libraries, many_ways)  # fmt: skip
+             wrong_in_drawing, missing_definitions, wrong_words, unused_libraries, many_ways)  # fmt: skip
     missing = [line for look in looks for line in look()]
     for line in missing:
         print(line)
