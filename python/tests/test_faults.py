@@ -182,9 +182,9 @@ class Ending(StoreTest):
 
 class Limits(unittest.TestCase):
     def test_one_length_of_a_command(self):
-        """The clients, the server and docs/SESSION.md say the same."""
+        """The clients, the server and docs/STORE.md say the same."""
         rows = (
-            ("docs/SESSION.md", r"(?m)^\| a piece, with its closing line; .* \| ([0-9,]+) bytes \|$"),
+            ("docs/STORE.md", r"(?m)^\| a piece of a session.* \| ([0-9,]+) bytes \| `TooLong` \|$"),
             ("clients/serve.py", r"(?m)^LONGEST = ([0-9_]+) "),
             ("clients/c/confstore.h", r"CONFSTORE_LONGEST_COMMAND \(\(size_t\)([0-9]+)\)"),
         )
