@@ -8,11 +8,17 @@ from __future__ import annotations
 import base64
 import http.client
 import json
+import queue
+import socket
+import threading
 import time
-from typing import Any, Dict, Iterator, List, NamedTuple, Optional, Sequence, Tuple
+from typing import Any, Dict, List, NamedTuple, Optional, Sequence, Tuple
 
 # How many seconds one call to one member may take.
 CALL = 5.0
+
+# How many new keys wait to be taken from a stream at most. Then the member waits.
+MOST_WAITING = 256
 
 
 class Unavailable(Exception):
@@ -122,8 +128,9 @@ class Etcd:
         found = _items(self._ask("/v3/kv/range", {"key": _encode(key)}))
         return found[0].value if found else None
 
-    def created_after(self, prefix: bytes, revision: int, most: int, local: bool = True) -> List[Item]:
-        """The keys with a prefix that were made after a revision, in the order in which they were made.
+    def created_after(self, prefix: bytes, revision: int, most: int, local: bool = True) -> Tuple[List[Item], int]:
+        """The keys with a prefix that were made after a revision, in the order in which they were made, at most so many,
+        and the revision at which this was so.
 
         With `local` one member says what it knows, which may be less than there is, but is never out of order.
         """
@@ -131,7 +138,16 @@ class Etcd:
             "key": _encode(prefix), "range_end": _encode(_end_of(prefix)), "min_create_revision": str(revision + 1),
             "sort_target": "CREATE", "sort_order": "ASCEND", "limit": str(most), "serializable": local,
         }  # fmt: skip
-        return _items(self._ask("/v3/kv/range", asked))
+        answer = self._ask("/v3/kv/range", asked)
+        return _items(answer), int(answer["header"]["revision"])
+
+    def keys_until(self, prefix: bytes, revision: int, most: int) -> List[bytes]:
+        """Some of the keys with a prefix that were made up to a revision, at most so many; none if there are none."""
+        asked = {
+            "key": _encode(prefix), "range_end": _encode(_end_of(prefix)), "max_create_revision": str(revision),
+            "keys_only": True, "limit": str(most),
+        }  # fmt: skip
+        return [item.key for item in _items(self._ask("/v3/kv/range", asked))]
 
     def last_created(self, prefix: bytes) -> int:
         """The revision that made the newest key with a prefix, of all that were made when this is called; else 0."""
@@ -147,20 +163,90 @@ class Etcd:
             removed = [{"request_delete_range": {"key": _encode(key)}} for key in keys[start : start + 100]]
             self._ask("/v3/kv/txn", {"success": removed})
 
-    def delete_all(self, prefix: bytes) -> None:
-        self._ask("/v3/kv/deleterange", {"key": _encode(prefix), "range_end": _encode(_end_of(prefix))})
+    def delete_between(self, first: bytes, end: bytes) -> None:
+        """Takes out all keys from the first one on that are before the end."""
+        self._ask("/v3/kv/deleterange", {"key": _encode(first), "range_end": _encode(end)})
 
-    def changes(self, prefix: bytes) -> Iterator[None]:
-        """Yields whenever keys with a prefix may have changed, until the member goes. It may yield too often."""
-        with_timeout = self._connect(60.0)
+    def delete_all(self, prefix: bytes) -> None:
+        self.delete_between(prefix, _end_of(prefix))
+
+    def compact(self, revision: int) -> None:
+        """Has the cluster forget what there was before a revision and is not there any more. All keys stay."""
         try:
-            asked = {"create_request": {"key": _encode(prefix), "range_end": _encode(_end_of(prefix))}}
-            with_timeout.request("POST", "/v3/watch", json.dumps(asked), {"Content-Type": "application/json"})
-            answer = with_timeout.getresponse()
-            while answer.readline():
-                yield None
-        except (OSError, http.client.HTTPException):
-            return
+            self._post("/v3/kv/compaction", {"revision": str(revision)})
+        except (OSError, http.client.HTTPException, ValueError):
+            self.close()  # it was compacted further already, or the next base will do it
+
+    def stream(self, prefix: bytes, revision: int) -> "Stream":
+        """The keys with a prefix that are made at this revision or later, as the next member tells of them."""
+        self.close()
+        self._first = (self._first + 1) % len(self._members)
+        return Stream(self._connect(60.0), prefix, revision)
+
+
+class Stream(threading.Thread):
+    """New keys, in the order in which they are made, until the member goes or says that it doesn't know them any more.
+    No key is left out before that."""
+
+    def __init__(self, connection: http.client.HTTPConnection, prefix: bytes, revision: int) -> None:
+        super().__init__(name="confstore stream", daemon=True)
+        self._connection = connection
+        self._asked = {
+            "key": _encode(prefix), "range_end": _encode(_end_of(prefix)), "start_revision": str(revision),
+            "fragment": True, "filters": ["NODELETE"],
+        }  # fmt: skip
+        self._items: "queue.Queue[Optional[Item]]" = queue.Queue(MOST_WAITING)
+        self._socket: Optional[socket.socket] = None
+        self._is_closed = False
+        self.start()
+
+    def run(self) -> None:
+        try:
+            words = json.dumps({"create_request": self._asked})
+            self._connection.request("POST", "/v3/watch", words, {"Content-Type": "application/json"})
+            self._socket = self._connection.sock
+            answer = self._connection.getresponse()
+            if self._socket is not None:
+                self._socket.settimeout(None)
+            while not self._is_closed and (line := answer.readline()):
+                told = json.loads(line).get("result", {})
+                if told.get("canceled"):
+                    break
+                made = [event["kv"] for event in told.get("events", ()) if "kv" in event]
+                for item in _items({"kvs": [kv for kv in made if kv["create_revision"] == kv["mod_revision"]]}):
+                    self._give(item)
+        except (OSError, http.client.HTTPException, ValueError):
+            pass
         finally:
-            with_timeout.close()
-            self._first = (self._first + 1) % len(self._members)
+            self._give(None)
+            self._connection.close()
+
+    def _give(self, item: Optional[Item]) -> None:
+        while not self._is_closed:
+            try:
+                return self._items.put(item, timeout=0.5)
+            except queue.Full:
+                continue
+
+    def take(self, most: int, seconds: float) -> Optional[List[Item]]:
+        """The next keys, at most so many: those that are there, or else the first one that comes in so many seconds.
+        An empty list if none came, and None once the stream is over."""
+        taken: List[Item] = []
+        while len(taken) < most:
+            try:
+                item = self._items.get_nowait() if taken else self._items.get(timeout=seconds)
+            except queue.Empty:
+                break
+            if item is None:
+                self._items.put(None)
+                return taken or None
+            taken.append(item)
+        return taken
+
+    def close(self) -> None:
+        self._is_closed = True
+        if self._socket is not None:
+            try:
+                self._socket.shutdown(socket.SHUT_RDWR)
+            except OSError:
+                pass
