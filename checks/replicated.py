@@ -47,7 +47,8 @@ MACHINES = 3
 BASE_AFTER = 300
 LOG = b"/confstore/default/log/"
 
-# How many seconds one command may take with all that fails meanwhile, and the whole run.
+# How many seconds there is trouble at most, one command may take with all that fails meanwhile, and the whole run.
+TROUBLE = 75
 PATIENCE = 90
 LONGEST = 400
 
@@ -303,9 +304,10 @@ def make_trouble(cluster, ended, done):
     """Kills, stops and fills nodes and members, one at a time, at random moments, until the clients are done."""
     chance = random.Random(99)
     kinds = []
-    while not ended.wait(chance.uniform(0.2, 0.8)):
+    until = time.monotonic() + TROUBLE
+    while time.monotonic() < until and not ended.wait(chance.uniform(0.2, 0.8)):
         if not kinds:
-            kinds = ["kill"] * 6 + ["pause"] * 3 + ["full disk", "full member"]
+            kinds = ["kill"] * 6 + ["pause"] * 3 + ["full disk"] + ["full member"]
             chance.shuffle(kinds)
         kind = kinds.pop()
         done[kind] = done.get(kind, 0) + 1
@@ -323,12 +325,12 @@ def make_trouble(cluster, ended, done):
 
 
 def cut_off_all(cluster, ended, done):
-    """Cuts one machine after the other off from the others, until the clients are done."""
-    for machine in [0, 1, 2] * 100:
-        if ended.wait(0.5):
+    """Cuts one machine after the other off from the others, twice, until the clients are done."""
+    for machine in [*range(MACHINES)] * 2:
+        if ended.wait(1.5):
             return
         done["cut off"] = done.get("cut off", 0) + 1
-        cluster.ground.cut_off(machine, 3, ended)
+        cluster.ground.cut_off(machine, 4, ended)
 
 
 def exports_of(ask):
@@ -427,6 +429,15 @@ class Run:
         with open(behind.log, encoding="utf-8") as log:
             self.checks.is_so("starts from the base" in log.read(), "the node behind starts from a base")
 
+    def compare_members(self):
+        """All members of etcd have the same keys, made at the same revisions."""
+        found = []
+        for address in self.cluster.addresses:
+            member = Etcd([address])
+            member.last_created(LOG)  # so that it has caught up with the others
+            found.append([(item.key, item.created) for item in member.created_after(LOG, 0, 100_000)[0]])
+        self.checks.is_so(found[1:] == found[:-1], f"the members of etcd differ: {[len(items) for items in found]}")
+
     def compare(self):
         """Compares all answers and exports with those of one session over the log, a new node's too."""
         number = len(self.cluster.nodes)
@@ -441,9 +452,11 @@ class Run:
         wanted, exports = one_session(os.path.join(self.folder, "alone"), self.log)
         for node, exported in enumerate(found):
             self.checks.is_so(exported == exports, f"node {node} exports something else")
-        identities = [identity for _, identity, _ in self.log]
+        numbers = {}
+        for number, identity, _ in self.log:
+            numbers.setdefault(identity, []).append(number)
         for identity, (_, answer) in self.answers.items():
-            self.checks.is_so(identities.count(identity) == 1, f"{identity} is {identities.count(identity)} times in the log")
+            self.checks.is_so(len(numbers.get(identity, ())) == 1, f"{identity} has the numbers {numbers.get(identity)}")
             self.checks.is_so(answer == wanted.get(identity), f"{identity}: {answer}, alone {wanted.get(identity)}")
         were_refused = sum("refused" in answer for _, answer in self.answers.values())
         print(f"{len(self.log)} entries, {were_refused} of them refused, {len(exports)} configurations", flush=True)
@@ -457,6 +470,7 @@ class Run:
 def on_one_machine(run):
     run.start()
     run.send("faults", COMMANDS, make_trouble)
+    run.compare_members()
     run.ask_again(40)
     run.keep_behind()
     run.compare()
@@ -473,7 +487,7 @@ def keep_logs(folder):
     shutil.rmtree(kept, ignore_errors=True)
     for place, _, names in os.walk(folder):
         for name in names:
-            if name.endswith(".log"):
+            if name.endswith((".log", ".yaml")):
                 os.makedirs(kept, exist_ok=True)
                 shutil.copy(os.path.join(place, name), os.path.join(kept, f"{os.path.basename(place)}-{name}"))
     print(f"the logs are in {kept}")

@@ -14,8 +14,8 @@ import threading
 import time
 from typing import Any, Dict, List, NamedTuple, Optional, Sequence, Tuple
 
-# How many seconds one call to one member may take.
-CALL = 5.0
+# How many seconds one call to one member may take. Then the next member is asked.
+CALL = 2.0
 
 # How many new keys wait to be taken from a stream at most. Then the member waits.
 MOST_WAITING = 256
@@ -142,7 +142,8 @@ class Etcd:
         return _items(answer), int(answer["header"]["revision"])
 
     def keys_until(self, prefix: bytes, revision: int, most: int) -> List[bytes]:
-        """Some of the keys with a prefix that were made up to a revision, at most so many; none if there are none."""
+        """Some of the keys with a prefix that were made up to a revision, which is not 0, at most so many; none if there
+        are none."""
         asked = {
             "key": _encode(prefix), "range_end": _encode(_end_of(prefix)), "max_create_revision": str(revision),
             "keys_only": True, "limit": str(most),

@@ -301,9 +301,9 @@ class Follower(threading.Thread):
             self._etcd.delete_all(self._parts_of(number))
             return
         self._etcd.delete_between(self._prefix + b"parts/", self._parts_of(number))
-        while keys := self._etcd.keys_until(self._log, last, 500):
-            self._etcd.delete(keys)
         if last:
+            while keys := self._etcd.keys_until(self._log, last, 500):
+                self._etcd.delete(keys)
             self._etcd.compact(last)
 
     def _parts_of(self, number: int) -> bytes:

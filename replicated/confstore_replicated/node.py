@@ -232,29 +232,5 @@ def main() -> int:
     return 0
 
 
-class Client:
-    """A client of a node, for Python. One thread at a time may use it."""
-
-    def __init__(self, path: str, timeout: float = 2 * PATIENCE) -> None:
-        self._socket = socket.socket(socket.AF_UNIX)
-        self._socket.settimeout(timeout)
-        self._socket.connect(path)
-        self._file = self._socket.makefile("rwb")
-
-    def ask(self, request: Request) -> Dict[str, Any]:
-        """What the node answers. Raises `OSError` if the node goes."""
-        self._file.write(json.dumps(request).encode() + b"\n")
-        self._file.flush()
-        line = self._file.readline()
-        if not line.endswith(b"\n"):
-            raise ConnectionError("the node closed the connection")
-        answer: Dict[str, Any] = json.loads(line)
-        return answer
-
-    def close(self) -> None:
-        self._file.close()
-        self._socket.close()
-
-
 if __name__ == "__main__":
     sys.exit(main())
