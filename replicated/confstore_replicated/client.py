@@ -1,4 +1,4 @@
-"""A client of a node. It waits for an answer for a minute at most, and the node itself for half of that."""
+"""A client of a node. It waits for an answer for a minute at most; the node itself gives up after half of that."""
 
 from __future__ import annotations
 
@@ -13,7 +13,11 @@ class Client:
     def __init__(self, path: str, timeout: float = 60.0) -> None:
         self._socket = socket.socket(socket.AF_UNIX)
         self._socket.settimeout(timeout)
-        self._socket.connect(path)
+        try:
+            self._socket.connect(path)
+        except OSError:
+            self._socket.close()
+            raise
         self._file = self._socket.makefile("rwb")
 
     def ask(self, request: Dict[str, Any]) -> Dict[str, Any]:
