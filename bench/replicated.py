@@ -12,6 +12,7 @@ times that its clients waited.
 It needs etcd (Debian's package etcd-server), PyYAML and the built program, and takes a minute or two.
 """
 
+import hashlib
 import multiprocessing
 import os
 import shutil
@@ -53,8 +54,13 @@ def through_node(cluster, which):
 def etcd_alone(cluster, which):
     shift = which % MACHINES
     etcd = Etcd(cluster.addresses[shift:] + cluster.addresses[:shift])
-    mine = f"/alone/{os.getpid()}-{time.monotonic_ns()}-"
-    return lambda number: etcd.create(f"{mine}{number}".encode(), entry_of(edits_of(command_of(number))))
+    mine = f"{os.getpid()}-{time.monotonic_ns()}-"
+
+    def call(number):
+        entry, name = entry_of(edits_of(command_of(number))), f"{mine}{number}".encode()
+        etcd.create(b"/alone/ids/" + name, hashlib.sha256(entry).digest(), b"/alone/log/" + name, entry)
+
+    return call
 
 
 def one_store(path, _which):

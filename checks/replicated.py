@@ -4,7 +4,7 @@
 First everything is on 127.0.0.1. Four clients send 2,000 commands; meanwhile, one at a time and at random moments, a
 node or a member is killed, or stopped for a while, or its disk is full. Then a node is kept away until the log has lost
 entries that it needs. Then each machine gets a network namespace of its own, and each in turn is cut off from the
-others while clients send 400 more commands. After each part it looks at these things:
+others while clients send 1,000 more commands. After each part it looks at these things:
 
 - each command that was answered is in the log exactly once;
 - each answer is that of one session that performs the log by itself, and is given again to who asks again;
@@ -41,7 +41,7 @@ from confstore_replicated.entries import edits_in, marked, refused  # noqa: E402
 from confstore_replicated.etcd import Etcd, Unavailable  # noqa: E402
 
 COMMANDS = int(sys.argv[1]) if len(sys.argv) > 1 else 2000
-CUT_OFF_COMMANDS = COMMANDS // 5
+CUT_OFF_COMMANDS = COMMANDS // 2
 CLIENTS = 4
 MACHINES = 3
 BASE_AFTER = 300
@@ -308,7 +308,7 @@ def make_trouble(cluster, ended, done):
     chance = random.Random(99)
     kinds = []
     until = time.monotonic() + TROUBLE
-    while time.monotonic() < until and not ended.wait(chance.uniform(0.2, 0.8)):
+    while time.monotonic() < until and not ended.wait(chance.uniform(0.1, 0.4)):
         if not kinds:
             kinds = ["kill"] * 6 + ["pause"] * 3 + ["full disk"] + ["full member"]
             chance.shuffle(kinds)
@@ -414,6 +414,8 @@ class Run:
             for number in range(MACHINES):
                 again = asked(self.cluster, number, command, elsewhere=False)
                 self.checks.is_so(again == answer, f"{identity} again at node {number}: {again}, before {answer}")
+            taken = asked(self.cluster, 0, {"id": identity, "import": "another", "text": "x"})
+            self.checks.is_so(taken == {"refused": "IdTaken"}, f"another command as {identity}: {taken}")
 
     def keep_behind(self):
         """Keeps a node away until the log has lost what it needs, and starts it again."""

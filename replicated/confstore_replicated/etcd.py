@@ -95,19 +95,23 @@ class Etcd:
                     raise Unavailable(f"no member of the cluster answers: {error}") from None
                 time.sleep(0.05)
 
-    def create(self, key: bytes, value: bytes) -> Tuple[int, bytes]:
-        """Puts a key that is not there yet, by one transaction, and returns the revision that made it, and its value.
+    def create(self, name: bytes, stands_for: bytes, key: bytes, value: bytes) -> Tuple[int, bytes]:
+        """Puts a name that is not there yet, with what it stands for, and a key with it, by one transaction. Returns the
+        revision that made the name, and what it stands for.
 
-        A key that is there stays, so that a call that is repeated makes it once.
+        A name that is there stays, and then the key is not put, so that a call that is repeated makes it once.
         """
         wanted = {
-            "compare": [{"target": "CREATE", "key": _encode(key), "create_revision": "0"}],
-            "success": [{"request_put": {"key": _encode(key), "value": _encode(value)}}],
-            "failure": [{"request_range": {"key": _encode(key)}}],
+            "compare": [{"target": "CREATE", "key": _encode(name), "create_revision": "0"}],
+            "success": [
+                {"request_put": {"key": _encode(name), "value": _encode(stands_for)}},
+                {"request_put": {"key": _encode(key), "value": _encode(value)}},
+            ],
+            "failure": [{"request_range": {"key": _encode(name)}}],
         }
         answer = self._ask("/v3/kv/txn", wanted)
         if answer.get("succeeded"):
-            return int(answer["header"]["revision"]), value
+            return int(answer["header"]["revision"]), stands_for
         (found,) = _items(answer["responses"][0]["response_range"])
         return found.created, found.value
 
@@ -141,12 +145,11 @@ class Etcd:
         answer = self._ask("/v3/kv/range", asked)
         return _items(answer), int(answer["header"]["revision"])
 
-    def keys_until(self, prefix: bytes, revision: int, most: int) -> List[bytes]:
-        """Some of the keys with a prefix that were made up to a revision, which is not 0, at most so many; none if there
-        are none."""
+    def _keys_until(self, prefix: bytes, revision: int) -> List[bytes]:
+        """Some of the keys with a prefix that were made up to a revision, as many as a transaction takes."""
         asked = {
             "key": _encode(prefix), "range_end": _encode(_end_of(prefix)), "max_create_revision": str(revision),
-            "keys_only": True, "limit": str(most),
+            "keys_only": True, "limit": "100",
         }  # fmt: skip
         return [item.key for item in _items(self._ask("/v3/kv/range", asked))]
 
@@ -159,9 +162,10 @@ class Etcd:
         found = _items(self._ask("/v3/kv/range", asked))
         return found[0].created if found else 0
 
-    def delete(self, keys: Sequence[bytes]) -> None:
-        for start in range(0, len(keys), 100):
-            removed = [{"request_delete_range": {"key": _encode(key)}} for key in keys[start : start + 100]]
+    def delete_until(self, prefix: bytes, revision: int) -> None:
+        """Takes out the keys with a prefix that were made up to a revision; none if that is not above 0."""
+        while revision > 0 and (keys := self._keys_until(prefix, revision)):
+            removed = [{"request_delete_range": {"key": _encode(key)}} for key in keys]
             self._ask("/v3/kv/txn", {"success": removed})
 
     def delete_between(self, first: bytes, end: bytes) -> None:

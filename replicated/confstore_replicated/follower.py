@@ -33,6 +33,9 @@ GROUP_BYTES = 1_000_000
 # After how many bytes of entries the store writes a checkpoint. So its file never comes near its limit.
 CHECKPOINT_BYTES = 64 * 1024 * 1024
 
+# How many revisions of etcd an `id` is known at least, after its entry too.
+IDS_KEPT = 100_000
+
 # A base is kept in etcd in parts of so many bytes.
 PART = 700_000
 
@@ -116,7 +119,7 @@ class Follower(threading.Thread):
         self._program = program
         self._etcd = Etcd(members)
         self._prefix = f"/confstore/{cluster}/".encode()
-        self._log = self._prefix + b"log/"
+        self._log, self._ids = self._prefix + b"log/", self._prefix + b"ids/"
         self._base_after = base_after
         self._told = told
         self._state = threading.Condition()
@@ -301,9 +304,9 @@ class Follower(threading.Thread):
             self._etcd.delete_all(self._parts_of(number))
             return
         self._etcd.delete_between(self._prefix + b"parts/", self._parts_of(number))
+        self._etcd.delete_until(self._log, last)
+        self._etcd.delete_until(self._ids, number - IDS_KEPT)
         if last:
-            while keys := self._etcd.keys_until(self._log, last, 500):
-                self._etcd.delete(keys)
             self._etcd.compact(last)
 
     def _parts_of(self, number: int) -> bytes:

@@ -15,15 +15,17 @@ surrogate, which no YAML can hold, `TooLong` of a command that is too long for t
 says that nothing is known of the command yet: it may be in the log or not.
 
 An object may have two more keys: `id`, a text of 1 to 200 characters of the client's own for a change, under which it is
-in the log at most once, however often it is sent, as long as the log has it (`IdTaken` if another command has it); and
-`fresh` with the value `yes` for a question, which is then answered after all changes that were acknowledged anywhere
-before it was asked.
+performed at most once, however often it is sent within the next 100,000 revisions of etcd (`IdTaken` if another command
+has it); and `fresh` with the value `yes` for a question, which is then answered after all changes that were acknowledged
+anywhere before it was asked. `{"failed": "Forgotten"}` is said of an `id` whose command was performed, where this node
+does not know any more what it was answered; another may.
 """
 
 from __future__ import annotations
 
 import argparse
 import errno
+import hashlib
 import json
 import os
 import signal
@@ -80,7 +82,7 @@ class Node:
 
     def __init__(self, folder: str, members: "list[str]", cluster: str, program: Optional[str], base_after: int) -> None:
         self._members = members
-        self._log = f"/confstore/{cluster}/log/".encode()
+        self._log, self._ids = (f"/confstore/{cluster}/{kind}/".encode() for kind in ("log", "ids"))
         self._answers = Answers()
         self._local = threading.local()
         self.follower = Follower(
@@ -114,9 +116,9 @@ class Node:
     def _change(self, request: Request, identity: Optional[str]) -> Dict[str, Any]:
         """Puts a change into the log, and waits until it was performed here."""
         entry = entry_of(edits_of(request))
-        key = self._log + (identity or uuid.uuid4().hex).encode()
-        number, made = self._etcd().create(key, entry)
-        if made != entry:
+        name, digest = (identity or uuid.uuid4().hex).encode(), hashlib.sha256(entry).digest()
+        number, made = self._etcd().create(self._ids + name, digest, self._log + name, entry)
+        if made != digest:
             raise Refused("IdTaken")
         if not self.follower.wait_for(number, PATIENCE):
             return {"failed": "TimedOut"}
