@@ -1,15 +1,14 @@
 -- Lines as a store writes them make the record of a command.
-use Rattle.std.proofs.Common.{◌≡◌, ℕ, ◌+◌, ◌≤◌, ◌<◌, Bool, true, false, not, ◌&&◌, nat_le, nat_lt, ◌==◌, if◌then◌else◌, zero, suc, List, [], ◌∷◌, ◌++◌, length, length-append, codes, decimal, Option, Some, None, is_ok, IsUtf8, encode_utf8_all, append_assoc, append-nil, refl, sym, ap, subst, ◌∙◌, arith}
-use Rattle.std.proofs.lemmas.Bool.{and_parts}
+use Rattle.std.proofs.Common.{◌≡◌, ℕ, ◌+◌, ◌≤◌, ◌<◌, Bool, true, false, ◌&&◌, nat_le, nat_lt, if◌then◌else◌, zero, suc, List, [], ◌∷◌, ◌++◌, length, length-append, codes, decimal, Option, Some, None, IsUtf8, encode_utf8_all, append_assoc, append-nil, refl, sym, ap, subst, ◌∙◌, arith}
 use Rattle.std.proofs.lemmas.Bool.Decides.{nat_tests}
 use Rattle.std.proofs.lemmas.Fmt.{decimal_is_IsNumeral}
 use Rattle.std.proofs.lemmas.Str.{chars-IsAscii, encodes-append, encodes-chars, encodes-IsAscii}
 use Rattle.std.specs.List.{list_all}
 use Rattle.std.specs.Str.{chars}
 use Rattle.std.specs.Str.Parse.{digits_value}
-use Rattle.yaml_chars.specs.Signs.{tilde, line_feed, space_char, double_quote}
+use Rattle.yaml_chars.specs.Signs.{line_feed, space_char, double_quote}
 use Rattle.yaml_grammar.specs.Style.{plain_in_style, literal_in_style, feeds_at_end, literal_mark, literal_lines, quoted_chars, in_double_quotes, scalar_lines, value_at, elements_after, members_at, members_after}
-use Rattle.yaml_grammar.specs.Texts.{IsText, byte_len, first, same_text, spaces}
+use Rattle.yaml_grammar.specs.Texts.{IsText, byte_len, same_text, spaces}
 use Rattle.yaml_grammar.specs.Trees.{Tree, text, Members, no_member, member}
 use Rattle.yaml_writer.specs.declared.scalar_style.ScalarStyle.{ScalarStyle}
 use Rattle.yaml_writer.specs.declared.scalar_style.ScalarStyle.TheVariants.{Plain, Double, LiteralStrip, LiteralClip, LiteralKeep}
@@ -28,7 +27,6 @@ use Rattle.yaml_data.proofs.SeenLemmas.{tree_of-Text}
 use Rattle.yaml_data.proofs.TextLemmas.{IsUtf8-text_bytes}
 use Rattle.yaml_config.specs.Limits.{config_limits}
 use Rattle.yaml_config.proofs.TextTreeLemmas.{chars-IsText}
-use Rattle.json_pointer.specs.Pointers.{first_stray, path_of}
 use Rattle.conf_state.specs.States.{count_limit}
 use Rattle.conf_state.specs.Commands.{Edit, import_as, set_at, delete_at, Command, single, batch}
 use Rattle.conf_state.specs.Rooms.{record_limit}
@@ -36,7 +34,7 @@ use Rattle.conf_state.proofs.LineLemmas.{line, number_line}
 use Rattle.conf_record.specs.Documents.{IsRecord}
 use Rattle.conf_record.specs.Records.{edit_members, edit_elements, command_members, record_text, record_bytes, FitsRecord}
 use Rattle.conf_record.specs.RecordsRead.{number_from_digits, ReadsRecord, IsEdit, AreEdits}
-use Rattle.conf_record.specs.SmallCommands.{is_slash, is_no_tilde, IsSmallEdit, AreSmallEdits}
+use Rattle.conf_record.specs.SmallCommands.{IsSmallEdit, AreSmallEdits}
 use Rattle.conf_record.specs.Written.{IsLineOf, IsConfigLine, text_line, import_lines, set_lines, delete_lines, IsWrittenAs, ElementsWritten, IsWritten}
 use Rattle.conf_record.proofs.DocumentLemmas.{record_is}
 use Rattle.conf_record.proofs.EditLines.{edit_lines}
@@ -316,20 +314,3 @@ short_fits bytes (batch edits) number is short =
 pub written_is : (bytes : List ℕ) (command : Command) (number : ℕ) → ReadsRecord (record_text command number) command number → bytes ≡ record_bytes command number
     → IsRecord bytes command number
 written_is bytes command number reads same = subst (λ bs. IsRecord bs command number) (sym same) (record_is command command number number reads)
-
--- ---- paths without escapes
-
-not-true : (b : Bool) → not b ≡ true → b ≡ false
-not-true true e = cc
-not-true false e = refl
-
-none_stray : (cs : List ℕ) → list_all is_no_tilde cs ≡ true → first_stray cs ≡ None
-none_stray [] all = refl
-none_stray (c ∷ cs) all =
-    let parts = and_parts (is_no_tilde c) (list_all is_no_tilde cs) all in
-    rw (not-true (c == tilde) parts.0, none_stray cs parts.1) refl
-
--- a text that begins with a `/` and has no `~` is a path
-pub unescaped_path : (cs : List ℕ) → first is_slash cs ≡ true → list_all is_no_tilde cs ≡ true → is_ok (path_of cs) ≡ true
-unescaped_path [] led all = cc
-unescaped_path (c ∷ cs) led all = rw (led, none_stray (c ∷ cs) all) refl

@@ -161,8 +161,7 @@ fn made_set(alloc: Global, name: &str, path: &str, value: &str) -> Result<Option
     if !good_name(name) {
         return Ok(None);
     }
-    let short = is_short_path(alloc, path)?;
-    if !short {
+    if !is_short_path(path) {
         return Ok(None);
     }
     let Some(value) = line_config(alloc, value)? else {
@@ -181,8 +180,7 @@ fn made_delete(alloc: Global, name: &str, path: &str) -> Result<Option<Edit>, Al
     if !good_name(name) {
         return Ok(None);
     }
-    let short = is_short_path(alloc, path)?;
-    if !short {
+    if !is_short_path(path) {
         return Ok(None);
     }
     let name = String::from_str(alloc, name)?;

@@ -3,19 +3,17 @@
 //! A line is a key with its `: `, and a value. [`cut_line`] and [`cut_text`] take the first line of a text off;
 //! [`line_text`] and [`line_config`] say which text or configuration a value is. Each is exact where it answers. `None`
 //! says nothing: the general reader may still read the value.
-ghost use Rattle.std.specs.Prelude.{◌≡◌, ◌++◌, ◌∷◌, ℕ, true, encode_utf8_all, is_ok, IfOk, IfSome, IsTrue};
+ghost use Rattle.std.specs.Prelude.{◌≡◌, ◌++◌, ◌∷◌, ℕ, true, encode_utf8_all, IfOk, IfSome, IsTrue};
 ghost use Rattle.std.specs.List.{list_all};
 ghost use Rattle.std.specs.Str.{chars};
 ghost use Rattle.yaml_chars.specs.Signs.{line_feed, double_quote};
 ghost use Rattle.yaml_data.specs.Seen.{tree_of};
 ghost use Rattle.yaml_grammar.specs.Style.{scalar_lines};
-ghost use Rattle.yaml_grammar.specs.Texts.{first};
 ghost use Rattle.yaml_writer.specs.Runs.{stands_alone};
-ghost use Rattle.json_pointer.specs.Pointers.{path_of};
-ghost use Rattle.conf_record.specs.SmallCommands.{IsShortPath, is_slash, is_no_tilde};
+ghost use Rattle.conf_record.specs.SmallCommands.{IsShortPath};
 ghost use Rattle.conf_record.specs.Written.{IsLineOf, IsConfigLine};
 
-use crate::fields::is_path;
+use json_pointer::is_pointer;
 use std::alloc::{AllocError, Global};
 use yaml_tree::{Config, Limits, ScalarStyle, Size, Text, Tree, value_style};
 
@@ -127,41 +125,9 @@ pub fn line_config(alloc: Global, line: &str) -> Result<Option<Config>, AllocErr
     Ok(Some(Config::with_size(Tree::Text(text), size)))
 }
 
-/// Whether a text is a path (RFC 6901), and has at most 8,388,608 bytes, twice those of a configuration. It fails only if
-/// memory runs out.
-pub fn is_short_path(alloc: Global, path: &str) -> Result<bool, AllocError>
-    ensures { IfOk result (λ short. IsTrue short → IsShortPath (chars path.now)) }
+/// Whether a text is a path (RFC 6901), and has at most 8,388,608 bytes, twice those of a configuration.
+pub fn is_short_path(path: &str) -> bool
+    ensures { IsTrue result → IsShortPath (chars path.now) }
 {
-    if path.len() as u64 > 2 * Limits::CONFIGURATION.style {
-        return Ok(false);
-    }
-    if is_unescaped_path(path) {
-        return Ok(true);
-    }
-    is_path(alloc, path)
-}
-
-/// Whether a text is a path without escapes, and not the empty one. It takes no memory.
-fn is_unescaped_path(path: &str) -> bool
-    ensures { IsTrue result → is_ok (path_of (chars path.now)) ≡ true }
-{
-    starts_with_slash(path) && has_no_tilde(path)
-}
-
-fn starts_with_slash(path: &str) -> bool
-    ensures { result ≡ first is_slash (chars path.now) }
-{
-    path.chars().next().is_some_and(|c| c == '/')
-}
-
-fn has_no_tilde(path: &str) -> bool
-    ensures { result ≡ list_all is_no_tilde (chars path.now) }
-{
-    path.chars().all(is_no_tilde)
-}
-
-fn is_no_tilde(c: char) -> bool
-    ensures { result ≡ is_no_tilde c }
-{
-    c != '~'
+    path.len() as u64 <= 2 * Limits::CONFIGURATION.style && is_pointer(path)
 }

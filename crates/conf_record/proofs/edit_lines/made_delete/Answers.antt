@@ -16,7 +16,7 @@ returns c =
     let own : IsWrittenAs (delete_lines name path) (delete_at (chars name) (chars path)) = record {
       written = delete_written name path;
       is = subst (λ bs. IsText (chars bs)) c.in_ok-path.ensures.ok texts;
-      small = (sym c.good_name.ensures.named ∙ c.if-not-good_name.false, c.in_ok-short.ensures c.if-not-short.false);
+      small = (sym c.good_name.ensures.named ∙ c.if-not-good_name.false, c.is_short_path.ensures c.if-not-is_short_path.false);
     } in
     subst (λ bs. IsWrittenAs (delete_lines name path) (delete_at (chars bs) (text_of c.in_ok-path.path))) (sym c.in_ok-name.ensures.ok)
     (subst (λ bs. IsWrittenAs (delete_lines name path) (delete_at (chars name) (chars bs))) (sym c.in_ok-path.ensures.ok) own)

@@ -20,7 +20,7 @@ returns c =
     let own : IsWrittenAs (set_lines name path line) (set_at (chars name) (chars path) value) = record {
       written = set_written name path line value config.written;
       is = (subst (λ bs. IsText (chars bs)) c.in_ok-path.ensures.ok texts, config.kept);
-      small = (sym c.good_name.ensures.named ∙ c.if-not-good_name.false, c.in_ok-short.ensures c.if-not-short.false, config.small);
+      small = (sym c.good_name.ensures.named ∙ c.if-not-good_name.false, c.is_short_path.ensures c.if-not-is_short_path.false, config.small);
     } in
     subst (λ bs. IsWrittenAs (set_lines name path line) (set_at (chars bs) (text_of c.in_ok-path.path) value)) (sym c.in_ok-name.ensures.ok)
     (subst (λ bs. IsWrittenAs (set_lines name path line) (set_at (chars name) (chars bs) value)) (sym c.in_ok-path.ensures.ok) own)
