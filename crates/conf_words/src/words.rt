@@ -1,4 +1,5 @@
 // The words of the program, and what its help says of them.
+use crate::reads::{get_command, log_command, names_command, salvage_command, verify_command};
 use clap::{Arg, ArgAction, Command, value_parser};
 use std::alloc::{AllocError, Global};
 
@@ -154,7 +155,7 @@ pub const POINTER: &str = "POINTER";
 
 const POINTER_HELP: &str = "A JSON Pointer, as /port or /tags/0";
 
-const WHOLE_POINTER_HELP: &str =
+pub(crate) const WHOLE_POINTER_HELP: &str =
     "A JSON Pointer, as /port; the whole configuration if it is left out";
 
 /// The argument of `set` that is the value.
@@ -203,6 +204,11 @@ pub fn command<'a>(alloc: Global) -> Result<Command<'a>, AllocError> {
         .subcommand(checkpoint_command(alloc)?)?
         .subcommand(run_command(alloc)?)?
         .subcommand(export_command(alloc)?)?
+        .subcommand(names_command(alloc)?)?
+        .subcommand(get_command(alloc)?)?
+        .subcommand(log_command(alloc)?)?
+        .subcommand(verify_command(alloc)?)?
+        .subcommand(salvage_command(alloc)?)?
         .subcommand(Command::new(alloc, FORMAT).about(FORMAT_ABOUT))?
         .subcommand(
             Command::new(alloc, CHECK)
@@ -212,12 +218,12 @@ pub fn command<'a>(alloc: Global) -> Result<Command<'a>, AllocError> {
 }
 
 /// The argument that names the folder of a store.
-fn folder_arg<'a>(alloc: Global) -> Arg<'a> {
+pub(crate) fn folder_arg<'a>(alloc: Global) -> Arg<'a> {
     Arg::new(alloc, FOLDER).required(true).help(FOLDER_HELP)
 }
 
 /// The argument that names a configuration.
-fn name_arg<'a>(alloc: Global) -> Arg<'a> {
+pub(crate) fn name_arg<'a>(alloc: Global) -> Arg<'a> {
     Arg::new(alloc, NAME).required(true).help(NAME_HELP)
 }
 
