@@ -10,12 +10,17 @@
 mod change_words;
 mod changes;
 mod exports;
+mod findings;
 mod input;
 mod laws;
 mod program;
+mod read_words;
+mod reading_fault;
+mod reads;
 mod report;
 mod rest;
 mod stores;
+mod surveys;
 mod tail;
 mod texts;
 
@@ -23,6 +28,9 @@ pub use changes::{Change, change_store, make_store};
 pub use exports::export_store;
 pub use laws::calls_hold;
 pub use program::{perform, refuse_words};
+pub use reading_fault::ReadingFault;
+pub use reads::{ValueForm, write_names, write_value};
 pub use stores::{Grouping, StoreToolFault, run_store};
+pub use surveys::{Soundness, salvage_store, write_survey};
 pub use tail::{KEPT, Tail, TailReader};
 pub use texts::{ToolFault, check_text, format_text};

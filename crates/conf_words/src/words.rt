@@ -7,7 +7,14 @@ const VERSION: &str = "0.1.0";
 
 const ABOUT: &str = "A crash-safe store of named configuration trees, and tools for their texts.";
 
-const STATUSES: &str = "\
+const GROUPS_AND_STATUSES: &str = "\
+The words by what they do:
+  change a store  init, import, set, delete, checkpoint, run
+  read a store    export, names, get, log, verify, salvage
+  read a text     format, check
+
+`names`, `get`, `log` and `verify` take no lock, so they run beside a session that holds the store.
+
 Statuses:
   0  done
   1  a text or a store was refused, memory ran out, or `check` found something
@@ -195,7 +202,7 @@ pub fn command<'a>(alloc: Global) -> Result<Command<'a>, AllocError> {
     Command::new(alloc, "confstore")
         .version(VERSION)
         .about(ABOUT)
-        .after_help(STATUSES)
+        .after_help(GROUPS_AND_STATUSES)
         .subcommand_required(true)
         .subcommand(init_command(alloc)?)?
         .subcommand(import_command(alloc)?)?

@@ -1,0 +1,102 @@
+// What stands in a store's file, as lines of text.
+use conf_history::{Bad, Findings, NoRecord};
+use conf_state::StoreFault;
+use itoa::Buffer;
+use std::alloc::{AllocError, Global};
+use tree_path::PathFault;
+use yaml_tree::ReadFault;
+
+/// What stands in a store's file, as a YAML mapping in the one style: a line for each key. It fails only if memory runs
+/// out.
+pub(crate) fn findings_text(alloc: Global, findings: &Findings) -> Result<Vec<u8>, AllocError> {
+    let mut text = Vec::new(alloc);
+    match findings.bad {
+        None => push_word(&mut text, "state", "whole")?,
+        Some(_) => push_word(&mut text, "state", "damaged")?,
+    }
+    push_number(&mut text, "base", findings.base)?;
+    push_number(&mut text, "commands", findings.commands)?;
+    if let Some(bad) = &findings.bad {
+        push_bad(&mut text, bad)?;
+    }
+    push_number(&mut text, "dropped", findings.dropped)?;
+    Ok(text)
+}
+
+/// Appends what is known of the first bad piece.
+fn push_bad(text: &mut Vec<u8>, bad: &Bad) -> Result<(), AllocError> {
+    push_number(text, "piece", bad.piece.number)?;
+    push_number(text, "byte", bad.piece.byte)?;
+    push_number(text, "line", bad.piece.line)?;
+    push_word(text, "why", why_word(bad.piece.why))?;
+    push_number(text, "following", bad.following)
+}
+
+/// Appends the line of a key whose value is a word.
+fn push_word(text: &mut Vec<u8>, key: &str, word: &str) -> Result<(), AllocError> {
+    text.extend_from_slice(key.as_bytes())?;
+    text.extend_from_slice(b": ")?;
+    text.extend_from_slice(word.as_bytes())?;
+    text.extend_from_slice(b"\n")
+}
+
+/// Appends the line of a key whose value is a number. The one style writes digits in double quotes.
+fn push_number(text: &mut Vec<u8>, key: &str, number: u64) -> Result<(), AllocError> {
+    let mut digits = Buffer::new();
+    text.extend_from_slice(key.as_bytes())?;
+    text.extend_from_slice(b": \"")?;
+    text.extend_from_slice(digits.format(number).as_bytes())?;
+    text.extend_from_slice(b"\"\n")
+}
+
+/// Why a piece is not the next record, in a word: that of its refusal, if its command is refused.
+fn why_word(why: NoRecord) -> &'static str {
+    match why {
+        NoRecord::NotARecord => "NotARecord",
+        NoRecord::WrongNumber { .. } => "WrongNumber",
+        NoRecord::Refused(fault) => refusal_word(fault),
+    }
+}
+
+/// The name of the innermost fault.
+fn refusal_word(fault: StoreFault) -> &'static str {
+    match fault {
+        StoreFault::Path(fault) => path_word(fault),
+        StoreFault::Read(fault) => read_word(fault),
+        StoreFault::EmptyBatch => "EmptyBatch",
+        StoreFault::BadName => "BadName",
+        StoreFault::NoConfig => "NoConfig",
+        StoreFault::TooDeep => "TooDeep",
+        StoreFault::ConfigLarge => "ConfigLarge",
+        StoreFault::StoreFull => "StoreFull",
+        StoreFault::RecordLong => "RecordLong",
+        StoreFault::JournalLong => "JournalLong",
+        StoreFault::CountFull => "CountFull",
+        StoreFault::Reopen => "Reopen",
+        StoreFault::Device => "Device",
+        StoreFault::OutOfMemory => "OutOfMemory",
+    }
+}
+
+fn path_word(fault: PathFault) -> &'static str {
+    match fault {
+        PathFault::BadPath { .. } => "BadPath",
+        PathFault::NoSuchPlace { .. } => "NoSuchPlace",
+        PathFault::NotIndex { .. } => "NotIndex",
+        PathFault::OutOfMemory => "OutOfMemory",
+    }
+}
+
+fn read_word(fault: ReadFault) -> &'static str {
+    match fault {
+        ReadFault::TooLong => "TooLong",
+        ReadFault::NotUtf8 { .. } => "NotUtf8",
+        ReadFault::Syntax { .. } => "Syntax",
+        ReadFault::Documents { .. } => "Documents",
+        ReadFault::KeyNotText => "KeyNotText",
+        ReadFault::KeyTwice => "KeyTwice",
+        ReadFault::TooDeep => "TooDeep",
+        ReadFault::LargeInStyle => "LargeInStyle",
+        ReadFault::OutOfMemory => "OutOfMemory",
+    }
+}

@@ -1,0 +1,127 @@
+// The names and values of a store's file, over any reader and writer.
+use crate::reading_fault::ReadingFault;
+use crate::texts::write_whole;
+use conf_history::state_at;
+use conf_state::{State, StoreFault, good_name};
+use std::alloc::{AllocError, Global};
+use std::io::{Read, Write};
+use tree_path::{Path, at};
+use yaml_tree::{Sink, Tree, write_style};
+
+/// How a value is written.
+#[derive(Clone, Copy, Debug, PartialEq, Eq)]
+pub enum ValueForm {
+    /// In the one style.
+    Styled,
+    /// A text as it is, with a line feed after it. Anything else in the one style.
+    Raw,
+}
+
+/// Writes the names of the configurations that a store's file holds, in order, each with a line feed after it: after
+/// all its commands, or after the one with the number `at`. The file is read as by [`state_at`].
+///
+/// # Errors
+/// - `History` if [`state_at`] fails. Nothing is written.
+/// - `Output` if the writer fails. Some of the names may be written.
+pub fn write_names<R: Read, W: Write>(
+    alloc: Global,
+    reader: &mut R,
+    at: Option<u64>,
+    writer: &mut W,
+) -> Result<(), ReadingFault> {
+    let state = match state_at(alloc, reader, at) {
+        Ok(state) => state,
+        Err(fault) => return Err(ReadingFault::History(fault)),
+    };
+    let lines = match name_lines(alloc, &state) {
+        Ok(lines) => lines,
+        Err(_) => return Err(ReadingFault::Value(StoreFault::OutOfMemory)),
+    };
+    match write_whole(writer, &lines) {
+        Ok(()) => Ok(()),
+        Err(_) => Err(ReadingFault::Output),
+    }
+}
+
+/// The names of a state as lines.
+fn name_lines(alloc: Global, state: &State) -> Result<Vec<u8>, AllocError> {
+    let mut lines = Vec::new(alloc);
+    for name in state.names() {
+        push_name(&mut lines, name)?;
+    }
+    Ok(lines)
+}
+
+/// Appends a name and a line feed.
+fn push_name(lines: &mut Vec<u8>, name: &str) -> Result<(), AllocError> {
+    lines.extend_from_slice(name.as_bytes())?;
+    lines.extend_from_slice(b"\n")
+}
+
+/// Writes the value at a pointer of a configuration that a store's file holds: after all its commands, or after the one
+/// with the number `number`. The file is read as by [`state_at`]. The empty pointer means the whole configuration.
+///
+/// # Errors
+/// - `History` if [`state_at`] fails.
+/// - `Value` with the first of these that holds: `BadName` if the name may not be used, `NoConfig` if no configuration
+///   has it, and the pointer's fault. Or with `OutOfMemory`.
+/// - `Output` if the writer fails. Some of the value may be written.
+///
+/// But for `Output`, nothing is written.
+pub fn write_value<R: Read, W: Write>(
+    alloc: Global,
+    reader: &mut R,
+    number: Option<u64>,
+    name: &str,
+    pointer: &str,
+    form: ValueForm,
+    writer: &mut W,
+) -> Result<(), ReadingFault> {
+    let state = match state_at(alloc, reader, number) {
+        Ok(state) => state,
+        Err(fault) => return Err(ReadingFault::History(fault)),
+    };
+    let text = match value_text(alloc, &state, name, pointer, form) {
+        Ok(text) => text,
+        Err(fault) => return Err(ReadingFault::Value(fault)),
+    };
+    match write_whole(writer, text.as_bytes()) {
+        Ok(()) => Ok(()),
+        Err(_) => Err(ReadingFault::Output),
+    }
+}
+
+/// The text of the value at a pointer of a configuration.
+///
+/// # Errors
+/// The first of these that holds: `BadName`, `NoConfig`, and the pointer's fault. `OutOfMemory` may come at any point.
+fn value_text(
+    alloc: Global,
+    state: &State,
+    name: &str,
+    pointer: &str,
+    form: ValueForm,
+) -> Result<String, StoreFault> {
+    if !good_name(name) {
+        return Err(StoreFault::BadName);
+    }
+    let Some(config) = state.get(name) else {
+        return Err(StoreFault::NoConfig);
+    };
+    let path = Path::parse(alloc, pointer)?;
+    let value = at(config.tree(), &path)?;
+    Ok(shown(alloc, value, form)?)
+}
+
+/// A value in a form.
+fn shown(alloc: Global, value: &Tree, form: ValueForm) -> Result<String, AllocError> {
+    let mut text = String::new(alloc);
+    match (form, value) {
+        (ValueForm::Raw, Tree::Text(raw)) => {
+            text.put_text(raw)?;
+            text.put_char('\n')?;
+        }
+        _ => write_style(value, &mut text)?,
+    }
+    Ok(text)
+}
