@@ -108,7 +108,7 @@ fn is_unescaped(byte: u8) -> bool
 }
 
 /// The character that a `~` before this one means; `None` if it is neither `0` nor `1`, or not there.
-fn escaped(digit: Option<char>) -> Option<char>
+pub(crate) fn escaped(digit: Option<char>) -> Option<char>
     ensures { result ≡ escaped_by digit }
 {
     match digit? {
