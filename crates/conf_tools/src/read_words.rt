@@ -206,7 +206,8 @@ fn write_reading_fault<E: Write>(errors: &mut E, fault: ReadingFault) -> Status 
         ReadingFault::Folder(FolderFault::Device | FolderFault::Locked)
         | ReadingFault::History(HistoryFault::Input | HistoryFault::Output)
         | ReadingFault::Salvage(
-            SalvageFault::Device | SalvageFault::History(HistoryFault::Input | HistoryFault::Output),
+            SalvageFault::Device
+            | SalvageFault::History(HistoryFault::Input | HistoryFault::Output),
         )
         | ReadingFault::Output => Status::Device,
         _ => Status::Refused,
