@@ -5,3 +5,5 @@ pub mod Changes
 pub mod Tails
 pub mod ProgramCalls
 pub mod Exports
+pub mod Reads
+pub mod Surveys

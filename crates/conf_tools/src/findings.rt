@@ -1,4 +1,7 @@
 // What stands in a store's file, as lines of text.
+ghost use Rattle.std.specs.Prelude.{◌≡◌, ◌++◌, Some, IfOk, OnOk};
+ghost use Rattle.conf_tools.specs.Surveys.{bad_lines, findings_text, number_line, path_word, read_word, refusal_word, why_word, word_line};
+
 use conf_history::{Bad, Findings, NoRecord};
 use conf_state::StoreFault;
 use itoa::Buffer;
@@ -8,7 +11,9 @@ use yaml_tree::ReadFault;
 
 /// What stands in a store's file, as a YAML mapping in the one style: a line for each key. It fails only if memory runs
 /// out.
-pub(crate) fn findings_text(alloc: Global, findings: &Findings) -> Result<Vec<u8>, AllocError> {
+pub(crate) fn findings_text(alloc: Global, findings: &Findings) -> Result<Vec<u8>, AllocError>
+    ensures { IfOk result (λ text. text.items ≡ findings_text findings.now) }
+{
     let mut text = Vec::new(alloc);
     match findings.bad {
         None => push_word(&mut text, "state", "whole")?,
@@ -24,7 +29,9 @@ pub(crate) fn findings_text(alloc: Global, findings: &Findings) -> Result<Vec<u8
 }
 
 /// Appends what is known of the first bad piece.
-fn push_bad(text: &mut Vec<u8>, bad: &Bad) -> Result<(), AllocError> {
+fn push_bad(text: &mut Vec<u8>, bad: &Bad) -> Result<(), AllocError>
+    ensures { OnOk result (text.new.items ≡ text.old.items ++ bad_lines (Some bad.now)) }
+{
     push_number(text, "piece", bad.piece.number)?;
     push_number(text, "byte", bad.piece.byte)?;
     push_number(text, "line", bad.piece.line)?;
@@ -33,7 +40,9 @@ fn push_bad(text: &mut Vec<u8>, bad: &Bad) -> Result<(), AllocError> {
 }
 
 /// Appends the line of a key whose value is a word.
-fn push_word(text: &mut Vec<u8>, key: &str, word: &str) -> Result<(), AllocError> {
+fn push_word(text: &mut Vec<u8>, key: &str, word: &str) -> Result<(), AllocError>
+    ensures { OnOk result (text.new.items ≡ text.old.items ++ word_line key.now word.now) }
+{
     text.extend_from_slice(key.as_bytes())?;
     text.extend_from_slice(b": ")?;
     text.extend_from_slice(word.as_bytes())?;
@@ -41,7 +50,9 @@ fn push_word(text: &mut Vec<u8>, key: &str, word: &str) -> Result<(), AllocError
 }
 
 /// Appends the line of a key whose value is a number. The one style writes digits in double quotes.
-fn push_number(text: &mut Vec<u8>, key: &str, number: u64) -> Result<(), AllocError> {
+fn push_number(text: &mut Vec<u8>, key: &str, number: u64) -> Result<(), AllocError>
+    ensures { OnOk result (text.new.items ≡ text.old.items ++ number_line key.now number) }
+{
     let mut digits = Buffer::new();
     text.extend_from_slice(key.as_bytes())?;
     text.extend_from_slice(b": \"")?;
@@ -50,7 +61,9 @@ fn push_number(text: &mut Vec<u8>, key: &str, number: u64) -> Result<(), AllocEr
 }
 
 /// Why a piece is not the next record, in a word: that of its refusal, if its command is refused.
-fn why_word(why: NoRecord) -> &'static str {
+fn why_word(why: NoRecord) -> &'static str
+    ensures { result.now ≡ why_word why }
+{
     match why {
         NoRecord::NotARecord => "NotARecord",
         NoRecord::WrongNumber { .. } => "WrongNumber",
@@ -59,7 +72,9 @@ fn why_word(why: NoRecord) -> &'static str {
 }
 
 /// The name of the innermost fault.
-fn refusal_word(fault: StoreFault) -> &'static str {
+fn refusal_word(fault: StoreFault) -> &'static str
+    ensures { result.now ≡ refusal_word fault }
+{
     match fault {
         StoreFault::Path(fault) => path_word(fault),
         StoreFault::Read(fault) => read_word(fault),
@@ -78,7 +93,9 @@ fn refusal_word(fault: StoreFault) -> &'static str {
     }
 }
 
-fn path_word(fault: PathFault) -> &'static str {
+fn path_word(fault: PathFault) -> &'static str
+    ensures { result.now ≡ path_word fault }
+{
     match fault {
         PathFault::BadPath { .. } => "BadPath",
         PathFault::NoSuchPlace { .. } => "NoSuchPlace",
@@ -87,7 +104,9 @@ fn path_word(fault: PathFault) -> &'static str {
     }
 }
 
-fn read_word(fault: ReadFault) -> &'static str {
+fn read_word(fault: ReadFault) -> &'static str
+    ensures { result.now ≡ read_word fault }
+{
     match fault {
         ReadFault::TooLong => "TooLong",
         ReadFault::NotUtf8 { .. } => "NotUtf8",

@@ -1,7 +1,15 @@
 // The names and values of a store's file, over any reader and writer.
+ghost use Rattle.std.specs.Prelude.{◌≡◌, ◌⊎◌, ◌≤◌, ◌++◌, Err, IfOk, IfErr, OnOk, string_bytes, encode_utf8_all, codes};
+ghost use Rattle.std.specs.Str.{chars};
+ghost use Rattle.yaml_grammar.specs.Trees.{depth};
+ghost use Rattle.yaml_config.specs.Kept.{own_limits};
+ghost use Rattle.yaml_data.specs.Seen.{tree_of};
+ghost use Rattle.conf_state.specs.States.{names_of};
+ghost use Rattle.conf_tools.specs.Reads.{LacksValue, RefusesNames, RefusesValue, ShowsValue, WritesNames, WritesValue, name_lines, shown};
+
 use crate::reading_fault::ReadingFault;
 use crate::texts::write_whole;
-use conf_history::state_at;
+use conf_history::{HistoryFault, state_at};
 use conf_state::{State, StoreFault, good_name};
 use std::alloc::{AllocError, Global};
 use std::io::{Read, Write};
@@ -28,14 +36,19 @@ pub fn write_names<R: Read, W: Write>(
     reader: &mut R,
     at: Option<u64>,
     writer: &mut W,
-) -> Result<(), ReadingFault> {
+) -> Result<(), ReadingFault>
+    ensures ok { OnOk result (WritesNames (R.remaining reader.old) at
+        (W.contents writer.old) (W.contents writer.new)) }
+    ensures refused { IfErr result (RefusesNames (R.remaining reader.old) at
+        (W.contents writer.old) (W.contents writer.new)) }
+{
     let state = match state_at(alloc, reader, at) {
         Ok(state) => state,
         Err(fault) => return Err(ReadingFault::History(fault)),
     };
     let lines = match name_lines(alloc, &state) {
         Ok(lines) => lines,
-        Err(_) => return Err(ReadingFault::Value(StoreFault::OutOfMemory)),
+        Err(_) => return Err(ReadingFault::History(HistoryFault::OutOfMemory)),
     };
     match write_whole(writer, &lines) {
         Ok(()) => Ok(()),
@@ -44,7 +57,9 @@ pub fn write_names<R: Read, W: Write>(
 }
 
 /// The names of a state as lines.
-fn name_lines(alloc: Global, state: &State) -> Result<Vec<u8>, AllocError> {
+fn name_lines(alloc: Global, state: &State) -> Result<Vec<u8>, AllocError>
+    ensures { IfOk result (λ lines. lines.items ≡ name_lines (names_of state.now.configs)) }
+{
     let mut lines = Vec::new(alloc);
     for name in state.names() {
         push_name(&mut lines, name)?;
@@ -53,7 +68,10 @@ fn name_lines(alloc: Global, state: &State) -> Result<Vec<u8>, AllocError> {
 }
 
 /// Appends a name and a line feed.
-fn push_name(lines: &mut Vec<u8>, name: &str) -> Result<(), AllocError> {
+fn push_name(lines: &mut Vec<u8>, name: &str) -> Result<(), AllocError>
+    ensures { OnOk result
+        (lines.new.items ≡ lines.old.items ++ (encode_utf8_all (chars name.now) ++ codes "\n")) }
+{
     lines.extend_from_slice(name.as_bytes())?;
     lines.extend_from_slice(b"\n")
 }
@@ -76,7 +94,12 @@ pub fn write_value<R: Read, W: Write>(
     pointer: &str,
     form: ValueForm,
     writer: &mut W,
-) -> Result<(), ReadingFault> {
+) -> Result<(), ReadingFault>
+    ensures ok { OnOk result (WritesValue (R.remaining reader.old) number
+        (chars name.now) (chars pointer.now) form (W.contents writer.old) (W.contents writer.new)) }
+    ensures refused { IfErr result (RefusesValue (R.remaining reader.old) number
+        (chars name.now) (chars pointer.now) (W.contents writer.old) (W.contents writer.new)) }
+{
     let state = match state_at(alloc, reader, number) {
         Ok(state) => state,
         Err(fault) => return Err(ReadingFault::History(fault)),
@@ -101,7 +124,12 @@ fn value_text(
     name: &str,
     pointer: &str,
     form: ValueForm,
-) -> Result<String, StoreFault> {
+) -> Result<String, StoreFault>
+    ensures ok { IfOk result (λ text. ShowsValue state.now (chars name.now) (chars pointer.now)
+        form (chars (string_bytes text))) }
+    ensures refused { IfErr result
+        (LacksValue state.now (chars name.now) (chars pointer.now)) }
+{
     if !good_name(name) {
         return Err(StoreFault::BadName);
     }
@@ -114,7 +142,11 @@ fn value_text(
 }
 
 /// A value in a form.
-fn shown(alloc: Global, value: &Tree, form: ValueForm) -> Result<String, AllocError> {
+fn shown(alloc: Global, value: &Tree, form: ValueForm) -> Result<String, AllocError>
+    requires { depth (tree_of value.now) ≤ own_limits.depth }
+    ensures { IfOk result (λ text.
+        chars (string_bytes text) ≡ shown form (tree_of value.now)) }
+{
     let mut text = String::new(alloc);
     match (form, value) {
         (ValueForm::Raw, Tree::Text(raw)) => {

@@ -1,9 +1,13 @@
 // What stands in a store's file, and a store of what stands before its first bad piece, over any reader, disk and writer.
+ghost use Rattle.std.specs.Prelude.{◌≡◌, ◌⊎◌, IfOk, IfErr, OnOk};
+ghost use Rattle.std.specs.Io.KnownBytes.{Appends, Keeps};
+ghost use Rattle.conf_tools.specs.Surveys.{CannotWrite, RefusesWriting, WritesSurvey, findings_text};
+
 use crate::findings::findings_text;
 use crate::reading_fault::ReadingFault;
 use crate::texts::write_whole;
 use conf_disk::Disk;
-use conf_history::{Findings, HistoryFault, salvage, survey};
+use conf_history::{Findings, HistoryFault, salvage, survey_store};
 use std::alloc::Global;
 use std::io::{Read, Write};
 
@@ -17,17 +21,22 @@ pub enum Soundness {
 }
 
 /// Writes what an opening of a store would find in its file, as a YAML mapping in the one style, and returns whether it
-/// could be opened. The file is read as by [`survey`].
+/// could be opened. The file is read as by [`survey_store`].
 ///
 /// # Errors
-/// - `History` if [`survey`] fails, or memory runs out. Nothing is written.
+/// - `History` if [`survey_store`] fails, or memory runs out. Nothing is written.
 /// - `Output` if the writer fails. Some of the text may be written.
 pub fn write_survey<R: Read, W: Write>(
     alloc: Global,
     reader: &mut R,
     writer: &mut W,
-) -> Result<Soundness, ReadingFault> {
-    let found = match survey(alloc, reader) {
+) -> Result<Soundness, ReadingFault>
+    ensures ok { IfOk result (WritesSurvey (R.remaining reader.old)
+        (W.contents writer.old) (W.contents writer.new)) }
+    ensures refused { IfErr result (RefusesWriting (R.remaining reader.old)
+        (W.contents writer.old) (W.contents writer.new)) }
+{
+    let found = match survey_store(alloc, reader) {
         Ok(found) => found,
         Err(fault) => return Err(ReadingFault::History(fault)),
     };
@@ -67,7 +76,11 @@ fn write_findings<W: Write>(
     alloc: Global,
     findings: &Findings,
     writer: &mut W,
-) -> Result<(), ReadingFault> {
+) -> Result<(), ReadingFault>
+    ensures ok { OnOk result (Appends (W.contents writer.old) (W.contents writer.new)
+        (findings_text findings.now)) }
+    ensures refused { IfErr result (CannotWrite (W.contents writer.old) (W.contents writer.new)) }
+{
     let text = match findings_text(alloc, findings) {
         Ok(text) => text,
         Err(_) => return Err(ReadingFault::History(HistoryFault::OutOfMemory)),

@@ -1,0 +1,2 @@
+pub mod BadPieces
+pub mod Histories
