@@ -6,3 +6,4 @@ pub mod TailLemmas
 pub mod CallLemmas
 pub mod ExportLemmas
 pub mod ChangeLemmas
+pub mod ReadLemmas

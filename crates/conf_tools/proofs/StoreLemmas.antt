@@ -4,6 +4,7 @@ use Rattle.std.specs.Io.KnownBytes.{Keeps}
 use Rattle.conf_disk.specs.Folder.{Folder}
 use Rattle.conf_disk.specs.Image.{Image}
 use Rattle.conf_store.specs.declared.fault.OpenFault.TheVariants as OpenFault
+use Rattle.conf_tools.specs.ReadingStatuses.{TellsOfStore}
 use Rattle.conf_tools.specs.Stores.{RunsOn}
 use Rattle.conf_tools.specs.Statuses.{Performs, TakesSome, FindsSome, AnswersSome, code_of, status_of_store}
 use Rattle.conf_tools.specs.declared.stores.Grouping.{Grouping}
@@ -20,7 +21,7 @@ at_three = record {
 }
 
 at_one : {given left held written : Option (List ℕ)}
-    → FindsSome given left held written ⊎ AnswersSome given left held written ⊎ Keeps held written → Performs given left held written 1
+    → FindsSome given left held written ⊎ AnswersSome given left held written ⊎ Keeps held written ⊎ TellsOfStore held written → Performs given left held written 1
 at_one why = record {
   known = omega arith;
   done = λ e. absurd (omega (arith, e));
@@ -33,10 +34,10 @@ pub performs_refused : {D : Type 0} (honest : Type 0) (folder : D → Folder) (m
     → (fault : StoreToolFault) → RunsOn honest folder moment since failures given left held written grouping old (Err (new, fault))
     → Performs given left held written (code_of (status_of_store fault))
 performs_refused honest folder moment since failures grouping old new (InFolder fault) runs = absurd runs
-performs_refused honest folder moment since failures grouping old new (Open OpenFault.NotAStore) runs = at_one (inr (inr runs.1))
-performs_refused honest folder moment since failures grouping old new (Open (OpenFault.Damaged number)) runs = at_one (inr (inr runs.1))
+performs_refused honest folder moment since failures grouping old new (Open OpenFault.NotAStore) runs = at_one (inr (inr (inl runs.1)))
+performs_refused honest folder moment since failures grouping old new (Open (OpenFault.Damaged number)) runs = at_one (inr (inr (inl runs.1)))
 performs_refused honest folder moment since failures grouping old new (Open OpenFault.Device) runs = at_three
-performs_refused honest folder moment since failures grouping old new (Open OpenFault.OutOfMemory) runs = at_one (inr (inr runs.1))
+performs_refused honest folder moment since failures grouping old new (Open OpenFault.OutOfMemory) runs = at_one (inr (inr (inl runs.1)))
 performs_refused honest folder moment since failures grouping old new (Session SessionFaults.Read) runs = at_three
 performs_refused honest folder moment since failures grouping old new (Session (SessionFaults.Write count)) runs = at_three
 performs_refused honest folder moment since failures grouping old new (Session SessionFaults.TooLong) runs = at_one (inr (inl (runs.start, runs.file, grouping, SessionFaults.TooLong, runs.work, runs.answers)))
@@ -54,7 +55,7 @@ pub performs_change : {given left held written : Option (List ℕ)} (status : �
 performs_change status known takes keeps = record {
   known = known;
   done = λ e. ⊎_elim (λ none. inr (inr (inr (inl none)))) (λ some. inr (inr (inr (inr (some, keeps))))) takes;
-  refused = λ e. inr (inr keeps);
+  refused = λ e. inr (inr (inl keeps));
   wrong = λ e. keeps;
 }
 

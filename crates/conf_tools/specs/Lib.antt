@@ -7,3 +7,4 @@ pub mod ProgramCalls
 pub mod Exports
 pub mod Reads
 pub mod Surveys
+pub mod ReadingStatuses

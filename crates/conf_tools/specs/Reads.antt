@@ -34,24 +34,24 @@ pub record WritesNames (given : Option (List ℕ)) (at : Option ℕ) (held writt
   pub holds : FileHolds given at state
   pub writes : Appends held written (name_lines (names_of state.configs))
 
--- the characters are those of the value at the pointer, in this form
-pub record ShowsValue (state : Contents) (name pointer : List ℕ) (form : ValueForm) (cs : List ℕ) : Type 0 where
+-- the bytes are the value at the pointer in this form, in UTF-8
+pub record ShowsValue (state : Contents) (name pointer : List ℕ) (form : ValueForm) (bytes : List ℕ) : Type 0 where
   pub tree : Tree
   pub is : value_at_path state name pointer ≡ Ok tree
-  pub shows : cs ≡ shown form tree
+  pub shows : bytes ≡ encode_utf8_all (shown form tree)
 
 -- memory ran out, or the state has no such value, for this reason
 abbrev pub LacksValue : Contents → List ℕ → List ℕ → StoreFault → Type 0
 LacksValue state name pointer fault = (fault ≡ OutOfMemory) ⊎ (value_at_path state name pointer ≡ Err fault)
 
--- the value at the pointer that the file holds was written, in UTF-8
+-- the value at the pointer that the file holds was written
 pub record WritesValue (given : Option (List ℕ)) (at : Option ℕ) (name pointer : List ℕ) (form : ValueForm)
     (held written : Option (List ℕ)) : Type 0 where
   pub state : Contents
   pub holds : FileHolds given at state
-  pub cs : List ℕ
-  pub shows : ShowsValue state name pointer form cs
-  pub writes : Appends held written (encode_utf8_all cs)
+  pub bytes : List ℕ
+  pub shows : ShowsValue state name pointer form bytes
+  pub writes : Appends held written bytes
 
 -- the file doesn't answer, and nothing was written
 abbrev pub RefusesFile : Option (List ℕ) → Option ℕ → Option (List ℕ) → Option (List ℕ) → ReadingFault → Type 0

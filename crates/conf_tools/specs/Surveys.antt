@@ -15,7 +15,7 @@ use Rattle.conf_history.specs.declared.place.NoRecord.TheVariants.{NotARecord, W
 use Rattle.conf_history.specs.declared.survey.Bad.{Bad}
 use Rattle.conf_history.specs.declared.survey.Findings.{Findings}
 use Rattle.conf_tools.specs.declared.reading_fault.ReadingFault.{ReadingFault}
-use Rattle.conf_tools.specs.declared.reading_fault.ReadingFault.TheVariants.{History, Output}
+use Rattle.conf_tools.specs.declared.reading_fault.ReadingFault.TheVariants.{History, Salvage, Output}
 use Rattle.conf_tools.specs.declared.surveys.Soundness.{Soundness}
 use Rattle.conf_tools.specs.declared.surveys.Soundness.TheVariants.{Whole, Damaged}
 
@@ -120,3 +120,14 @@ RefusesWriting given held written (History fault) =
     IfSome given (λ bytes. RefusesSurvey bytes fault) × Keeps held written
 RefusesWriting given held written Output = (state : Contents) × (findings : Findings) × FileIsAs given state findings
 RefusesWriting given held written fault = ⊥
+
+-- ---- a store of what stands before the damage
+
+-- the findings of some file were written
+abbrev pub WritesFindings : Option (List ℕ) → Option (List ℕ) → Type 0
+WritesFindings held written = (findings : Findings) × Appends held written (findings_text findings)
+
+-- why no store was saved, or the findings were not written whole; but for Output nothing was written
+abbrev pub RefusesSaving : Option (List ℕ) → Option (List ℕ) → ReadingFault → Type 0
+RefusesSaving held written (Salvage fault) = Keeps held written
+RefusesSaving held written fault = CannotWrite held written fault

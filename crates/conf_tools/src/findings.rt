@@ -1,6 +1,6 @@
 // What stands in a store's file, as lines of text.
-ghost use Rattle.std.specs.Prelude.{◌≡◌, ◌++◌, Some, IfOk, OnOk};
-ghost use Rattle.conf_tools.specs.Surveys.{bad_lines, findings_text, number_line, path_word, read_word, refusal_word, why_word, word_line};
+ghost use Rattle.std.specs.Prelude.{◌≡◌, ◌++◌, IfOk, OnOk};
+ghost use Rattle.conf_tools.specs.Surveys.{bad_lines, findings_text, number_line, path_word, read_word, refusal_word, state_word, why_word, word_line};
 
 use conf_history::{Bad, Findings, NoRecord};
 use conf_state::StoreFault;
@@ -15,23 +15,31 @@ pub(crate) fn findings_text(alloc: Global, findings: &Findings) -> Result<Vec<u8
     ensures { IfOk result (λ text. text.items ≡ findings_text findings.now) }
 {
     let mut text = Vec::new(alloc);
-    match findings.bad {
-        None => push_word(&mut text, "state", "whole")?,
-        Some(_) => push_word(&mut text, "state", "damaged")?,
-    }
+    push_word(&mut text, "state", state_word(&findings.bad))?;
     push_number(&mut text, "base", findings.base)?;
     push_number(&mut text, "commands", findings.commands)?;
-    if let Some(bad) = &findings.bad {
-        push_bad(&mut text, bad)?;
-    }
+    push_bad(&mut text, &findings.bad)?;
     push_number(&mut text, "dropped", findings.dropped)?;
     Ok(text)
 }
 
-/// Appends what is known of the first bad piece.
-fn push_bad(text: &mut Vec<u8>, bad: &Bad) -> Result<(), AllocError>
-    ensures { OnOk result (text.new.items ≡ text.old.items ++ bad_lines (Some bad.now)) }
+/// Whether the store can be opened, in a word.
+fn state_word(bad: &Option<Bad>) -> &'static str
+    ensures { result.now ≡ state_word bad.now }
 {
+    match bad {
+        None => "whole",
+        Some(_) => "damaged",
+    }
+}
+
+/// Appends what is known of the first bad piece, if there is one.
+fn push_bad(text: &mut Vec<u8>, bad: &Option<Bad>) -> Result<(), AllocError>
+    ensures { OnOk result (text.new.items ≡ text.old.items ++ bad_lines bad.now) }
+{
+    let Some(bad) = bad else {
+        return Ok(());
+    };
     push_number(text, "piece", bad.piece.number)?;
     push_number(text, "byte", bad.piece.byte)?;
     push_number(text, "line", bad.piece.line)?;

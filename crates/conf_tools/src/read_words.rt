@@ -1,4 +1,9 @@
 // The words of the program that only read a store, and the one that makes a store of what a damaged one still says.
+ghost use Rattle.std.specs.Prelude.{◌≡◌, ◌≤◌, ◌⊎◌};
+ghost use Rattle.std.specs.Io.KnownBytes.{Keeps};
+ghost use Rattle.conf_tools.specs.ReadingStatuses.{FindsDamage, LogsSome, status_of_history, status_of_reading};
+ghost use Rattle.conf_tools.specs.Statuses.{code_of};
+
 use crate::program::Status;
 use crate::reading_fault::ReadingFault;
 use crate::reads::{ValueForm, write_names, write_value};
@@ -19,7 +24,11 @@ pub(crate) fn names_of_folder<F: Files<File = File>, W: Write, E: Write>(
     words: &ArgMatches<'_>,
     writer: &mut W,
     errors: &mut E,
-) -> Status {
+) -> Status
+    ensures known { code_of result ≤ 3 }
+    ensures refused { code_of result ≡ 1 → Keeps (W.contents writer.old) (W.contents writer.new) }
+    ensures wrong { code_of result ≡ 2 → Keeps (W.contents writer.old) (W.contents writer.new) }
+{
     let Some(folder) = words.get_str(FOLDER) else {
         return Status::WrongWords;
     };
@@ -40,7 +49,11 @@ pub(crate) fn get_from_folder<F: Files<File = File>, W: Write, E: Write>(
     words: &ArgMatches<'_>,
     writer: &mut W,
     errors: &mut E,
-) -> Status {
+) -> Status
+    ensures known { code_of result ≤ 3 }
+    ensures refused { code_of result ≡ 1 → Keeps (W.contents writer.old) (W.contents writer.new) }
+    ensures wrong { code_of result ≡ 2 → Keeps (W.contents writer.old) (W.contents writer.new) }
+{
     let (Some(folder), Some(name)) = (words.get_str(FOLDER), words.get_str(NAME)) else {
         return Status::WrongWords;
     };
@@ -71,7 +84,13 @@ pub(crate) fn log_of_folder<F: Files<File = File>, W: Write, E: Write>(
     words: &ArgMatches<'_>,
     writer: &mut W,
     errors: &mut E,
-) -> Status {
+) -> Status
+    ensures known { code_of result ≤ 3 }
+    ensures refused { code_of result ≡ 1 →
+        LogsSome (W.contents writer.old) (W.contents writer.new)
+        ⊎ Keeps (W.contents writer.old) (W.contents writer.new) }
+    ensures wrong { code_of result ≡ 2 → Keeps (W.contents writer.old) (W.contents writer.new) }
+{
     let Some(folder) = words.get_str(FOLDER) else {
         return Status::WrongWords;
     };
@@ -101,7 +120,13 @@ pub(crate) fn verify_folder<F: Files<File = File>, W: Write, E: Write>(
     words: &ArgMatches<'_>,
     writer: &mut W,
     errors: &mut E,
-) -> Status {
+) -> Status
+    ensures known { code_of result ≤ 3 }
+    ensures refused { code_of result ≡ 1 →
+        FindsDamage (W.contents writer.old) (W.contents writer.new)
+        ⊎ Keeps (W.contents writer.old) (W.contents writer.new) }
+    ensures wrong { code_of result ≡ 2 → Keeps (W.contents writer.old) (W.contents writer.new) }
+{
     let Some(folder) = words.get_str(FOLDER) else {
         return Status::WrongWords;
     };
@@ -117,7 +142,9 @@ pub(crate) fn verify_folder<F: Files<File = File>, W: Write, E: Write>(
 }
 
 /// Writes that a store is damaged, and which words make a store of what it still says.
-fn write_damage<E: Write>(errors: &mut E, folder: &str) -> Status {
+fn write_damage<E: Write>(errors: &mut E, folder: &str) -> Status
+    ensures { result ≡ Status.Refused }
+{
     let _ = writeln!(errors, "confstore: Damaged");
     let _ = writeln!(
         errors,
@@ -134,7 +161,11 @@ pub(crate) fn salvage_folder<F: Files<File = File>, W: Write, E: Write>(
     words: &ArgMatches<'_>,
     writer: &mut W,
     errors: &mut E,
-) -> Status {
+) -> Status
+    ensures known { code_of result ≤ 3 }
+    ensures refused { code_of result ≡ 1 → Keeps (W.contents writer.old) (W.contents writer.new) }
+    ensures wrong { code_of result ≡ 2 → Keeps (W.contents writer.old) (W.contents writer.new) }
+{
     let (Some(folder), Some(new)) = (words.get_str(FOLDER), words.get_str(NEW)) else {
         return Status::WrongWords;
     };
@@ -194,7 +225,9 @@ fn open_file<F: Files<File = File>>(
 
 /// Writes a fault of a word that reads a store in one line, and returns its status. A read that failed is told as the
 /// fault of the device.
-fn write_reading_fault<E: Write>(errors: &mut E, fault: ReadingFault) -> Status {
+fn write_reading_fault<E: Write>(errors: &mut E, fault: ReadingFault) -> Status
+    ensures { result ≡ status_of_reading fault }
+{
     let _ = match fault {
         ReadingFault::History(HistoryFault::Input)
         | ReadingFault::Salvage(SalvageFault::History(HistoryFault::Input)) => {
@@ -204,12 +237,21 @@ fn write_reading_fault<E: Write>(errors: &mut E, fault: ReadingFault) -> Status 
     };
     match fault {
         ReadingFault::Folder(FolderFault::Device | FolderFault::Locked)
-        | ReadingFault::History(HistoryFault::Input | HistoryFault::Output)
-        | ReadingFault::Salvage(
-            SalvageFault::Device
-            | SalvageFault::History(HistoryFault::Input | HistoryFault::Output),
-        )
+        | ReadingFault::Salvage(SalvageFault::Device)
         | ReadingFault::Output => Status::Device,
+        ReadingFault::History(fault) | ReadingFault::Salvage(SalvageFault::History(fault)) => {
+            status_of_history(fault)
+        }
+        _ => Status::Refused,
+    }
+}
+
+/// The status of a fault of a store's file.
+fn status_of_history(fault: HistoryFault) -> Status
+    ensures { result ≡ status_of_history fault }
+{
+    match fault {
+        HistoryFault::Input | HistoryFault::Output => Status::Device,
         _ => Status::Refused,
     }
 }

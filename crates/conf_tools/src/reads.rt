@@ -1,10 +1,13 @@
 // The names and values of a store's file, over any reader and writer.
-ghost use Rattle.std.specs.Prelude.{◌≡◌, ◌⊎◌, ◌≤◌, ◌++◌, Err, IfOk, IfErr, OnOk, string_bytes, encode_utf8_all, codes};
+ghost use Rattle.std.specs.Prelude.{◌≡◌, ◌≤◌, ◌++◌, Ok, Err, IfOk, IfErr, OnOk, string_bytes, encode_utf8_all, codes};
 ghost use Rattle.std.specs.Str.{chars};
+ghost use Rattle.yaml_grammar.specs.Style.{style_text};
 ghost use Rattle.yaml_grammar.specs.Trees.{depth};
 ghost use Rattle.yaml_config.specs.Kept.{own_limits};
 ghost use Rattle.yaml_data.specs.Seen.{tree_of};
+ghost use Rattle.conf_state.specs.Limits.{IsState};
 ghost use Rattle.conf_state.specs.States.{names_of};
+ghost use Rattle.conf_store.specs.Calls.{tree_named};
 ghost use Rattle.conf_tools.specs.Reads.{LacksValue, RefusesNames, RefusesValue, ShowsValue, WritesNames, WritesValue, name_lines, shown};
 
 use crate::reading_fault::ReadingFault;
@@ -13,8 +16,8 @@ use conf_history::{HistoryFault, state_at};
 use conf_state::{State, StoreFault, good_name};
 use std::alloc::{AllocError, Global};
 use std::io::{Read, Write};
-use tree_path::{Path, at};
-use yaml_tree::{Sink, Tree, write_style};
+use tree_path::{Path, PathFault, at};
+use yaml_tree::{Config, Sink, Tree, write_style};
 
 /// How a value is written.
 #[derive(Clone, Copy, Debug, PartialEq, Eq)]
@@ -126,34 +129,88 @@ fn value_text(
     form: ValueForm,
 ) -> Result<String, StoreFault>
     ensures ok { IfOk result (λ text. ShowsValue state.now (chars name.now) (chars pointer.now)
-        form (chars (string_bytes text))) }
+        form (string_bytes text)) }
     ensures refused { IfErr result
         (LacksValue state.now (chars name.now) (chars pointer.now)) }
+{
+    let config = match config_of(state, name) {
+        Ok(config) => config,
+        Err(fault) => return Err(fault),
+    };
+    let path = match Path::parse(alloc, pointer) {
+        Ok(path) => path,
+        Err(PathFault::OutOfMemory) => return Err(StoreFault::OutOfMemory),
+        Err(fault) => return Err(StoreFault::Path(fault)),
+    };
+    match at(config.tree(), &path) {
+        Ok(value) => Ok(shown(alloc, value, form)?),
+        Err(fault) => Err(StoreFault::Path(fault)),
+    }
+}
+
+/// The configuration under a name.
+///
+/// # Errors
+/// `BadName` if the name may not be used, and `NoConfig` if no configuration has it.
+fn config_of<'s>(state: &'s State, name: &str) -> Result<&'s Config, StoreFault>
+    ensures limits { OnOk result (IsState state.now) }
+    ensures ok { IfOk result (λ config. tree_named state.now (chars name.now)
+        ≡ Ok (tree_of config.now)) }
+    ensures refused { IfErr result (λ fault. tree_named state.now (chars name.now)
+        ≡ Err fault) }
 {
     if !good_name(name) {
         return Err(StoreFault::BadName);
     }
-    let Some(config) = state.get(name) else {
-        return Err(StoreFault::NoConfig);
-    };
-    let path = Path::parse(alloc, pointer)?;
-    let value = at(config.tree(), &path)?;
-    Ok(shown(alloc, value, form)?)
+    match state.get(name) {
+        Some(config) => Ok(config),
+        None => Err(StoreFault::NoConfig),
+    }
 }
 
-/// A value in a form.
+/// A value in a form, in UTF-8.
 fn shown(alloc: Global, value: &Tree, form: ValueForm) -> Result<String, AllocError>
     requires { depth (tree_of value.now) ≤ own_limits.depth }
     ensures { IfOk result (λ text.
-        chars (string_bytes text) ≡ shown form (tree_of value.now)) }
+        string_bytes text ≡ encode_utf8_all (shown form (tree_of value.now))) }
+{
+    match form {
+        ValueForm::Styled => styled(alloc, value),
+        ValueForm::Raw => raw(alloc, value),
+    }
+}
+
+/// A text as it is, with a line feed after it. Any other value in the one style.
+fn raw(alloc: Global, value: &Tree) -> Result<String, AllocError>
+    requires { depth (tree_of value.now) ≤ own_limits.depth }
+    ensures { IfOk result (λ text.
+        string_bytes text ≡ encode_utf8_all (shown ValueForm.Raw (tree_of value.now))) }
+{
+    match value {
+        Tree::Text(text) => line_of(alloc, text),
+        Tree::Seq(_) => styled(alloc, value),
+        Tree::Map(_) => styled(alloc, value),
+    }
+}
+
+/// A text with a line feed after it.
+fn line_of(alloc: Global, text: &str) -> Result<String, AllocError>
+    ensures { IfOk result (λ line.
+        string_bytes line ≡ encode_utf8_all (chars text.now ++ codes "\n")) }
+{
+    let mut line = String::new(alloc);
+    line.put_text(text)?;
+    line.put_char('\n')?;
+    Ok(line)
+}
+
+/// A value in the one style.
+fn styled(alloc: Global, value: &Tree) -> Result<String, AllocError>
+    requires { depth (tree_of value.now) ≤ own_limits.depth }
+    ensures { IfOk result (λ text.
+        string_bytes text ≡ encode_utf8_all (style_text (tree_of value.now))) }
 {
     let mut text = String::new(alloc);
-    match (form, value) {
-        (ValueForm::Raw, Tree::Text(raw)) => {
-            text.put_text(raw)?;
-            text.put_char('\n')?;
-        }
-        _ => write_style(value, &mut text)?,
-    }
+    write_style(value, &mut text)?;
     Ok(text)
 }

@@ -1,7 +1,7 @@
 // What stands in a store's file, and a store of what stands before its first bad piece, over any reader, disk and writer.
-ghost use Rattle.std.specs.Prelude.{◌≡◌, ◌⊎◌, IfOk, IfErr, OnOk};
-ghost use Rattle.std.specs.Io.KnownBytes.{Appends, Keeps};
-ghost use Rattle.conf_tools.specs.Surveys.{CannotWrite, RefusesWriting, WritesSurvey, findings_text};
+ghost use Rattle.std.specs.Prelude.{IfOk, IfErr, OnOk};
+ghost use Rattle.std.specs.Io.KnownBytes.{Appends};
+ghost use Rattle.conf_tools.specs.Surveys.{CannotWrite, RefusesSaving, RefusesWriting, WritesFindings, WritesSurvey, findings_text};
 
 use crate::findings::findings_text;
 use crate::reading_fault::ReadingFault;
@@ -60,7 +60,12 @@ pub fn salvage_store<R: Read, D: Disk + Drop, W: Write>(
     reader: &mut R,
     disk: D,
     writer: &mut W,
-) -> Result<D, (D, ReadingFault)> {
+) -> Result<D, (D, ReadingFault)>
+    ensures ok { OnOk result
+        (WritesFindings (W.contents writer.old) (W.contents writer.new)) }
+    ensures refused { IfErr result (λ r.
+        RefusesSaving (W.contents writer.old) (W.contents writer.new) r.1) }
+{
     let (disk, findings) = match salvage(alloc, reader, disk) {
         Ok(made) => made,
         Err((disk, fault)) => return Err((disk, ReadingFault::Salvage(fault))),
