@@ -1,2 +1,0 @@
-pub mod BadPieces
-pub mod Histories
