@@ -4,8 +4,8 @@
 - Each answer arrives before the next command is sent, and a session's input may come byte by byte.
 - 200 sessions of 50 commands are killed at random moments. The store is opened again each time: no command that was
   answered is missing, and none is there that was not sent.
-- Output to a full device, and folders that are missing, a file, read-only or locked. An export and `get` read a store in a
-  folder that is read-only, and one that a full device keeps from being recovered.
+- Output to a full device, and folders that are missing, a file, read-only or locked. An export and `get` read a store
+  in a folder that is read-only, and an export one that a full device keeps from being recovered.
 - The lock's file is deleted or replaced and the folder moved during a session, also where there is no /proc; links,
   FIFOs and folders lie at the names of the files.
 - A file that replaces a store has its owner, its group and its mode, for root and for `nobody`.
