@@ -46,6 +46,13 @@ LINES = [
     ("format --in", "format --in-place"),
     ("format -i fil", "format -i file.yaml"),
     ("check fil", "check file.yaml"),
+    ("verif", "verify"),
+    ("log --ya", "log --yaml"),
+    ("get --at 1 --ra", "get --at 1 --raw"),
+    ("get store we", "get store web"),
+    ("get --at 1 store we", "get --at 1 store web"),
+    ("export store ap", "export store app"),
+    ("salvage store sto", "salvage store store"),
 ]
 
 # How many seconds a shell may take to start, and to say what its words are.
@@ -61,11 +68,12 @@ def store_with_names(top):
 
 
 def put_program(top):
-    """A program that says its words."""
+    """A program that says its words. For `names`, which completions call, it is the one that was built."""
     folder = os.path.join(top, "bin")
     os.mkdir(folder)
     path = os.path.join(folder, "confstore")
-    write_file(path, b'#!/bin/sh\necho "called: $*."\n')
+    script = f'#!/bin/sh\nif [ "$1" = names ]; then exec "{PROGRAM}" "$@"; fi\necho "called: $*."\n'
+    write_file(path, script.encode())
     os.chmod(path, 0o755)
     return folder
 

@@ -103,13 +103,13 @@ performs_files given left held written Done tried = record {
 performs_files given left held written Found tried = record {
   known = omega arith;
   done = λ e. absurd (omega (arith, e));
-  refused = λ e. inr (inr (inr tried));
+  refused = λ e. inr (inr (inr (inl tried)));
   wrong = λ e. absurd (omega (arith, e));
 }
 performs_files given left held written Refused tried = record {
   known = omega arith;
   done = λ e. absurd (omega (arith, e));
-  refused = λ e. inr (inr (inr tried));
+  refused = λ e. inr (inr (inr (inl tried)));
   wrong = λ e. absurd (omega (arith, e));
 }
 performs_files given left held written WrongWords tried = absurd tried
@@ -222,7 +222,7 @@ one_line_written held now written file line all f rest more (lines, before, whol
   lines ++ line,
   Appends-trans held now written lines line before appends,
   ap (λ l. lines ++ l ++ file_report file more) is
-  ∙ append_assoc lines (file_line file f) (file_report file more) ∙ ap (λ fs. lines ++ file_report file fs) (sym split) ∙ whole,
+      ∙ append_assoc lines (file_line file f) (file_report file more) ∙ ap (λ fs. lines ++ file_report file fs) (sym split) ∙ whole,
 )
 
 -- where no finding is left, all lines were written

@@ -4,6 +4,7 @@ use Rattle.std.specs.Io.KnownBytes.{Keeps}
 use Rattle.conf_disk.specs.Folder.{Folder}
 use Rattle.conf_disk.specs.Image.{Image}
 use Rattle.conf_store.specs.declared.fault.OpenFault.TheVariants as OpenFault
+use Rattle.conf_tools.specs.ReadingStatuses.{TellsOfStore}
 use Rattle.conf_tools.specs.Stores.{RunsOn}
 use Rattle.conf_tools.specs.Statuses.{Performs, TakesSome, FindsSome, AnswersSome, TriesFiles, code_of, status_of_store}
 use Rattle.conf_tools.specs.declared.program.Status.TheVariants.{Found}
@@ -22,7 +23,7 @@ at_three = record {
 
 at_one : {given left held written : Option (List ℕ)}
     → FindsSome given left held written ⊎ AnswersSome given left held written ⊎ Keeps held written ⊎ TriesFiles given left held written Found
-    → Performs given left held written 1
+    ⊎ TellsOfStore held written → Performs given left held written 1
 at_one why = record {
   known = omega arith;
   done = λ e. absurd (omega (arith, e));
