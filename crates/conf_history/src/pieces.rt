@@ -47,7 +47,8 @@ impl Pieces {
     ///
     /// # Errors
     /// `AllocError` if there is no memory for the chunk.
-    pub fn new(alloc: Global) -> Result<Pieces, AllocError> {
+    pub fn new(alloc: Global) -> Result<Pieces, AllocError>
+    {
         Ok(Pieces {
             cutter: Cutter::new(alloc, STORE_LIMIT),
             chunk: vec![in alloc; 0; CHUNK]?,
@@ -67,7 +68,8 @@ impl Pieces {
     /// - `TooLong`: the piece, or what comes after the last one, has more than 1,073,741,824 bytes.
     /// - `InputLong`: there are more than 1,073,741,824 bytes, and the first that many close no further piece.
     /// - `OutOfMemory`: there is no memory for the piece.
-    pub fn advance<R: Read>(&mut self, reader: &mut R) -> Result<bool, PiecesFault> {
+    pub fn advance<R: Read>(&mut self, reader: &mut R) -> Result<bool, PiecesFault>
+    {
         self.cutter.clear();
         'parts: loop {
             if self.feed()? {
@@ -80,12 +82,14 @@ impl Pieces {
     }
 
     /// Returns the piece, or the bytes after the last one, as the last call of [`advance`](Pieces::advance) left them.
-    pub fn piece(&self) -> &[u8] {
+    pub fn piece(&self) -> &[u8]
+    {
         self.cutter.piece()
     }
 
     /// Appends what was read to the piece, up to the piece's end. Returns whether the piece is complete.
-    fn feed(&mut self) -> Result<bool, PiecesFault> {
+    fn feed(&mut self) -> Result<bool, PiecesFault>
+    {
         match self.cutter.feed(&self.chunk[self.start..self.end]) {
             Ok(fed) => {
                 self.start += fed.taken;
@@ -97,7 +101,8 @@ impl Pieces {
     }
 
     /// Reads once. Returns whether there was anything to read. At the limit it looks whether there is one byte more.
-    fn fill<R: Read>(&mut self, reader: &mut R) -> Result<bool, PiecesFault> {
+    fn fill<R: Read>(&mut self, reader: &mut R) -> Result<bool, PiecesFault>
+    {
         let room = CHUNK.min(LIMIT - self.total).max(1);
         match read_prefix(reader, &mut self.chunk, room) {
             Ok(0) => Ok(false),
@@ -114,6 +119,7 @@ impl Pieces {
 }
 
 /// Reads once, into the first `room` bytes of the chunk.
-fn read_prefix<R: Read>(reader: &mut R, chunk: &mut [u8], room: usize) -> io::Result<usize> {
+fn read_prefix<R: Read>(reader: &mut R, chunk: &mut [u8], room: usize) -> io::Result<usize>
+{
     reader.read(&mut chunk[..room])
 }

@@ -25,7 +25,8 @@ pub fn state_at<R: Read>(
     alloc: Global,
     reader: &mut R,
     at: Option<u64>,
-) -> Result<State, HistoryFault> {
+) -> Result<State, HistoryFault>
+{
     let mut walk = Walk::begin(alloc, reader)?;
     walk.check_start(at)?;
     'records: while walk.goes_on(reader, at)? {
@@ -37,7 +38,8 @@ pub fn state_at<R: Read>(
 
 impl Walk {
     /// Fails with `NoSuchCommand` if the number is before that of the base, whose state the walk has.
-    pub fn check_start(&self, at: Option<u64>) -> Result<(), HistoryFault> {
+    pub fn check_start(&self, at: Option<u64>) -> Result<(), HistoryFault>
+    {
         match at {
             Some(number) if number < self.state.count() => Err(HistoryFault::NoSuchCommand),
             _ => Ok(()),
@@ -48,11 +50,8 @@ impl Walk {
     ///
     /// # Errors
     /// Those of [`Walk::advance`].
-    pub fn goes_on<R: Read>(
-        &mut self,
-        reader: &mut R,
-        at: Option<u64>,
-    ) -> Result<bool, HistoryFault> {
+    pub fn goes_on<R: Read>(&mut self, reader: &mut R, at: Option<u64>) -> Result<bool, HistoryFault>
+    {
         if at == Some(self.state.count()) {
             return Ok(false);
         }
@@ -60,7 +59,8 @@ impl Walk {
     }
 
     /// Fails with `NoSuchCommand` if the command with the number was not performed.
-    pub fn check_end(&self, at: Option<u64>) -> Result<(), HistoryFault> {
+    pub fn check_end(&self, at: Option<u64>) -> Result<(), HistoryFault>
+    {
         match at {
             Some(number) if number != self.state.count() => Err(HistoryFault::NoSuchCommand),
             _ => Ok(()),

@@ -28,7 +28,8 @@ pub(crate) fn read_next(
     alloc: Global,
     state: &State,
     piece: &[u8],
-) -> Result<Command, RecordFault> {
+) -> Result<Command, RecordFault>
+{
     documents_are_read();
     let Some((command, number)) = read_record(alloc, piece)? else {
         return Err(RecordFault::Bad(NoRecord::NotARecord));
@@ -47,7 +48,8 @@ pub(crate) fn perform_next(
     alloc: Global,
     state: &mut State,
     command: Command,
-) -> Result<(), RecordFault> {
+) -> Result<(), RecordFault>
+{
     match step(alloc, state, command, Room::Enough) {
         Ok(()) => Ok(()),
         Err(StoreFault::OutOfMemory) => Err(RecordFault::OutOfMemory),

@@ -20,7 +20,8 @@ pub fn salvage<R: Read, D: Disk + Drop>(
     alloc: Global,
     reader: &mut R,
     disk: D,
-) -> Result<(D, Findings), (D, SalvageFault)> {
+) -> Result<(D, Findings), (D, SalvageFault)>
+{
     let found = match survey_store(alloc, reader) {
         Ok(found) => found,
         Err(fault) => return Err((disk, SalvageFault::History(fault))),

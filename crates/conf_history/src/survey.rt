@@ -47,7 +47,8 @@ pub struct Survey {
 /// - `Input`: a read failed.
 /// - `NotAStore`: the file has more than 1,073,741,824 bytes or no closing line, or its first piece is no base.
 /// - `OutOfMemory`.
-pub fn survey_store<R: Read>(alloc: Global, reader: &mut R) -> Result<Survey, HistoryFault> {
+pub fn survey_store<R: Read>(alloc: Global, reader: &mut R) -> Result<Survey, HistoryFault>
+{
     let mut walk = Walk::begin(alloc, reader)?;
     let base = walk.state.count();
     'records: while walk.advance(reader)? {
@@ -66,13 +67,15 @@ fn finish_survey<R: Read>(
     reader: &mut R,
     base: u64,
     piece: BadPiece,
-) -> Result<Survey, HistoryFault> {
+) -> Result<Survey, HistoryFault>
+{
     let following = count_pieces(&mut walk.pieces, reader)?;
     Ok(walk.into_survey(base, Some(Bad { piece, following })))
 }
 
 /// Goes past all further pieces, and returns how many there are.
-fn count_pieces<R: Read>(pieces: &mut Pieces, reader: &mut R) -> Result<u64, HistoryFault> {
+fn count_pieces<R: Read>(pieces: &mut Pieces, reader: &mut R) -> Result<u64, HistoryFault>
+{
     let mut count = 0;
     'pieces: loop {
         match pieces.advance(reader) {
@@ -85,7 +88,8 @@ fn count_pieces<R: Read>(pieces: &mut Pieces, reader: &mut R) -> Result<u64, His
 
 impl Walk {
     /// The survey of a file that was read to its end.
-    fn into_survey(self, base: u64, bad: Option<Bad>) -> Survey {
+    fn into_survey(self, base: u64, bad: Option<Bad>) -> Survey
+    {
         let findings = Findings {
             base,
             commands: self.place.number - 1,

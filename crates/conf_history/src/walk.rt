@@ -22,7 +22,8 @@ impl Walk {
     ///
     /// # Errors
     /// `NotAStore` if there is no closing line within the limit, or the first piece is no base. `Input`, `OutOfMemory`.
-    pub fn begin<R: Read>(alloc: Global, reader: &mut R) -> Result<Walk, HistoryFault> {
+    pub fn begin<R: Read>(alloc: Global, reader: &mut R) -> Result<Walk, HistoryFault>
+    {
         let mut pieces = Pieces::new(alloc)?;
         match pieces.advance(reader) {
             Ok(true) => {}
@@ -44,7 +45,8 @@ impl Walk {
     ///
     /// # Errors
     /// `Input` if a read failed. `NotAStore` if the file has more than 1,073,741,824 bytes. `OutOfMemory`.
-    pub fn advance<R: Read>(&mut self, reader: &mut R) -> Result<bool, HistoryFault> {
+    pub fn advance<R: Read>(&mut self, reader: &mut R) -> Result<bool, HistoryFault>
+    {
         match self.pieces.advance(reader) {
             Ok(found) => Ok(found),
             Err(fault) => Err(fault_of_pieces(fault)),
@@ -55,7 +57,8 @@ impl Walk {
     ///
     /// # Errors
     /// `Damaged` if it is no record, or has another number. `OutOfMemory`.
-    pub fn command(&self, alloc: Global) -> Result<Command, HistoryFault> {
+    pub fn command(&self, alloc: Global) -> Result<Command, HistoryFault>
+    {
         match read_next(alloc, &self.state, self.pieces.piece()) {
             Ok(command) => Ok(command),
             Err(fault) => Err(self.fault_of_record(fault)),
@@ -66,7 +69,8 @@ impl Walk {
     ///
     /// # Errors
     /// `Damaged` if the state refuses the command. `OutOfMemory`. The state is as it was.
-    pub fn perform(&mut self, alloc: Global, command: Command) -> Result<(), HistoryFault> {
+    pub fn perform(&mut self, alloc: Global, command: Command) -> Result<(), HistoryFault>
+    {
         match perform_next(alloc, &mut self.state, command) {
             Ok(()) => {
                 self.place = self.place.after(self.pieces.piece());
@@ -80,13 +84,15 @@ impl Walk {
     ///
     /// # Errors
     /// `Damaged` if it is not the next record. `OutOfMemory`. The state is as it was.
-    pub fn perform_piece(&mut self, alloc: Global) -> Result<(), HistoryFault> {
+    pub fn perform_piece(&mut self, alloc: Global) -> Result<(), HistoryFault>
+    {
         let command = self.command(alloc)?;
         self.perform(alloc, command)
     }
 
     /// What is wrong with the piece, as a fault of the file.
-    fn fault_of_record(&self, fault: RecordFault) -> HistoryFault {
+    fn fault_of_record(&self, fault: RecordFault) -> HistoryFault
+    {
         match fault {
             RecordFault::Bad(why) => HistoryFault::Damaged(self.place.bad_piece(why)),
             RecordFault::OutOfMemory => HistoryFault::OutOfMemory,
