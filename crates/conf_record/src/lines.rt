@@ -36,8 +36,8 @@ pub fn cut_text<'t>(lines: &'t str, key: &str) -> Option<(&'t str, &'t str)>
     Some((text, rest))
 }
 
-/// What is after a key that the lines begin with, up to the end of that line, and the lines after it. `None` if the lines
-/// begin otherwise, or have no line feed after the key.
+/// What is after a key that the lines begin with, up to the end of that line, and the lines after it. `None` if the
+/// lines begin otherwise, or have no line feed after the key.
 pub fn cut_line<'t>(lines: &'t str, key: &str) -> Option<(&'t str, &'t str)>
     ensures { IfSome result (λ cut. lines.now
         ≡ key.now ++ (cut.0.now ++ line_feed ∷ cut.1.now)) }
@@ -127,8 +127,8 @@ pub fn line_config(alloc: Global, line: &str) -> Result<Option<Config>, AllocErr
     Ok(Some(Config::with_size(Tree::Text(text), size)))
 }
 
-/// Whether a text is a path (RFC 6901), and has at most 8,388,608 bytes, twice those of a configuration. It fails only if
-/// memory runs out.
+/// Whether a text is a path (RFC 6901), and has at most 8,388,608 bytes, twice those of a configuration. It fails only
+/// if memory runs out.
 pub fn is_short_path(alloc: Global, path: &str) -> Result<bool, AllocError>
     ensures { IfOk result (λ short. IsTrue short → IsShortPath (chars path.now)) }
 {
