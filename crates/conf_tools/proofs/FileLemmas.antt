@@ -222,7 +222,7 @@ one_line_written held now written file line all f rest more (lines, before, whol
   lines ++ line,
   Appends-trans held now written lines line before appends,
   ap (λ l. lines ++ l ++ file_report file more) is
-  ∙ append_assoc lines (file_line file f) (file_report file more) ∙ ap (λ fs. lines ++ file_report file fs) (sym split) ∙ whole,
+      ∙ append_assoc lines (file_line file f) (file_report file more) ∙ ap (λ fs. lines ++ file_report file fs) (sym split) ∙ whole,
 )
 
 -- where no finding is left, all lines were written
