@@ -4,8 +4,9 @@
     python3 bench/read.py -n FOLDER >bench/data/read.txt
     python3 bench/plot.py
 
-It takes what was measured with malloc's own settings. Each row is a corpus of 1 MiB, each mark a reader, and further to
-the right is faster. It needs the standard library alone, and the same data gives the same bytes.
+It takes what was measured with malloc's own settings, the first part. Each row is a corpus of 1 MiB, each mark a reader,
+and further to the right is faster; one that is too slow for the axis has its number. It needs the standard library
+alone, and the same data gives the same bytes.
 """
 
 import math
@@ -69,6 +70,8 @@ def panel(left, title, of_corpora):
         yield f'<line x1="{left}" y1="{y}" x2="{left + PANEL}" y2="{y}" stroke="#eeeeee"/>'
         for reader, rate in sorted(of_readers.items(), key=lambda pair: pair[0] == "confstore"):
             yield mark(left + x_of(rate), y, reader)
+            if rate < SLOWEST:
+                yield text(left - 8, y + 4, f"{rate:g}", "end")
 
 
 def legend(readers):

@@ -76,7 +76,9 @@ END
 export -f try_install
 export python folder
 step "the Python package is installed without a network" 120 bash -c try_install
-if has mypy; then step "its types" 120 mypy --config-file python/pyproject.toml python/confstore; fi
+types() { MYPYPATH=python mypy --config-file python/pyproject.toml python/confstore replicated/confstore_replicated; }
+export -f types
+if has mypy; then step "its types, and those of the replicated store" 120 bash -c types; fi
 step "its tests" 600 env -C python "$python" -m unittest
 step "the replicated store's tests without etcd" 300 env -C replicated "$python" -m unittest
 readme_lines() {

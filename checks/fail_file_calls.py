@@ -10,6 +10,9 @@ read or not replaced. Every file that is not named is new. One that is named as 
 No new file is left beside them, but where the process was ended, the removal failed too, or the file was made by a call
 that failed. A run without faults then finds a folder in which it works as ever.
 
+Then each allocation of that run is refused in turn (shims/refuse.c): status 1 and `OutOfMemory` of the file, which is
+old, or of the program, when both are; or the run does without it.
+
 Run it from the repository's root after the program is built. It takes some seconds, and needs a C compiler:
 
     ./confstore --version && python3 checks/fail_file_calls.py
@@ -17,6 +20,7 @@ Run it from the repository's root after the program is built. It takes some seco
 The status is 0 if all is as it should be.
 """
 
+import itertools
 import os
 import shutil
 import stat
@@ -151,10 +155,35 @@ def expect_told(name, folder, status, said, call, failures):
     expect_files(name, folder, told, failures, either)
 
 
+def try_allocations(top, failures):
+    """Refuses each allocation of a run in turn."""
+    library, mark = compiled("refuse.c", top), os.path.join(top, "refused")
+    endings = Counter()
+    for number in itertools.count(1):
+        name = f"without allocation {number}"
+        folder = new_folder(top, name)
+        status, said = run(folder, LD_PRELOAD=library, REFUSE_ALLOCATION=str(number), REFUSED_FILE=mark)
+        was_refused = os.path.exists(mark)
+        told = dict(line.split(": ") for line in said.decode().splitlines())
+        named = [given for given, *_ in FILES] if "confstore" in told else list(told)
+        failures.expect(f"{name}: status", status, 1 if told else 0)
+        failures.expect(f"{name}: {told}", set(told.values()) <= {"OutOfMemory"}, True)
+        expect_files(name, folder, named, failures)
+        failures.expect(f"{name}: left over", left_over(folder), [])
+        shutil.rmtree(folder)
+        if not was_refused:
+            failures.expect("no allocation refused", told, {})
+            break
+        os.remove(mark)
+        endings["out of memory" if told else "done without"] += 1
+    print(f"  {number - 1} allocations: " + ", ".join(f"{count} {end}" for end, count in sorted(endings.items())))
+
+
 def main():
     need_program()
     failures = Failures()
     with tempfile.TemporaryDirectory() as top:
+        try_allocations(top, failures)
         library = compiled("fail_calls.c", top)
         calls = calls_of(top, library, failures)
         pairs = [(call, kind) for call in calls for kind in call.kinds()]

@@ -44,7 +44,7 @@ COMMANDS = int(sys.argv[1]) if len(sys.argv) > 1 else 2000
 CUT_OFF_COMMANDS = COMMANDS // 2
 CLIENTS = 4
 MACHINES = 3
-BASE_AFTER = 300
+BASE_AFTER = 200
 LOG = b"/confstore/default/log/"
 
 # Where syncs cost nothing, for the store of the one session.
@@ -285,22 +285,43 @@ def run_client(cluster, part, which, count, answers):
         answers[identity] = command, asked(cluster, which % MACHINES, command)
 
 
-def run_witness(cluster, log, ended):
-    """Keeps the whole log, from which the nodes take entries out."""
-    etcd, last = Etcd(cluster.addresses), 0
-    while True:
-        is_last = ended.is_set()
-        try:
-            entries, _ = etcd.created_after(LOG, last, 500, local=not is_last)
-        except Unavailable:
-            continue
+class Witness:
+    """Keeps the whole log, from which the nodes take entries out. It asks each member all the time, since any of them
+    may be stopped or cut off for longer than entries stay."""
+
+    def __init__(self, addresses):
+        self.addresses = addresses
+        self.entries = {}  # by their numbers, each with its id
+        self.ended = threading.Event()
+        self.threads = [threading.Thread(target=self.ask, args=([address],), daemon=True) for address in addresses]
+
+    def start(self):
+        for thread in self.threads:
+            thread.start()
+
+    def ask(self, members):
+        etcd, last = Etcd(members, 1), 0
+        while not self.ended.wait(0.02):
+            try:
+                last = self.take(etcd, last, local=True)
+            except Unavailable:
+                pass
+
+    def take(self, etcd, last, local):
+        entries, _ = etcd.created_after(LOG, last, 500, local)
         for entry in entries:
-            log.append((entry.created, entry.key[len(LOG) :].decode(), entry.value))
-            last = entry.created
-        if not entries:
-            if is_last:
-                return
-            time.sleep(0.05)
+            self.entries[entry.created] = entry.key[len(LOG) :].decode(), entry.value
+        return entries[-1].created if entries else last
+
+    def log(self):
+        """Ends it. All entries in their order, each with its number and its id."""
+        self.ended.set()
+        for thread in self.threads:
+            thread.join()
+        etcd, last, more = Etcd(self.addresses), 0, -1
+        while more != last:
+            last, more = self.take(etcd, last, local=False), last
+        return [(number, *self.entries[number]) for number in sorted(self.entries)]
 
 
 def make_trouble(cluster, ended, done):
@@ -377,9 +398,8 @@ class Run:
         os.mkdir(folder)
         self.folder, self.checks = folder, checks
         self.cluster = Cluster(folder, ground)
-        self.answers, self.log = {}, []
-        self.witness_ends = threading.Event()
-        self.witness = threading.Thread(target=run_witness, args=(self.cluster, self.log, self.witness_ends), daemon=True)
+        self.answers = {}
+        self.witness = Witness(self.cluster.addresses)
 
     def start(self):
         self.cluster.start()
@@ -452,23 +472,22 @@ class Run:
             exports_of(lambda request: asked(self.cluster, node, {"fresh": "yes", **request}, elsewhere=False))
             for node in range(number + 1)
         ]
-        self.witness_ends.set()
-        self.witness.join()
+        log = self.witness.log()
         with tempfile.TemporaryDirectory(dir=MEMORY) as alone:
-            wanted, exports = one_session(alone, self.log)
+            wanted, exports = one_session(alone, log)
         for node, exported in enumerate(found):
             self.checks.is_so(exported == exports, f"node {node} exports something else")
         numbers = {}
-        for number, identity, _ in self.log:
+        for number, identity, _ in log:
             numbers.setdefault(identity, []).append(number)
         for identity, (_, answer) in self.answers.items():
             self.checks.is_so(len(numbers.get(identity, ())) == 1, f"{identity} has the numbers {numbers.get(identity)}")
             self.checks.is_so(answer == wanted.get(identity), f"{identity}: {answer}, alone {wanted.get(identity)}")
         were_refused = sum("refused" in answer for _, answer in self.answers.values())
-        print(f"{len(self.log)} entries, {were_refused} of them refused, {len(exports)} configurations", flush=True)
+        print(f"{len(log)} entries, {were_refused} of them refused, {len(exports)} configurations", flush=True)
 
     def stop(self):
-        self.witness_ends.set()
+        self.witness.ended.set()
         self.cluster.stop()
         self.cluster.ground.remove()
 

@@ -17,10 +17,12 @@ import yaml
 from .faults import BadAnswer, BadName, ConfstoreError, MissingFolder, MissingProgram, NotText, TimedOut
 from .faults import REFUSALS, Unsupported, end_of, refusal
 from .records import Record, record_of
+from .session import Cutter
 from .style import Tree, from_text, trees_of
 
 _NAME = re.compile(r"[a-z][a-z0-9_-]{0,63}")
 _FAULT = re.compile(r"confstore: (\w+)")
+_AT = re.compile(rb'(?:---\n)?at: "([0-9]{1,20})"\n')
 
 # The program's status for words that it does not know.
 WRONG_WORDS = 2
@@ -97,7 +99,7 @@ class Reader:
     def log(self, after: int = 0) -> List[Record]:
         """The records of the file with a number beyond `after`, in order. A checkpoint drops those before it."""
         try:
-            records = [record_of(tree) for tree in trees_of(self._read("log", ["--yaml"]))]
+            records = [record_of(tree) for tree in trees_of(_later(self._read("log", ["--yaml"]), after))]
         except yaml.YAMLError:
             raise BadAnswer("what `log` printed is no YAML") from None
         return [record for record in records if record.number > after]
@@ -126,6 +128,14 @@ class View:
 
     def __getitem__(self, name: str) -> Tree:
         return self.get(name)
+
+
+def _later(records: bytes, after: int) -> bytes:
+    """The records without those that show a number up to `after` at once, so that these are not read."""
+    if after <= 0:
+        return records
+    pieces = Cutter().cut(records)
+    return b"".join(piece for piece in pieces if not (shown := _AT.match(piece)) or int(shown[1]) > after)
 
 
 def _check_word(path: str) -> None:

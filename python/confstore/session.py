@@ -44,7 +44,7 @@ class _Slot:
         self.done = threading.Event()
 
 
-class _Cutter:
+class Cutter:
     """Cuts bytes after each closing line, and never looks at a byte twice."""
 
     def __init__(self) -> None:
@@ -258,7 +258,7 @@ class Session:
 
     def _serve(self) -> None:
         """Takes answers, and sends what was not taken at once, until the session is over. Then says so to all."""
-        errors, cutter = bytearray(), _Cutter()
+        errors, cutter = bytearray(), Cutter()
         with selectors.DefaultSelector() as selector:
             selector.register(self._ear, selectors.EVENT_READ)
             selector.register(self._other.answers, selectors.EVENT_READ)
@@ -297,7 +297,7 @@ class Session:
                 self._other.no_more()
                 self._other.commands = -1
 
-    def _take(self, cutter: _Cutter) -> bool:
+    def _take(self, cutter: Cutter) -> bool:
         """Hands out the answers that are there. Whether there may be more."""
         try:
             part = os.read(self._other.answers, PART)

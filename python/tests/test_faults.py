@@ -11,7 +11,7 @@ import unittest
 
 import confstore
 from confstore import Reader, SessionEnded, Store
-from confstore.session import LONGEST_COMMAND, Session, _Cutter
+from confstore.session import LONGEST_COMMAND, Session, Cutter
 
 from . import TOP
 from .places import StoreTest
@@ -390,7 +390,7 @@ class Cutting(unittest.TestCase):
         stream = b"...\na\n...\n....\n ...\n...\n\n...\nb...\nrest"
         pieces = [b"...\n", b"a\n...\n", b"....\n ...\n...\n", b"\n...\n"]
         for step in (1, 2, 3, 5, 100):
-            cutter, found = _Cutter(), []
+            cutter, found = Cutter(), []
             for place in range(0, len(stream), step):
                 found += cutter.cut(stream[place : place + step])
             self.assertEqual((found, bytes(cutter.rest)), (pieces, b"b...\nrest"))

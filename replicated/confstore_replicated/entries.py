@@ -76,7 +76,7 @@ def entry_of(edits: Sequence[Edit]) -> bytes:
     """The bytes of an entry. Raises `Refused` if it, or its batch, is too long, or has a text that YAML can't hold."""
     try:
         entry = json.dumps({"edits": list(edits)}, ensure_ascii=False, separators=(",", ":")).encode("utf-8", "strict")
-        batch = document({"batch": marked(edits, 1, 1)})
+        batch = document({"batch": [*marked(edits, 1, 1)]})
     except (NotText, UnicodeEncodeError):
         raise Refused("NotText") from None
     except NotATree:
@@ -91,7 +91,7 @@ def entry_of(edits: Sequence[Edit]) -> bytes:
 def edits_in(entry: bytes) -> List[Edit]:
     """The edits of an entry that stands in the log. Raises `Refused` for what no node puts there."""
     try:
-        edits = json.loads(entry)["edits"]
+        edits: List[Edit] = json.loads(entry)["edits"]
     except (ValueError, KeyError, TypeError, RecursionError):
         raise Refused("BadCommand") from None
     entry_of(edits_of({"batch": edits}))

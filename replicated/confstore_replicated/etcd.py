@@ -80,7 +80,8 @@ class Etcd:
         text = answer.read()
         if answer.status != 200:
             raise ValueError(f"status {answer.status}: {text[:200]!r}")
-        return json.loads(text)
+        found: Dict[str, Any] = json.loads(text)
+        return found
 
     def _ask(self, path: str, body: Dict[str, Any]) -> Dict[str, Any]:
         """What the first member that answers says. Only for what may be asked twice."""

@@ -159,7 +159,7 @@ class Follower(threading.Thread):
                         self._say(error)
             except Behind:
                 self._start_from_base()
-            except (ConfstoreError, OSError, ValueError) as error:
+            except Exception as error:  # whatever it is, the others go on, and so does this one after a while
                 self._say(error)
             finally:
                 self._close()
@@ -281,7 +281,8 @@ class Follower(threading.Thread):
     def _base(self) -> Dict[str, Any]:
         """What etcd says of the base: its number, up to which entries may have been taken out, its parts' sum."""
         found = self._etcd.get(self._prefix + b"base")
-        return {} if found is None else json.loads(found)
+        base: Dict[str, Any] = {} if found is None else json.loads(found)
+        return base
 
     def _write_base(self) -> None:
         """Puts a base of the store into etcd, unless another follower did just now, and takes old entries out."""

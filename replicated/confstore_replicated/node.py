@@ -93,7 +93,8 @@ class Node:
         """A client of etcd for this thread."""
         if not hasattr(self._local, "etcd"):
             self._local.etcd = Etcd(self._members, PATIENCE)
-        return self._local.etcd
+        mine: Etcd = self._local.etcd
+        return mine
 
     def answer(self, request: Request) -> Dict[str, Any]:
         """What is answered to a request."""

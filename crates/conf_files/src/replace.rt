@@ -36,7 +36,7 @@ pub fn open_file<R: Files<File = File>>(rt: &R, path: &str) -> io::Result<File> 
     File::open(rt, path)
 }
 
-/// Puts a file that has these bytes in the place of the plain file at a path. Where the path is a link, the file that it
+/// Puts a file that has these bytes in the place of the plain file at a path. If the path is a link, the file that it
 /// leads to is replaced, and the link stays.
 ///
 /// The new file is written beside the old one, under a name as `.confstore-0.tmp`, synced, and renamed. Then the folder

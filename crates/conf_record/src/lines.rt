@@ -34,8 +34,8 @@ pub fn cut_text<'t>(lines: &'t str, key: &str) -> Option<(&'t str, &'t str)>
     Some((text, rest))
 }
 
-/// What is after a key that the lines begin with, up to the end of that line, and the lines after it. `None` if the lines
-/// begin otherwise, or have no line feed after the key.
+/// What is after a key that the lines begin with, up to the end of that line, and the lines after it. `None` if the
+/// lines begin otherwise, or have no line feed after the key.
 pub fn cut_line<'t>(lines: &'t str, key: &str) -> Option<(&'t str, &'t str)>
     ensures { IfSome result (λ cut. lines.now
         ≡ key.now ++ (cut.0.now ++ line_feed ∷ cut.1.now)) }

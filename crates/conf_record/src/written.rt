@@ -14,7 +14,8 @@ use std::alloc::{AllocError, Global};
 use std::str;
 
 /// The record that the bytes are, if they are the very text that [`record_text`](crate::record_text) writes for it, and
-/// each text in it is on one line without an escape. `None` says nothing of the bytes. It fails only if memory runs out.
+/// each text in it is on one line without an escape. `None` says nothing of the bytes. It fails only if memory runs
+/// out.
 pub(crate) fn written_record(
     alloc: Global,
     bytes: &[u8],

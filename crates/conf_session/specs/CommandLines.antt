@@ -19,6 +19,7 @@ pub record Line : Type 0 where
   pub spelling : Spelling
   pub value : List ℕ
 
+-- the text as it is spelled
 abbrev pub spelled : Spelling → List ℕ → List ℕ
 spelled bare value = value
 spelled quoted value = double_quote ∷ (value ++ double_quote ∷ [])
@@ -56,13 +57,16 @@ pub record AreTwoFields (lines key other value second : List ℕ) : Type 0 where
 
 -- ---- commands
 
+-- a line, with its line feed
 abbrev pub line_text : Line → List ℕ
 line_text l = l.key ++ (codes ": " ++ (spelled l.spelling l.value ++ codes "\n"))
 
+-- lines, one after another
 abbrev pub lines_text : List Line → List ℕ
 lines_text [] = []
 lines_text (l ∷ ls) = line_text l ++ lines_text ls
 
+-- the members that the lines hold
 abbrev pub members_of_lines : List Line → Members
 members_of_lines [] = no_member
 members_of_lines (l ∷ ls) = member l.key (text l.value) (members_of_lines ls)
@@ -73,6 +77,7 @@ pub record IsLine (l : Line) : Type 0 where
   pub short : long_key l.key ≡ false
   pub stands : stands l.spelling l.value ≡ true
 
+-- each of them is such a line
 abbrev pub AreLines : List Line → Type 0
 AreLines [] = Unit {0}
 AreLines (l ∷ ls) = IsLine l × AreLines ls

@@ -107,8 +107,8 @@ TriesFiles given left held written Refused = TakesBytes given left × Adds held 
 TriesFiles given left held written WrongWords = ⊥
 TriesFiles given left held written Device = TakesBytes given left
 
--- What one file that is formatted says of the input, which may be that file, and of the output. Of an output that failed
--- nothing is said.
+-- What one file that is formatted says of the input, which may be that file, and of the output. Of an output that
+-- failed nothing is said.
 abbrev pub FormatsSome : Option (List ℕ) → Option (List ℕ) → Option (List ℕ) → Option (List ℕ)
     → Result Unit ToolFault → Type 0
 FormatsSome given left held written (Ok done) =

@@ -43,8 +43,8 @@ pub fn restyle<R: Read>(alloc: Global, reader: &mut R) -> Result<Restyled, ToolF
 }
 
 /// Reads a text from `reader` to its end, and returns whether its tree has another text in the one style. If so, it
-/// writes the file's name and a line feed to `writer`. It reads at most one byte more than the 4,194,304 that a text may
-/// have.
+/// writes the file's name and a line feed to `writer`. It reads at most one byte more than the 4,194,304 that a text
+/// may have.
 ///
 /// # Errors
 ///
@@ -90,14 +90,14 @@ fn write_name<W: Write>(alloc: Global, writer: &mut W, file: &str) -> Result<(),
 
 /// Reads a text from `reader` to its end, and writes a line to `writer` for each of its findings, in the order of
 /// [`check`]. The line has the file's name, a colon, the number of the line, from 1, a colon and a space, the rule's
-/// name, a space, and words for the rule, as `web.yaml:3: S1 the line ends in a space or TAB`. Returns how many findings
-/// there are. It reads at most one byte more than the 4,194,304 that a text may have.
+/// name, a space, and words for the rule, as `web.yaml:3: S1 the line ends in a space or TAB`. Returns how many
+/// findings there are. It reads at most one byte more than the 4,194,304 that a text may have.
 ///
 /// # Errors
 ///
 /// - [`ToolFault::Input`] if the reader fails. Nothing is written.
-/// - [`ToolFault::Read`] if the text is refused, when nothing is written, or memory runs out, when some of the lines may
-///   be written.
+/// - [`ToolFault::Read`] if the text is refused, when nothing is written, or memory runs out, when some of the lines
+///   may be written.
 /// - [`ToolFault::Output`] if the writer fails. Some of the lines may be written.
 pub fn check_file<R: Read, W: Write>(
     alloc: Global,

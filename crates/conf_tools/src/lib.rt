@@ -2,10 +2,11 @@
 //! status.
 //!
 //! The tools are there without the words, too. [`format_text`] writes a text's tree in the one style, and
-//! [`check_text`] reports where a text departs from it. For the text of a file that was named, [`restyle`] returns that
-//! text, [`list_changed`] names the file if it is another one, and [`check_file`] reports as `FILE:LINE: S1`. [`run_store`] performs a session of commands, and
-//! [`export_store`] writes one configuration. [`change_store`] makes a single change, and [`make_store`] an empty store.
-//! The store may be on any disk. [`calls_hold`] says what these calls keep over any crashes.
+//! [`check_text`] reports where a text departs from it. For the text of a file that was named, [`restyle`] returns what
+//! it is in the one style, [`list_changed`] writes the name if that is another text, and [`check_file`] reports as
+//! `FILE:LINE: S1`. [`run_store`] performs a session of commands, and [`export_store`] writes one configuration.
+//! [`change_store`] makes a single change, and [`make_store`] an empty store. The store may be on any disk.
+//! [`calls_hold`] says what these calls keep over any crashes.
 #![tactic(auto)]
 
 mod change_words;

@@ -170,11 +170,7 @@ fn set_change(
 }
 
 /// What deleting the value at the end of the tokens changes.
-fn delete_change(
-    tree: &Tree,
-    tokens: &[CowStr<'_>],
-    known: Known<'_>,
-) -> Result<Change, PathFault>
+fn delete_change(tree: &Tree, tokens: &[CowStr<'_>], known: Known<'_>) -> Result<Change, PathFault>
     requires steps { 0 < length tokens.now }
     requires known { Knows known (tree_of tree.now) (texts tokens.now) }
     requires tree { IsKept (tree_of tree.now) }

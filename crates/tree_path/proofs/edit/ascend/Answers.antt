@@ -1,4 +1,4 @@
-use Rattle.std.proofs.Common.{◌≡◌, ◌-◌, length, take, Ok, sym, ap, ap₂, subst, ◌∙◌, refl, arith}
+use Rattle.std.proofs.Common.{◌≡◌, ◌-◌, length, take, sym, ap, ap₂, subst, ◌∙◌, refl, arith}
 use Rattle.std.specs.Cow.{cow_str_bytes}
 use Rattle.std.specs.Result.{IsOk}
 use Rattle.std.specs.Str.{chars}
