@@ -16,6 +16,9 @@ use Rattle.conf_history.proofs.WalkLemmas.{any-bytes, some-map, bad-at, end-mean
 pub below : (a n : ℕ) → a ≤ n → (a ≡ n → ⊥) → a + 1 ≤ n
 below a n le ne = grind (arith, le, ne)
 
+less : (a n : ℕ) → a ≤ n → (a ≡ n → ⊥) → a < n
+less a n le ne = grind (arith, le, ne)
+
 -- what cannot be surveyed cannot be read
 pub survey-reading : (bytes : List ℕ) (at : Option ℕ) (f : HistoryFault) → RefusesSurvey bytes f → RefusesReading bytes at f
 survey-reading bytes at NotAStore r = r
@@ -62,7 +65,7 @@ module _ (given left : Option (List ℕ)) (walk : Walk) (pieces : List (List ℕ
       let same : walk.state.count ≡ other.0 = cc in
       absurd (other.2 same)
   refuses-after at (inr (ne, e)) up_to f fault other =
-      let lt : walk.state.count < other.0 = below walk.state.count other.0 (up_to other.0 other.1) other.2 in
+      let lt : walk.state.count < other.0 = less walk.state.count other.0 (up_to other.0 other.1) other.2 in
       let none : IfSome given (λ bytes. RefusesReading bytes (Some other.0) NoSuchCommand) =
       some-map given _ (λ bytes. RefusesReading bytes (Some other.0) NoSuchCommand) (λ bytes m. inr (walk.state, m, lt)) (end-means given left walk pieces start commands e) in
       subst (λ f. IfSome given (λ bytes. RefusesReading bytes at f)) (sym fault) (subst (λ a. IfSome given (λ bytes. RefusesReading bytes a NoSuchCommand)) (sym other.1) none)

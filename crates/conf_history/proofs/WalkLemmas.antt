@@ -81,16 +81,6 @@ begins-with-piece some pieces piece further after closed closes =
 
 -- ---- limits
 
--- pieces that are sound with these limits have them
-pub sound-own : (pieces : Reading) → IsSound store_limit store_limit pieces → IsSound (piece_limit pieces) (input_limit pieces) pieces
-sound-own pieces s =
-    record s {
-      max = refl;
-      whole = refl;
-      chunk = subst (λ n. 65536 ≤ n) (sym s.max) s.chunk;
-      total = subst (λ n. pieces.total ≤ n) (sym s.whole) s.total;
-    }
-
 module _ (given mid left : Option (List ℕ)) (old now : Reading) (prefix : List ℕ) (taken : Consumes given mid (prefix ++ ahead old)) (total : bytes_read old ≡ length (prefix ++ ahead old)) where
   too-long : FindsTooLong store_limit mid left old → IfSome given IsNoStore
   too-long f =
@@ -163,7 +153,7 @@ module _ (given left : Option (List ℕ)) (old now : Reading) (none : ahead old 
 
   -- nor where the first piece is none
   pub no-base : SomePieces → AdvancesToPiece store_limit store_limit given left old now → IsNoBase (piece_or_rest now) → IfSome given IsNoStore
-  no-base some a no =
+  no-base some a other =
       let piece = piece_or_rest now in
       known given left (piece ++ ahead now) IsNoStore (first-piece a)
       (λ after.
@@ -172,7 +162,7 @@ module _ (given left : Option (List ℕ)) (old now : Reading) (none : ahead old 
           pieces = piece ∷ all.0;
           rest = all.1;
           cut = all.2;
-          none = λ base records s is is_base. (let same : base ≡ piece = cc is in no s (subst (λ b. IsBase b s) same is_base));
+          none = λ base records s is is_base. (let same : base ≡ piece = cc is in other s (subst (λ b. IsBase b s) same is_base));
         })))
 
   -- a base begins the walk

@@ -103,6 +103,13 @@ pub record IsSurvey (bytes : List ℕ) (s : Contents) (findings : Findings) : Ty
   pub dropped : length rest ≡ findings.dropped
   pub bad : AreUnread pieces unread s findings.bad
 
+-- What is returned is what was found in the known bytes. All that there are were read, at most 1,073,741,824.
+pub record ReadsSurvey (given left : Option (List ℕ)) (s : Contents) (findings : Findings) : Type 0 where
+  pub holds : IfSome given (λ bytes. IsSurvey bytes s findings)
+  pub kept : IsState s
+  pub at_end : IsAtEnd left
+  pub read : ReadsAtMost store_limit given left
+
 -- Why the bytes can't be surveyed. Input and OutOfMemory say nothing of them.
 abbrev pub RefusesSurvey : List ℕ → HistoryFault → Type 0
 RefusesSurvey bytes NotAStore = IsNoStore bytes

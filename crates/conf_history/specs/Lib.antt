@@ -1,4 +1,6 @@
 pub mod BadPieces
+pub mod Beside
+pub mod Counting
 pub mod Faults
 pub mod Histories
 pub mod Records
