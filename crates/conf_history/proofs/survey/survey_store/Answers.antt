@@ -1,5 +1,5 @@
 -- Each turn performs one piece, up to the first bad one.
-use Rattle.std.proofs.Common.{◌≡◌, ◌≤◌, rules, sym, ap, subst, arith, [], ◌∷◌, ◌++◌}
+use Rattle.std.proofs.Common.{◌≡◌, ◌≤◌, sym, ap, subst, arith, [], ◌∷◌, ◌++◌}
 use Rattle.std.specs.Prelude.{true, false, Ok}
 use Rattle.std.proofs.lemmas.Result.{err_from_is_err_and}
 use Rattle.yaml_docs.specs.PieceReading.{piece_or_rest}
@@ -98,7 +98,7 @@ returns-in-Err-Damaged-clause-ok g c =
     let same = c.in-Err-Damaged.ensures.unchanged in
     let kept : IsAtPiece given left c.perform_piece.new.self walked.0 walked.1 walked.2 = subst (λ (w : Walk). IsAtPiece given left w walked.0 walked.1 walked.2) (sym same) going in
     let here : IsBadHere walk c.in-Err-Damaged.bad =
-    first_of (search rules, subst (RefusesPiece walk) c.in-Err-Damaged.field-0-is c.in-Err-Damaged.ensures.refused) in
+    subst (RefusesPiece walk) c.in-Err-Damaged.field-0-is c.in-Err-Damaged.ensures.refused in
     c.finish_survey.ensures.ok given walked.0 walked.1 walked.2 kept (subst (λ (w : Walk). IsBadHere w c.in-Err-Damaged.bad) (sym same) here) walked.4
 
 pub returns-in-Err-Damaged-clause-refused : goal.returns-in-Err-Damaged-clause-refused
