@@ -1,10 +1,21 @@
 // What is read of a file to which another program appends.
+ghost use Rattle.conf_history.specs.Beside.{AppendedRecordsAreRead, PrefixesAreRead};
+
+use conf_record::documents_close;
 
 /// What a reader finds of a file to which a session appends at the same time.
 ///
-/// Take a file that means a state, and the records of commands that this state accepts. Whatever prefix of these
-/// records the reader sees, with any number of zeros after it, it reads the state after the first of the commands. And
-/// every prefix of a file that means a state has the base and the first of the records, as soon as it has the base.
+/// - `prefix`: any prefix of a file that means a state, if it holds the base, means the state after the first of the
+///   file's commands.
+/// - `appended`: take a file that means a state and ends with a closing line, and the records of commands that this
+///   state accepts. Whatever prefix of these records is there, also with zeros after it as a crash may leave them, the
+///   file means the state after the first of the commands.
 ///
-/// What is read may not be synced yet: a crash may take back the last commands that a reader saw.
-pub fn reading_beside_a_writer() {}
+/// What is read may not be synced yet: a crash may take back the last commands that a reader saw, until the store is
+/// opened or flushed.
+pub fn reading_beside_a_writer()
+    ensures prefix { PrefixesAreRead }
+    ensures appended { AppendedRecordsAreRead }
+{
+    documents_close();
+}

@@ -1,0 +1,128 @@
+-- A prefix of the bytes of a store's file.
+use Rattle.std.proofs.Common.{◌≡◌, ◌⊎◌, inl, inr, ⊎_elim, refl, sym, ◌∙◌, ap, subst, arith, ◌<◌, ◌≤◌, append_assoc, take-append-drop, length-take}
+use Rattle.std.specs.Prelude.{ℕ, ◌+◌, ◌-◌, zero, suc, List, [], ◌∷◌, ◌++◌, length, take, drop, replicate, Some, Ok}
+use Rattle.std.specs.List.{All, concat}
+use Rattle.std.proofs.lemmas.Bool.{cases_lt}
+use Rattle.std.proofs.lemmas.List.Elements.{All-nil, All-cons, All-head, All-tail}
+use Rattle.yaml_grammar.specs.Closings.{ClosesAt, ClosesOnce, Pieces}
+use Rattle.yaml_docs.proofs.ClosingLines.{lies_within}
+use Rattle.yaml_docs.proofs.CutLines.{closes-longer, closes-shorter}
+use Rattle.conf_disk.specs.Folder.{File}
+use Rattle.conf_state.specs.Commands.{Command}
+use Rattle.conf_state.specs.States.{Contents}
+use Rattle.conf_record.specs.Documents.{RecordsTear, records_bytes}
+use Rattle.conf_store.specs.Meaning.{AreRecords, Means}
+use Rattle.conf_store.specs.Durable.{AfterPrefix}
+use Rattle.conf_store.proofs.MeaningLemmas.{after-prefix, journal-left}
+use Rattle.conf_history.specs.Beside.{PrefixesAreRead, AppendedRecordsAreRead}
+
+take-beyond : (k : ℕ) (xs ys : List ℕ) → take (length xs + k) (xs ++ ys) ≡ xs ++ take k ys
+take-beyond k [] ys = let none : 0 + k ≡ k = omega arith in ap (λ n. take n ys) none
+take-beyond k (x ∷ xs) ys =
+    let more : length (x ∷ xs) + k ≡ suc (length xs + k) = omega arith in
+    ap (λ n. take n (x ∷ (xs ++ ys))) more ∙ ap (λ l. x ∷ l) (take-beyond k xs ys)
+
+-- more bytes than those of the first list
+take-past : (kept : ℕ) (xs ys : List ℕ) → length xs ≤ kept → take kept (xs ++ ys) ≡ xs ++ take (kept - length xs) ys
+take-past kept xs ys le =
+    let whole : kept ≡ length xs + (kept - length xs) = omega (arith, le) in
+    ap (λ n. take n (xs ++ ys)) whole ∙ take-beyond (kept - length xs) xs ys
+
+-- a part of a piece is not closed
+part-unclosed : (piece after : List ℕ) (kept : ℕ) → ClosesOnce piece → kept < length piece → (place : ℕ) → ClosesAt (take kept (piece ++ after)) place → ⊥
+part-unclosed piece after kept closes short place c =
+    let all = piece ++ after in
+    let within : place ≤ kept = omega (arith, lies_within (take kept all) place c, length-take kept all) in
+    let whole : ClosesAt all place = subst (λ l. ClosesAt l place) (take-append-drop kept all) (closes-longer (take kept all) (drop kept all) place c) in
+    let own = closes-shorter piece after place whole (omega (arith, within, short)) in
+    absurd (let end = closes.once place own in omega (arith, end, within, short))
+
+-- a prefix of pieces and a rest is the first of the pieces and a rest
+pub prefix-pieces : (pieces : List (List ℕ)) (rest : List ℕ) (kept : ℕ) → All ClosesOnce pieces → ((place : ℕ) → ClosesAt rest place → ⊥)
+    → (k : ℕ) × (left : List ℕ) × Pieces (take kept (concat pieces ++ rest)) (take k pieces) left
+prefix-pieces [] rest kept closed unclosed = (
+  zero,
+  take kept rest,
+  record {
+    joined = refl;
+    closed = All-nil ClosesOnce;
+    unclosed = λ place c. unclosed place (subst (λ l. ClosesAt l place) (take-append-drop kept rest) (closes-longer (take kept rest) (drop kept rest) place c));
+  },
+)
+prefix-pieces (p ∷ ps) rest kept closed unclosed =
+    let all = (p ++ concat ps) ++ rest in
+    let grouped : all ≡ p ++ (concat ps ++ rest) = append_assoc p (concat ps) rest in
+    let first = All-head ClosesOnce p ps closed in
+    ⊎_elim
+    (λ short. (
+      zero,
+      take kept all,
+      record {
+        joined = refl;
+        closed = All-nil ClosesOnce;
+        unclosed = λ place c. part-unclosed p (concat ps ++ rest) kept first short place (subst (λ l. ClosesAt (take kept l) place) grouped c);
+      },
+    ))
+    (λ le. (let more = prefix-pieces ps rest (kept - length p) (All-tail ClosesOnce p ps closed) unclosed in (
+      suc more.0,
+      more.1,
+      record {
+        joined = ap (take kept) grouped ∙ take-past kept p (concat ps ++ rest) le ∙ ap (λ l. p ++ l) more.2.joined ∙ sym (append_assoc p (concat (take more.0 ps)) more.1);
+        closed = All-cons ClosesOnce p (take more.0 ps) first more.2.closed;
+        unclosed = more.2.unclosed;
+      },
+    )))
+    (cases_lt kept (length p))
+
+-- the first of some records are records
+are-prefix : (k count : ℕ) (pieces : List (List ℕ)) (commands : List Command) → AreRecords count pieces commands → AreRecords count (take k pieces) (take k commands)
+are-prefix zero count pieces commands are = tt
+are-prefix (suc k) count [] [] are = tt
+are-prefix (suc k) count [] (command ∷ commands) are = absurd are
+are-prefix (suc k) count (piece ∷ pieces) [] are = absurd are
+are-prefix (suc k) count (piece ∷ pieces) (command ∷ commands) are = (are.0, are-prefix k (count + 1) pieces commands are.1)
+
+pub prefixes-are-read : PrefixesAreRead
+prefixes-are-read bytes s m kept holds =
+    let mean = m.mean in
+    let all = mean.base ∷ mean.records in
+    let closed : All ClosesOnce all = subst (All ClosesOnce) mean.are m.cut.closed in
+    let first = All-head ClosesOnce mean.base mean.records closed in
+    let left = kept - length mean.base in
+    let cut = prefix-pieces mean.records m.rest left (All-tail ClosesOnce mean.base mean.records closed) m.cut.unclosed in
+    let mid = after-prefix mean.start s mean.commands cut.0 mean.leads in
+    let joined : bytes ≡ mean.base ++ (concat mean.records ++ m.rest) =
+    m.cut.joined ∙ ap (λ ps. concat ps ++ m.rest) mean.are ∙ append_assoc mean.base (concat mean.records) m.rest in
+    record {
+      count = cut.0;
+      state = mid.0;
+      leads = mid.1;
+      means = record {
+        short = omega (arith, length-take kept bytes, m.short);
+        pieces = mean.base ∷ take cut.0 mean.records;
+        rest = cut.1;
+        cut = record {
+          joined = ap (take kept) joined ∙ take-past kept mean.base (concat mean.records ++ m.rest) holds ∙ ap (λ l. mean.base ++ l) cut.2.joined
+              ∙ sym (append_assoc mean.base (concat (take cut.0 mean.records)) cut.1);
+          closed = All-cons ClosesOnce mean.base (take cut.0 mean.records) first cut.2.closed;
+          unclosed = cut.2.unclosed;
+        };
+        mean = record {
+          base = mean.base;
+          records = take cut.0 mean.records;
+          are = refl;
+          start = mean.start;
+          is_base = mean.is_base;
+          commands = take cut.0 mean.commands;
+          are_records = are-prefix cut.0 mean.start.count mean.records mean.commands mean.are_records;
+          leads = mid.1;
+        };
+      };
+    }
+
+pub appended-are-read : RecordsTear → AppendedRecordsAreRead
+appended-are-read tear bytes s end commands kept zeros whole are leads short fits =
+    let file : File = record { synced = bytes; pending = records_bytes s.count commands } in
+    journal-left tear file s end commands (bytes ++ take kept (records_bytes s.count commands) ++ replicate zeros 0)
+    (record { whole = whole; pending = refl; are_records = are; leads = leads; short = short })
+    (record { keep = kept; zeros = zeros; fits = fits; is = refl })

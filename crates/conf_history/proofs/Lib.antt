@@ -1,0 +1,4 @@
+pub mod WalkLemmas
+pub mod ReadingLemmas
+pub mod SurveyLemmas
+pub mod BesideLemmas

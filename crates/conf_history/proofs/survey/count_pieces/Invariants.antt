@@ -1,0 +1,15 @@
+-- What was read since is pieces, and bytes that are in no piece yet.
+use Rattle.std.proofs.Common.{◌≤◌, ◌-◌, ◌+◌, length}
+use Rattle.yaml_docs.specs.PieceReading.{ahead, bytes_read}
+use Rattle.conf_journal.specs.Store.{store_limit}
+use Rattle.conf_history.proofs.SurveyLemmas.{CountsSoFar}
+use Rattle.conf_history.proofs.survey.count_pieces.Given as goal
+
+abbrev pub invariant-pieces : goal.invariant-pieces
+invariant-pieces g l = record {
+  so_far : CountsSoFar (g.R.Read.remaining l.fn.reader) (g.R.Read.remaining l.reader) l.fn.pieces l.pieces l.count;
+  few : l.count ≤ store_limit + 65536;
+}
+
+abbrev pub decreases-pieces : goal.decreases-pieces
+decreases-pieces g l = (store_limit - bytes_read l.pieces) + length (ahead l.pieces)

@@ -1,0 +1,7 @@
+pub mod BadPieces
+pub mod Beside
+pub mod Counting
+pub mod Faults
+pub mod Histories
+pub mod Records
+pub mod Walks
