@@ -158,12 +158,12 @@ module _ (given left : Option (List ℕ)) (old now : Reading) (none : ahead old 
       known given left (piece ++ ahead now) IsNoStore (first-piece a)
       (λ after.
       (let all = begins-with-piece some [] piece (ahead now) after (All-nil ClosesOnce) a.piece in
-        inr (record {
-          pieces = piece ∷ all.0;
-          rest = all.1;
-          cut = all.2;
-          none = λ base records s is is_base. (let same : base ≡ piece = cc is in other s (subst (λ b. IsBase b s) same is_base));
-        })))
+      inr (record {
+        pieces = piece ∷ all.0;
+        rest = all.1;
+        cut = all.2;
+        none = λ base records s is is_base. (let same : base ≡ piece = cc is in other s (subst (λ b. IsBase b s) same is_base));
+      })))
 
   -- a base begins the walk
   pub begun : (state : Contents) (place : Place) → AdvancesToPiece store_limit store_limit given left old now → IsBase (piece_or_rest now) state
@@ -297,8 +297,10 @@ module _ (given left : Option (List ℕ)) (old : Walk) (pieces : List (List ℕ)
       let piece = piece_or_rest old.pieces in
       known given left (concat pieces ++ (piece ++ ahead old.pieces)) _ at.read.taken
       (λ after.
-      (let all = begins-with-piece some pieces piece (ahead old.pieces) after at.read.performed.closed at.piece in
-        (old.state, length all.0, record {
+      (let all = begins-with-piece some pieces piece (ahead old.pieces) after at.read.performed.closed at.piece in (
+        old.state,
+        length all.0,
+        record {
           pieces = pieces;
           piece = piece;
           further = all.0;
@@ -312,7 +314,8 @@ module _ (given left : Option (List ℕ)) (old : Walk) (pieces : List (List ℕ)
             why = here.why;
           };
           counted = refl;
-        })))
+        },
+      )))
 
 -- ---- the end
 
@@ -352,7 +355,7 @@ module _ (given left : Option (List ℕ)) (walk : Walk) (pieces : List (List ℕ
       known given left (concat pieces ++ ahead walk.pieces) (λ bytes. MeansUpTo bytes number walk.state) b.taken
       (λ after.
       (let all = begins-with some pieces (ahead walk.pieces) after b.performed.closed in
-        record { pieces = pieces; further = all.0; rest = all.1; cut = all.2; mean = b.performed.mean; numbered = is }))
+      record { pieces = pieces; further = all.0; rest = all.1; cut = all.2; mean = b.performed.mean; numbered = is }))
 
   -- a number before that of the base
   pub starts-after : SomePieces → IsBetween given left walk pieces start commands → (number : ℕ) → number < start.count → IfSome given (λ bytes. StartsAfter bytes number)
@@ -361,15 +364,15 @@ module _ (given left : Option (List ℕ)) (walk : Walk) (pieces : List (List ℕ
       known given left (concat pieces ++ ahead walk.pieces) (λ bytes. StartsAfter bytes number) b.taken
       (λ after.
       (let all = begins-with some pieces (ahead walk.pieces) after b.performed.closed in
-        record {
-          base = m.base;
-          further = m.records ++ all.0;
-          rest = all.1;
-          cut = subst (λ ps. Pieces ((concat pieces ++ ahead walk.pieces) ++ after) (ps ++ all.0) all.1) m.are all.2;
-          start = m.start;
-          is_base = m.is_base;
-          above = subst (λ (t : Contents). number < t.count) (sym b.performed.begins) above;
-        }))
+      record {
+        base = m.base;
+        further = m.records ++ all.0;
+        rest = all.1;
+        cut = subst (λ ps. Pieces ((concat pieces ++ ahead walk.pieces) ++ after) (ps ++ all.0) all.1) m.are all.2;
+        start = m.start;
+        is_base = m.is_base;
+        above = subst (λ (t : Contents). number < t.count) (sym b.performed.begins) above;
+      }))
 
   -- how much was read
   pub end-read : IsAtEndOf given left walk pieces start commands → ReadsAtMost store_limit given left

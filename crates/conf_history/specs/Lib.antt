@@ -4,4 +4,5 @@ pub mod Counting
 pub mod Faults
 pub mod Histories
 pub mod Records
+pub mod Salvages
 pub mod Walks

@@ -2,7 +2,6 @@
 ghost use Rattle.std.specs.Prelude.{◌≡◌};
 ghost use Rattle.conf_history.specs.Faults.{fault_of_pieces};
 
-
 use crate::place::BadPiece;
 use std::alloc::AllocError;
 use thiserror::Error;

@@ -10,8 +10,7 @@ pub(crate) fn record_line(
     alloc: Global,
     number: u64,
     command: &Command,
-) -> Result<String, AllocError>
-{
+) -> Result<String, AllocError> {
     let mut line = String::new(alloc);
     let mut digits = Buffer::new();
     line.put_text(digits.format(number))?;
@@ -21,8 +20,7 @@ pub(crate) fn record_line(
 }
 
 /// Writes a space and what a command does.
-fn write_command<S: Sink>(command: &Command, sink: &mut S) -> Result<(), S::Fault>
-{
+fn write_command<S: Sink>(command: &Command, sink: &mut S) -> Result<(), S::Fault> {
     match command {
         Command::Import { name, .. } => write_import(name, sink),
         Command::Set { name, path, .. } => write_at(" set ", name, path, sink),
@@ -32,8 +30,7 @@ fn write_command<S: Sink>(command: &Command, sink: &mut S) -> Result<(), S::Faul
 }
 
 /// Writes the edits of a batch, with `;` between them.
-fn write_batch<S: Sink>(edits: &[Edit], sink: &mut S) -> Result<(), S::Fault>
-{
+fn write_batch<S: Sink>(edits: &[Edit], sink: &mut S) -> Result<(), S::Fault> {
     sink.put_text(" batch")?;
     let mut between = "";
     for edit in edits {
@@ -45,8 +42,7 @@ fn write_batch<S: Sink>(edits: &[Edit], sink: &mut S) -> Result<(), S::Fault>
 }
 
 /// Writes a space and what an edit does.
-fn write_edit<S: Sink>(edit: &Edit, sink: &mut S) -> Result<(), S::Fault>
-{
+fn write_edit<S: Sink>(edit: &Edit, sink: &mut S) -> Result<(), S::Fault> {
     match edit {
         Edit::Import { name, .. } => write_import(name, sink),
         Edit::Set { name, path, .. } => write_at(" set ", name, path, sink),
@@ -55,22 +51,19 @@ fn write_edit<S: Sink>(edit: &Edit, sink: &mut S) -> Result<(), S::Fault>
 }
 
 /// Writes an import of a configuration.
-fn write_import<S: Sink>(name: &str, sink: &mut S) -> Result<(), S::Fault>
-{
+fn write_import<S: Sink>(name: &str, sink: &mut S) -> Result<(), S::Fault> {
     sink.put_text(" import ")?;
     sink.put_text(name)
 }
 
 /// Writes a word, the name of a configuration, and a pointer in double quotes.
-fn write_at<S: Sink>(word: &str, name: &str, path: &str, sink: &mut S) -> Result<(), S::Fault>
-{
+fn write_at<S: Sink>(word: &str, name: &str, path: &str, sink: &mut S) -> Result<(), S::Fault> {
     sink.put_text(word)?;
     sink.put_text(name)?;
     sink.put_char(' ')?;
     write_quoted(path, sink)
 }
 
-fn write_quoted<S: Sink>(text: &str, sink: &mut S) -> Result<(), S::Fault>
-{
+fn write_quoted<S: Sink>(text: &str, sink: &mut S) -> Result<(), S::Fault> {
     write_scalar(text, 2, sink)
 }

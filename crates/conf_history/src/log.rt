@@ -36,8 +36,7 @@ pub fn write_log<R: Read, W: Write>(
     at: Option<u64>,
     form: LogForm,
     writer: &mut W,
-) -> Result<(), HistoryFault>
-{
+) -> Result<(), HistoryFault> {
     let mut walk = Walk::begin(alloc, reader)?;
     walk.check_start(at)?;
     'records: while walk.goes_on(reader, at)? {
@@ -52,8 +51,7 @@ fn log_piece<W: Write>(
     walk: &mut Walk,
     form: LogForm,
     writer: &mut W,
-) -> Result<(), HistoryFault>
-{
+) -> Result<(), HistoryFault> {
     match form {
         LogForm::Lines => log_line(alloc, walk, writer),
         LogForm::Records => {
@@ -64,8 +62,7 @@ fn log_piece<W: Write>(
 }
 
 /// The same as a line. The line is made before the command is performed, which takes the command.
-fn log_line<W: Write>(alloc: Global, walk: &mut Walk, writer: &mut W) -> Result<(), HistoryFault>
-{
+fn log_line<W: Write>(alloc: Global, walk: &mut Walk, writer: &mut W) -> Result<(), HistoryFault> {
     let command = walk.command(alloc)?;
     let line = record_line(alloc, walk.state.count() + 1, &command)?;
     walk.perform(alloc, command)?;

@@ -7,8 +7,7 @@ use std::io::Write;
 ///
 /// # Errors
 /// `Output` if a write fails, or takes nothing: only the first of the bytes are written.
-pub(crate) fn put_bytes<W: Write>(writer: &mut W, bytes: &[u8]) -> Result<(), HistoryFault>
-{
+pub(crate) fn put_bytes<W: Write>(writer: &mut W, bytes: &[u8]) -> Result<(), HistoryFault> {
     let mut done = 0;
     'parts: while done < bytes.len() {
         match writer.write(&bytes[done..]) {

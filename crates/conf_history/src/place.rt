@@ -57,8 +57,11 @@ impl Place {
         requires few { self.number ≤ self.byte }
         requires lines { self.feeds ≤ self.byte }
         requires short { self.byte + length piece.now < 2 ^ 63 }
-        ensures { result ≡ record { number = self.number + 1; byte = self.byte + length piece.now;
-            feeds = self.feeds + line_feeds piece.now } }
+        ensures { result ≡ record {
+          number = self.number + 1;
+          byte = self.byte + length piece.now;
+          feeds = self.feeds + line_feeds piece.now;
+        } }
     {
         Place {
             number: self.number + 1,
@@ -70,8 +73,12 @@ impl Place {
     /// The piece that begins here as a bad one.
     pub fn bad_piece(self, why: NoRecord) -> BadPiece
         requires { self.feeds < 2 ^ 63 }
-        ensures { result ≡ record { number = self.number; byte = self.byte; line = self.feeds + 1;
-            why = why } }
+        ensures { result ≡ record {
+          number = self.number;
+          byte = self.byte;
+          line = self.feeds + 1;
+          why = why;
+        } }
     {
         BadPiece {
             number: self.number,

@@ -66,7 +66,11 @@ impl Walk {
     ///
     /// # Errors
     /// Those of [`Walk::advance`].
-    pub fn goes_on<R: Read>(&mut self, reader: &mut R, at: Option<u64>) -> Result<bool, HistoryFault>
+    pub fn goes_on<R: Read>(
+        &mut self,
+        reader: &mut R,
+        at: Option<u64>,
+    ) -> Result<bool, HistoryFault>
         requires { HasLimits self.old.pieces }
         ensures walks { (given : Option (List ℕ)) (pieces : List (List ℕ)) (start : Contents)
             (commands : List Meant)

@@ -33,11 +33,7 @@ impl From<AllocError> for RecordFault {
 ///
 /// # Errors
 /// `Bad` with `NotARecord` or `WrongNumber`. `OutOfMemory`.
-pub(crate) fn read_next(
-    alloc: Global,
-    state: &State,
-    piece: &[u8],
-) -> Result<Command, RecordFault>
+pub(crate) fn read_next(alloc: Global, state: &State, piece: &[u8]) -> Result<Command, RecordFault>
     ensures ok { IfOk result (λ command.
         IsRecord piece.now (command_of command) (state.now.count + 1)) }
     ensures refused { IfErr result (RefusesRecord piece.now state.now) }

@@ -1,16 +1,21 @@
 // A new store of what stands in a damaged file.
+ghost use Rattle.std.specs.Prelude.{◌≡◌, ◌≤◌, IfOk, IfErr, IfSome};
+ghost use Rattle.conf_history.specs.declared.fault.HistoryFault.{HistoryFault};
+ghost use Rattle.conf_history.specs.Histories.{RefusesSurvey};
+ghost use Rattle.conf_history.specs.Salvages.{RefusesSalvage, Saves, disk_of};
 
 use crate::fault::SalvageFault;
 use crate::survey::{Findings, survey_store};
 use conf_disk::Disk;
+use conf_store::{CreateFault, create_store};
 use std::alloc::Global;
 use std::io::Read;
 
 /// Makes a store of the state that stands before the first bad piece of a store's file, or of its whole state. Returns
 /// the disk, and what stood in the file.
 ///
-/// The file is read as by [`survey_store`], and can't be changed by this. The new store is made on `disk`, which must have no
-/// `store.yaml`. It keeps the count of commands, and is synced when this returns `Ok`.
+/// The file is read as by [`survey_store`], and can't be changed by this. The new store is made on `disk`, which may
+/// have no `store.yaml`. It keeps the count of commands, and is synced when this returns `Ok`.
 ///
 /// # Errors
 /// The disk is returned with the fault. `History`: the file can't be read, or is no store; nothing is written.
@@ -21,11 +26,24 @@ pub fn salvage<R: Read, D: Disk + Drop>(
     reader: &mut R,
     disk: D,
 ) -> Result<(D, Findings), (D, SalvageFault)>
+    ensures saved { D.honest → IfOk result (λ r. Saves (R.remaining reader.old)
+        (R.remaining reader.new) (D.folder disk) (D.folder r.0) r.1) }
+    ensures refused { D.honest → IfErr result (λ r. RefusesSalvage (R.remaining reader.old)
+        (R.remaining reader.new) (D.folder disk) (D.folder r.0) r.1) }
+    // This holds also if the disk isn't honest.
+    ensures unread { IfErr result (λ r. (fault : HistoryFault) → r.1 ≡ SalvageFault.History fault
+        → IfSome (R.remaining reader.old) (λ bytes. RefusesSurvey bytes fault)) }
+    // The number of failures never falls.
+    ensures risen { D.failure_count disk ≤ D.failure_count (disk_of result) }
 {
     let found = match survey_store(alloc, reader) {
         Ok(found) => found,
         Err(fault) => return Err((disk, SalvageFault::History(fault))),
     };
-    // TODO: make the store of found.state
-    Ok((disk, found.findings))
+    match create_store(alloc, disk, &found.state) {
+        Ok(disk) => Ok((disk, found.findings)),
+        Err((disk, CreateFault::StoreExists)) => Err((disk, SalvageFault::StoreExists)),
+        Err((disk, CreateFault::Device)) => Err((disk, SalvageFault::Device)),
+        Err((disk, CreateFault::OutOfMemory)) => Err((disk, SalvageFault::OutOfMemory)),
+    }
 }

@@ -10,7 +10,6 @@ ghost use Rattle.conf_history.specs.Histories.{ReadsSurvey, RefusesSurvey};
 ghost use Rattle.conf_history.specs.Walks.{HasLimits, IsAtPiece, IsBadHere};
 
 use crate::fault::{HistoryFault, fault_of_pieces};
-
 use crate::place::BadPiece;
 use crate::walk::Walk;
 use conf_state::State;
@@ -125,9 +124,12 @@ impl Walk {
     fn into_survey(self, base: u64, bad: Option<Bad>) -> Survey
         requires { base ≤ self.state.count }
         ensures state { result.state ≡ self.state }
-        ensures findings { result.findings ≡ record { base = base;
-            commands = self.state.count - base; dropped = length (piece_or_rest self.pieces);
-            bad = bad } }
+        ensures findings { result.findings ≡ record {
+          base = base;
+          commands = self.state.count - base;
+          dropped = length (piece_or_rest self.pieces);
+          bad = bad;
+        } }
         ensures limits { IsState self.state }
     {
         let findings = Findings {

@@ -9,7 +9,6 @@ ghost use Rattle.conf_history.specs.Records.{RefusesRecord};
 ghost use Rattle.conf_history.specs.Walks.{AfterAdvance, HasLimits, HasRoom, IsBetween, Performs, RefusesPiece};
 
 use crate::fault::{HistoryFault, fault_of_pieces};
-
 use crate::place::Place;
 use crate::records::{RecordFault, perform_next, read_next};
 use conf_journal::STORE_LIMIT;

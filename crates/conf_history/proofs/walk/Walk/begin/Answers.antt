@@ -36,8 +36,7 @@ returns-clause-ok g c =
     let now = c.advance.new.self in
     let first : AdvancesToPiece store_limit store_limit given left old now =
     subst (λ b. Advances store_limit store_limit given left old now (Ok b)) c.in-Ok-true.field-0-test (own-limits given left old now (Ok c.in-Ok-true.field-0) c.in_ok-pieces.ensures.sound c.in-Ok-true.ensures) in
-    let base : IsBase c.piece.result.now c.in-Some.state = search rules in
-    (
+    let base : IsBase c.piece.result.now c.in-Some.state = search rules in (
       piece_or_rest now ∷ [],
       begun given left old now c.in_ok-pieces.ensures.unread.0 c.in_ok-pieces.ensures.unread.1 c.in-Some.state c.after-place.result first
           (subst (λ b. IsBase b c.in-Some.state) c.piece.ensures base)

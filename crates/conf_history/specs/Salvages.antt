@@ -1,0 +1,42 @@
+-- What is saved from a store's file, and why nothing is.
+use Rattle.std.specs.Prelude.{◌≡◌, ℕ, List, Option, Some, None, Result, Ok, Err, IfSome}
+use Rattle.conf_disk.specs.Folder.{Folder, bytes_under}
+use Rattle.conf_disk.specs.declared.disk.Name.TheVariants.{Store}
+use Rattle.conf_state.specs.BaseTexts.{base_bytes}
+use Rattle.conf_state.specs.States.{Contents}
+use Rattle.conf_store.specs.Creates.{RefusesCreation}
+use Rattle.conf_store.specs.Durable.{AllImagesMean}
+use Rattle.conf_store.specs.declared.creating.CreateFault.{CreateFault}
+use Rattle.conf_store.specs.declared.creating.CreateFault.TheVariants as create
+use Rattle.conf_history.specs.Histories.{ReadsSurvey, RefusesSurvey}
+use Rattle.conf_history.specs.declared.fault.SalvageFault.{SalvageFault}
+use Rattle.conf_history.specs.declared.fault.SalvageFault.TheVariants.{History, StoreExists, Device, OutOfMemory}
+use Rattle.conf_history.specs.declared.survey.Findings.{Findings}
+
+-- A new store was made where there was none. It has the state that stands before the first bad piece of what was read,
+-- and a crash leaves it from now on.
+pub record Saves (given left : Option (List ℕ)) (old new : Folder) (findings : Findings) : Type 0 where
+  pub s : Contents
+  pub reads : ReadsSurvey given left s findings
+  pub missing : bytes_under old Store ≡ None
+  pub file : bytes_under new Store ≡ Some (base_bytes s)
+  pub now : AllImagesMean new s
+
+-- why no store was made of what was read
+pub record Refused (given left : Option (List ℕ)) (old new : Folder) (fault : CreateFault) : Type 0 where
+  pub s : Contents
+  pub findings : Findings
+  pub reads : ReadsSurvey given left s findings
+  pub refused : RefusesCreation old s fault new
+
+-- Why nothing was saved. At a fault of the file nothing of the disk has changed; OutOfMemory may be one.
+abbrev pub RefusesSalvage : Option (List ℕ) → Option (List ℕ) → Folder → Folder → SalvageFault → Type 0
+RefusesSalvage given left old new (History fault) = IfSome given (λ bytes. RefusesSurvey bytes fault) × (new ≡ old)
+RefusesSalvage given left old new StoreExists = Refused given left old new create.StoreExists
+RefusesSalvage given left old new Device = Refused given left old new create.Device
+RefusesSalvage given left old new OutOfMemory = Refused given left old new create.OutOfMemory
+
+-- the disk that is handed back
+abbrev pub disk_of : {D : Type 0} → Result (D × Findings) (D × SalvageFault) → D
+disk_of (Ok r) = r.0
+disk_of (Err r) = r.0
