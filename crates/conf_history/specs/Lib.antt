@@ -3,6 +3,7 @@ pub mod Beside
 pub mod Counting
 pub mod Faults
 pub mod Histories
+pub mod Logs
 pub mod Records
 pub mod Salvages
 pub mod Walks

@@ -1,4 +1,9 @@
 // The line of a command in a log.
+ghost use Rattle.std.specs.Prelude.{◌≡◌, ◌≤◌, ◌-◌, ◌++◌, [], codes, decimal, encode_utf8_all, length, map, slice_range, IfOk, OnOk};
+ghost use Rattle.std.specs.Str.{chars};
+ghost use Rattle.yaml_grammar.specs.Style.{in_double_quotes};
+ghost use Rattle.conf_state.specs.Commands.{command_of, edit_of};
+ghost use Rattle.conf_history.specs.Logs.{command_line, command_words, edit_words, edits_words};
 
 use conf_state::{Command, Edit};
 use itoa::Buffer;
@@ -10,60 +15,139 @@ pub(crate) fn record_line(
     alloc: Global,
     number: u64,
     command: &Command,
-) -> Result<String, AllocError> {
-    let mut line = String::new(alloc);
+) -> Result<Vec<u8>, AllocError>
+    ensures { IfOk result (λ line.
+        line.items ≡ encode_utf8_all (command_line number (command_of command.now))) }
+{
+    let mut line = Vec::new(alloc);
     let mut digits = Buffer::new();
-    line.put_text(digits.format(number))?;
-    write_command(command, &mut line)?;
-    line.put_char('\n')?;
+    push_text(digits.format(number), &mut line)?;
+    push_command(alloc, command, &mut line)?;
+    push_text("\n", &mut line)?;
     Ok(line)
 }
 
-/// Writes a space and what a command does.
-fn write_command<S: Sink>(command: &Command, sink: &mut S) -> Result<(), S::Fault> {
+/// Appends a space and what a command does.
+fn push_command(alloc: Global, command: &Command, line: &mut Vec<u8>) -> Result<(), AllocError>
+    ensures { OnOk result (line.new.items
+        ≡ line.old.items ++ encode_utf8_all (command_words (command_of command.now))) }
+{
     match command {
-        Command::Import { name, .. } => write_import(name, sink),
-        Command::Set { name, path, .. } => write_at(" set ", name, path, sink),
-        Command::Delete { name, path } => write_at(" delete ", name, path, sink),
-        Command::Batch { edits } => write_batch(edits, sink),
+        Command::Import { name, .. } => push_import(name, line),
+        Command::Set { name, path, .. } => push_set(alloc, name, path, line),
+        Command::Delete { name, path } => push_delete(alloc, name, path, line),
+        Command::Batch { edits } => push_batch(alloc, edits, line),
     }
 }
 
-/// Writes the edits of a batch, with `;` between them.
-fn write_batch<S: Sink>(edits: &[Edit], sink: &mut S) -> Result<(), S::Fault> {
-    sink.put_text(" batch")?;
-    let mut between = "";
+/// Appends the edits of a batch, with `;` between them.
+fn push_batch(alloc: Global, edits: &[Edit], line: &mut Vec<u8>) -> Result<(), AllocError>
+    ensures { OnOk result (line.new.items ≡ line.old.items
+        ++ encode_utf8_all (codes " batch" ++ edits_words [] (map edit_of edits.now))) }
+{
+    push_text(" batch", line)?;
+    let mut mark = "";
     for edit in edits {
-        sink.put_text(between)?;
-        write_edit(edit, sink)?;
-        between = ";";
+        push_text(mark, line)?;
+        push_edit(alloc, edit, line)?;
+        mark = ";";
     }
     Ok(())
 }
 
-/// Writes a space and what an edit does.
-fn write_edit<S: Sink>(edit: &Edit, sink: &mut S) -> Result<(), S::Fault> {
+/// Appends a space and what an edit does.
+fn push_edit(alloc: Global, edit: &Edit, line: &mut Vec<u8>) -> Result<(), AllocError>
+    ensures { OnOk result (line.new.items
+        ≡ line.old.items ++ encode_utf8_all (edit_words (edit_of edit.now))) }
+{
     match edit {
-        Edit::Import { name, .. } => write_import(name, sink),
-        Edit::Set { name, path, .. } => write_at(" set ", name, path, sink),
-        Edit::Delete { name, path } => write_at(" delete ", name, path, sink),
+        Edit::Import { name, .. } => push_import(name, line),
+        Edit::Set { name, path, .. } => push_set(alloc, name, path, line),
+        Edit::Delete { name, path } => push_delete(alloc, name, path, line),
     }
 }
 
-/// Writes an import of a configuration.
-fn write_import<S: Sink>(name: &str, sink: &mut S) -> Result<(), S::Fault> {
-    sink.put_text(" import ")?;
-    sink.put_text(name)
+/// Appends an import of a configuration.
+fn push_import(name: &str, line: &mut Vec<u8>) -> Result<(), AllocError>
+    ensures { OnOk result (line.new.items
+        ≡ line.old.items ++ encode_utf8_all (codes " import " ++ chars name.now)) }
+{
+    push_text(" import ", line)?;
+    push_text(name, line)
 }
 
-/// Writes a word, the name of a configuration, and a pointer in double quotes.
-fn write_at<S: Sink>(word: &str, name: &str, path: &str, sink: &mut S) -> Result<(), S::Fault> {
-    sink.put_text(word)?;
-    sink.put_text(name)?;
-    sink.put_char(' ')?;
-    write_quoted(path, sink)
+/// Appends a set at a pointer.
+fn push_set(
+    alloc: Global,
+    name: &str,
+    path: &str,
+    line: &mut Vec<u8>,
+) -> Result<(), AllocError>
+    ensures { OnOk result (line.new.items ≡ line.old.items ++ encode_utf8_all
+        (codes " set " ++ chars name.now ++ codes " " ++ in_double_quotes (chars path.now))) }
+{
+    push_at(alloc, " set ", name, path, line)
 }
 
-fn write_quoted<S: Sink>(text: &str, sink: &mut S) -> Result<(), S::Fault> {
-    write_scalar(text, 2, sink)
+/// Appends a delete at a pointer.
+fn push_delete(
+    alloc: Global,
+    name: &str,
+    path: &str,
+    line: &mut Vec<u8>,
+) -> Result<(), AllocError>
+    ensures { OnOk result (line.new.items ≡ line.old.items ++ encode_utf8_all
+        (codes " delete " ++ chars name.now ++ codes " " ++ in_double_quotes (chars path.now))) }
+{
+    push_at(alloc, " delete ", name, path, line)
+}
+
+/// Appends a word, the name of a configuration, and a pointer in double quotes.
+fn push_at(
+    alloc: Global,
+    word: &str,
+    name: &str,
+    path: &str,
+    line: &mut Vec<u8>,
+) -> Result<(), AllocError>
+    ensures { OnOk result (line.new.items ≡ line.old.items ++ encode_utf8_all
+        (chars word.now ++ chars name.now ++ codes " " ++ in_double_quotes (chars path.now))) }
+{
+    push_text(word, line)?;
+    push_text(name, line)?;
+    push_text(" ", line)?;
+    push_quoted(alloc, path, line)
+}
+
+/// Appends a text in double quotes. The one style writes any text that begins with a space so, on one line; of that
+/// line the first quote and the space are left out, and the line feed.
+fn push_quoted(alloc: Global, text: &str, line: &mut Vec<u8>) -> Result<(), AllocError>
+    ensures { OnOk result (line.new.items
+        ≡ line.old.items ++ encode_utf8_all (in_double_quotes (chars text.now))) }
+{
+    let mut spaced = String::with_capacity(alloc, text.len())?;
+    spaced.put_char(' ')?;
+    spaced.put_text(text)?;
+    let mut scalar = String::new(alloc);
+    write_scalar(&spaced, 0, &mut scalar)?;
+    push_text("\"", line)?;
+    line.extend_from_slice(after_space(scalar.as_bytes()))?;
+    Ok(())
+}
+
+/// The bytes without the first two and the last one.
+fn after_space(quoted: &[u8]) -> &[u8]
+    requires { 3 ≤ length quoted.now }
+    ensures { result.now ≡ slice_range quoted.now 2 (length quoted.now - 1) }
+{
+    &quoted[2..quoted.len() - 1]
+}
+
+/// Appends a text.
+fn push_text(text: &str, line: &mut Vec<u8>) -> Result<(), AllocError>
+    ensures { OnOk result (line.new.items
+        ≡ line.old.items ++ encode_utf8_all (chars text.now)) }
+{
+    line.extend_from_slice(text.as_bytes())?;
+    Ok(())
 }

@@ -1,4 +1,10 @@
 // Which commands a store's file holds.
+ghost use Rattle.std.specs.Prelude.{◌+◌, OnOk, IfErr};
+ghost use Rattle.std.specs.Io.KnownBytes.{Appends};
+ghost use Rattle.yaml_docs.specs.PieceReading.{piece_or_rest};
+ghost use Rattle.conf_state.specs.Commands.{Command as Meant};
+ghost use Rattle.conf_history.specs.Logs.{FailsToLog, FailsToLogPiece, LogsAll, entry_bytes};
+ghost use Rattle.conf_history.specs.Walks.{HasRoom, Performs};
 
 use crate::fault::HistoryFault;
 use crate::line::record_line;
@@ -6,6 +12,7 @@ use crate::output::put_bytes;
 use crate::walk::Walk;
 use std::alloc::Global;
 use std::io::{Read, Write};
+use yaml_recognizers::closings::one_list_of_pieces;
 
 /// How the commands of a file are written.
 #[derive(Clone, Copy, Debug, PartialEq, Eq)]
@@ -36,35 +43,69 @@ pub fn write_log<R: Read, W: Write>(
     at: Option<u64>,
     form: LogForm,
     writer: &mut W,
-) -> Result<(), HistoryFault> {
+) -> Result<(), HistoryFault>
+    ensures ok { OnOk result (LogsAll at form (R.remaining reader.old) (R.remaining reader.new)
+        (W.contents writer.old) (W.contents writer.new)) }
+    ensures refused { IfErr result (FailsToLog at form (R.remaining reader.old)
+        (W.contents writer.old) (W.contents writer.new)) }
+{
+    one_list_of_pieces();
     let mut walk = Walk::begin(alloc, reader)?;
     walk.check_start(at)?;
     'records: while walk.goes_on(reader, at)? {
         log_piece(alloc, &mut walk, form, writer)?;
     }
-    walk.check_end(at)
+    walk.check_end(at)?;
+    Ok(())
 }
 
 /// Performs the piece as the next record, and writes its command.
+///
+/// # Errors
+/// Those of [`Walk::perform_piece`]: nothing is written. `Output`: only a part is written.
 fn log_piece<W: Write>(
     alloc: Global,
     walk: &mut Walk,
     form: LogForm,
     writer: &mut W,
-) -> Result<(), HistoryFault> {
+) -> Result<(), HistoryFault>
+    requires { HasRoom walk.old }
+    ensures ok { OnOk result ((command : Meant) × Performs walk.old walk.new command
+        × Appends (W.contents writer.old) (W.contents writer.new) (entry_bytes form
+        (walk.old.state.count + 1) (piece_or_rest walk.old.pieces) command)) }
+    ensures refused { IfErr result (FailsToLogPiece form walk.old
+        (W.contents writer.old) (W.contents writer.new)) }
+{
     match form {
         LogForm::Lines => log_line(alloc, walk, writer),
-        LogForm::Records => {
-            walk.perform_piece(alloc)?;
-            put_bytes(writer, walk.pieces.piece())
-        }
+        LogForm::Records => log_record(alloc, walk, writer),
     }
 }
 
 /// The same as a line. The line is made before the command is performed, which takes the command.
-fn log_line<W: Write>(alloc: Global, walk: &mut Walk, writer: &mut W) -> Result<(), HistoryFault> {
+fn log_line<W: Write>(alloc: Global, walk: &mut Walk, writer: &mut W) -> Result<(), HistoryFault>
+    requires { HasRoom walk.old }
+    ensures ok { OnOk result ((command : Meant) × Performs walk.old walk.new command
+        × Appends (W.contents writer.old) (W.contents writer.new) (entry_bytes LogForm.Lines
+        (walk.old.state.count + 1) (piece_or_rest walk.old.pieces) command)) }
+    ensures refused { IfErr result (FailsToLogPiece LogForm.Lines walk.old
+        (W.contents writer.old) (W.contents writer.new)) }
+{
     let command = walk.command(alloc)?;
     let line = record_line(alloc, walk.state.count() + 1, &command)?;
     walk.perform(alloc, command)?;
-    put_bytes(writer, line.as_bytes())
+    put_bytes(writer, &line)
+}
+
+/// The same as the bytes of the record.
+fn log_record<W: Write>(alloc: Global, walk: &mut Walk, writer: &mut W) -> Result<(), HistoryFault>
+    requires { HasRoom walk.old }
+    ensures ok { OnOk result ((command : Meant) × Performs walk.old walk.new command
+        × Appends (W.contents writer.old) (W.contents writer.new) (entry_bytes LogForm.Records
+        (walk.old.state.count + 1) (piece_or_rest walk.old.pieces) command)) }
+    ensures refused { IfErr result (FailsToLogPiece LogForm.Records walk.old
+        (W.contents writer.old) (W.contents writer.new)) }
+{
+    walk.perform_piece(alloc)?;
+    put_bytes(writer, walk.pieces.piece())
 }

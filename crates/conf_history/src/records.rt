@@ -1,5 +1,5 @@
 // One record on a state.
-ghost use Rattle.std.specs.Prelude.{◌≡◌, ◌≢◌, ◌+◌, ℕ, List, true, false, Ok, OnOk, OnErr, IfOk, IfErr};
+ghost use Rattle.std.specs.Prelude.{◌≡◌, ◌≢◌, ◌<◌, ◌+◌, ℕ, List, true, false, Ok, OnOk, OnErr, IfOk, IfErr};
 ghost use Rattle.conf_state.specs.Commands.{command_of};
 ghost use Rattle.conf_state.specs.Steps.{step};
 ghost use Rattle.conf_record.specs.Documents.{IsRecord};
@@ -36,6 +36,7 @@ impl From<AllocError> for RecordFault {
 pub(crate) fn read_next(alloc: Global, state: &State, piece: &[u8]) -> Result<Command, RecordFault>
     ensures ok { IfOk result (λ command.
         IsRecord piece.now (command_of command) (state.now.count + 1)) }
+    ensures room { OnOk result (state.now.count < u64.MAX) }
     ensures refused { IfErr result (RefusesRecord piece.now state.now) }
 {
     let Some((command, number)) = read_record(alloc, piece)? else {
@@ -51,6 +52,7 @@ pub(crate) fn read_next(alloc: Global, state: &State, piece: &[u8]) -> Result<Co
 fn is_next(count: u64, number: u64) -> bool
     ensures next { result ≡ true → number ≡ count + 1 }
     ensures other { result ≡ false → number ≢ count + 1 }
+    ensures room { result ≡ true → count < u64.MAX }
 {
     count < u64::MAX && number == count + 1
 }

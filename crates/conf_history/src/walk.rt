@@ -1,5 +1,5 @@
 // A walk over the pieces of a store's file, with the state after those so far.
-ghost use Rattle.std.specs.Prelude.{◌≡◌, ◌+◌, ℕ, List, [], Option, OnOk, OnErr, IfOk, IfErr, IfSome};
+ghost use Rattle.std.specs.Prelude.{◌≡◌, ◌<◌, ◌+◌, ℕ, List, [], Option, OnOk, OnErr, IfOk, IfErr, IfSome};
 ghost use Rattle.conf_state.specs.Commands.{Command as Meant, command_of};
 ghost use Rattle.conf_state.specs.States.{Contents};
 ghost use Rattle.conf_record.specs.Documents.{IsRecord};
@@ -83,6 +83,7 @@ impl Walk {
         requires { HasRoom self.now }
         ensures ok { IfOk result (λ command. IsRecord (piece_or_rest self.now.pieces)
             (command_of command) (self.now.state.count + 1)) }
+        ensures room { OnOk result (self.now.state.count < u64.MAX) }
         ensures refused { IfErr result (RefusesPiece self.now) }
     {
         match read_next(alloc, &self.state, self.pieces.piece()) {

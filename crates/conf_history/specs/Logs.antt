@@ -1,0 +1,122 @@
+-- The log of a store's file: a line for each command, or the records as they stand.
+use Rattle.std.specs.Prelude.{◌≡◌, ◌<◌, ◌⊎◌, ℕ, ◌+◌, List, [], ◌∷◌, ◌++◌, length, take, codes, decimal, encode_utf8_all, Option, Some, None, IfSome}
+use Rattle.std.specs.Io.KnownBytes.{Appends}
+use Rattle.yaml_grammar.specs.Closings.{Pieces}
+use Rattle.yaml_grammar.specs.Style.{in_double_quotes}
+use Rattle.yaml_docs.specs.PieceReading.{piece_or_rest}
+use Rattle.conf_journal.specs.Store.{store_limit}
+use Rattle.conf_state.specs.Commands.{Edit, import_as, set_at, delete_at, Command, single, batch}
+use Rattle.conf_state.specs.States.{Contents}
+use Rattle.conf_store.specs.Meaning.{PiecesMean}
+use Rattle.conf_history.specs.Histories.{ReadsAtMost, RefusesReading}
+use Rattle.conf_history.specs.Walks.{Performs, RefusesPiece}
+use Rattle.conf_history.specs.declared.fault.HistoryFault.{HistoryFault}
+use Rattle.conf_history.specs.declared.fault.HistoryFault.TheVariants.{Output, Damaged}
+use Rattle.conf_history.specs.declared.log.LogForm.{LogForm}
+use Rattle.conf_history.specs.declared.log.LogForm.TheVariants.{Lines, Records}
+use Rattle.conf_history.specs.declared.walk.Walk.{Walk}
+
+-- a space and what an edit does
+abbrev pub edit_words : Edit → List ℕ
+edit_words (import_as name tree) = codes " import " ++ name
+edit_words (set_at name path value) = codes " set " ++ name ++ codes " " ++ in_double_quotes path
+edit_words (delete_at name path) = codes " delete " ++ name ++ codes " " ++ in_double_quotes path
+
+-- what edits do, each after this mark, and the others after a `;`
+abbrev pub edits_words : List ℕ → List Edit → List ℕ
+edits_words mark [] = []
+edits_words mark (edit ∷ edits) = mark ++ edit_words edit ++ edits_words (codes ";") edits
+
+-- a space and what a command does
+abbrev pub command_words : Command → List ℕ
+command_words (single edit) = edit_words edit
+command_words (batch edits) = codes " batch" ++ edits_words [] edits
+
+-- the line of a command with a number
+abbrev pub command_line : ℕ → Command → List ℕ
+command_line number command = decimal number ++ command_words command ++ codes "\n"
+
+-- what is written for a command with a number, which has this record
+abbrev pub entry_bytes : LogForm → ℕ → List ℕ → Command → List ℕ
+entry_bytes Lines number record command = encode_utf8_all (command_line number command)
+entry_bytes Records number record command = record
+
+-- the same for consecutive ones, numbered on from a count
+abbrev pub log_bytes : LogForm → ℕ → List (List ℕ) → List Command → List ℕ
+log_bytes form count [] commands = []
+log_bytes form count (piece ∷ pieces) [] = []
+log_bytes form count (piece ∷ pieces) (command ∷ commands) =
+    entry_bytes form (count + 1) piece command ++ log_bytes form (count + 1) pieces commands
+
+-- the same for pieces, of which the first is a base
+abbrev pub log_of_pieces : LogForm → ℕ → List (List ℕ) → List Command → List ℕ
+log_of_pieces form count [] commands = []
+log_of_pieces form count (base ∷ records) commands = log_bytes form count records commands
+
+-- The first pieces of the bytes are a base and records, and this is what is written for the records.
+pub record BeginsLog (bytes : List ℕ) (form : LogForm) (log : List ℕ) : Type 0 where
+  pub pieces : List (List ℕ)
+  pub further : List (List ℕ)
+  pub rest : List ℕ
+  pub cut : Pieces bytes (pieces ++ further) rest
+  pub s : Contents
+  pub mean : PiecesMean pieces s
+  pub is : log ≡ log_of_pieces form mean.start.count pieces mean.commands
+
+-- the number is reached, or no piece follows
+abbrev pub IsUpTo : Option ℕ → Contents → List (List ℕ) → Type 0
+IsUpTo None s further = further ≡ []
+IsUpTo (Some number) s further = s.count ≡ number
+
+-- what is written for all records, or for those up to a number
+pub record IsWholeLog (bytes : List ℕ) (at : Option ℕ) (form : LogForm) (log : List ℕ) : Type 0 where
+  pub begins : BeginsLog bytes form log
+  pub up_to : IsUpTo at begins.s begins.further
+
+-- What known bytes give was written whole. At most 1,073,741,824 bytes were read.
+pub record LogsAll (at : Option ℕ) (form : LogForm) (given left held written : Option (List ℕ)) : Type 0 where
+  pub log : List ℕ
+  pub out : Appends held written log
+  pub whole : IfSome given (λ bytes. IsWholeLog bytes at form log)
+  pub read : ReadsAtMost store_limit given left
+
+-- all records but the last were written whole, and less than the last
+pub record CutsLog (bytes : List ℕ) (form : LogForm) (log : List ℕ) : Type 0 where
+  pub before : List ℕ
+  pub entry : List ℕ
+  pub kept : ℕ
+  pub begins : BeginsLog bytes form (before ++ entry)
+  pub is : log ≡ before ++ take kept entry
+  pub short : kept < length entry
+
+-- Why not all was written, and what was: for the records before the bad piece at Damaged, and for a number of first
+-- records at another fault of the file.
+abbrev pub LogsBefore : List ℕ → Option ℕ → LogForm → List ℕ → HistoryFault → Type 0
+LogsBefore bytes at form log Output = CutsLog bytes form log
+LogsBefore bytes at form log (Damaged bad) =
+    RefusesReading bytes at (Damaged bad) × (begins : BeginsLog bytes form log) × (length begins.pieces ≡ bad.number)
+LogsBefore bytes at form log fault = RefusesReading bytes at fault × ((log ≡ []) ⊎ BeginsLog bytes form log)
+
+-- so much of the log of known bytes was written
+pub record FailsToLog (at : Option ℕ) (form : LogForm) (given held written : Option (List ℕ)) (fault : HistoryFault)
+    : Type 0 where
+  pub log : List ℕ
+  pub out : Appends held written log
+  pub before : IfSome given (λ bytes. LogsBefore bytes at form log fault)
+
+-- ---- one piece
+
+-- the piece was performed, and less than its command was written
+pub record CutsEntry (form : LogForm) (walk : Walk) (held written : Option (List ℕ)) : Type 0 where
+  pub new : Walk
+  pub command : Command
+  pub done : Performs walk new command
+  pub kept : ℕ
+  pub out : Appends held written
+      (take kept (entry_bytes form (walk.state.count + 1) (piece_or_rest walk.pieces) command))
+  pub short : kept < length (entry_bytes form (walk.state.count + 1) (piece_or_rest walk.pieces) command)
+
+-- why the piece was not written whole
+abbrev pub FailsToLogPiece : LogForm → Walk → Option (List ℕ) → Option (List ℕ) → HistoryFault → Type 0
+FailsToLogPiece form walk held written Output = CutsEntry form walk held written
+FailsToLogPiece form walk held written fault = RefusesPiece walk fault × Appends held written []
