@@ -38,8 +38,8 @@ command_line number command = decimal number ++ command_words command ++ codes "
 
 -- what is written for a command with a number, which has this record
 abbrev pub entry_bytes : LogForm → ℕ → List ℕ → Command → List ℕ
-entry_bytes Lines number record command = encode_utf8_all (command_line number command)
-entry_bytes Records number record command = record
+entry_bytes Lines number bytes command = encode_utf8_all (command_line number command)
+entry_bytes Records number bytes command = bytes
 
 -- the same for consecutive ones, numbered on from a count
 abbrev pub log_bytes : LogForm → ℕ → List (List ℕ) → List Command → List ℕ

@@ -77,12 +77,7 @@ fn push_import(name: &str, line: &mut Vec<u8>) -> Result<(), AllocError>
 }
 
 /// Appends a set at a pointer.
-fn push_set(
-    alloc: Global,
-    name: &str,
-    path: &str,
-    line: &mut Vec<u8>,
-) -> Result<(), AllocError>
+fn push_set(alloc: Global, name: &str, path: &str, line: &mut Vec<u8>) -> Result<(), AllocError>
     ensures { OnOk result (line.new.items ≡ line.old.items ++ encode_utf8_all
         (codes " set " ++ chars name.now ++ codes " " ++ in_double_quotes (chars path.now))) }
 {
@@ -90,12 +85,7 @@ fn push_set(
 }
 
 /// Appends a delete at a pointer.
-fn push_delete(
-    alloc: Global,
-    name: &str,
-    path: &str,
-    line: &mut Vec<u8>,
-) -> Result<(), AllocError>
+fn push_delete(alloc: Global, name: &str, path: &str, line: &mut Vec<u8>) -> Result<(), AllocError>
     ensures { OnOk result (line.new.items ≡ line.old.items ++ encode_utf8_all
         (codes " delete " ++ chars name.now ++ codes " " ++ in_double_quotes (chars path.now))) }
 {
