@@ -4,7 +4,8 @@
 #     ./confstore --version && checks/clients.sh
 #
 # - Python: the package is installed without a network, its types are checked where mypy is installed, and its tests run
-#   over real stores, those of the server among them.
+#   over real stores, those of the server among them; and the tests of `replicated/` that need no etcd.
+# - The lines of clients/README.md, as they stand there.
 # - C: the library and its test under the sanitizers of each compiler that is there, and under valgrind, over sessions
 #   of its own and over a socket.
 # - Sixteen clients of one session that is killed and started again.
@@ -77,6 +78,15 @@ export python folder
 step "the Python package is installed without a network" 120 bash -c try_install
 if has mypy; then step "its types" 120 mypy --config-file python/pyproject.toml python/confstore; fi
 step "its tests" 600 env -C python "$python" -m unittest
+step "the replicated store's tests without etcd" 300 env -C replicated "$python" -m unittest
+readme_lines() {
+    mkdir "$folder/lines" && sed -n 's/^    //p' clients/README.md | grep -v '^clients/serve.py' |
+        sed "s|/tmp/|$folder/lines/|g; s#python3 clients/examples/service.py.*#timeout 3 & || [ \$? -eq 124 ]#" \
+            >"$folder/lines.sh" || return 1
+    bash -e "$folder/lines.sh" && [ -s "$folder/lines/app.html" ]
+}
+export -f readme_lines
+step "the lines of clients/README.md" 120 bash -c readme_lines
 
 warnings=(-std=c11 -Wall -Wextra -Wpedantic -Wconversion -Wshadow -Werror -g -O1)
 sources=(clients/c/confstore.c clients/c/test_confstore.c -Wl,--wrap=realloc -Wl,--wrap=calloc)

@@ -50,6 +50,9 @@ LINES = [
     ("get --at 1 store we", "get --at 1 store web"),
     ("export store ap", "export store app"),
     ("salvage store sto", "salvage store store"),
+    ("format --in", "format --in-place"),
+    ("format -i fil", "format -i file.yaml"),
+    ("check fil", "check file.yaml"),
 ]
 
 # How many seconds a shell may take to start, and to say what its words are.

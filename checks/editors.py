@@ -1,8 +1,8 @@
 #!/usr/bin/env python3
 """Tries the settings of docs/EDITORS.md, the hook of git, and the two examples.
 
-Vim and Emacs run in batch mode, as far as they are installed, and read lines as `clients/confstore-check` prints them;
-the pattern for VS Code is tried on the same lines. Those that the script prints of a file are among them.
+Vim and Emacs run in batch mode, as far as they are installed, and read lines as `confstore check` prints them; the
+patterns for VS Code are tried on the same lines. Those that the program prints of files are among them.
 The hook is run in a repository of its own, with files that differ between the index and the working tree.
 
 Run it from the repository's root after the program is built; it takes some seconds:
@@ -28,6 +28,7 @@ LINES = [
     ("web.yaml:3: S1 the line ends in a space or TAB", ("web.yaml", 3, 0, "S1 the line ends in a space or TAB")),
     ("web.yaml:12:7: Syntax Flow", ("web.yaml", 12, 7, "Syntax Flow")),
     ("a b.yaml:1: S4", ("a b.yaml", 1, 0, "S4")),
+    ("a b.yaml: KeyTwice", ("a b.yaml", 0, 0, "KeyTwice")),
 ]
 
 # How long anything here may take, in seconds.
@@ -40,17 +41,19 @@ SPACED = b"a: b\nc: d \ne: f\n"
 STAGED = {
     "good.yaml": b"a: b\n",
     "b d.yml": SPACED,
+    "deep/er/c.yaml": SPACED,
     "flow.yaml": b"a:\n  - [b,,c]\n",
     "two\nlines.yaml": SPACED,
     "two.yaml": b"a\n---\nb\n",
     "other.txt": SPACED,
 }
 SAID = (
-    "b d.yml:2: S1",
-    "b d.yml:2: S4",
+    "b d.yml:2: S1 the line ends in a space or TAB",
+    "b d.yml:2: S4 the text first differs from the one style here",
+    "deep/er/c.yaml:2: S1 the line ends in a space or TAB",
     "flow.yaml:2:8: Syntax Flow",
-    "two\nlines.yaml:2: S1",
-    "two.yaml:1: Documents",
+    "two\nlines.yaml:2: S1 the line ends in a space or TAB",
+    "two.yaml: Documents",
 )
 
 
@@ -61,14 +64,14 @@ def block_of(language):
 
 
 def lines_of(top, failures):
-    """The lines to be tried, those that `confstore-check` prints of a file among them."""
+    """The lines to be tried, those that the program prints of two files among them."""
     write_file(os.path.join(top, "own.yaml"), SPACED)
-    script = os.path.join(TOP, "clients", "confstore-check")
-    environment = {**os.environ, "CONFSTORE": PROGRAM}
-    done = subprocess.run([script, "own.yaml"], cwd=top, env=environment, capture_output=True, check=False)
-    failures.expect("the status of confstore-check", done.returncode, 1)
+    write_file(os.path.join(top, "twice.yaml"), b"a: b\na: c\n")
+    done = subprocess.run([PROGRAM, "check", "own.yaml", "twice.yaml"], cwd=top, capture_output=True, check=False)
+    failures.expect("the status of check", done.returncode, 1)
     own = [line for line in done.stdout.decode().splitlines() if ": S1" in line]
-    failures.expect("the script's lines", [line.split(" ")[0] for line in own], ["own.yaml:2:"])
+    failures.expect("the program's lines", [line.split(" ")[0] for line in own], ["own.yaml:2:"])
+    failures.expect("the program's faults", done.stderr, b"twice.yaml: KeyTwice\n")
     return LINES + [(line, ("own.yaml", 2, 0, line.split(": ", 1)[1])) for line in own]
 
 
@@ -123,11 +126,20 @@ def by_emacs(top, lines, failures):
 
 
 def by_code(lines):
-    """What the pattern for VS Code finds in the lines."""
-    pattern = json.loads(block_of("json"))["tasks"][0]["problemMatcher"]["pattern"]
-    found = [re.search(pattern["regexp"], line) for line, _ in lines]
-    parts = [[match[pattern[part]] for part in ("file", "line", "column", "message")] for match in found]
-    return [(name, int(line), int(column or 0), message) for name, line, column, message in parts]
+    """What the patterns for VS Code find in the lines, of which each takes the first that fits."""
+    patterns = [matcher["pattern"] for matcher in json.loads(block_of("json"))["tasks"][0]["problemMatcher"]]
+    return [found_by(patterns, line) for line, _ in lines]
+
+
+def found_by(patterns, line):
+    for pattern in patterns:
+        match = re.search(pattern["regexp"], line)
+        if match:
+            name, number, column, message = (
+                match[pattern[part]] if part in pattern else None for part in ("file", "line", "column", "message")
+            )
+            return name, int(number or 0), int(column or 0), message
+    return None
 
 
 def try_editors(top, failures):
@@ -139,7 +151,7 @@ def try_editors(top, failures):
     else:
         print("left out: Vim")
     if shutil.which("emacs"):
-        failures.expect("Emacs", by_emacs(top, lines, failures), [place[:3] for place in wanted])
+        failures.expect("Emacs", by_emacs(top, lines, failures), [place[:3] for place in wanted if place[1]])
     else:
         print("left out: Emacs")
 
@@ -160,6 +172,7 @@ def try_hook(top, failures):
     hooks = os.path.join(folder, ".git", "hooks")
     os.makedirs(hooks, exist_ok=True)
     os.symlink(os.path.join(TOP, "clients", "hooks", "pre-commit"), os.path.join(hooks, "pre-commit"))
+    os.makedirs(os.path.join(folder, "deep", "er"))
     for name, content in STAGED.items():
         write_file(os.path.join(folder, name), content)
     git(folder, "add", ".")
@@ -169,7 +182,7 @@ def try_hook(top, failures):
     for line in SAID:
         failures.expect(f"the hook says {line!r}", f"{line}\n" in said, True)
     failures.expect("files that are well", "good" in said or "other" in said, False)
-    for name in ("b d.yml", "flow.yaml", "two\nlines.yaml", "two.yaml"):
+    for name in ("b d.yml", "deep/er/c.yaml", "flow.yaml", "two\nlines.yaml", "two.yaml"):
         write_file(os.path.join(folder, name), b"a: b\n")
     git(folder, "add", ".")
     write_file(os.path.join(folder, "good.yaml"), SPACED)  # and the other way round

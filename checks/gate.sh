@@ -8,7 +8,8 @@ log=$(mktemp) || exit 1
 trap 'rm -f "$log"' EXIT
 
 SCRIPTS=(
-    names.py edits.py program.py cases.py fail_calls.py refuse_allocations.sh refuse_tree_allocations.sh
+    names.py edits.py program.py cases.py fail_calls.py fail_file_calls.py refuse_allocations.sh
+    refuse_tree_allocations.sh
     refuse_state_allocations.py refuse_store_allocations.py refuse_session_allocations.py
 )
 

@@ -1,13 +1,21 @@
 #!/usr/bin/env python3
-"""Looks up each name that docs/RULES.md, PROVED.md, FAULTS.md and crates.txt give, and fails if one is wrong.
+"""Looks up each name that the pages and crates.txt give, and fails if one is wrong.
 
-In the lists of RULES.md `File.name` is a definition, `crate::name` a function or a test, and `crate::name` in `file.rt`
-a function and its file. `crate/name` is a must-fail edit, and a bare name a law (a public function) or a crate. In the
-tables of docs/PROVED.md each name is looked for in the sources of the crates of its row. The first cells of the tables
-of docs/FAULTS.md have each variant of the faults that the program prints, and no other name. A library that a line of
-crates.txt names is looked for in the files of the line's crate, and from no crate are there more than 5,000 ways down
-through these lines: a toolchain may read the sources once for each. It takes two seconds, and the status is 1 if a
-name is not there or if there are more ways.
+- docs/RULES.md: `File.name` is a definition, `crate::file::name` a function in `src/file.rt`, `crate/name` a must-fail
+  edit, and a bare name with `_` a law (a public function) or a crate. A text with `;` begins a row of a probe, and one
+  that begins with `words ` is such a line of checks/data/program.txt.
+- docs/PROVED.md: what stands in parentheses at the end of a claim: crates, and names in their sources.
+- docs/FAULTS.md: the first cells of its tables have each variant of the faults that the program prints, and no other
+  name, and the table of statuses has those of the code.
+- docs/STORE.md: each number of the table of limits is in the code, and each fault of it is one.
+- docs/ARCHITECTURE.md: the tables have each crate of crates.txt, and the last cell of one its files to read first; the
+  functions of the drawing of a command's way are in their files.
+- docs/TRUSTED.md: each file of definitions is there.
+- docs/GUIDE.md and README.md: each word behind `confstore` is one of the program's; the guide has all of them.
+- crates.txt: a library that a line names is in the files of the line's crate, and from no crate are there more than
+  5,000 ways down through these lines: a toolchain may read the sources once for each.
+
+It takes some seconds, and the status is 1 if a name is not there or if there are more ways.
 """
 
 import functools
@@ -24,14 +32,30 @@ MOST_WAYS = 5000
 # The enums of faults that the program prints, and the names that it prints for what isn't a variant of that name.
 FAULTS = ["Why", "ReadFault", "StoreFault", "PathFault", "OpenFault", "FolderFault", "SessionFault"]
 PRINTED = {"BadCommand", "Input", "Output", "StoreExists"}
+# A line of the drawing of a command's way: a crate or none, functions of it, words, and the files that have them.
+DRAWN = re.compile(r"^ +(\w+)? {2,}([a-zA-Z_:, ]+?)(?::| {2,}).*? {2,}([\w., ]+\.rt)$", re.M)
+# The status of the script `./confstore`, and the words that are clap's.
+SCRIPT_STATUS = "4"
+CLAP_WORDS = {"help"}
 
 
+@functools.lru_cache(maxsize=None)
 def text_of(pattern):
     texts = []
     for path in sorted(glob.glob(os.path.join(TOP, "crates", pattern), recursive=True)):
         with open(path, encoding="utf-8") as file:
             texts.append(file.read())
     return "\n".join(texts)
+
+
+@functools.lru_cache(maxsize=None)
+def page(path):
+    with open(os.path.join(TOP, path), encoding="utf-8") as file:
+        return file.read()
+
+
+def crates():
+    return set(os.listdir(os.path.join(TOP, "crates")))
 
 
 def has_word(name, text):
@@ -42,8 +66,8 @@ def is_definition(file, name):
     return has_word(name, text_of(f"*/specs/{file}.antt"))
 
 
-def is_function(crate, name, file="*.rt"):
-    return re.search(rf"\bfn {re.escape(name)}\b", text_of(f"{crate}/src/**/{file}")) is not None
+def is_function(crate, file, name):
+    return re.search(rf"\bfn {re.escape(name)}\b", text_of(f"{crate}/src/{file}.rt")) is not None
 
 
 def is_edit(crate, name):
@@ -55,52 +79,54 @@ def is_law(name):
     return re.search(rf"\bpub fn {re.escape(name)}\b", text_of("*/src/**/*.rt")) is not None
 
 
-def rows_of(path):
-    """The cells of each row of the page's tables."""
-    with open(os.path.join(TOP, path), encoding="utf-8") as file:
-        for line in file:
-            if line.startswith("|") and not line.startswith("|---"):
-                yield [cell.strip() for cell in line.strip().strip("|").split(" | ")]
+def begins_row(token):
+    return any(line.startswith(token) for line in text_of("*/stdin").splitlines())
+
+
+def rows_of(path, heading=""):
+    """The cells of each row of the page's tables, from a heading to the next one if one is given."""
+    text = page(path).partition(f"\n## {heading}\n")[2].partition("\n## ")[0] if heading else page(path)
+    for line in text.splitlines():
+        if line.startswith("|") and not line.startswith("|---"):
+            yield [cell.strip() for cell in line.strip().strip("|").split(" | ")]
 
 
 def items_of(path):
-    """The names below each rule of the page: the items of its inner lists, each as one line."""
-    with open(os.path.join(TOP, path), encoding="utf-8") as file:
-        page = file.read()
-    return [" ".join(item.split()) for item in re.findall(r"^  - (.*(?:\n    .*)*)", page, re.M)]
+    """The items of the page's lists, each as one line."""
+    return [re.sub(r"\n +", " ", item) for item in re.findall(r"^- (.*(?:\n  .*)*)", page(path), re.M)]
+
+
+def is_rule_name(token):
+    """Whether a name of RULES.md is there; what is no name counts as one that is."""
+    if ";" in token:
+        return begins_row(token)
+    if token.startswith("words "):
+        return token in page("checks/data/program.txt").splitlines()
+    if re.fullmatch(r"\w+::\w+::\w+", token):
+        return is_function(*token.split("::"))
+    if re.fullmatch(r"[A-Z]\w+\.\w+", token) and not token.endswith(".md"):
+        return is_definition(*token.split("."))
+    if re.fullmatch(r"[a-z]+(_[a-z]+)+/\w+", token):
+        return is_edit(*token.split("/"))
+    if re.fullmatch(r"[a-z]+(_[a-z]+)+", token):
+        return is_law(token) or token in crates()
+    return True
 
 
 def missing_in_rules():
     for item in items_of("docs/RULES.md"):
-        for crate, name, file in re.findall(r"`(\w+)::(\w+)` in `(\w+\.rt)`", item):
-            if not is_function(crate, name, file):
-                yield f"docs/RULES.md: `{crate}::{name}` in `{file}`"
-        for token in CODE.findall(item):
-            if re.fullmatch(r"\w+::\w+", token):
-                found = is_function(*token.split("::"))
-            elif re.fullmatch(r"[A-Z]\w+\.\w+", token):
-                found = is_definition(*token.split("."))
-            elif re.fullmatch(r"[a-z_]+/\w+", token):
-                found = is_edit(*token.split("/"))
-            elif re.fullmatch(r"[a-z]+(_[a-z]+)+", token):
-                found = is_law(token) or os.path.isdir(os.path.join(TOP, "crates", token))
-            else:
-                continue
-            if not found:
-                yield f"docs/RULES.md: `{token}`"
+        yield from (f"docs/RULES.md: `{token}`" for token in CODE.findall(item) if not is_rule_name(token))
 
 
 def missing_in_claims():
-    crates = set(os.listdir(os.path.join(TOP, "crates")))
-    for row in rows_of("docs/PROVED.md"):
-        named = [name for name in CODE.findall(row[-1]) if name in crates]
-        if not named:
-            continue
+    for item in items_of("docs/PROVED.md"):
+        place = re.search(r"\(([^()]*)\)$", item)
+        tokens = CODE.findall(place[1]) if place else []
+        named = [token for token in tokens if token in crates()]
         sources = "\n".join(text_of(f"{crate}/src/**/*.rt") for crate in named)
-        for token in CODE.findall(row[1]):
-            for name in token.split("::"):
-                if re.fullmatch(r"\w+", name) and not has_word(name, sources):
-                    yield f"docs/PROVED.md: `{token}` is not in {', '.join(named)}"
+        for name in (name for token in tokens if token not in named for name in token.split("::")):
+            if not has_word(name, sources):
+                yield f"docs/PROVED.md: `{name}` is not in {', '.join(named)}"
 
 
 def variants_of(fault):
@@ -109,17 +135,87 @@ def variants_of(fault):
     return re.findall(r"^    (\w+)(?:,| \{.*\},)$", found[1], re.M)
 
 
+def printed_faults():
+    return {name for fault in FAULTS for name in variants_of(fault)} | PRINTED
+
+
 def wrong_in_faults():
     named = {name for row in rows_of("docs/FAULTS.md") for name in CODE.findall(row[0])}
-    there = {name for fault in FAULTS for name in variants_of(fault)} | PRINTED
+    there = printed_faults()
     yield from (f"docs/FAULTS.md: `{name}` is no fault" for name in sorted(named - there))
     yield from (f"docs/FAULTS.md: `{name}` is missing" for name in sorted(there - named - {"Read", "Write"}))
 
 
+def wrong_statuses():
+    code = re.search(r"fn code\(self\).*?^    }$", text_of("conf_tools/src/program.rt"), re.M | re.S)[0]
+    there = set(re.findall(r"=> (\d)", code)) | {SCRIPT_STATUS}
+    named = {row[0] for row in rows_of("docs/FAULTS.md", "Statuses") if row[0].isdigit()}
+    yield from (f"docs/FAULTS.md: status {status}" for status in sorted(there ^ named))
+
+
+def wrong_limits():
+    code = text_of("*/src/*.rt").replace("_", "")
+    for what, most, beyond in list(rows_of("docs/STORE.md", "Limits"))[1:]:
+        for number in re.findall(r"\d[\d,]*", most):
+            value = number.replace(",", "")
+            if not has_word(value, code) and value != str(2**64 - 1):
+                yield f"docs/STORE.md: {number} ({what}) is not in the code"
+        yield from (f"docs/STORE.md: `{name}`" for name in CODE.findall(beyond) if name not in printed_faults())
+
+
+def is_file_of(crate, name):
+    path = f"src/{name}" if name.endswith(".rt") else f"specs/{name}.antt"
+    return os.path.exists(os.path.join(TOP, "crates", crate, path))
+
+
+def wrong_in_architecture():
+    named = set()
+    for row in rows_of("docs/ARCHITECTURE.md"):
+        here = [name for name in CODE.findall(row[0])]
+        named.update(here)
+        for name in CODE.findall(row[2]) if len(row) > 2 else []:
+            if not is_file_of(here[0], name):
+                yield f"docs/ARCHITECTURE.md: {here[0]} has no file `{name}`"
+    for crate in sorted(named ^ set(libraries_of_crates())):
+        yield f"docs/ARCHITECTURE.md: `{crate}` is not in both its tables and crates.txt"
+
+
+def wrong_in_drawing():
+    """The names in the drawing of a command's way; a line without a crate is of the one before."""
+    crate = ""
+    for here, what, files in DRAWN.findall(page("docs/ARCHITECTURE.md")):
+        crate = here or crate
+        text = "\n".join(text_of(f"{crate}/src/{file}") for file in files.split(", "))
+        for name in re.findall(r"\w+", what):
+            if not has_word(name, text):
+                yield f"docs/ARCHITECTURE.md: {crate} has no `{name}` in {files}"
+
+
+def missing_definitions():
+    folder = ""
+    for row in rows_of("docs/TRUSTED.md"):
+        for token in CODE.findall(row[1]):
+            if not re.fullmatch(r"(crates/\w+/specs/)?[A-Z]\w+", token):
+                continue
+            folder = os.path.dirname(token) or folder
+            if not os.path.exists(os.path.join(TOP, folder, f"{os.path.basename(token)}.antt")):
+                yield f"docs/TRUSTED.md: `{token}`"
+
+
+def wrong_words():
+    text = text_of("conf_words/src/*.rt")
+    words = {text_of_word for name, text_of_word in re.findall(r'pub const (\w+): &str = "([a-z]+)"', text)
+             if re.search(rf"Command::new\(alloc, {name}\)", text)}
+    for path in ("docs/GUIDE.md", "README.md"):
+        named = set(re.findall(r"^    .*?\bconfstore ([a-z]+)\b", page(path), re.M))
+        yield from (f"{path}: confstore {word}" for word in sorted(named - words - CLAP_WORDS))
+        if path == "docs/GUIDE.md":
+            yield from (f"{path}: the word `{word}` is missing" for word in sorted(words - named))
+
+
 def libraries_of_crates():
     """The libraries that the line of each crate names."""
-    with open(os.path.join(TOP, "crates.txt"), encoding="utf-8") as file:
-        lines = [line.partition("#")[0].partition(":") for line in file]
+    lines = [line.partition("#")[0].partition(":") for line in page("crates.txt").splitlines()]
     return {crate.strip(): set(libraries.split()) for crate, colon, libraries in lines if colon}
 
 
@@ -144,7 +240,9 @@ def many_ways():
 
 
 def main():
-    missing = [*missing_in_rules(), *missing_in_claims(), *wrong_in_faults(), *unused_libraries(), *many_ways()]
+    looks = (missing_in_rules, missing_in_claims, wrong_in_faults, wrong_statuses, wrong_limits, wrong_in_architecture,
+             wrong_in_drawing, missing_definitions, wrong_words, unused_libraries, many_ways)  # fmt: skip
+    missing = [line for look in looks for line in look()]
     for line in missing:
         print(line)
     print(f"{len(missing)} names are wrong" if missing else "every name is there")

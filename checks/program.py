@@ -5,6 +5,7 @@ The rows are in checks/data/program.txt. A row is some lines, and an empty line 
 
     folder NAME     makes a folder before the program runs
     file PATH TEXT  makes a file there
+    link PATH TO    makes a symbolic link there
     held FOLDER     another run of the program holds the store in the folder meanwhile
     words WORDS     the program's words
     input TEXT      what it reads; nothing without this line
@@ -19,6 +20,8 @@ The rows are in checks/data/program.txt. A row is some lines, and an empty line 
     errors TEXT     what it writes to standard error, in the same three ways: `errors_have` for a part
     errors_begin TEXT   and its first two words
     left PATH TEXT  what is in a file afterwards
+    leads PATH TO   where a symbolic link leads afterwards
+    has PATH NAMES  what is in a folder afterwards, in order
 
 A text has the escapes of checks/cases.py. All rows share one folder, and run in order. The program has to be built first:
 
@@ -76,6 +79,9 @@ def prepare(row, top):
     for file in values(row, "file"):
         path, text = file.split(" ", 1)
         write_file(os.path.join(top, path), bytes_of(text))
+    for link in values(row, "link"):
+        path, target = link.split(" ")
+        os.symlink(target, os.path.join(top, path))
 
 
 @contextlib.contextmanager
@@ -172,6 +178,16 @@ def faults_of_files(row, top):
         found = read_file(place) if os.path.isfile(place) else None
         if found != bytes_of(text):
             yield f"{path} has {found!r}"
+    for link in values(row, "leads"):
+        path, target = link.split(" ")
+        full = os.path.join(top, path)
+        if not os.path.islink(full) or os.readlink(full) != target:
+            yield f"{path} does not lead to {target}"
+    for folder in values(row, "has"):
+        path, *names = folder.split(" ")
+        found = sorted(os.listdir(os.path.join(top, path)))
+        if found != names:
+            yield f"{path} has {found}"
 
 
 def faults_of(row, top):

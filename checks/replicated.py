@@ -1,21 +1,24 @@
 #!/usr/bin/env python3
-"""Three members of etcd and three nodes of a replicated store, of which some are killed all the time.
+"""Three members of etcd and three nodes of a replicated store, with faults all the time, and what they hold afterwards.
 
-Four clients send 2,000 commands. Meanwhile nodes and members are killed or stopped at random moments, one at a time, and
-started again. The file system of one node is full for a while. Then it looks at these things:
+First everything is on 127.0.0.1. Four clients send 2,000 commands; meanwhile, one at a time and at random moments, a
+node or a member is killed, or stopped for a while, or its disk is full. Then a node is kept away until the log has lost
+entries that it needs. Then each machine gets a network namespace of its own, and each in turn is cut off from the
+others while clients send 1,000 more commands. After each part it looks at these things:
 
 - each command that was answered is in the log exactly once;
-- each answer is that of one session that performs the log by itself;
+- each answer is that of one session that performs the log by itself, and is given again to who asks again;
 - all nodes export the same, byte for byte, and so does that session;
-- a node that comes last, with an empty folder, starts from a base, and exports the same.
+- a node that was too far behind, or comes last with an empty folder, starts from a base, and exports the same.
 
     checks/replicated.sh [COMMANDS]
 
-It needs etcd on the PATH (Debian's package etcd-server), PyYAML and the built program, and takes some two minutes. All
-that it starts listens on 127.0.0.1 alone, and is stopped at the end. The last line is 'N passed, M failed'.
+It needs etcd on the PATH (Debian's package etcd-server), PyYAML and the built program, and takes two to four minutes.
+The namespaces, and a small file system that is filled, need root; without it a limit of file sizes is the full disk,
+and the part with namespaces is left out. All that it starts is stopped at the end. The last line is 'N passed, M
+failed'.
 """
 
-import json
 import os
 import random
 import resource
@@ -29,22 +32,31 @@ import threading
 import time
 
 TOP = os.path.dirname(os.path.dirname(os.path.abspath(__file__)))
-PROGRAM = os.path.join(TOP, "crates", "confstore", "out", "confstore")
+PROGRAM = os.environ.get("CONFSTORE") or os.path.join(TOP, "crates", "confstore", "out", "confstore")
 sys.path[:0] = [os.path.join(TOP, "python"), os.path.join(TOP, "replicated")]
 
 from confstore import Refused, Store  # noqa: E402
 from confstore_replicated import Client  # noqa: E402
-from confstore_replicated.entries import RESERVED, edits_in, marked  # noqa: E402
+from confstore_replicated.entries import edits_in, marked, refused  # noqa: E402
 from confstore_replicated.etcd import Etcd, Unavailable  # noqa: E402
 
 COMMANDS = int(sys.argv[1]) if len(sys.argv) > 1 else 2000
+CUT_OFF_COMMANDS = COMMANDS // 2
 CLIENTS = 4
-MEMBERS = 3
-NODES = 3
+MACHINES = 3
 BASE_AFTER = 300
-# How many seconds the whole run may take.
-LONGEST = 600
 LOG = b"/confstore/default/log/"
+
+# Where syncs cost nothing, for the store of the one session.
+MEMORY = "/dev/shm" if os.access("/dev/shm", os.W_OK) else None
+
+# How many seconds there is trouble at most, one command may take with all that fails meanwhile, and the whole run.
+TROUBLE = 75
+PATIENCE = 90
+LONGEST = 400
+
+# The mark that is in the environment of all that is started here, and in names of namespaces.
+MARK = os.environ.setdefault("CONFSTORE_CHECK_MARK", f"cf{os.getpid()}")
 
 
 def free_port():
@@ -56,8 +68,9 @@ def free_port():
 class Process:
     """A process that is started, killed, stopped, and started again."""
 
-    def __init__(self, words, log, limit=None):
-        self.words, self.log, self.limit = words, log, limit
+    def __init__(self, words, log):
+        self.words, self.log = words, log
+        self.limit = None
         self.process = None
 
     def start(self):
@@ -70,57 +83,128 @@ class Process:
             self.process = subprocess.Popen(
                 self.words, stdin=subprocess.DEVNULL, stdout=log, stderr=log, env=environment, preexec_fn=limited,
                 start_new_session=True,
-            )
+            )  # fmt: skip
+
+    def children(self):
+        """The sessions that it has started, as a machine that goes takes them with it."""
+        found = []
+        try:
+            for task in os.listdir(f"/proc/{self.process.pid}/task"):
+                with open(f"/proc/{self.process.pid}/task/{task}/children", encoding="ascii") as children:
+                    found += map(int, children.read().split())
+        except OSError:
+            pass
+        return found
 
     def kill(self):
-        """Kills the process, and the sessions that it started."""
-        if self.process is not None:
-            self.process.send_signal(signal.SIGKILL)
-            self.process.wait()
-            subprocess.run(["pkill", "-KILL", "-f", f"run --group.*{self.words[4]}"], check=False)
-            self.process = None
+        """Kills the process, and what it has started."""
+        if self.process is None:
+            return
+        for child in [*self.children(), self.process.pid]:
+            try:
+                os.kill(child, signal.SIGKILL)
+            except ProcessLookupError:
+                pass
+        self.process.wait()
+        self.process = None
 
-    def pause(self, seconds):
+    def pause(self, seconds, ended):
         self.process.send_signal(signal.SIGSTOP)
-        time.sleep(seconds)
+        ended.wait(seconds)
         self.process.send_signal(signal.SIGCONT)
+
+
+class Loopback:
+    """All machines are this one."""
+
+    def __init__(self):
+        self.hosts = ["127.0.0.1"] * MACHINES
+
+    def words(self, _machine, words):
+        return words
+
+    def remove(self):
+        pass
+
+
+class Namespaces:
+    """A network namespace for each machine, all on one bridge. A machine is cut off by taking its end of the bridge."""
+
+    def __init__(self):
+        net = f"10.213.{os.getpid() % 250}"
+        self.hosts = [f"{net}.{machine + 1}" for machine in range(MACHINES)]
+        self.run("link", "add", "name", MARK, "type", "bridge")
+        self.run("addr", "add", f"{net}.254/24", "dev", MARK)
+        self.run("link", "set", MARK, "up")
+        for machine, host in enumerate(self.hosts):
+            name, end = f"{MARK}-{machine}", self.end_of(machine)
+            self.run("netns", "add", name)
+            self.run("link", "add", end, "type", "veth", "peer", "name", "eth0", "netns", name)
+            self.run("link", "set", end, "master", MARK, "up")
+            for words in (["addr", "add", f"{host}/24", "dev", "eth0"], ["link", "set", "eth0", "up"], ["link", "set", "lo", "up"]):
+                self.run("-n", name, *words)
+
+    def run(self, *words):
+        subprocess.run(["ip", *words], check=True, stdin=subprocess.DEVNULL, capture_output=True)
+
+    def end_of(self, machine):
+        return f"{MARK}e{machine}"
+
+    def words(self, machine, words):
+        return ["ip", "netns", "exec", f"{MARK}-{machine}", *words]
+
+    def cut_off(self, machine, seconds, ended):
+        self.run("link", "set", self.end_of(machine), "down")
+        ended.wait(seconds)
+        self.run("link", "set", self.end_of(machine), "up")
+
+    def remove(self):
+        for machine in range(MACHINES):
+            subprocess.run(["ip", "netns", "delete", f"{MARK}-{machine}"], check=False, capture_output=True)
+        subprocess.run(["ip", "link", "delete", MARK], check=False, capture_output=True)
 
 
 class Cluster:
     """The members of etcd and the nodes, in a folder."""
 
-    def __init__(self, folder):
-        self.folder = folder
-        ports = [(free_port(), free_port()) for _ in range(MEMBERS)]
-        self.addresses = [f"127.0.0.1:{client}" for client, _ in ports]
-        together = ",".join(f"m{number}=http://127.0.0.1:{peer}" for number, (_, peer) in enumerate(ports))
+    def __init__(self, folder, ground):
+        self.folder, self.ground = folder, ground
+        self.small = os.path.join(folder, "store0")
+        ports = [(free_port(), free_port()) for _ in range(MACHINES)]
+        self.addresses = [f"{host}:{client}" for host, (client, _) in zip(ground.hosts, ports)]
+        peers = [f"http://{host}:{peer}" for host, (_, peer) in zip(ground.hosts, ports)]
+        together = ",".join(f"m{machine}={peer}" for machine, peer in enumerate(peers))
         self.members = [
             Process(
-                [
-                    "etcd", "--name", f"m{number}", "--data-dir", os.path.join(folder, f"m{number}"),
-                    "--listen-client-urls", f"http://127.0.0.1:{client}",
-                    "--advertise-client-urls", f"http://127.0.0.1:{client}",
-                    "--listen-peer-urls", f"http://127.0.0.1:{peer}",
-                    "--initial-advertise-peer-urls", f"http://127.0.0.1:{peer}",
+                ground.words(machine, [
+                    "etcd", "--name", f"m{machine}", "--data-dir", os.path.join(folder, f"m{machine}"),
+                    "--listen-client-urls", f"http://{address}", "--advertise-client-urls", f"http://{address}",
+                    "--listen-peer-urls", peer, "--initial-advertise-peer-urls", peer,
                     "--initial-cluster", together, "--log-level", "error",
-                ],
-                os.path.join(folder, f"m{number}.log"),
+                ]),
+                os.path.join(folder, f"m{machine}.log"),
             )
-            for number, (client, peer) in enumerate(ports)
-        ]
-        self.nodes = [self.node(number) for number in range(NODES)]
+            for machine, (address, peer) in enumerate(zip(self.addresses, peers))
+        ]  # fmt: skip
+        self.nodes = [self.node(machine) for machine in range(MACHINES)]
 
     def socket_of(self, number):
         return os.path.join(self.folder, f"s{number}")
 
     def node(self, number):
+        addresses = self.addresses[number % MACHINES :] + self.addresses[: number % MACHINES]
         words = [
             sys.executable, "-m", "confstore_replicated.node", self.socket_of(number),
-            os.path.join(self.folder, f"store{number}"), *self.addresses, "--base-after", str(BASE_AFTER),
-        ]
-        return Process(words, os.path.join(self.folder, f"n{number}.log"))
+            os.path.join(self.folder, f"store{number}"), *addresses, "--base-after", str(BASE_AFTER),
+        ]  # fmt: skip
+        return Process(self.ground.words(number % MACHINES, words), os.path.join(self.folder, f"n{number}.log"))
 
     def start(self):
+        os.mkdir(self.small)
+        if os.geteuid() == 0:
+            mounted = subprocess.run(["mount", "-t", "tmpfs", "-o", "size=4m", "tmpfs", self.small], check=False)
+            if mounted.returncode != 0:
+                print("the full disk is a limit of file sizes: no file system may be mounted here")
         for process in self.members:
             process.start()
         Etcd(self.addresses, 60).put(b"/confstore/started", b"yes")
@@ -130,14 +214,41 @@ class Cluster:
     def stop(self):
         for process in [*self.nodes, *self.members]:
             process.kill()
+        if os.path.ismount(self.small):
+            subprocess.run(["umount", "--lazy", self.small], check=False)
+
+    def fill_disk(self, seconds, ended):
+        """Has no byte free on the disk of the first node for so long."""
+        if not os.path.ismount(self.small):
+            return limit_files(self.nodes[0], seconds, ended)
+        ballast = os.path.join(self.small, "ballast")
+        try:
+            with open(ballast, "wb") as target:
+                while True:
+                    target.write(bytes(4096))
+                    target.flush()
+        except OSError:
+            ended.wait(seconds)
+        os.remove(ballast)
 
 
-def asked(cluster, number, request, patience=60):
-    """What a node answers. Tries again, and at other nodes, until one answers."""
-    deadline = time.monotonic() + patience
+def limit_files(process, seconds, ended):
+    """Starts a process anew, so that none of its files can be longer than this for a while."""
+    process.kill()
+    process.limit = 20_000
+    process.start()
+    ended.wait(seconds)
+    process.kill()
+    process.limit = None
+    process.start()
+
+
+def asked(cluster, number, request, elsewhere=True):
+    """What a node answers. Tries again, and at other nodes if that is allowed, until one answers."""
+    deadline = time.monotonic() + PATIENCE
     while True:
         try:
-            client = Client(cluster.socket_of(number % NODES))
+            client = Client(cluster.socket_of(number))
             try:
                 answer = client.ask(dict(request))
             finally:
@@ -147,8 +258,9 @@ def asked(cluster, number, request, patience=60):
         except OSError:
             pass
         if time.monotonic() > deadline:
-            raise TimeoutError(f"no answer to {request}")
-        number += 1
+            raise TimeoutError(f"node {number} does not answer {request}")
+        if elsewhere:
+            number = (number + 1) % MACHINES
         time.sleep(0.05)
 
 
@@ -165,12 +277,12 @@ def some_command(chance, number):
     return {"batch": [{"set": name, "path": "/at", "value": str(number)}, {"import": f"d{chance.randrange(3)}", "text": "[x]"}]}
 
 
-def run_client(cluster, which, answers):
-    chance = random.Random(which)
-    for number in range(COMMANDS // CLIENTS):
-        identity = f"{which}-{number}"
+def run_client(cluster, part, which, count, answers):
+    chance = random.Random(f"{part}{which}")
+    for number in range(count):
+        identity = f"{part}-{which}-{number}"
         command = {"id": identity, **some_command(chance, number)}
-        answers[identity] = asked(cluster, which, command)
+        answers[identity] = command, asked(cluster, which % MACHINES, command)
 
 
 def run_witness(cluster, log, ended):
@@ -179,7 +291,7 @@ def run_witness(cluster, log, ended):
     while True:
         is_last = ended.is_set()
         try:
-            entries = etcd.created_after(LOG, last, 500, local=not is_last)
+            entries, _ = etcd.created_after(LOG, last, 500, local=not is_last)
         except Unavailable:
             continue
         for entry in entries:
@@ -191,49 +303,58 @@ def run_witness(cluster, log, ended):
             time.sleep(0.05)
 
 
-def make_trouble(cluster, ended):
-    """Kills and stops nodes and members, one at a time, and fills the disk of the first node once."""
+def make_trouble(cluster, ended, done):
+    """Kills, stops and fills nodes and members, one at a time, at random moments, until the clients are done."""
     chance = random.Random(99)
-    done = 0
-    while not ended.wait(chance.uniform(0.3, 1.0)):
-        done += 1
-        if done == 4:
-            full = cluster.nodes[0]
-            full.kill()
-            full.limit = 20_000
-            full.start()
-            ended.wait(4)
-            full.kill()
-            full.limit = None
-            full.start()
-            continue
-        process = chance.choice([*cluster.nodes, *cluster.members])
-        if chance.random() < 0.3:
-            process.pause(chance.uniform(0.2, 2.0))
-            continue
-        process.kill()
-        ended.wait(chance.uniform(0.1, 1.0))
-        process.start()
-    return done
+    kinds = []
+    until = time.monotonic() + TROUBLE
+    while time.monotonic() < until and not ended.wait(chance.uniform(0.1, 0.4)):
+        if not kinds:
+            kinds = ["kill"] * 6 + ["pause"] * 3 + ["full disk"] + ["full member"]
+            chance.shuffle(kinds)
+        kind = kinds.pop()
+        done[kind] = done.get(kind, 0) + 1
+        if kind == "full disk":
+            cluster.fill_disk(2, ended)
+        elif kind == "full member":
+            limit_files(chance.choice(cluster.members), 1, ended)
+        elif kind == "pause":
+            chance.choice([*cluster.nodes, *cluster.members]).pause(chance.uniform(0.2, 2), ended)
+        else:
+            process = chance.choice([*cluster.nodes, *cluster.members])
+            process.kill()
+            ended.wait(chance.uniform(0.1, 1))
+            process.start()
+
+
+def cut_off_all(cluster, ended, done):
+    """Cuts one machine after the other off from the others, twice, until the clients are done."""
+    for machine in [*range(MACHINES)] * 2:
+        if ended.wait(1.5):
+            return
+        done["cut off"] = done.get("cut off", 0) + 1
+        cluster.ground.cut_off(machine, 4, ended)
 
 
 def exports_of(ask):
     """All that a node, or a session, exports."""
-    names = ask({"names": ""})["names"]
-    return {name: ask({"export": name})["text"] for name in names}
+    return {name: ask({"export": name})["text"] for name in ask({"names": ""})["names"]}
 
 
 def one_session(folder, log):
     """What one session answers to the log, and what it exports then."""
-    answers = {}
-    with Store(folder, program=PROGRAM, make=True) as store:
+    answers, before = {}, 0
+    with Store(folder, program=PROGRAM) as store:
         for number, identity, entry in log:
-            try:
-                with store.batch() as batch:
-                    batch._edits.extend(marked(edits_in(entry), number))
-                answers[identity] = {"ok": str(batch.count)}
-            except Refused as refused:
-                answers[identity] = {"refused": refused.word}
+            (answer,) = store.perform_batches([marked(edits_in(entry), number, before)])
+            if isinstance(answer, Refused):
+                answers[identity] = {"refused": answer.word}
+                (answer,) = store.perform_batches([refused(answer.word, number, before)])
+            else:
+                answers[identity] = {"ok": str(answer)}
+            before = number
+            if isinstance(answer, Exception):
+                raise answer
         return answers, {name: store.export(name) for name in store.names()}
 
 
@@ -249,73 +370,173 @@ class Checks:
             print(f"FAILED: {about}")
 
 
+class Run:
+    """A cluster with a witness, and all that its clients were answered."""
+
+    def __init__(self, folder, ground, checks):
+        os.mkdir(folder)
+        self.folder, self.checks = folder, checks
+        self.cluster = Cluster(folder, ground)
+        self.answers, self.log = {}, []
+        self.witness_ends = threading.Event()
+        self.witness = threading.Thread(target=run_witness, args=(self.cluster, self.log, self.witness_ends), daemon=True)
+
+    def start(self):
+        self.cluster.start()
+        self.witness.start()
+
+    def send(self, part, count, trouble=None):
+        """Has the clients send so many commands in all, with some trouble meanwhile."""
+        ended, done, began = threading.Event(), {}, time.monotonic()
+        clients = [
+            threading.Thread(
+                target=run_client, args=(self.cluster, part, which, count // CLIENTS, self.answers), daemon=True
+            )
+            for which in range(CLIENTS)
+        ]
+        troubles = [threading.Thread(target=trouble, args=(self.cluster, ended, done), daemon=True)] if trouble else []
+        for thread in [*clients, *troubles]:
+            thread.start()
+        for thread in clients:
+            thread.join()
+        ended.set()
+        for thread in troubles:
+            thread.join()
+        answered = [identity for identity in self.answers if identity.startswith(f"{part}-")]
+        self.checks.is_so(len(answered) == count // CLIENTS * CLIENTS, f"{part}: {len(answered)} answers")
+        seconds = time.monotonic() - began
+        what = ", ".join(f"{times} times {kind}" for kind, times in sorted(done.items())) or "no trouble"
+        print(f"{part}: {len(answered)} commands in {seconds:.0f} s, with {what}", flush=True)
+
+    def ask_again(self, count):
+        """The last commands are sent again, to each node: they are in the log once, and have their answers."""
+        for identity, (command, answer) in list(self.answers.items())[-count:]:
+            for number in range(MACHINES):
+                again = asked(self.cluster, number, command, elsewhere=False)
+                self.checks.is_so(again == answer, f"{identity} again at node {number}: {again}, before {answer}")
+            taken = asked(self.cluster, 0, {"id": identity, "import": "another", "text": "x"})
+            self.checks.is_so(taken == {"refused": "IdTaken"}, f"another command as {identity}: {taken}")
+
+    def keep_behind(self):
+        """Keeps a node away until the log has lost what it needs, and starts it again."""
+        behind = self.cluster.nodes[2]
+        held = asked(self.cluster, 2, {"fresh": "yes", "get": "replication", "path": ""}, elsewhere=False)["value"]
+        behind.kill()
+        etcd = Etcd(self.cluster.addresses)
+        for round_of in range(10):
+            self.send(f"behind{round_of}", BASE_AFTER)
+            (first, *_), _ = etcd.created_after(LOG, 0, 1, local=False)
+            if first.created > int(min(held)):
+                break
+        self.checks.is_so(first.created > int(min(held)), "the log has all that the node needs")
+        behind.start()
+        asked(self.cluster, 2, {"fresh": "yes", "names": ""}, elsewhere=False)
+        with open(behind.log, encoding="utf-8") as log:
+            self.checks.is_so("starts from the base" in log.read(), "the node behind starts from a base")
+
+    def compare_members(self):
+        """All members of etcd have the same keys, made at the same revisions."""
+        found = []
+        for address in self.cluster.addresses:
+            member = Etcd([address])
+            member.last_created(LOG)  # so that it has caught up with the others
+            found.append([(item.key, item.created) for item in member.created_after(LOG, 0, 100_000)[0]])
+        self.checks.is_so(found[1:] == found[:-1], f"the members of etcd differ: {[len(items) for items in found]}")
+
+    def compare(self):
+        """Compares all answers and exports with those of one session over the log, a new node's too."""
+        number = len(self.cluster.nodes)
+        self.cluster.nodes.append(self.cluster.node(number))
+        self.cluster.nodes[number].start()
+        found = [
+            exports_of(lambda request: asked(self.cluster, node, {"fresh": "yes", **request}, elsewhere=False))
+            for node in range(number + 1)
+        ]
+        self.witness_ends.set()
+        self.witness.join()
+        with tempfile.TemporaryDirectory(dir=MEMORY) as alone:
+            wanted, exports = one_session(alone, self.log)
+        for node, exported in enumerate(found):
+            self.checks.is_so(exported == exports, f"node {node} exports something else")
+        numbers = {}
+        for number, identity, _ in self.log:
+            numbers.setdefault(identity, []).append(number)
+        for identity, (_, answer) in self.answers.items():
+            self.checks.is_so(len(numbers.get(identity, ())) == 1, f"{identity} has the numbers {numbers.get(identity)}")
+            self.checks.is_so(answer == wanted.get(identity), f"{identity}: {answer}, alone {wanted.get(identity)}")
+        were_refused = sum("refused" in answer for _, answer in self.answers.values())
+        print(f"{len(self.log)} entries, {were_refused} of them refused, {len(exports)} configurations", flush=True)
+
+    def stop(self):
+        self.witness_ends.set()
+        self.cluster.stop()
+        self.cluster.ground.remove()
+
+
+def on_one_machine(run):
+    run.start()
+    run.send("faults", COMMANDS, make_trouble)
+    run.compare_members()
+    run.ask_again(40)
+    run.keep_behind()
+    run.compare()
+
+
+def on_machines_apart(run):
+    run.start()
+    run.send("apart", CUT_OFF_COMMANDS, cut_off_all)
+    run.compare()
+
+
+def keep_logs(folder):
+    kept = os.path.join(tempfile.gettempdir(), "replicated-logs")
+    shutil.rmtree(kept, ignore_errors=True)
+    for place, _, names in os.walk(folder):
+        for name in names:
+            if name.endswith((".log", ".yaml")):
+                os.makedirs(kept, exist_ok=True)
+                shutil.copy(os.path.join(place, name), os.path.join(kept, f"{os.path.basename(place)}-{name}"))
+    print(f"the logs are in {kept}")
+
+
+def namespaces():
+    """Machines in namespaces, or none where they can't be made."""
+    if os.geteuid() != 0 or shutil.which("ip") is None:
+        return None
+    try:
+        return Namespaces()
+    except subprocess.CalledProcessError as fault:
+        print(f"no namespaces: {fault.stderr.decode().strip()}")
+        return None
+
+
+def give_up(*_):
+    raise TimeoutError(f"not done after {LONGEST} seconds")
+
+
 def main():
-    for needed in ("etcd", "pkill"):
-        if shutil.which(needed) is None:
-            sys.exit(f"{needed} is not installed")
+    if shutil.which("etcd") is None or not os.access(PROGRAM, os.X_OK):
+        sys.exit("etcd is not installed, or the program is not built")
+    signal.signal(signal.SIGALRM, give_up)
     signal.alarm(LONGEST)
     checks = Checks()
     with tempfile.TemporaryDirectory() as folder:
-        cluster = Cluster(folder)
-        try:
-            cluster.start()
-            answers, log = {}, []
-            clients_done, witness_ends = threading.Event(), threading.Event()
-            witness = threading.Thread(target=run_witness, args=(cluster, log, witness_ends))
-            trouble = threading.Thread(target=make_trouble, args=(cluster, clients_done))
-            clients = [threading.Thread(target=run_client, args=(cluster, which, answers)) for which in range(CLIENTS)]
-            began = time.monotonic()
-            for thread in [witness, trouble, *clients]:
-                thread.start()
-            for thread in clients:
-                thread.join()
-            seconds = time.monotonic() - began
-            clients_done.set()
-            trouble.join()
-            witness_ends.set()
-            witness.join()
-
-            wanted, exports = one_session(os.path.join(folder, "alone"), log)
-            identities = [identity for _, identity, _ in log]
-            checks.is_so(len(answers) == COMMANDS // CLIENTS * CLIENTS, f"{len(answers)} answers")
-            for identity, answer in answers.items():
-                checks.is_so(identities.count(identity) == 1, f"{identity} is {identities.count(identity)} times in the log")
-                checks.is_so(answer == wanted.get(identity), f"{identity}: {answer}, alone {wanted.get(identity)}")
-            cluster.nodes.append(cluster.node(NODES))
-            cluster.nodes[-1].start()
-            for number in range(NODES + 1):
-                exported = exports_of(lambda request: fresh_from(cluster, number, request))
-                checks.is_so(exported == exports, f"node {number} exports something else")
-            refused = sum("refused" in answer for answer in answers.values())
-            print(f"{len(answers)} commands, {refused} of them refused, in {seconds:.0f} s; {len(log)} entries")
-        finally:
-            cluster.stop()
-            if checks.failed or not checks.passed:
-                kept = os.path.join(tempfile.gettempdir(), "replicated-logs")
-                shutil.rmtree(kept, ignore_errors=True)
-                shutil.copytree(folder, kept, ignore=lambda _, names: [name for name in names if not name.endswith(".log")])
-                print(f"the logs are in {kept}")
+        for name, ground, part in (("one", Loopback, on_one_machine), ("apart", namespaces, on_machines_apart)):
+            ground = ground()
+            if ground is None:
+                print("left out: machines that are cut off, since no network namespaces can be made here")
+                continue
+            run = Run(os.path.join(folder, name), ground, checks)
+            try:
+                part(run)
+            except (TimeoutError, Refused) as fault:
+                checks.is_so(False, f"{name}: {fault}")
+            finally:
+                run.stop()
+        if checks.failed:
+            keep_logs(folder)
     print(f"{checks.passed} passed, {checks.failed} failed")
     return 1 if checks.failed else 0
-
-
-def fresh_from(cluster, number, request):
-    """What this node answers, after all that was acknowledged."""
-    deadline = time.monotonic() + 60
-    while True:
-        try:
-            client = Client(cluster.socket_of(number))
-            try:
-                answer = client.ask({"fresh": "yes", **request})
-            finally:
-                client.close()
-            if "failed" not in answer:
-                return answer
-        except OSError:
-            pass
-        if time.monotonic() > deadline:
-            raise TimeoutError(f"node {number} doesn't answer")
-        time.sleep(0.1)
 
 
 if __name__ == "__main__":

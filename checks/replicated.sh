@@ -3,11 +3,28 @@
 set -u
 cd "$(dirname "${BASH_SOURCE[0]}")/.." || exit 1
 command -v etcd >/dev/null || { echo "etcd is not installed (Debian: etcd-server)"; exit 1; }
-timeout -k 10 650 python3 checks/replicated.py "$@"
+
+# What the script starts has this mark in its environment, and its namespaces have it in their names.
+export CONFSTORE_CHECK_MARK=cf$$
+timeout -k 10 420 python3 checks/replicated.py "$@"
 status=$?
-if pgrep -f confstore_replicated.node >/dev/null; then
-    echo "FAILED: nodes are left"
-    pkill -KILL -f confstore_replicated.node
-    status=1
+
+for environment in /proc/[0-9]*/environ; do
+    process=${environment#/proc/}
+    process=${process%/environ}
+    [ "$process" != $$ ] || continue
+    if tr '\0' '\n' 2>/dev/null <"$environment" | grep -qx "CONFSTORE_CHECK_MARK=$CONFSTORE_CHECK_MARK"; then
+        echo "FAILED: process $process is left: $(tr '\0' ' ' 2>/dev/null <"/proc/$process/cmdline")"
+        kill -KILL "$process" 2>/dev/null
+        status=1
+    fi
+done
+if command -v ip >/dev/null; then
+    for left in $(ip netns list 2>/dev/null | grep -o "^$CONFSTORE_CHECK_MARK-[0-9]*"); do
+        echo "FAILED: the namespace $left is left"
+        ip netns delete "$left"
+        status=1
+    done
+    if ip link show "$CONFSTORE_CHECK_MARK" >/dev/null 2>&1; then ip link delete "$CONFSTORE_CHECK_MARK"; fi
 fi
 exit "$status"

@@ -9,14 +9,15 @@ _confstore_options() {
     names) echo '--at --help' ;;
     get) echo '--raw --at --help' ;;
     log) echo '--yaml --at --help' ;;
+    format) echo '-i --in-place --check --help' ;;
     *) echo '--help' ;;
     esac
 }
 
-# The names of the configurations in a folder that was typed.
+# The names of the configurations in a folder as it was typed, perhaps in quotes or with a `~`.
 _confstore_names() {
-    local folder
-    eval "folder=$1" 2>/dev/null || return
+    local folder=${1//[\\\"\']/}
+    [[ $folder != '~'* ]] || folder=$HOME${folder#'~'}
     confstore names -- "$folder" 2>/dev/null
 }
 
@@ -49,11 +50,10 @@ _confstore() {
         return
     fi
     case $word:$place in
-    import:2)
+    import:2 | format:* | check:*)
         compopt -o filenames
         mapfile -t COMPREPLY < <(compgen -f -- "$current")
         ;;
-    format:* | check:*) ;;
     export:1 | import:1 | set:1 | delete:1 | get:1)
         mapfile -t COMPREPLY < <(compgen -W "$(_confstore_names "$folder")" -- "$current")
         ;;

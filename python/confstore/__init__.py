@@ -17,11 +17,11 @@ from .faults import ConfstoreError, Refused, SessionEnded
 from .reader import Reader, View
 from .records import Edit, Record
 from .store import Batch, Store
-from .style import Tree, from_text, to_text
+from .style import Tree, document, from_text, to_text
 
 __version__ = "0.1.0"
 
 __all__ = [
     "Batch", "ConfstoreError", "Edit", "Reader", "Record", "Refused", "SessionEnded", "Store", "Tree", "View",
-    "from_text", "to_text", *faults.__all__,
+    "document", "from_text", "to_text", *faults.__all__,
 ]  # fmt: skip

@@ -25,6 +25,9 @@ _FAULT = re.compile(r"confstore: (\w+)")
 # The program's status for words that it does not know.
 WRONG_WORDS = 2
 
+# The greatest number that a command can have.
+GREATEST = 2**64 - 1
+
 
 def find_program(program: Optional[str]) -> str:
     """The path of the program: the one that is given, or that of the environment's CONFSTORE, or of the PATH."""
@@ -55,10 +58,6 @@ class Reader:
                 [self.program, word, *options, self.folder, *more], stdin=subprocess.DEVNULL, capture_output=True,
                 check=False, timeout=self.timeout,
             )  # fmt: skip
-        except UnicodeEncodeError:
-            raise NotText("a pointer with a lone surrogate is no text") from None
-        except ValueError:
-            raise refusal("NoSuchPlace", "a pointer with the character 0 can't be a word of the program") from None
         except subprocess.TimeoutExpired:
             raise TimedOut(f"the program took more than {self.timeout} seconds", False) from None
         except OSError as error:
@@ -88,6 +87,7 @@ class Reader:
             raise BadName("BadName")
         if path and not path.startswith("/"):
             raise refusal("BadPath")
+        _check_word(path)
         text = self._read("get", _at(at), name, *([path] if path else []))
         try:
             return from_text(text)
@@ -128,5 +128,17 @@ class View:
         return self.get(name)
 
 
+def _check_word(path: str) -> None:
+    """Raises `NotText` or `Unsupported` if a pointer can't be a word of the program."""
+    try:
+        path.encode()
+    except UnicodeEncodeError:
+        raise NotText("a pointer with a lone surrogate is no text") from None
+    if "\0" in path:
+        raise Unsupported("a pointer with the character 0 can't be a word of the program: use a Store")
+
+
 def _at(number: Optional[int]) -> List[str]:
+    if number is not None and not 0 <= number <= GREATEST:
+        raise refusal("NoSuchCommand")
     return [] if number is None else ["--at", str(number)]

@@ -16,16 +16,12 @@ from .faults import BadAnswer, BadCommand, ConfstoreError, EmptyBatch, MissingFo
 from .reader import Reader, View
 from .records import Record
 from .session import Session
-from .style import Tree, scalar, to_text, trees_of
+from .style import Tree, document, to_text, trees_of
 
 # How many seconds a call may take, unless a store is opened with another number.
 TIMEOUT = 60.0
 
 _OK = re.compile(rb'---\nok: "([0-9]+)"\n\.\.\.\n')
-
-
-def _document(command: Tree) -> bytes:
-    return f"---\n{to_text(command)}...\n".encode()
 
 
 def _import(name: str, text: str) -> Dict[str, Tree]:
@@ -163,7 +159,7 @@ class Store:
         self.close()
 
     def _ask(self, command: Tree) -> bytes:
-        return self._session.ask(_document(command), self._timeout)
+        return self._session.ask(document(command), self._timeout)
 
     def _distrust(self, answer: bytes, about: str) -> BadAnswer:
         """Ends the session, which gave an answer that is none."""
@@ -260,7 +256,7 @@ class Store:
         before the first is answered, so they share syncs; a batch that is refused keeps none of the others back. Where
         the session ended, its end is in the place of each batch that got no answer: it was performed or not.
         """
-        documents = [_document({"batch": list(edits)}) for edits in batches]
+        documents = [document({"batch": list(edits)}) for edits in batches]
         counts: List[int | ConfstoreError] = []
         for answer in self._session.ask_all(documents, self._timeout):
             try:

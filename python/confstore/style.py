@@ -132,6 +132,14 @@ def to_text(tree: Tree) -> str:
     return "\n".join(_lines(tree, 0, 1)) + "\n"
 
 
+def document(command: Tree) -> bytes:
+    """The document of a command, as a session takes it: its text in the one style, between `---` and a closing line.
+
+    Raises as `to_text` does.
+    """
+    return f"---\n{to_text(command)}...\n".encode()
+
+
 class _Builder:
     """Makes the trees of a stream of events. It keeps its own stack, so no depth of a text can end the process."""
 

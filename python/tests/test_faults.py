@@ -71,6 +71,72 @@ class Opening(StoreTest):
         self.assertLess(time.monotonic() - start, 10)
 
 
+class ReadingAlone(StoreTest):
+    def calls(self):
+        reader = Reader(self.folder)
+        self.supported(lambda: self.ignored(reader.names))
+        return (reader.names, reader.log, lambda: reader.get("a"), lambda: reader.at(0))
+
+    def ignored(self, call):
+        try:
+            call()
+        except SessionEnded:
+            pass
+
+    def test_no_store(self):
+        for call in self.calls():
+            with self.assertRaises(confstore.NotAStore) as caught:
+                call()
+            self.assertEqual((caught.exception.status, os.listdir(self.folder)), (1, []))
+
+    def test_damaged(self):
+        base = b'---\nstore: confstore-2\nat: "0"\nconfigs:\n  a: x\n...\n'
+        for kind, content in (
+            (confstore.NotAStore, b"x\n...\n"),
+            (confstore.Damaged, base + b'---\nat: "2"\nset: a\npath: ""\nvalue: x\n...\n'),
+        ):
+            write(os.path.join(self.folder, "store.yaml"), content)
+            for call in self.calls()[:3]:
+                with self.assertRaises(kind) as caught:
+                    call()
+                self.assertEqual(caught.exception.status, 1)
+            with open(os.path.join(self.folder, "store.yaml"), "rb") as source:
+                self.assertEqual(source.read(), content)
+            self.assertEqual(os.listdir(self.folder), ["store.yaml"])
+
+    def test_a_torn_end(self):
+        """What a crash has cut is no damage: it is the state before it."""
+        base = b'---\nstore: confstore-2\nat: "0"\nconfigs:\n  a: x\n...\n'
+        write(os.path.join(self.folder, "store.yaml"), base + b'---\nat: "1"\nset: a\npath: ""\nval')
+        names, log, get, at = self.calls()
+        self.assertEqual((names(), log(), get(), at().names()), (["a"], [], "x", ["a"]))
+
+    def test_beside_a_session(self):
+        """Each read is the state after some prefix of the commands, and never an older one than the read before."""
+        store, reader, stop, wrong = self.store(), Reader(self.folder), threading.Event(), []
+        store["a"] = {"n": "0"}
+        self.supported(reader.names)
+
+        def read():
+            last = 0
+            while not stop.is_set():
+                found = int(reader.get("a", "/n"))
+                numbers = [record.number for record in reader.log()]
+                if found < last or numbers != list(range(1, len(numbers) + 1)) or len(numbers) <= found:
+                    wrong.append((last, found, numbers[-3:]))
+                last = found
+
+        readers = [threading.Thread(target=read) for _ in range(2)]
+        for thread in readers:
+            thread.start()
+        for number in range(1, 301):
+            store.set("a", "/n", str(number))
+        stop.set()
+        for thread in readers:
+            thread.join(60)
+        self.assertEqual((wrong, reader.get("a", "/n"), reader.at(101).get("a", "/n")), ([], "300", "100"))
+
+
 class Ending(StoreTest):
     def test_killed(self):
         store = self.store()
@@ -182,9 +248,9 @@ class Ending(StoreTest):
 
 class Limits(unittest.TestCase):
     def test_one_length_of_a_command(self):
-        """The clients, the server and docs/SESSION.md say the same."""
+        """The clients, the server and docs/STORE.md say the same."""
         rows = (
-            ("docs/SESSION.md", r"(?m)^\| a piece, with its closing line; .* \| ([0-9,]+) bytes \|$"),
+            ("docs/STORE.md", r"(?m)^\| a piece of a session.* \| ([0-9,]+) bytes \| `TooLong` \|$"),
             ("clients/serve.py", r"(?m)^LONGEST = ([0-9_]+) "),
             ("clients/c/confstore.h", r"CONFSTORE_LONGEST_COMMAND \(\(size_t\)([0-9]+)\)"),
         )

@@ -178,6 +178,10 @@ class Reading(StoreTest):
             (confstore.BadPath, lambda: reader.get("a", "k")),
             (confstore.NoSuchPlace, lambda: store.at(1).get("a", "/k/1")),
             (confstore.NotText, lambda: reader.get("a", "/\ud800")),
+            (confstore.NotText, lambda: reader.get("a", "/\udc80")),
+            (confstore.Unsupported, lambda: reader.get("a", "/\0")),
+            (confstore.NoSuchCommand, lambda: store.at(-1)),
+            (confstore.NoSuchCommand, lambda: store.at(2**64)),
         ):
             with self.assertRaises(kind):
                 call()

@@ -8,11 +8,17 @@ from __future__ import annotations
 import base64
 import http.client
 import json
+import queue
+import socket
+import threading
 import time
-from typing import Any, Dict, Iterator, List, NamedTuple, Optional, Sequence, Tuple
+from typing import Any, Dict, List, NamedTuple, Optional, Sequence, Tuple
 
-# How many seconds one call to one member may take.
-CALL = 5.0
+# How many seconds one call to one member may take. Then the next member is asked.
+CALL = 2.0
+
+# How many new keys wait to be taken from a stream at most. Then the member waits.
+MOST_WAITING = 256
 
 
 class Unavailable(Exception):
@@ -89,19 +95,23 @@ class Etcd:
                     raise Unavailable(f"no member of the cluster answers: {error}") from None
                 time.sleep(0.05)
 
-    def create(self, key: bytes, value: bytes) -> Tuple[int, bytes]:
-        """Puts a key that is not there yet, by one transaction, and returns the revision that made it, and its value.
+    def create(self, name: bytes, stands_for: bytes, key: bytes, value: bytes) -> Tuple[int, bytes]:
+        """Puts a name that is not there yet, with what it stands for, and a key with it, by one transaction. Returns the
+        revision that made the name, and what it stands for.
 
-        A key that is there stays, so that a call that is repeated makes it once.
+        A name that is there stays, and then the key is not put, so that a call that is repeated makes it once.
         """
         wanted = {
-            "compare": [{"target": "CREATE", "key": _encode(key), "create_revision": "0"}],
-            "success": [{"request_put": {"key": _encode(key), "value": _encode(value)}}],
-            "failure": [{"request_range": {"key": _encode(key)}}],
+            "compare": [{"target": "CREATE", "key": _encode(name), "create_revision": "0"}],
+            "success": [
+                {"request_put": {"key": _encode(name), "value": _encode(stands_for)}},
+                {"request_put": {"key": _encode(key), "value": _encode(value)}},
+            ],
+            "failure": [{"request_range": {"key": _encode(name)}}],
         }
         answer = self._ask("/v3/kv/txn", wanted)
         if answer.get("succeeded"):
-            return int(answer["header"]["revision"]), value
+            return int(answer["header"]["revision"]), stands_for
         (found,) = _items(answer["responses"][0]["response_range"])
         return found.created, found.value
 
@@ -122,8 +132,9 @@ class Etcd:
         found = _items(self._ask("/v3/kv/range", {"key": _encode(key)}))
         return found[0].value if found else None
 
-    def created_after(self, prefix: bytes, revision: int, most: int, local: bool = True) -> List[Item]:
-        """The keys with a prefix that were made after a revision, in the order in which they were made.
+    def created_after(self, prefix: bytes, revision: int, most: int, local: bool = True) -> Tuple[List[Item], int]:
+        """The keys with a prefix that were made after a revision, in the order in which they were made, at most so many,
+        and the revision at which this was so.
 
         With `local` one member says what it knows, which may be less than there is, but is never out of order.
         """
@@ -131,7 +142,16 @@ class Etcd:
             "key": _encode(prefix), "range_end": _encode(_end_of(prefix)), "min_create_revision": str(revision + 1),
             "sort_target": "CREATE", "sort_order": "ASCEND", "limit": str(most), "serializable": local,
         }  # fmt: skip
-        return _items(self._ask("/v3/kv/range", asked))
+        answer = self._ask("/v3/kv/range", asked)
+        return _items(answer), int(answer["header"]["revision"])
+
+    def _keys_until(self, prefix: bytes, revision: int) -> List[bytes]:
+        """Some of the keys with a prefix that were made up to a revision, as many as a transaction takes."""
+        asked = {
+            "key": _encode(prefix), "range_end": _encode(_end_of(prefix)), "max_create_revision": str(revision),
+            "keys_only": True, "limit": "100",
+        }  # fmt: skip
+        return [item.key for item in _items(self._ask("/v3/kv/range", asked))]
 
     def last_created(self, prefix: bytes) -> int:
         """The revision that made the newest key with a prefix, of all that were made when this is called; else 0."""
@@ -142,25 +162,96 @@ class Etcd:
         found = _items(self._ask("/v3/kv/range", asked))
         return found[0].created if found else 0
 
-    def delete(self, keys: Sequence[bytes]) -> None:
-        for start in range(0, len(keys), 100):
-            removed = [{"request_delete_range": {"key": _encode(key)}} for key in keys[start : start + 100]]
+    def delete_until(self, prefix: bytes, revision: int) -> None:
+        """Takes out the keys with a prefix that were made up to a revision; none if that is not above 0."""
+        while revision > 0 and (keys := self._keys_until(prefix, revision)):
+            removed = [{"request_delete_range": {"key": _encode(key)}} for key in keys]
             self._ask("/v3/kv/txn", {"success": removed})
 
-    def delete_all(self, prefix: bytes) -> None:
-        self._ask("/v3/kv/deleterange", {"key": _encode(prefix), "range_end": _encode(_end_of(prefix))})
+    def delete_between(self, first: bytes, end: bytes) -> None:
+        """Takes out all keys from the first one on that are before the end."""
+        self._ask("/v3/kv/deleterange", {"key": _encode(first), "range_end": _encode(end)})
 
-    def changes(self, prefix: bytes) -> Iterator[None]:
-        """Yields whenever keys with a prefix may have changed, until the member goes. It may yield too often."""
-        with_timeout = self._connect(60.0)
+    def delete_all(self, prefix: bytes) -> None:
+        self.delete_between(prefix, _end_of(prefix))
+
+    def compact(self, revision: int) -> None:
+        """Has the cluster forget what there was before a revision and is not there any more. All keys stay."""
         try:
-            asked = {"create_request": {"key": _encode(prefix), "range_end": _encode(_end_of(prefix))}}
-            with_timeout.request("POST", "/v3/watch", json.dumps(asked), {"Content-Type": "application/json"})
-            answer = with_timeout.getresponse()
-            while answer.readline():
-                yield None
-        except (OSError, http.client.HTTPException):
-            return
+            self._post("/v3/kv/compaction", {"revision": str(revision)})
+        except (OSError, http.client.HTTPException, ValueError):
+            self.close()  # it was compacted further already, or the next base will do it
+
+    def stream(self, prefix: bytes, revision: int) -> "Stream":
+        """The keys with a prefix that are made at this revision or later, as the next member tells of them."""
+        self.close()
+        self._first = (self._first + 1) % len(self._members)
+        return Stream(self._connect(60.0), prefix, revision)
+
+
+class Stream(threading.Thread):
+    """New keys, in the order in which they are made, until the member goes or says that it doesn't know them any more.
+    No key is left out before that."""
+
+    def __init__(self, connection: http.client.HTTPConnection, prefix: bytes, revision: int) -> None:
+        super().__init__(name="confstore stream", daemon=True)
+        self._connection = connection
+        self._asked = {
+            "key": _encode(prefix), "range_end": _encode(_end_of(prefix)), "start_revision": str(revision),
+            "fragment": True, "filters": ["NODELETE"],
+        }  # fmt: skip
+        self._items: "queue.Queue[Optional[Item]]" = queue.Queue(MOST_WAITING)
+        self._socket: Optional[socket.socket] = None
+        self._is_closed = False
+        self.start()
+
+    def run(self) -> None:
+        try:
+            words = json.dumps({"create_request": self._asked})
+            self._connection.request("POST", "/v3/watch", words, {"Content-Type": "application/json"})
+            self._socket = self._connection.sock
+            answer = self._connection.getresponse()
+            if self._socket is not None:
+                self._socket.settimeout(None)
+            while not self._is_closed and (line := answer.readline()):
+                told = json.loads(line).get("result", {})
+                if told.get("canceled"):
+                    break
+                made = [event["kv"] for event in told.get("events", ()) if "kv" in event]
+                for item in _items({"kvs": [kv for kv in made if kv["create_revision"] == kv["mod_revision"]]}):
+                    self._give(item)
+        except (OSError, http.client.HTTPException, ValueError):
+            pass
         finally:
-            with_timeout.close()
-            self._first = (self._first + 1) % len(self._members)
+            self._give(None)
+            self._connection.close()
+
+    def _give(self, item: Optional[Item]) -> None:
+        while not self._is_closed:
+            try:
+                return self._items.put(item, timeout=0.5)
+            except queue.Full:
+                continue
+
+    def take(self, most: int, seconds: float) -> Optional[List[Item]]:
+        """The next keys, at most so many: those that are there, or else the first one that comes in so many seconds.
+        An empty list if none came, and None once the stream is over."""
+        taken: List[Item] = []
+        while len(taken) < most:
+            try:
+                item = self._items.get_nowait() if taken else self._items.get(timeout=seconds)
+            except queue.Empty:
+                break
+            if item is None:
+                self._items.put(None)
+                return taken or None
+            taken.append(item)
+        return taken
+
+    def close(self) -> None:
+        self._is_closed = True
+        if self._socket is not None:
+            try:
+                self._socket.shutdown(socket.SHUT_RDWR)
+            except OSError:
+                pass

@@ -1,8 +1,9 @@
 """A follower: it performs the entries of the log on its own store, in order, each exactly once.
 
-An entry and its number are one batch, so the store holds both or neither, whenever it is killed. After a start the
-follower goes on behind the number that the store holds. An entry that is refused changes nothing, not even the number;
-if it is met again it is refused again, since the state is the same.
+The batch of an entry takes out the number of the entry before it and puts its own (`entries.py`), so the store holds an
+entry with its number or neither, whenever it is killed. After a start the follower goes on behind the number that the
+store holds. An entry that is refused is refused by every follower alike, since their states are the same; then its
+number is put alone, with the word of the refusal in the record. So each entry is one accepted command of the store.
 
 Now and then a follower puts a base of its store into etcd, and takes entries out of the log: those that the base before
 it has. A store that is so far behind that it may miss such entries starts from the base.
@@ -10,33 +11,94 @@ it has. A store that is so far behind that it may miss such entries starts from 
 
 from __future__ import annotations
 
+import hashlib
 import json
 import os
+import random
 import re
 import threading
-import time
-from typing import Callable, Dict, List, Optional, Tuple
+from collections import deque
+from dataclasses import dataclass, field
+from typing import Any, Callable, Deque, Dict, List, Optional, Sequence, Tuple
 
-from confstore import ConfstoreError, NoConfig, Refused, Store
+from confstore import ConfstoreError, NoConfig, Refused as StoreRefused, Store
 
-from .entries import RESERVED, edits_in, marked
+from .entries import RESERVED, SPARE, Edit, Refused, edits_in, marked, number_in, refused
 from .etcd import Etcd, Item, Unavailable
 
-# How many entries are sent to the session before the first is answered.
+# How many entries, and how many bytes of them, are sent to the session before the first is answered.
 GROUP = 64
+GROUP_BYTES = 1_000_000
 
 # After how many bytes of entries the store writes a checkpoint. So its file never comes near its limit.
 CHECKPOINT_BYTES = 64 * 1024 * 1024
 
+# How many revisions of etcd an `id` is known at least, after its entry too.
+IDS_KEPT = 100_000
+
 # A base is kept in etcd in parts of so many bytes.
 PART = 700_000
 
-# How many seconds the follower waits before it looks at the log again, if nothing wakes it.
+# How many seconds the follower waits at first where something fails, and at most.
 PAUSE = 0.2
+LONGEST_PAUSE = 5.0
 
-_MARK = re.compile(rf'^at: "([0-9]+)"\nbatch:\n(?:.*\n)*  - import: {RESERVED}\n    tree:\n      entry: "([0-9]+)"\n\Z', re.M)
+# How many seconds the follower waits for an entry before it asks another member whether there is one.
+LOOK = 1.0
+
+_COUNT = re.compile(r'(?:---\n)?at: "([0-9]+)"\nbatch:\n')
+_NUMBER = rf'  - set: {RESERVED}\n    path: "/([0-9]{{20}})"\n    value: '
+_ENTRY = re.compile(rf"(?:{_NUMBER}(\w+)\n)?{_NUMBER}.*\n\Z")
 
 Answer = Dict[str, str]
+
+
+class Behind(Exception):
+    """The store may miss entries that were taken out of the log."""
+
+
+@dataclass
+class _Turn:
+    """An entry whose turn it is: its edits, and why it is refused, once that is known."""
+
+    entry: Item
+    word: Optional[str] = None
+    spare: str = SPARE
+    edits: List[Edit] = field(default_factory=list)
+
+    def __post_init__(self) -> None:
+        try:
+            self.edits = edits_in(self.entry.value)
+        except Refused as fault:
+            self.word = fault.word
+
+    def batch(self, before: int) -> List[Edit]:
+        """What is sent to the store, whose last entry has this number."""
+        if self.word is not None:
+            return refused(self.word, self.entry.created, before, self.spare)
+        return marked(self.edits, self.entry.created, before)
+
+    def refuse(self, word: str) -> None:
+        """Notes that the store refused it; of a number alone, that there is no room for what stands with it."""
+        if self.word is None:
+            self.word = word
+        elif self.spare:
+            self.spare = ""
+        else:
+            raise ConfstoreError(f"the number of entry {self.entry.created} is refused: {word}")
+
+
+def _groups(entries: Sequence[Item]) -> List[List[Item]]:
+    """The entries in order, in groups that are sent at once."""
+    groups: List[List[Item]] = []
+    length = 0
+    for entry in entries:
+        length += len(entry.value)
+        if not groups or length > GROUP_BYTES:
+            groups.append([])
+            length = len(entry.value)
+        groups[-1].append(entry)
+    return groups
 
 
 class Follower(threading.Thread):
@@ -56,18 +118,18 @@ class Follower(threading.Thread):
         self._folder = folder
         self._program = program
         self._etcd = Etcd(members)
-        self._watch = Etcd(members)
         self._prefix = f"/confstore/{cluster}/".encode()
-        self._log = self._prefix + b"log/"
+        self._log, self._ids = self._prefix + b"log/", self._prefix + b"ids/"
         self._base_after = base_after
         self._told = told
         self._state = threading.Condition()
         self._performed = 0
-        self._ends = False
-        self._wake = threading.Event()
+        self._ended = threading.Event()
         self._position = 0
         self._since_base = 0
         self._since_checkpoint = 0
+        self._pause = PAUSE
+        self._said = ""
         #: The store, which others may read. None while there is no session.
         self.store: Optional[Store] = None
 
@@ -75,36 +137,41 @@ class Follower(threading.Thread):
 
     def wait_for(self, number: int, timeout: float) -> bool:
         """Waits until an entry was performed here, also one that was refused. Whether it was."""
-        self._wake.set()
         with self._state:
-            return self._state.wait_for(lambda: self._performed >= number or self._ends, timeout) and not self._ends
+            over = self._ended.is_set
+            return self._state.wait_for(lambda: self._performed >= number or over(), timeout) and not over()
 
     def end(self) -> None:
+        self._ended.set()
         with self._state:
-            self._ends = True
             self._state.notify_all()
-        self._wake.set()
 
     # ---- the thread
 
     def run(self) -> None:
-        threading.Thread(target=self._watch_log, name="confstore watch", daemon=True).start()
-        while not self._ends:
+        while not self._ended.is_set():
             try:
                 self._open()
-                while not self._ends:
-                    self._go_on()
-            except (ConfstoreError, Unavailable, OSError) as error:
-                print(f"follower: {type(error).__name__}: {error}", flush=True)
-                time.sleep(PAUSE)
+                while not self._ended.is_set():
+                    try:
+                        self._follow()
+                    except Unavailable as error:
+                        self._say(error)
+            except Behind:
+                self._start_from_base()
+            except (ConfstoreError, OSError, ValueError) as error:
+                self._say(error)
             finally:
                 self._close()
 
-    def _watch_log(self) -> None:
-        while not self._ends:
-            for _ in self._watch.changes(self._log):
-                self._wake.set()
-            time.sleep(PAUSE)
+    def _say(self, fault: Exception) -> None:
+        """Prints what went wrong, the same thing once, and waits; the longer the more often."""
+        about = f"follower: {type(fault).__name__}: {fault}"
+        if about != self._said:
+            print(about, flush=True)
+        self._said = about
+        self._ended.wait(self._pause)
+        self._pause = min(2 * self._pause, LONGEST_PAUSE)
 
     def _close(self) -> None:
         store, self.store = self.store, None
@@ -112,21 +179,13 @@ class Follower(threading.Thread):
             store.close()
 
     def _open(self) -> None:
-        """Opens the store, and starts from the base in etcd if the store may miss entries."""
+        """Opens the store, and tells what the entries in its file were answered."""
         os.makedirs(self._folder, exist_ok=True)
-        store = Store(self._folder, program=self._program)
-        number = self._number_in(store)
-        base, floor = self._base()
-        if number < floor:
-            store.close()
-            self._install(base)
-            store = Store(self._folder, program=self._program)
-            number = self._number_in(store)
-        for entry, count in self._answers_in_file():
-            self._told(entry, {"ok": str(count)})
-        self.store = store
-        self._position = number
-        self._has_performed(number)
+        self.store = store = Store(self._folder, program=self._program)
+        self._position = self._number_in(store)
+        for number, answer in self._answers_in_file():
+            self._told(number, answer)
+        self._has_performed(self._position)
 
     def _has_performed(self, number: int) -> None:
         with self._state:
@@ -136,97 +195,143 @@ class Follower(threading.Thread):
     def _number_in(self, store: Store) -> int:
         """The number of the last entry that the store holds; 0 if it holds none."""
         try:
-            return int(str(store.get(RESERVED, "/entry")))
+            return number_in(store.get(RESERVED))
         except NoConfig:
             return 0
 
-    def _answers_in_file(self) -> List[Tuple[int, int]]:
-        """The entries whose batches the store's file has, with the counts that they were answered."""
+    def _answers_in_file(self) -> List[Tuple[int, Answer]]:
+        """The entries whose records the store's file has, with what they were answered."""
         with open(os.path.join(self._folder, "store.yaml"), encoding="utf-8") as file:
             pieces = file.read().split("\n...\n")
-        marks = (_MARK.search(piece + "\n") for piece in pieces)
-        return [(int(mark[2]), int(mark[1])) for mark in marks if mark]
+        found = []
+        for piece in pieces:
+            count, entry = _COUNT.match(piece), _ENTRY.search(piece[-400:] + "\n")
+            if count and entry:
+                _, word, number = entry.groups()
+                found.append((int(number), {"refused": word} if word else {"ok": count[1]}))
+        return found
 
-    def _go_on(self) -> None:
-        """Performs the next entries of the log, or waits for some."""
-        self._wake.clear()
-        entries = self._etcd.created_after(self._log, self._position, GROUP)
-        # Entries are taken out only after this says so. It is read after them, and not from what one member knows.
-        _, floor = self._base()
-        if self._position < floor:
-            raise ConfstoreError("the log begins behind what this store holds, so it starts from a base")
-        if not entries:
-            self._wake.wait(PAUSE)
-            return
-        self._perform(entries)
-        if self._since_base >= self._base_after:
-            self._since_base = 0
-            self._write_base()
+    def _follow(self) -> None:
+        """Performs what the log has, and then each entry as it comes, until the member that tells of them goes."""
+        stream = self._etcd.stream(self._log, self._catch_up() + 1)
+        try:
+            while not self._ended.is_set():
+                entries = stream.take(GROUP, LOOK)
+                if entries is None:
+                    self._ended.wait(PAUSE)
+                    return
+                self._perform([entry for entry in entries if entry.created > self._position])
+                # A member that is cut off from the others tells of nothing; the majority knows better.
+                if not entries and self._etcd.last_created(self._log) > self._position:
+                    return
+        finally:
+            stream.close()
+
+    def _catch_up(self) -> int:
+        """Performs the entries that the log has behind the store's. Returns the revision up to which these are all."""
+        while not self._ended.is_set():
+            entries, revision = self._etcd.created_after(self._log, self._position, GROUP)
+            # Entries are taken out only after the base says so. It is read after them, and not from what one member knows.
+            if self._position < self._base().get("floor", 0):
+                raise Behind
+            if not entries:
+                return revision
+            self._perform(entries)
+        return 0
 
     def _perform(self, entries: List[Item]) -> None:
-        """Performs entries, and says what each was answered. Raises if the session ended, with some of them done."""
+        for group in _groups(entries):
+            self._perform_group(deque(map(_Turn, group)))
+        if self._since_base >= self._base_after:
+            self._since_base = -random.randrange(self._base_after // 4 + 1)  # so that followers don't do it at once
+            self._write_base()
+
+    def _perform_group(self, turns: Deque[_Turn]) -> None:
+        """Performs entries, and tells what each was answered. Raises if the session ended, with some of them done.
+
+        All are sent at once. Where one is refused, those behind it are too, since they wait for its number; so they are
+        sent again, behind its number alone.
+        """
         store = self.store
         assert store is not None
-        answers = store.perform_batches([marked(edits_in(entry.value), entry.created) for entry in entries])
-        for entry, answer in zip(entries, answers):
-            if isinstance(answer, Refused):
-                self._told(entry.created, {"refused": answer.word})
-            elif isinstance(answer, ConfstoreError):
-                raise answer
-            else:
-                self._told(entry.created, {"ok": str(answer)})
-            self._position = entry.created
-            self._since_base += 1
-            self._since_checkpoint += len(entry.value)
-            self._has_performed(entry.created)
+        while turns:
+            befores = [self._position, *(turn.entry.created for turn in turns)]
+            for answer in store.perform_batches([turn.batch(before) for turn, before in zip(turns, befores)]):
+                if isinstance(answer, StoreRefused):
+                    turns[0].refuse(answer.word)
+                    break
+                if isinstance(answer, ConfstoreError):
+                    raise answer
+                self._is_done(turns.popleft(), answer)
+        self._pause, self._said = PAUSE, ""
         if self._since_checkpoint >= CHECKPOINT_BYTES:
-            store.checkpoint()
             self._since_checkpoint = 0
+            store.checkpoint()
+
+    def _is_done(self, turn: _Turn, count: int) -> None:
+        number = turn.entry.created
+        self._told(number, {"ok": str(count)} if turn.word is None else {"refused": turn.word})
+        self._position = number
+        self._since_base += 1
+        self._since_checkpoint += len(turn.entry.value)
+        self._has_performed(number)
 
     # ---- bases
 
-    def _base(self) -> Tuple[int, int]:
-        """The number of the base in etcd, and that up to which entries may have been taken out of the log."""
+    def _base(self) -> Dict[str, Any]:
+        """What etcd says of the base: its number, up to which entries may have been taken out, its parts' sum."""
         found = self._etcd.get(self._prefix + b"base")
-        if found is None:
-            return 0, 0
-        base = json.loads(found)
-        return base["number"], base["floor"]
+        return {} if found is None else json.loads(found)
 
     def _write_base(self) -> None:
         """Puts a base of the store into etcd, unless another follower did just now, and takes old entries out."""
         store = self.store
         assert store is not None
         old = self._etcd.get(self._prefix + b"base")
-        last, _ = self._base()
-        number = self._number_in(store)
+        last = json.loads(old)["number"] if old else 0
+        number = self._position
         if number - last < self._base_after // 2:
             return
         store.checkpoint()
         self._since_checkpoint = 0
         with open(os.path.join(self._folder, "store.yaml"), "rb") as file:
             base = file.read()
-        parts = self._parts_of(number)
         for place, start in enumerate(range(0, len(base), PART)):
-            self._etcd.put(parts + f"{place:08}".encode(), base[start : start + PART])
-        if not self._etcd.replace(self._prefix + b"base", json.dumps({"number": number, "floor": last}).encode(), old):
+            self._etcd.put(self._parts_of(number) + f"{place:08}".encode(), base[start : start + PART])
+        new = {"number": number, "floor": last, "sha256": hashlib.sha256(base).hexdigest()}
+        self._etcd.replace(self._prefix + b"base", json.dumps(new).encode(), old)
+        if self._base().get("number") != number:
+            self._etcd.delete_all(self._parts_of(number))
             return
+        self._etcd.delete_between(self._prefix + b"parts/", self._parts_of(number))
+        self._etcd.delete_until(self._log, last)
+        self._etcd.delete_until(self._ids, number - IDS_KEPT)
         if last:
-            self._etcd.delete_all(self._parts_of(last))
-        while entries := [entry for entry in self._etcd.created_after(self._log, 0, 500) if entry.created <= last]:
-            self._etcd.delete([entry.key for entry in entries])
+            self._etcd.compact(last)
 
     def _parts_of(self, number: int) -> bytes:
         return self._prefix + f"parts/{number:020}/".encode()
 
-    def _install(self, number: int) -> None:
-        """Puts the base in etcd in the place of this store's file. The store is closed."""
-        parts: List[Item] = []
-        while more := self._etcd.created_after(self._parts_of(number), parts[-1].created if parts else 0, 8, local=False):
-            parts += more
-        base = b"".join(part.value for part in sorted(parts))
-        if not base.endswith(b"\n...\n"):
-            raise ConfstoreError("the base was replaced while it was read")
+    def _start_from_base(self) -> None:
+        """Puts the base in etcd in the place of this store's file, if it can be had."""
+        self._close()
+        try:
+            base = self._base()
+            self._install(self._whole_base(base), int(base["number"]))
+        except (Unavailable, OSError, KeyError, ValueError) as error:
+            self._say(error)
+
+    def _whole_base(self, base: Dict[str, Any]) -> bytes:
+        prefix, parts, last = self._parts_of(int(base["number"])), b"", 0
+        while items := self._etcd.created_after(prefix, last, 8, local=False)[0]:
+            parts += b"".join(item.value for item in items)
+            last = items[-1].created
+        if hashlib.sha256(parts).hexdigest() != base["sha256"]:
+            raise ValueError("the base was replaced while it was read")
+        return parts
+
+    def _install(self, base: bytes, number: int) -> None:
+        """Has a base stand in the place of the store's file. The store is closed."""
         aside = os.path.join(self._folder, "base.new")
         with open(aside, "wb") as file:
             file.write(base)
@@ -238,3 +343,4 @@ class Follower(threading.Thread):
             os.fsync(directory)
         finally:
             os.close(directory)
+        print(f"follower: starts from the base of entry {number}", flush=True)

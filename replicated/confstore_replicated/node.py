@@ -10,20 +10,28 @@ A client sends one JSON object a line, and gets one back for each, in order.
     {"export": NAME}                                     {"text": TEXT}
     {"names": ""}                                        {"names": [NAME, ..]}
 
-A refusal is `{"refused": WORD}`, with the words of a session. `{"failed": WORD}` says that nothing is known of the
-command yet: it may be in the log or not. An object may have two more keys, first of all: `id`, a text of the client's
-own for a change, under which it is in the log at most once, however often it is sent; and `fresh` with the value `yes`
-for a question, which is then answered after all changes that were acknowledged anywhere before it was asked.
+A refusal is `{"refused": WORD}`, with the words of a session, and three more: `NotText` of a text with a lone
+surrogate, which no YAML can hold, `TooLong` of a command that is too long for the log, and `IdTaken`. `{"failed": WORD}`
+says that nothing is known of the command yet: it may be in the log or not.
+
+An object may have two more keys: `id`, a text of 1 to 200 characters of the client's own for a change, under which it is
+performed at most once, however often it is sent within the next 100,000 revisions of etcd (`IdTaken` if another command
+has it); and `fresh` with the value `yes` for a question, which is then answered after all changes that were acknowledged
+anywhere before it was asked. `{"failed": "Forgotten"}` is said of an `id` whose command was performed, where this node
+does not know any more what it was answered; another may.
 """
 
 from __future__ import annotations
 
 import argparse
+import errno
+import hashlib
 import json
 import os
 import signal
 import socket
 import socketserver
+import stat
 import sys
 import threading
 import uuid
@@ -42,8 +50,11 @@ PATIENCE = 30.0
 # How many answers are kept for clients that come back for them.
 KEPT = 100_000
 
-# The longest line of a client.
-LONGEST_LINE = 2_000_000
+# The longest line of a client, in bytes.
+LONGEST_LINE = 16_777_216
+
+# The longest `id`.
+LONGEST_ID = 200
 
 Request = Dict[str, Any]
 
@@ -71,7 +82,7 @@ class Node:
 
     def __init__(self, folder: str, members: "list[str]", cluster: str, program: Optional[str], base_after: int) -> None:
         self._members = members
-        self._log = f"/confstore/{cluster}/log/".encode()
+        self._log, self._ids = (f"/confstore/{cluster}/{kind}/".encode() for kind in ("log", "ids"))
         self._answers = Answers()
         self._local = threading.local()
         self.follower = Follower(
@@ -88,12 +99,16 @@ class Node:
         """What is answered to a request."""
         identity, fresh = request.pop("id", None), request.pop("fresh", None) == "yes"
         try:
+            if identity is not None and not _is_id(identity):
+                raise Refused("BadCommand")
             if tuple(request) in (("get", "path"), ("export",), ("names",)):
                 return self._read(request, fresh)
             return self._change(request, identity)
         except (Refused, StoreRefused) as refused:
             return {"refused": refused.word}
-        except (NotATree, NotText):
+        except (NotText, UnicodeEncodeError):
+            return {"refused": "NotText"}
+        except NotATree:
             return {"refused": "BadCommand"}
         except (Unavailable, ConfstoreError, OSError) as error:
             return {"failed": type(error).__name__}
@@ -101,8 +116,10 @@ class Node:
     def _change(self, request: Request, identity: Optional[str]) -> Dict[str, Any]:
         """Puts a change into the log, and waits until it was performed here."""
         entry = entry_of(edits_of(request))
-        key = self._log + (identity or uuid.uuid4().hex).encode()
-        number, _ = self._etcd().create(key, entry)
+        name, digest = (identity or uuid.uuid4().hex).encode(), hashlib.sha256(entry).digest()
+        number, made = self._etcd().create(self._ids + name, digest, self._log + name, entry)
+        if made != digest:
+            raise Refused("IdTaken")
         if not self.follower.wait_for(number, PATIENCE):
             return {"failed": "TimedOut"}
         return dict(self._answers.of(number) or {"failed": "Forgotten"})
@@ -117,6 +134,10 @@ class Node:
         return _read_from(store, request)
 
 
+def _is_id(identity: Any) -> bool:
+    return isinstance(identity, str) and 0 < len(identity) <= LONGEST_ID
+
+
 def _read_from(store: Store, request: Request) -> Dict[str, Any]:
     if "get" in request:
         return {"value": store.get(str(request["get"]), str(request["path"]))}
@@ -126,24 +147,63 @@ def _read_from(store: Store, request: Request) -> Dict[str, Any]:
 
 
 class _Handler(socketserver.StreamRequestHandler):
-    """One client."""
+    """One client. It is cut off if it takes no answer for PATIENCE seconds."""
 
     def handle(self) -> None:
+        node: Node = self.server.node  # type: ignore[attr-defined]
         while line := self.rfile.readline(LONGEST_LINE):
             if not line.endswith(b"\n"):
+                if len(line) == LONGEST_LINE:
+                    self._say({"refused": "TooLong"})
                 return
             try:
                 request = json.loads(line)
-            except ValueError:
+            except (ValueError, RecursionError):
                 request = None
-            node: Node = self.server.node  # type: ignore[attr-defined]
-            answer = node.answer(request) if isinstance(request, dict) else {"refused": "BadCommand"}
-            self.wfile.write(json.dumps(answer, ensure_ascii=False).encode("utf-8", "surrogatepass") + b"\n")
+            if not self._say(node.answer(request) if isinstance(request, dict) else {"refused": "BadCommand"}):
+                return
+
+    def _say(self, answer: Dict[str, Any]) -> bool:
+        """Sends an answer. Whether the client took it in time."""
+        try:
+            self.connection.settimeout(PATIENCE)
+            self.connection.sendall(json.dumps(answer, ensure_ascii=False).encode("utf-8", "surrogatepass") + b"\n")
+            self.connection.settimeout(None)
+        except OSError:
+            return False
+        return True
 
 
 class _Server(socketserver.ThreadingMixIn, socketserver.UnixStreamServer):
+    """Takes clients on a Unix socket, those who may write in the folder. A socket that nobody listens to is replaced."""
+
     daemon_threads = True
     request_queue_size = 64
+
+    def __init__(self, path: str, folder: str) -> None:
+        self._writers = os.stat(folder).st_mode & 0o022
+        if _is_left(path):
+            os.unlink(path)
+        super().__init__(path, _Handler)
+
+    def server_bind(self) -> None:
+        before = os.umask(0o177)
+        try:
+            super().server_bind()
+        finally:
+            os.umask(before)
+        os.chmod(self.server_address, 0o600 | self._writers | self._writers << 1)  # type: ignore[arg-type]
+
+
+def _is_left(path: str) -> bool:
+    """Whether a socket that nobody listens to is at a path."""
+    try:
+        if not stat.S_ISSOCK(os.lstat(path).st_mode):
+            return False
+    except FileNotFoundError:
+        return False
+    with socket.socket(socket.AF_UNIX) as probe:
+        return probe.connect_ex(path) == errno.ECONNREFUSED
 
 
 def main() -> int:
@@ -155,10 +215,9 @@ def main() -> int:
     parser.add_argument("--program", help="the program confstore; else CONFSTORE, or confstore on the PATH")
     parser.add_argument("--base-after", type=int, default=1000, help="how many entries come between two bases in etcd")
     words = parser.parse_args()
+    os.makedirs(words.folder, exist_ok=True)
     node = Node(words.folder, words.members, words.cluster, words.program, words.base_after)
-    if os.path.exists(words.socket):
-        os.unlink(words.socket)
-    with _Server(words.socket, _Handler) as server:
+    with _Server(words.socket, words.folder) as server:
         server.node = node  # type: ignore[attr-defined]
         node.follower.start()
 
@@ -173,30 +232,6 @@ def main() -> int:
     node.follower.join(10)
     os.unlink(words.socket)
     return 0
-
-
-class Client:
-    """A client of a node, for Python. One thread at a time may use it."""
-
-    def __init__(self, path: str, timeout: float = 2 * PATIENCE) -> None:
-        self._socket = socket.socket(socket.AF_UNIX)
-        self._socket.settimeout(timeout)
-        self._socket.connect(path)
-        self._file = self._socket.makefile("rwb")
-
-    def ask(self, request: Request) -> Dict[str, Any]:
-        """What the node answers. Raises `OSError` if the node goes."""
-        self._file.write(json.dumps(request).encode() + b"\n")
-        self._file.flush()
-        line = self._file.readline()
-        if not line.endswith(b"\n"):
-            raise ConnectionError("the node closed the connection")
-        answer: Dict[str, Any] = json.loads(line)
-        return answer
-
-    def close(self) -> None:
-        self._file.close()
-        self._socket.close()
 
 
 if __name__ == "__main__":

@@ -5,9 +5,9 @@ ghost use Rattle.conf_disk.specs.Moments.{CountsFailures};
 use crate::FolderFault;
 use crate::folder::OpenFolder;
 use crate::lock::lock_file;
-use crate::owner::{OWNER_ALONE, take_after};
 use crate::plain::{look, open_plain, open_to_read};
 use conf_disk::{Content, Disk, DiskFault, Name};
+use conf_files::{OWNER_ALONE, take_after};
 use std::alloc::{AllocError, Global};
 use std::fs::{File, Metadata, OpenOptions};
 use std::io::{ErrorKind, Read, Write};
@@ -68,7 +68,7 @@ pub(crate) fn path_in(alloc: Global, folder: &str, name: &str) -> Result<String,
 }
 
 /// The bytes of a file, or `TooLong` if it has more than `max`.
-fn read_up_to(alloc: Global, file: File, max: u64) -> io::Result<Content> {
+fn file_content(alloc: Global, file: File, max: u64) -> io::Result<Content> {
     if file.metadata()?.len() > max {
         return Ok(Content::TooLong);
     }
@@ -280,7 +280,7 @@ impl<'r, R: Files<File = File>> FolderDisk<'r, R> {
     /// Reads the file under a name, if there is one. A file of more than `max` bytes is `TooLong`.
     fn try_read(&self, alloc: Global, name: Name, max: u64) -> io::Result<Content> {
         match open_to_read(self.rt, self.path(name)?) {
-            Ok(file) => read_up_to(alloc, file, max),
+            Ok(file) => file_content(alloc, file, max),
             Err(error) if error.kind() == ErrorKind::NotFound => Ok(Content::Missing),
             Err(error) => Err(error),
         }

@@ -15,7 +15,6 @@ mod fault;
 mod folder;
 mod lock;
 mod making;
-mod owner;
 mod plain;
 mod reading;
 

@@ -130,7 +130,7 @@ same_option (Some es) = refl
 pub none_read : (all : List code.Tree) → AreKeptElements (elements_of all) → ReadSoFar all [] all
 none_read all kept = record { whole = same_option (edits_of (elements_of all)); kept = kept }
 
-edits-one : (done : List edits.Edit) (e : edits.Edit) → map edit_of (done ++ e ∷ []) ≡ map edit_of done ++ edit_of e ∷ []
+pub edits-one : (done : List edits.Edit) (e : edits.Edit) → map edit_of (done ++ e ∷ []) ≡ map edit_of done ++ edit_of e ∷ []
 edits-one [] e = refl
 edits-one (d ∷ ds) e = ap (λ es. edit_of d ∷ es) (edits-one ds e)
 

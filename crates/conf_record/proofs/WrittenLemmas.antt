@@ -1,15 +1,14 @@
 -- Lines as a store writes them make the record of a command.
-use Rattle.std.proofs.Common.{◌≡◌, ℕ, ◌+◌, ◌≤◌, ◌<◌, Bool, true, false, not, ◌&&◌, nat_le, nat_lt, ◌==◌, if◌then◌else◌, zero, suc, List, [], ◌∷◌, ◌++◌, length, length-append, codes, decimal, Option, Some, None, is_ok, IsUtf8, encode_utf8_all, append_assoc, append-nil, refl, sym, ap, subst, ◌∙◌, arith}
-use Rattle.std.proofs.lemmas.Bool.{and_parts}
+use Rattle.std.proofs.Common.{◌≡◌, ℕ, ◌+◌, ◌≤◌, ◌<◌, Bool, true, false, ◌&&◌, nat_le, nat_lt, if◌then◌else◌, zero, suc, List, [], ◌∷◌, ◌++◌, length, length-append, codes, decimal, Option, Some, None, IsUtf8, encode_utf8_all, append_assoc, append-nil, refl, sym, ap, subst, ◌∙◌, arith}
 use Rattle.std.proofs.lemmas.Bool.Decides.{nat_tests}
 use Rattle.std.proofs.lemmas.Fmt.{decimal_is_IsNumeral}
 use Rattle.std.proofs.lemmas.Str.{chars-IsAscii, encodes-append, encodes-chars, encodes-IsAscii}
 use Rattle.std.specs.List.{list_all}
 use Rattle.std.specs.Str.{chars}
 use Rattle.std.specs.Str.Parse.{digits_value}
-use Rattle.yaml_chars.specs.Signs.{tilde, line_feed, space_char, double_quote}
-use Rattle.yaml_grammar.specs.Style.{plain_in_style, literal_in_style, feeds_at_end, literal_mark, literal_lines, quoted_chars, in_double_quotes, scalar_lines, value_at, members_after}
-use Rattle.yaml_grammar.specs.Texts.{IsText, byte_len, first, same_text}
+use Rattle.yaml_chars.specs.Signs.{line_feed, space_char, double_quote}
+use Rattle.yaml_grammar.specs.Style.{plain_in_style, literal_in_style, feeds_at_end, literal_mark, literal_lines, quoted_chars, in_double_quotes, scalar_lines, value_at, elements_after, members_at, members_after}
+use Rattle.yaml_grammar.specs.Texts.{IsText, byte_len, same_text, spaces}
 use Rattle.yaml_grammar.specs.Trees.{Tree, text, Members, no_member, member}
 use Rattle.yaml_writer.specs.declared.scalar_style.ScalarStyle.{ScalarStyle}
 use Rattle.yaml_writer.specs.declared.scalar_style.ScalarStyle.TheVariants.{Plain, Double, LiteralStrip, LiteralClip, LiteralKeep}
@@ -28,16 +27,17 @@ use Rattle.yaml_data.proofs.SeenLemmas.{tree_of-Text}
 use Rattle.yaml_data.proofs.TextLemmas.{IsUtf8-text_bytes}
 use Rattle.yaml_config.specs.Limits.{config_limits}
 use Rattle.yaml_config.proofs.TextTreeLemmas.{chars-IsText}
-use Rattle.json_pointer.specs.Pointers.{first_stray, path_of}
 use Rattle.conf_state.specs.States.{count_limit}
-use Rattle.conf_state.specs.Commands.{Edit, import_as, set_at, delete_at, Command, single}
+use Rattle.conf_state.specs.Commands.{Edit, import_as, set_at, delete_at, Command, single, batch}
+use Rattle.conf_state.specs.Rooms.{record_limit}
 use Rattle.conf_state.proofs.LineLemmas.{line, number_line}
 use Rattle.conf_record.specs.Documents.{IsRecord}
-use Rattle.conf_record.specs.Records.{edit_members, record_text, record_bytes}
-use Rattle.conf_record.specs.RecordsRead.{number_from_digits, ReadsRecord}
-use Rattle.conf_record.specs.SmallCommands.{is_slash, is_no_tilde}
-use Rattle.conf_record.specs.Written.{IsLineOf, IsConfigLine}
+use Rattle.conf_record.specs.Records.{edit_members, edit_elements, command_members, record_text, record_bytes, FitsRecord}
+use Rattle.conf_record.specs.RecordsRead.{number_from_digits, ReadsRecord, IsEdit, AreEdits}
+use Rattle.conf_record.specs.SmallCommands.{IsSmallEdit, AreSmallEdits}
+use Rattle.conf_record.specs.Written.{IsLineOf, IsConfigLine, text_line, import_lines, set_lines, delete_lines, IsWrittenAs, ElementsWritten, IsWritten}
 use Rattle.conf_record.proofs.DocumentLemmas.{record_is}
+use Rattle.conf_record.proofs.EditLines.{edit_lines}
 
 -- ---- texts in UTF-8
 
@@ -81,38 +81,38 @@ number_spelled bs n utf8 e =
 abbrev style_by : Bool → Bool → ℕ → ScalarStyle
 style_by plain literal feeds = if plain then Plain else if literal then literal_style feeds else Double
 
-abbrev lines_by : Bool → Bool → ℕ → List ℕ → List ℕ
-lines_by plain literal feeds value =
-    if plain then value ++ codes "\n" else if literal then literal_mark feeds ++ codes "\n" ++ literal_lines 2 true value
+abbrev lines_by : ℕ → Bool → Bool → ℕ → List ℕ → List ℕ
+lines_by i plain literal feeds value =
+    if plain then value ++ codes "\n" else if literal then literal_mark feeds ++ codes "\n" ++ literal_lines i true value
     else in_double_quotes value ++ codes "\n"
 
 abbrev indented_by : Bool → Bool → List ℕ → ℕ
 indented_by plain literal value = if plain then 0 else if literal then indented_literal_lines true value else 0
 
-plain_by : (value : List ℕ) (plain literal : Bool) (feeds : ℕ) → Plain ≡ style_by plain literal feeds
-    → (lines_by plain literal feeds value ≡ value ++ codes "\n") × (indented_by plain literal value ≡ 0)
-plain_by value true literal feeds e = (refl, refl)
-plain_by value false true zero e = absurd (let other : Plain ≡ LiteralStrip = e in cc)
-plain_by value false true (suc zero) e = absurd (let other : Plain ≡ LiteralClip = e in cc)
-plain_by value false true (suc (suc n)) e = absurd (let other : Plain ≡ LiteralKeep = e in cc)
-plain_by value false false feeds e = absurd (let other : Plain ≡ Double = e in cc)
+plain_by : (i : ℕ) (value : List ℕ) (plain literal : Bool) (feeds : ℕ) → Plain ≡ style_by plain literal feeds
+    → (lines_by i plain literal feeds value ≡ value ++ codes "\n") × (indented_by plain literal value ≡ 0)
+plain_by i value true literal feeds e = (refl, refl)
+plain_by i value false true zero e = absurd (let other : Plain ≡ LiteralStrip = e in cc)
+plain_by i value false true (suc zero) e = absurd (let other : Plain ≡ LiteralClip = e in cc)
+plain_by i value false true (suc (suc n)) e = absurd (let other : Plain ≡ LiteralKeep = e in cc)
+plain_by i value false false feeds e = absurd (let other : Plain ≡ Double = e in cc)
 
-double_by : (value : List ℕ) (plain literal : Bool) (feeds : ℕ) → Double ≡ style_by plain literal feeds
-    → (lines_by plain literal feeds value ≡ in_double_quotes value ++ codes "\n") × (indented_by plain literal value ≡ 0)
-double_by value true literal feeds e = absurd (let other : Double ≡ Plain = e in cc)
-double_by value false true zero e = absurd (let other : Double ≡ LiteralStrip = e in cc)
-double_by value false true (suc zero) e = absurd (let other : Double ≡ LiteralClip = e in cc)
-double_by value false true (suc (suc n)) e = absurd (let other : Double ≡ LiteralKeep = e in cc)
-double_by value false false feeds e = (refl, refl)
+double_by : (i : ℕ) (value : List ℕ) (plain literal : Bool) (feeds : ℕ) → Double ≡ style_by plain literal feeds
+    → (lines_by i plain literal feeds value ≡ in_double_quotes value ++ codes "\n") × (indented_by plain literal value ≡ 0)
+double_by i value true literal feeds e = absurd (let other : Double ≡ Plain = e in cc)
+double_by i value false true zero e = absurd (let other : Double ≡ LiteralStrip = e in cc)
+double_by i value false true (suc zero) e = absurd (let other : Double ≡ LiteralClip = e in cc)
+double_by i value false true (suc (suc n)) e = absurd (let other : Double ≡ LiteralKeep = e in cc)
+double_by i value false false feeds e = (refl, refl)
 
 -- a plain text is its own line
 pub plain_line : (line : List ℕ) → IsUtf8 line → Plain ≡ value_style (chars line) → IsLineOf line (chars line)
 plain_line line utf8 is =
     let cs = chars line in
-    let by = plain_by cs (plain_in_style cs) (literal_in_style cs) (feeds_at_end cs) is in
+    let by : (i : ℕ) → _ = λ i. plain_by i cs (plain_in_style cs) (literal_in_style cs) (feeds_at_end cs) is in
     record {
-      written = ap encode_utf8_all by.0 ∙ after cs (codes "\n") refl ∙ ap (λ bs. bs ++ codes "\n") (encodes-chars line utf8);
-      flat = by.1;
+      written = λ i. ap encode_utf8_all (by i).0 ∙ after cs (codes "\n") refl ∙ ap (λ bs. bs ++ codes "\n") (encodes-chars line utf8);
+      flat = (by 0).1;
     }
 
 -- so is a text in double quotes of which no character needs an escape
@@ -120,30 +120,30 @@ pub quoted_line : (quoted bytes : List ℕ) → quoted ≡ bytes ++ double_quote
     → IsLineOf (double_quote ∷ quoted) (chars bytes)
 quoted_line quoted bytes is alone double =
     let cs = chars bytes in
-    let by = double_by cs (plain_in_style cs) (literal_in_style cs) (feeds_at_end cs) double in
+    let by : (i : ℕ) → _ = λ i. double_by i cs (plain_in_style cs) (literal_in_style cs) (feeds_at_end cs) double in
     let ascii = every-IsAscii stands_alone stands_alone-below bytes alone in
     let itself : quoted_chars cs ≡ bytes = ap quoted_chars (chars-IsAscii bytes ascii) ∙ quoted_chars-alone bytes alone in
     let mark = codes "\"" in
     record {
-      written =
-          ap encode_utf8_all by.0
+      written = λ i.
+          ap encode_utf8_all (by i).0
           ∙ ap (λ xs. encode_utf8_all (mark ++ xs ++ mark ++ codes "\n")) itself
           ∙ after (mark ++ bytes ++ mark) (codes "\n") refl
           ∙ ap (λ bs. bs ++ codes "\n") (after (mark ++ bytes) mark refl ∙ ap (λ bs. bs ++ mark) (before mark bytes refl ∙ ap (λ bs. mark ++ bs) (encodes-IsAscii bytes ascii)))
           ∙ ap (λ bs. (double_quote ∷ bs) ++ codes "\n") (sym is);
-      flat = by.1;
+      flat = (by 0).1;
     }
 
 -- ---- a text on one line as a configuration
 
 module _ (line value : List ℕ) (is : IsLineOf line value) where
   line_bytes : byte_len (scalar_lines 2 value) ≡ length line + 1
-  line_bytes = omega (arith, byte_len-encoded (scalar_lines 2 value), ap length is.written, length-append line (line_feed ∷ []))
+  line_bytes = omega (arith, byte_len-encoded (scalar_lines 2 value), ap length (is.written 2), length-append line (line_feed ∷ []))
 
   -- it is within the limits if the line is short
   pub line_config : (t : Tree) → t ≡ text value → IsText value → length line < config_limits.style → IsConfigLine line t
   line_config t seen texts short = subst (IsConfigLine line) (sym seen) (record {
-    written = before (codes " ") (scalar_lines 2 value) refl ∙ ap (λ bs. space_char ∷ bs) is.written;
+    written = λ i. before (codes " ") (scalar_lines (i + 2) value) refl ∙ ap (λ bs. space_char ∷ bs) (is.written (i + 2));
     kept = record { texts = texts; keys = refl; deep = omega arith; long = omega (arith, line_bytes) };
     small = record { deep = omega arith; bytes = omega (arith, line_bytes) };
   })
@@ -160,87 +160,157 @@ text_config line bytes copy same is short =
     let texts = subst (λ bs. IsText (chars bs)) same (chars-IsText (text_bytes copy) (IsUtf8-text_bytes copy)) in
     (line_config line (chars bytes) is (tree_of (code.Text copy)) seen texts short, line_size line (chars bytes) is (tree_of (code.Text copy)) seen)
 
+-- ---- the lines of an edit
+
+spaces_ascii : (n : ℕ) → list_all (λ c. nat_lt c 128) (spaces n) ≡ true
+spaces_ascii zero = refl
+spaces_ascii (suc n) = spaces_ascii n
+
+-- a key after n spaces, its value with the space before it, and what follows
+member_lines : (n : ℕ) (key value more line : List ℕ) → list_all (λ c. nat_lt c 128) key ≡ true → encode_utf8_all value ≡ 32 ∷ line
+    → encode_utf8_all (((spaces n ++ key) ++ value) ++ more) ≡ (spaces n ++ (key ++ codes " ")) ++ (line ++ encode_utf8_all more)
+member_lines n key value more line ascii is =
+    let s = spaces n in
+    let rest = line ++ encode_utf8_all more in
+    ap encode_utf8_all (append_assoc (s ++ key) value more ∙ append_assoc s key (value ++ more))
+    ∙ before s (key ++ (value ++ more)) (spaces_ascii n)
+    ∙ ap (λ bs. s ++ bs) (before key (value ++ more) ascii ∙ ap (λ bs. key ++ bs) (encodes-append value more ∙ ap (λ bs. bs ++ encode_utf8_all more) is))
+    ∙ ap (λ bs. s ++ bs) (sym (append_assoc key (codes " ") rest))
+    ∙ sym (append_assoc s (key ++ codes " ") rest)
+
+-- the same of a text
+text_member : (n i : ℕ) (key name more : List ℕ) → list_all (λ c. nat_lt c 128) key ≡ true
+    → encode_utf8_all (((spaces n ++ key) ++ value_at (text (chars name)) i) ++ more) ≡ (spaces n ++ (key ++ codes " ")) ++ (text_line i name ++ encode_utf8_all more)
+text_member n i key name more ascii =
+    member_lines n key (value_at (text (chars name)) i) more (text_line i name) ascii (before (codes " ") (scalar_lines (i + 2) (chars name)) refl)
+
+-- the same of a value on one line, which comes last
+value_member : (i : ℕ) (key line value : List ℕ) → list_all (λ c. nat_lt c 128) key ≡ true → encode_utf8_all value ≡ 32 ∷ (line ++ line_feed ∷ [])
+    → encode_utf8_all (((spaces i ++ key) ++ value) ++ []) ≡ (spaces i ++ (key ++ codes " ")) ++ (line ++ line_feed ∷ [])
+value_member i key line value ascii is =
+    member_lines i key value [] (line ++ line_feed ∷ []) ascii is ∙ ap (λ bs. (spaces i ++ (key ++ codes " ")) ++ bs) (append-nil (line ++ line_feed ∷ []))
+
+pub import_written : (name line : List ℕ) (tree : Tree) → ((i : ℕ) → encode_utf8_all (value_at tree i) ≡ space_char ∷ (line ++ line_feed ∷ []))
+    → (i : ℕ) → encode_utf8_all (members_at (edit_members (import_as (chars name) tree)) i) ≡ import_lines name line i
+import_written name line tree is i =
+    text_member 0 i (codes "import:") name (members_after (member (codes "tree") tree no_member) i) refl
+    ∙ ap (λ bs. codes "import: " ++ (text_line i name ++ bs)) (value_member i (codes "tree:") line (value_at tree i) refl (is i))
+
+pub set_written : (name path line : List ℕ) (value : Tree) → ((i : ℕ) → encode_utf8_all (value_at value i) ≡ space_char ∷ (line ++ line_feed ∷ []))
+    → (i : ℕ) → encode_utf8_all (members_at (edit_members (set_at (chars name) (chars path) value)) i) ≡ set_lines name path line i
+set_written name path line value is i =
+    let valued : Members = member (codes "value") value no_member in
+    text_member 0 i (codes "set:") name (members_after (member (codes "path") (text (chars path)) valued) i) refl
+    ∙ ap (λ bs. codes "set: " ++ (text_line i name ++ bs))
+    (text_member i i (codes "path:") path (members_after valued i) refl
+    ∙ ap (λ bs. (spaces i ++ codes "path: ") ++ (text_line i path ++ bs)) (value_member i (codes "value:") line (value_at value i) refl (is i)))
+
+pub delete_written : (name path : List ℕ) (i : ℕ) → encode_utf8_all (members_at (edit_members (delete_at (chars name) (chars path))) i) ≡ delete_lines name path i
+delete_written name path i =
+    text_member 0 i (codes "delete:") name (members_after (member (codes "path") (text (chars path)) no_member) i) refl
+    ∙ ap (λ bs. codes "delete: " ++ (text_line i name ++ bs))
+    (text_member i i (codes "path:") path [] refl ∙ ap (λ bs. (spaces i ++ codes "path: ") ++ bs) (append-nil (text_line i path)))
+
 -- ---- the lines of a command
 
--- a text after its key, and what follows
-field : (key spelled more all lines rest : List ℕ) → list_all (λ c. nat_lt c 128) key ≡ true → lines ≡ key ++ (encode_utf8_all spelled ++ rest)
-    → rest ≡ encode_utf8_all (more ++ all) → lines ≡ encode_utf8_all (key ++ (spelled ++ more ++ all))
-field key spelled more all lines rest ascii is follows =
-    is ∙ ap (λ bs. key ++ (encode_utf8_all spelled ++ bs)) follows
-    ∙ ap (λ bs. key ++ bs) (sym (encodes-append spelled (more ++ all)) ∙ ap encode_utf8_all (sym (append_assoc spelled more all)))
-    ∙ sym (before key (spelled ++ more ++ all) ascii)
+at_margin : (edit : Edit) → members_at (edit_members edit) 0 ≡ members_after (edit_members edit) 0
+at_margin (import_as name tree) = refl
+at_margin (set_at name path value) = refl
+at_margin (delete_at name path) = refl
 
--- a value on one line after its key, and the end
-last_value : (key spelled line lines end : List ℕ) → list_all (λ c. nat_lt c 128) key ≡ true → lines ≡ key ++ (32 ∷ (line ++ line_feed ∷ end))
-    → end ≡ codes "...\n" → encode_utf8_all spelled ≡ 32 ∷ (line ++ line_feed ∷ []) → lines ≡ encode_utf8_all (key ++ (spelled ++ [] ++ codes "...\n"))
-last_value key spelled line lines end ascii is ends written =
-    is ∙ ap (λ bs. key ++ (32 ∷ (line ++ line_feed ∷ bs))) ends
-    ∙ ap (λ bs. key ++ (32 ∷ bs)) (sym (append_assoc line (line_feed ∷ []) (codes "...\n")))
-    ∙ ap (λ bs. key ++ (bs ++ codes "...\n")) (sym written)
-    ∙ ap (λ bs. key ++ bs) (sym (after spelled (codes "...\n") refl) ∙ ap (λ xs. encode_utf8_all (xs ++ codes "...\n")) (sym (append-nil spelled)))
-    ∙ sym (before key (spelled ++ [] ++ codes "...\n") ascii)
+-- the lines of an edit alone, and the end
+pub alone_written : (lines end : List ℕ) (own : ℕ → List ℕ) (edit : Edit) → lines ≡ own 0 ++ end → end ≡ codes "...\n" → IsWrittenAs own edit → IsWritten lines (single edit)
+alone_written lines end own edit is ends so = record {
+  written =
+      is ∙ ap (λ bs. own 0 ++ bs) ends ∙ ap (λ bs. bs ++ codes "...\n") (sym (so.written 0))
+      ∙ sym (after (members_at (edit_members edit) 0) (codes "...\n") refl) ∙ ap (λ xs. encode_utf8_all (xs ++ codes "...\n")) (at_margin edit);
+  is = so.is;
+  small = so.small;
+}
 
-pub import_lines : (name : List ℕ) (tree : Tree) (lines after_name line end : List ℕ)
-    → lines ≡ codes "import: " ++ (encode_utf8_all (scalar_lines 2 name) ++ after_name)
-    → after_name ≡ codes "tree: " ++ (line ++ line_feed ∷ end) → end ≡ codes "...\n" → encode_utf8_all (value_at tree 0) ≡ 32 ∷ (line ++ line_feed ∷ [])
-    → lines ≡ encode_utf8_all (members_after (edit_members (import_as name tree)) 0 ++ codes "...\n")
-import_lines name tree lines after_name line end first second ends written =
-    field (codes "import: ") (scalar_lines 2 name) (members_after (member (codes "tree") tree no_member) 0) (codes "...\n") lines after_name refl first
-    (last_value (codes "tree:") (value_at tree 0) line after_name end refl second ends written)
+-- elements, and one more after them
+elements-one : (es : List Edit) (e : Edit)
+    → elements_after (edit_elements (es ++ e ∷ [])) 2 ≡ elements_after (edit_elements es) 2 ++ (codes "  - " ++ members_at (edit_members e) 4)
+elements-one [] e = append-nil (codes "  - " ++ members_at (edit_members e) 4)
+elements-one (d ∷ ds) e =
+    let first = codes "  - " ++ members_at (edit_members d) 4 in
+    ap (λ xs. first ++ xs) (elements-one ds e)
+    ∙ sym (append_assoc first (elements_after (edit_elements ds) 2) (codes "  - " ++ members_at (edit_members e) 4))
 
-pub set_lines : (name path : List ℕ) (value : Tree) (lines after_name after_path line end : List ℕ)
-    → lines ≡ codes "set: " ++ (encode_utf8_all (scalar_lines 2 name) ++ after_name)
-    → after_name ≡ codes "path: " ++ (encode_utf8_all (scalar_lines 2 path) ++ after_path)
-    → after_path ≡ codes "value: " ++ (line ++ line_feed ∷ end) → end ≡ codes "...\n" → encode_utf8_all (value_at value 0) ≡ 32 ∷ (line ++ line_feed ∷ [])
-    → lines ≡ encode_utf8_all (members_after (edit_members (set_at name path value)) 0 ++ codes "...\n")
-set_lines name path value lines after_name after_path line end first second third ends written =
-    let valued : Members = member (codes "value") value no_member in
-    field (codes "set: ") (scalar_lines 2 name) (members_after (member (codes "path") (text path) valued) 0) (codes "...\n") lines after_name refl first
-    (field (codes "path: ") (scalar_lines 2 path) (members_after valued 0) (codes "...\n") after_name after_path refl second
-    (last_value (codes "value:") (value_at value 0) line after_path end refl third ends written))
+are-one : (es : List Edit) (e : Edit) → AreEdits es → IsEdit e → AreEdits (es ++ e ∷ [])
+are-one [] e are is = (is, tt)
+are-one (d ∷ ds) e are is = (are.0, are-one ds e are.1 is)
 
-pub delete_lines : (name path lines after_name end : List ℕ)
-    → lines ≡ codes "delete: " ++ (encode_utf8_all (scalar_lines 2 name) ++ after_name)
-    → after_name ≡ codes "path: " ++ (encode_utf8_all (scalar_lines 2 path) ++ end) → end ≡ codes "...\n"
-    → lines ≡ encode_utf8_all (members_after (edit_members (delete_at name path)) 0 ++ codes "...\n")
-delete_lines name path lines after_name end first second ends =
-    field (codes "delete: ") (scalar_lines 2 name) (members_after (member (codes "path") (text path) no_member) 0) (codes "...\n") lines after_name refl first
-    (field (codes "path: ") (scalar_lines 2 path) [] (codes "...\n") after_name end refl second (ends ∙ sym (ascii_bytes (codes "...\n") refl)))
+small-one : (es : List Edit) (e : Edit) → AreSmallEdits es → IsSmallEdit e → AreSmallEdits (es ++ e ∷ [])
+small-one [] e are is = (is, tt)
+small-one (d ∷ ds) e are is = (are.0, small-one ds e are.1 is)
+
+-- no element yet
+pub none_written : (lines : List ℕ) → ElementsWritten lines [] lines
+none_written lines = record { written = refl; are = tt; small = tt }
+
+-- one more element
+pub one_written : (lines left after : List ℕ) (own : ℕ → List ℕ) (es : List Edit) (e : Edit) → ElementsWritten lines es left
+    → left ≡ codes "  - " ++ (own 4 ++ after) → IsWrittenAs own e → ElementsWritten lines (es ++ e ∷ []) after
+one_written lines left after own es e so is new =
+    let before_it = elements_after (edit_elements es) 2 in
+    let members = members_at (edit_members e) 4 in
+    record {
+      written =
+          so.written
+          ∙ ap (λ bs. encode_utf8_all before_it ++ bs)
+          (is ∙ ap (λ bs. codes "  - " ++ (bs ++ after)) (sym (new.written 4)) ∙ ap (λ bs. bs ++ after) (sym (before (codes "  - ") members refl)))
+          ∙ sym (append_assoc (encode_utf8_all before_it) (encode_utf8_all (codes "  - " ++ members)) after)
+          ∙ ap (λ bs. bs ++ after) (sym (encodes-append before_it (codes "  - " ++ members)))
+          ∙ ap (λ xs. encode_utf8_all xs ++ after) (sym (elements-one es e));
+      are = are-one es e so.are new.is;
+      small = small-one es e so.small new.small;
+    }
+
+-- all elements of a batch, and the end
+pub batch_written : (elements : List ℕ) (es : List Edit) → (es ≡ [] → ⊥) → ElementsWritten elements es (codes "...\n") → IsWritten (codes "batch:\n" ++ elements) (batch es)
+batch_written elements es some so =
+    let lines = elements_after (edit_elements es) 2 in
+    record {
+      written =
+          ap (λ bs. codes "batch:\n" ++ bs) so.written
+          ∙ ap (λ bs. bs ++ codes "...\n") (sym (before (codes "batch:\n") lines refl))
+          ∙ sym (after (codes "batch:\n" ++ lines) (codes "...\n") refl)
+          ∙ ap (λ xs. encode_utf8_all (xs ++ codes "...\n")) (edit_lines es some);
+      is = so.are;
+      small = so.small;
+    }
 
 -- ---- the whole
 
 -- the line of a number and the lines of a command make its record
-pub whole_record : (bytes lines : List ℕ) (edit : Edit) (number : ℕ) → number ≤ count_limit
+pub whole_record : (bytes lines : List ℕ) (command : Command) (number : ℕ) → number ≤ count_limit
     → bytes ≡ codes "---\nat: \"" ++ (encode_utf8_all (decimal number) ++ (codes "\"\n" ++ lines))
-    → lines ≡ encode_utf8_all (members_after (edit_members edit) 0 ++ codes "...\n") → bytes ≡ record_bytes (single edit) number
+    → lines ≡ encode_utf8_all (members_after (command_members command) 0 ++ codes "...\n") → bytes ≡ record_bytes command number
 unfolding record_bytes record_text
-whole_record bytes lines edit number small is follows =
+whole_record bytes lines command number small is follows =
     let ds = decimal number in
-    let ms = members_after (edit_members edit) 0 in
+    let ms = members_after (command_members command) 0 in
+    let ends = ms ++ codes "...\n" in
     let all = (decimal_is_IsNumeral number (omega arith)).0.1 in
-    field (codes "---\nat: \"") ds (codes "\"\n" ++ ms) (codes "...\n") bytes (codes "\"\n" ++ lines) refl is
-    (ap (λ bs. codes "\"\n" ++ bs) follows ∙ sym (before (codes "\"\n") (ms ++ codes "...\n") refl))
+    is
+    ∙ ap (λ bs. codes "---\nat: \"" ++ (encode_utf8_all ds ++ bs)) (ap (λ bs. codes "\"\n" ++ bs) follows ∙ sym (before (codes "\"\n") ends refl))
+    ∙ ap (λ bs. codes "---\nat: \"" ++ bs) (sym (encodes-append ds (codes "\"\n" ++ ends)))
+    ∙ sym (before (codes "---\nat: \"") (ds ++ (codes "\"\n" ++ ends)) refl)
+    ∙ ap (λ xs. encode_utf8_all (codes "---\nat: \"" ++ xs)) (sym (append_assoc ds (codes "\"\n" ++ ms) (codes "...\n")))
     ∙ ap (λ xs. encode_utf8_all (codes "---\nat: \"" ++ (xs ++ codes "...\n"))) (sym (append_assoc ds (codes "\"\n") ms))
     ∙ ap (λ xs. encode_utf8_all (codes "---\n" ++ (xs ++ ms) ++ codes "...\n")) (number_line ds all)
+
+-- a record of so many bytes fits
+pub short_fits : (bytes : List ℕ) (command : Command) (number : ℕ) → bytes ≡ record_bytes command number → length bytes ≤ record_limit → FitsRecord command number
+unfolding record_bytes
+short_fits bytes (single edit) number is short = tt
+short_fits bytes (batch edits) number is short =
+    let counted = byte_len-encoded (record_text (batch edits) number) in
+    let same = ap length is in
+    omega (arith, counted, same)
 
 -- bytes that are a record's text are that record
 pub written_is : (bytes : List ℕ) (command : Command) (number : ℕ) → ReadsRecord (record_text command number) command number → bytes ≡ record_bytes command number
     → IsRecord bytes command number
 written_is bytes command number reads same = subst (λ bs. IsRecord bs command number) (sym same) (record_is command command number number reads)
-
--- ---- paths without escapes
-
-not-true : (b : Bool) → not b ≡ true → b ≡ false
-not-true true e = cc
-not-true false e = refl
-
-none_stray : (cs : List ℕ) → list_all is_no_tilde cs ≡ true → first_stray cs ≡ None
-none_stray [] all = refl
-none_stray (c ∷ cs) all =
-    let parts = and_parts (is_no_tilde c) (list_all is_no_tilde cs) all in
-    rw (not-true (c == tilde) parts.0, none_stray cs parts.1) refl
-
--- a text that begins with a `/` and has no `~` is a path
-pub unescaped_path : (cs : List ℕ) → first is_slash cs ≡ true → list_all is_no_tilde cs ≡ true → is_ok (path_of cs) ≡ true
-unescaped_path [] led all = cc
-unescaped_path (c ∷ cs) led all = rw (led, none_stray (c ∷ cs) all) refl

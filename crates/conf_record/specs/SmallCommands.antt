@@ -1,12 +1,11 @@
 -- Which commands have a record that is read back, whatever the state: what a store asks of a command beside what its
 -- configurations are.
-use Rattle.std.specs.Prelude.{◌≡◌, ◌*◌, ◌≤◌, ◌==◌, Bool, true, not, List, [], ◌∷◌, ℕ, is_ok}
-use Rattle.yaml_chars.specs.Signs.{tilde}
+use Rattle.std.specs.Prelude.{◌≡◌, ◌*◌, ◌≤◌, true, List, [], ◌∷◌, ℕ, is_ok}
 use Rattle.yaml_grammar.specs.Texts.{byte_len}
 use Rattle.yaml_grammar.specs.Trees.{Tree, depth}
 use Rattle.yaml_grammar.specs.Style.{style_text}
 use Rattle.yaml_config.specs.Limits.{config_limits}
-use Rattle.json_pointer.specs.Pointers.{slash, path_of}
+use Rattle.json_pointer.specs.Pointers.{path_of}
 use Rattle.conf_state.specs.Names.{good_name}
 use Rattle.conf_state.specs.Commands.{Edit, import_as, set_at, delete_at, Command, single, batch}
 
@@ -33,11 +32,3 @@ AreSmallEdits (edit ∷ edits) = IsSmallEdit edit × AreSmallEdits edits
 abbrev pub IsSmallCommand : Command → Type 0
 IsSmallCommand (single edit) = IsSmallEdit edit
 IsSmallCommand (batch edits) = AreSmallEdits edits
-
--- ---- paths without escapes
-
-abbrev pub is_slash : ℕ → Bool
-is_slash c = c == slash
-
-abbrev pub is_no_tilde : ℕ → Bool
-is_no_tilde c = not (c == tilde)

@@ -11,9 +11,10 @@ ghost use Rattle.conf_state.specs.Names.{good_name};
 ghost use Rattle.conf_record.specs.RecordsRead.{values, if_good, import_of, set_of, delete_of, edit_from, edit_in, edits_of, batch_of, command_from, record_of};
 ghost use Rattle.conf_record.specs.Reading.{AreKept, AreKeptElements, command_and_number};
 
-use crate::fields::{is_path, is_same, keys_are, next_text, next_value, number_from};
+use crate::fields::{is_same, keys_are, next_text, next_value, number_from};
 use crate::parts::part;
 use conf_state::{Command, Edit, good_name};
+use json_pointer::is_pointer;
 use std::alloc::{AllocError, Global};
 use yaml_tree::{Text, Tree};
 
@@ -203,8 +204,7 @@ fn set_from(alloc: Global, pairs: Vec<(Text, Tree)>) -> Result<Option<Edit>, All
     let Some((name, path, value)) = set_values(pairs) else {
         return Ok(None);
     };
-    let good = are_good(alloc, &name, &path)?;
-    if !good {
+    if !are_good(&name, &path) {
         return Ok(None);
     }
     let name = name.into_string(alloc)?;
@@ -243,8 +243,7 @@ fn delete_from(alloc: Global, pairs: Vec<(Text, Tree)>) -> Result<Option<Edit>, 
     let Some((name, path)) = delete_values(pairs) else {
         return Ok(None);
     };
-    let good = are_good(alloc, &name, &path)?;
-    if !good {
+    if !are_good(&name, &path) {
         return Ok(None);
     }
     let name = name.into_string(alloc)?;
@@ -271,13 +270,9 @@ fn delete_values(pairs: Vec<(Text, Tree)>) -> Option<(Text, Text)>
     Some((name, path))
 }
 
-/// Whether a name and a path (RFC 6901) are good. It fails only if memory runs out.
-fn are_good(alloc: Global, name: &str, path: &str) -> Result<bool, AllocError>
-    ensures { IfOk result (λ good. good
-        ≡ (good_name (chars name.now) && is_ok (path_of (chars path.now)))) }
+/// Whether a name and a path (RFC 6901) are good.
+fn are_good(name: &str, path: &str) -> bool
+    ensures { result ≡ (good_name (chars name.now) && is_ok (path_of (chars path.now))) }
 {
-    if !good_name(name) {
-        return Ok(false);
-    }
-    is_path(alloc, path)
+    good_name(name) && is_pointer(path)
 }

@@ -1,19 +1,16 @@
 // The fields of a document's mapping: its keys, its values in order, and what each value is.
-ghost use Rattle.std.specs.Prelude.{◌≡◌, List, [], ◌∷◌, IfOk, MatchOption, is_ok, map, None};
+ghost use Rattle.std.specs.Prelude.{◌≡◌, List, [], ◌∷◌, MatchOption, map, None};
 ghost use Rattle.std.specs.Str.{chars};
 ghost use Rattle.std.specs.Vec.Iter.{into_iter_items};
 ghost use Rattle.yaml_grammar.specs.Texts.{same_text};
 ghost use Rattle.yaml_grammar.specs.Trees.{text, mapping};
 ghost use Rattle.yaml_data.specs.Seen.{tree_of, members_of};
 ghost use Rattle.yaml_data.specs.TextBytes.{text_bytes};
-ghost use Rattle.json_pointer.specs.Pointers.{path_of};
 ghost use Rattle.conf_record.specs.RecordsRead.{number_from_digits, keys_are, values};
 ghost use Rattle.conf_record.specs.Reading.{texts, text_first, mapping_first};
 
 use itoa::Buffer;
-use std::alloc::{AllocError, Global};
 use std::vec::IntoIter;
-use tree_path::{Path, PathFault};
 use yaml_tree::{Text, Tree};
 
 /// Whether the keys of a mapping's pairs are these, in this order, and no others.
@@ -76,17 +73,6 @@ pub(crate) fn next_pairs(pairs: &mut IntoIter<(Text, Tree)>) -> Option<Vec<(Text
         Tree::Map(pairs) => Some(pairs),
         Tree::Text(_) => None,
         Tree::Seq(_) => None,
-    }
-}
-
-/// Whether a text is a pointer (RFC 6901, 3). It fails only if memory runs out.
-pub(crate) fn is_path(alloc: Global, path: &str) -> Result<bool, AllocError>
-    ensures { IfOk result (λ answer. answer ≡ is_ok (path_of (chars path.now))) }
-{
-    match Path::parse(alloc, path) {
-        Ok(_) => Ok(true),
-        Err(PathFault::OutOfMemory) => Err(AllocError),
-        Err(_) => Ok(false),
     }
 }
 

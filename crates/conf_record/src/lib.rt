@@ -7,18 +7,21 @@
 //! The states and commands are those of `conf_state`, which can be named from here too.
 //!
 //! [`keys_are`], [`next_text`], [`next_value`] and [`part`] take such a document's mapping apart, for readers of other
-//! documents.
+//! documents. The functions of [`lines`] read its lines in the one style without the general reader.
 #![tactic(auto)]
 
 mod base_reader;
 mod base_writer;
 mod command_reader;
 mod documents;
+mod edit_lines;
 mod fields;
 mod laws;
+pub mod lines;
 mod parts;
 mod read;
 mod record;
+mod record_sink;
 mod written;
 
 pub use base_writer::base_text;

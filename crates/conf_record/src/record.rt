@@ -11,13 +11,11 @@ ghost use Rattle.conf_state.specs.Commands.{command_of, edit_of, batch, import_a
 ghost use Rattle.conf_record.specs.Records.{edit_members, command_members, record_text, record_bytes};
 ghost use Rattle.conf_record.specs.RecordsRead.{IsEdit, AreEdits, IsCommand};
 
+use crate::record_sink::{EDIT_INDENT, RecordSink};
 use conf_state::{Command, Edit};
 use itoa::Buffer;
 use std::alloc::{AllocError, Global};
-use yaml_tree::{ByteCount, Config, Sink, write_text, write_value};
-
-/// The indentation of the members of an edit in a batch.
-const EDIT_INDENT: u64 = 4;
+use yaml_tree::{ByteCount, Config, Sink, write_text};
 
 /// The text of a command's record: an explicit document (YAML 1.2.2, 9.1.4). It is a line of `---`, a mapping in the
 /// one style and a line of `...`. The mapping holds the number as decimal digits (`at`), and then the members of the
@@ -56,8 +54,8 @@ pub fn record_of_length(
     Ok(text)
 }
 
-/// How many bytes the record of a command has under a number; at most the greatest `u64`. Nothing is written, and it
-/// takes no memory.
+/// How many bytes the record of a command has under a number; at most the greatest `u64`. Nothing is written, the size
+/// of a configuration is the one that it keeps, and it takes no memory.
 pub fn record_length(command: &Command, number: u64) -> u64
     ensures { result ≡ min (byte_len (record_text (command_of command.now) number)) u64.MAX }
 {
@@ -69,7 +67,7 @@ pub fn record_length(command: &Command, number: u64) -> u64
 }
 
 /// Writes a record. It fails only if the sink does.
-fn write_record<S: Sink>(command: &Command, number: u64, sink: &mut S) -> Result<(), S::Fault>
+fn write_record<S: RecordSink>(command: &Command, number: u64, sink: &mut S) -> Result<(), S::Fault>
     ensures takes { OnOk result (S.Takes sink.old (record_text
         (command_of command.now) number) sink.new) }
     ensures kept { OnOk result (IsCommand (command_of command.now)) }
@@ -92,7 +90,7 @@ pub(crate) fn write_number<S: Sink>(number: u64, sink: &mut S) -> Result<(), S::
 }
 
 /// Writes what follows the number.
-fn write_command<S: Sink>(command: &Command, sink: &mut S) -> Result<(), S::Fault>
+fn write_command<S: RecordSink>(command: &Command, sink: &mut S) -> Result<(), S::Fault>
     ensures takes { OnOk result (S.Takes sink.old
         (members_after (command_members (command_of command.now)) 0) sink.new) }
     ensures kept { OnOk result (IsCommand (command_of command.now)) }
@@ -106,7 +104,7 @@ fn write_command<S: Sink>(command: &Command, sink: &mut S) -> Result<(), S::Faul
 }
 
 /// Writes a batch: a mapping for each edit, in a sequence.
-fn write_batch<S: Sink>(edits: &[Edit], sink: &mut S) -> Result<(), S::Fault>
+fn write_batch<S: RecordSink>(edits: &[Edit], sink: &mut S) -> Result<(), S::Fault>
     ensures takes { OnOk result (S.Takes sink.old
         (members_after (command_members (batch (map edit_of edits.now))) 0) sink.new) }
     ensures kept { OnOk result (AreEdits (map edit_of edits.now)) }
@@ -123,7 +121,7 @@ fn write_batch<S: Sink>(edits: &[Edit], sink: &mut S) -> Result<(), S::Fault>
 }
 
 /// Writes the members of an edit at an indentation, the first without its spaces.
-fn write_edit<S: Sink>(edit: &Edit, indent: u64, sink: &mut S) -> Result<(), S::Fault>
+fn write_edit<S: RecordSink>(edit: &Edit, indent: u64, sink: &mut S) -> Result<(), S::Fault>
     requires { indent ≤ EDIT_INDENT }
     ensures takes { OnOk result (S.Takes sink.old
         (members_at (edit_members (edit_of edit.now)) indent) sink.new) }
@@ -137,7 +135,7 @@ fn write_edit<S: Sink>(edit: &Edit, indent: u64, sink: &mut S) -> Result<(), S::
 }
 
 /// Writes the members of an import.
-fn write_import<S: Sink>(
+fn write_import<S: RecordSink>(
     name: &str,
     tree: &Config,
     indent: u64,
@@ -153,7 +151,7 @@ fn write_import<S: Sink>(
 }
 
 /// Writes the members of a set.
-fn write_set<S: Sink>(
+fn write_set<S: RecordSink>(
     name: &str,
     path: &str,
     value: &Config,
@@ -199,7 +197,7 @@ fn write_text_member<S: Sink>(
 }
 
 /// Writes the spaces before a line, a key with its `:`, as it is, and a configuration as its value.
-fn write_value_member<S: Sink>(
+fn write_value_member<S: RecordSink>(
     key: &str,
     value: &Config,
     indent: u64,
@@ -212,5 +210,5 @@ fn write_value_member<S: Sink>(
 {
     sink.put_spaces(indent)?;
     sink.put_text(key)?;
-    write_value(value.tree(), indent, sink)
+    sink.put_value(value, indent)
 }

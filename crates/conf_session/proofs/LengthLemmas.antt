@@ -25,7 +25,7 @@ use Rattle.conf_state.specs.Commands.{Command}
 use Rattle.conf_state.specs.Names.{small_letter, name_char, good_name}
 use Rattle.conf_state.specs.States.{Entry, Contents, names_of, config_named, base_limit, count_limit}
 use Rattle.conf_state.specs.Limits.{AreConfigs, IsState}
-use Rattle.conf_state.specs.Steps.{step, next_state, performed, with_room, and_then, found, by_path}
+use Rattle.conf_state.specs.Steps.{step, next_state, performed, with_room, found, by_path}
 use Rattle.conf_state.specs.declared.room.Room.{Room}
 use Rattle.conf_state.specs.declared.room.Room.TheVariants.{Enough, LongRecord, Missing}
 use Rattle.conf_state.specs.BaseTexts.{base_length, entry_length, entries_length}

@@ -7,8 +7,9 @@ pub mod RoundLemmas
 pub mod AnswerLemmas
 pub mod ReplyLemmas
 pub mod SaidLemmas
+pub mod LinesPresented
+pub mod CommandLineLemmas
 pub mod PartLemmas
-pub mod InputLemmas
 pub mod OutputLemmas
 pub mod TurnLemmas
 pub mod TendLemmas

@@ -1,12 +1,11 @@
 -- What a command document says, case by case.
-use Rattle.std.proofs.Common.{◌≡◌, false, true, refl, ap}
-use Rattle.std.specs.Prelude.{ℕ, List, [], ◌∷◌, codes, Option, Some, None, option_map, Vec}
-use Rattle.std.specs.declared.alloc.Global.{Global}
+use Rattle.std.proofs.Common.{◌≡◌, false, true, refl}
+use Rattle.std.specs.Prelude.{ℕ, List, [], ◌∷◌, codes, None}
 use Rattle.yaml_grammar.specs.Trees.{Elements, Members, text, sequence, mapping}
 use Rattle.conf_record.specs.RecordsRead.{keys_are, values}
 use Rattle.conf_state.proofs.LineLemmas.{ascii}
 use Rattle.conf_record.specs.Reading.{texts}
-use Rattle.conf_session.specs.Said.{Part, Said, nothing, said_by, part_from, part_said, import_part, set_part, delete_part, import_keys, set_keys, delete_keys, batch_keys, get_keys, export_keys, names_keys, checkpoint_keys, batch_said, get_said, export_said, names_said, checkpoint_said}
+use Rattle.conf_session.specs.Said.{nothing, said_by, part_from, part_said, import_part, set_part, delete_part, import_keys, set_keys, delete_keys, batch_keys, get_keys, export_keys, names_keys, checkpoint_keys, batch_said, get_said, export_said, names_said, checkpoint_said}
 
 -- a text says nothing
 pub said-text : (value : List ℕ) → said_by (text value) ≡ nothing

@@ -4,6 +4,7 @@ pub mod Runs
 pub mod Replies
 pub mod Progress
 pub mod Said
+pub mod CommandLines
 pub mod Input
 pub mod Rounds
 pub mod Groups

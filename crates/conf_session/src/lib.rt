@@ -11,6 +11,7 @@
 #![tactic(auto)]
 
 mod answer;
+mod command_lines;
 mod fault;
 mod groups;
 mod input;

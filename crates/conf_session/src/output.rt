@@ -8,7 +8,7 @@ use std::io::Write;
 ///
 /// # Errors
 /// If a write fails, or takes nothing: the number of bytes that were written before. These are the first ones.
-pub(crate) fn write_whole<W: Write>(writer: &mut W, bytes: &[u8]) -> Result<(), usize>
+pub(crate) fn write_or_count<W: Write>(writer: &mut W, bytes: &[u8]) -> Result<(), usize>
     ensures whole { OnOk result
         (Appends (W.contents writer.old) (W.contents writer.new) bytes.now) }
     ensures cut { IfErr result (λ count. count < length bytes.now) }

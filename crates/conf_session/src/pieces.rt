@@ -5,7 +5,7 @@ ghost use Rattle.conf_session.specs.Replies.{accepts, refuses, reply_bytes, Leav
 ghost use Rattle.conf_session.specs.Progress.{Answered, Fails, HasRoom};
 
 use crate::fault::SessionFault;
-use crate::output::write_whole;
+use crate::output::write_or_count;
 use crate::reply::{Reply, Way, answer_piece};
 use crate::session::Tally;
 use crate::words::refusal_bytes;
@@ -104,7 +104,7 @@ pub fn perform_piece<D: Disk, W: Write>(
     let accepted = count_accepted(&reply);
     let refused = count_refused(&reply);
     let bytes = bytes_of(&reply);
-    match write_whole(writer, bytes) {
+    match write_or_count(writer, bytes) {
         Ok(()) => {
             let tally = Tally {
                 documents: counts.tally.documents + 1,

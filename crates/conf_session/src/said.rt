@@ -9,6 +9,7 @@ ghost use Rattle.conf_session.specs.Said.{Says, said_by, part_from, part_said, p
 ghost use Rattle.conf_session.specs.Said.{get_said, export_said, names_said, checkpoint_said, is_empty_text, nothing};
 ghost use Rattle.conf_session.specs.Said.{said_of};
 
+use crate::command_lines::said_in_lines;
 use crate::parts::{Part, last_text, last_value, part_from, parts_of, two_texts};
 use conf_record::{is_same, keys_are};
 use std::alloc::{AllocError, Global};
@@ -48,6 +49,16 @@ pub(crate) enum Said {
 /// command (16,777,216 bytes, 131 deep, and 67,108,864 bytes in the one style), or another tree, says
 /// [`Nothing`](Said::Nothing). It fails only if memory runs out.
 pub(crate) fn read_said(alloc: Global, piece: &[u8]) -> Result<Said, AllocError>
+    ensures { IfOk result (λ said. Says piece.now (said_of said)) }
+{
+    match said_in_lines(alloc, piece)? {
+        Some(said) => Ok(said),
+        None => read_any(alloc, piece),
+    }
+}
+
+/// Reads a piece as a command document by the general reader, as for [`read_said`].
+fn read_any(alloc: Global, piece: &[u8]) -> Result<Said, AllocError>
     ensures { IfOk result (λ said. Says piece.now (said_of said)) }
 {
     match read_one(alloc, piece, &COMMAND_LIMITS) {

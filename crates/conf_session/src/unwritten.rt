@@ -4,7 +4,7 @@ ghost use Rattle.std.specs.Io.KnownBytes.{Appends};
 ghost use Rattle.conf_session.specs.Gathering.{FailsToWrite, KeepsAnswer, WritesAnswers, answers_limit, last_bytes, unwritten_bytes};
 
 use crate::fault::SessionFault;
-use crate::output::write_whole;
+use crate::output::write_or_count;
 use crate::pieces::{bytes_of, count_accepted, count_refused};
 use crate::reply::Reply;
 use crate::session::Tally;
@@ -50,10 +50,10 @@ fn write_both<W: Write>(writer: &mut W, text: &[u8], last: &[u8]) -> Result<(), 
     ensures prefix { IfErr result (λ count.
         Appends (W.contents writer.old) (W.contents writer.new) (take count (text.now ++ last.now))) }
 {
-    if let Err(count) = write_whole(writer, text) {
+    if let Err(count) = write_or_count(writer, text) {
         return Err(count as u64);
     }
-    match write_whole(writer, last) {
+    match write_or_count(writer, last) {
         Ok(()) => Ok(()),
         Err(count) => Err(text.len() as u64 + count as u64),
     }

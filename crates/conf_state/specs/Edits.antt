@@ -3,7 +3,7 @@ use Rattle.std.specs.Prelude.{◌≡◌, ℕ, ◌≤◌, List, Result, Ok}
 use Rattle.yaml_grammar.specs.Texts.{byte_len}
 use Rattle.yaml_grammar.specs.Trees.{Tree, depth}
 use Rattle.yaml_grammar.specs.Style.{style_text}
-use Rattle.tree_path.specs.Paths.{last_key}
+use Rattle.tree_path.specs.Steps.{ArePlaces}
 use Rattle.json_pointer.specs.Pointers.{path_of}
 use Rattle.conf_state.specs.States.{Entry, config_named}
 use Rattle.yaml_config.specs.Limits.{config_limits}
@@ -36,7 +36,7 @@ abbrev pub edited_at : PathEdit → Tree → List ℕ → Result Tree StoreFault
 edited_at edit t pointer = and_then (by_path (path_of pointer)) (checked_edit edit t)
 
 -- The edit leaves the configuration within its limits. The plan has its length then, what changes in its length, and
--- the place of the path's last key.
+-- the places of the path's steps.
 pub record IsPlan (edit : PathEdit) (old : Tree) (path : List (List ℕ)) (plan : EditPlan) : Type 0 where
   pub new : Tree
   pub made : tree_after_edit edit old path ≡ Ok new
@@ -44,4 +44,4 @@ pub record IsPlan (edit : PathEdit) (old : Tree) (path : List (List ℕ)) (plan 
   pub long : byte_len (style_text new) ≤ config_limits.style
   pub bytes : plan.bytes ≡ byte_len (style_text new)
   pub changes : Changes plan.change old new
-  pub place : plan.place ≡ last_key old path
+  pub places : ArePlaces plan.places old path

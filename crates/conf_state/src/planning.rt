@@ -8,16 +8,16 @@ ghost use Rattle.conf_state.specs.Edits.{checked_edit, edited_at, IsPlan};
 
 use crate::fault::StoreFault;
 use std::alloc::Global;
-use tree_path::Path;
+use tree_path::{Path, StepPlaces};
 use yaml_config::{Change, Config, Edit as PathEdit, Limits};
 
-/// How many bytes a configuration has in the one style after an edit, what changes in its length, and the place of the
-/// last key of the edit's path.
-#[derive(Clone, Copy)]
+/// How many bytes a configuration has in the one style after an edit, what changes in its length, and the places of the
+/// steps of the edit's path.
+#[derive(Drop)]
 pub(crate) struct EditPlan {
     pub(crate) bytes: u64,
     pub(crate) change: Change,
-    pub(crate) place: Option<usize>,
+    pub(crate) places: StepPlaces,
 }
 
 /// Makes an edit inside a configuration, in place, at a pointer that is not empty. The fault is that of the pointer or
@@ -37,13 +37,14 @@ pub(crate) fn edit_config(
         ⊎ (edited_at edit (tree_of config.old) (chars pointer.now) ≡ Err fault)) }
 {
     let path = Path::parse(alloc, pointer)?;
-    let plan = plan_edit(config, &path, &edit)?;
-    edit.perform(alloc, config, &path, plan.place, plan.bytes)?;
+    let plan = plan_edit(alloc, config, &path, &edit)?;
+    edit.perform(alloc, config, &path, &plan.places, plan.bytes)?;
     Ok(())
 }
 
 /// The plan of an edit of a configuration, if it then keeps its limits.
 pub(crate) fn plan_edit(
+    alloc: Global,
     config: &Config,
     path: &Path,
     edit: &PathEdit,
@@ -54,7 +55,7 @@ pub(crate) fn plan_edit(
     ensures refused { IfErr result (λ fault. (fault ≡ StoreFault.OutOfMemory)
         ⊎ (checked_edit edit.now (tree_of config.now) path.now ≡ Err fault)) }
 {
-    let plan = edit.plan(config, path)?;
+    let plan = edit.plan(alloc, config, path)?;
     if !edit.keeps_depth(path) {
         return Err(StoreFault::TooDeep);
     }
@@ -65,6 +66,6 @@ pub(crate) fn plan_edit(
     Ok(EditPlan {
         bytes: bytes as u64,
         change: plan.change,
-        place: plan.place,
+        places: plan.places,
     })
 }

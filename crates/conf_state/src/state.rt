@@ -190,11 +190,11 @@ impl State {
             return Err(StoreFault::NoConfig);
         };
         let path = Path::parse(alloc, pointer)?;
-        let plan = plan_edit(config, &path, &edit)?;
+        let plan = plan_edit(alloc, config, &path, &edit)?;
         let entries = self.length_changed(plan.change);
         self.check_room(entries, room)?;
         let config = self.configs.get_mut(name).unwrap();
-        edit.perform(alloc, config, &path, plan.place, plan.bytes)?;
+        edit.perform(alloc, config, &path, &plan.places, plan.bytes)?;
         self.entries = entries;
         self.count += 1;
         Ok(())

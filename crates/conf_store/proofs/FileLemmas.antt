@@ -102,7 +102,7 @@ new-base store file s records dropped size found is same = record {
 }
 
 -- an image of the loaded folder has the store that was read, which is an old one
-loaded-old : ReadingIsAnImage → OnlyHeldIsLeft → (entry now : Folder) → HoldsStore now (option_map synced_file (bytes_under entry Store)) → (store : Option (List ℕ)) → IsStoreOf now store → IsStoreOf entry store
+pub loaded-old : ReadingIsAnImage → OnlyHeldIsLeft → (entry now : Folder) → HoldsStore now (option_map synced_file (bytes_under entry Store)) → (store : Option (List ℕ)) → IsStoreOf now store → IsStoreOf entry store
 loaded-old reading only entry now holds store is = record {
   image = image_now entry;
   is = reading entry;

@@ -13,3 +13,4 @@ pub mod Opens
 pub mod Files
 pub mod Lives
 pub mod Imports
+pub mod Creates

@@ -11,7 +11,8 @@
 //! call. [`Store::begin_checkpoint`] and [`Store::slice`] write the new file in slices, and commands go on between
 //! them.
 //!
-//! [`read_state`] reads the state of a folder and changes nothing, also where nothing can be written.
+//! [`read_state`] reads the state of a folder and changes nothing, also where nothing can be written. [`create_store`]
+//! makes a store of a state where there is none.
 //!
 //! After a crash at any moment, opening finds the state after a prefix of the accepted commands, with every command
 //! that was acknowledged ([`lives_hold`]).
@@ -19,6 +20,7 @@
 
 mod accepting;
 mod base_file;
+mod creating;
 mod fault;
 mod importing;
 mod laws;
@@ -29,6 +31,7 @@ mod slicing;
 mod staging;
 mod store;
 
+pub use creating::{CreateFault, create_store};
 pub use fault::OpenFault;
 pub use importing::import_command;
 pub use laws::{

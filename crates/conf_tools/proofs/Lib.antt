@@ -7,3 +7,4 @@ pub mod CallLemmas
 pub mod ExportLemmas
 pub mod ChangeLemmas
 pub mod ReadLemmas
+pub mod FileLemmas

@@ -6,7 +6,8 @@ use Rattle.conf_disk.specs.Image.{Image}
 use Rattle.conf_store.specs.declared.fault.OpenFault.TheVariants as OpenFault
 use Rattle.conf_tools.specs.ReadingStatuses.{TellsOfStore}
 use Rattle.conf_tools.specs.Stores.{RunsOn}
-use Rattle.conf_tools.specs.Statuses.{Performs, TakesSome, FindsSome, AnswersSome, code_of, status_of_store}
+use Rattle.conf_tools.specs.Statuses.{Performs, TakesSome, FindsSome, AnswersSome, TriesFiles, code_of, status_of_store}
+use Rattle.conf_tools.specs.declared.program.Status.TheVariants.{Found}
 use Rattle.conf_tools.specs.declared.stores.Grouping.{Grouping}
 use Rattle.conf_tools.specs.declared.stores.StoreToolFault.{StoreToolFault}
 use Rattle.conf_tools.specs.declared.stores.StoreToolFault.TheVariants.{Folder as InFolder, Open, Session, Export, Output as StoreOutput, Refused, StoreExists}
@@ -21,7 +22,9 @@ at_three = record {
 }
 
 at_one : {given left held written : Option (List ℕ)}
-    → FindsSome given left held written ⊎ AnswersSome given left held written ⊎ Keeps held written ⊎ TellsOfStore held written → Performs given left held written 1
+    → FindsSome given left held written ⊎ AnswersSome given left held written ⊎ Keeps held written
+    ⊎ TriesFiles given left held written Found ⊎ TellsOfStore held written
+    → Performs given left held written 1
 at_one why = record {
   known = omega arith;
   done = λ e. absurd (omega (arith, e));
@@ -54,7 +57,7 @@ performs_refused honest folder moment since failures grouping old new StoreExist
 pub performs_change : {given left held written : Option (List ℕ)} (status : ℕ) → status ≤ 3 → TakesSome given left → Keeps held written → Performs given left held written status
 performs_change status known takes keeps = record {
   known = known;
-  done = λ e. ⊎_elim (λ none. inr (inr (inr (inl none)))) (λ some. inr (inr (inr (inr (some, keeps))))) takes;
+  done = λ e. ⊎_elim (λ none. inr (inr (inr (inl none)))) (λ some. inr (inr (inr (inr (inl (some, keeps)))))) takes;
   refused = λ e. inr (inr (inl keeps));
   wrong = λ e. keeps;
 }

@@ -1,5 +1,6 @@
 pub mod Statuses
 pub mod Tools
+pub mod FileTexts
 pub mod Stores
 pub mod Changes
 pub mod Tails

@@ -23,7 +23,7 @@ use std::rt::Files;
 use yaml_tree::{Config, Limits, Text, Tree, read_one};
 
 /// The word for standard input, where a file or a text is wanted.
-const STANDARD_INPUT: &str = "-";
+pub(crate) const STANDARD_INPUT: &str = "-";
 
 /// Makes the folder that the words name, if it is missing, and an empty store in it.
 pub(crate) fn init_folder<F: Files<File = File>, E: Write>(

@@ -2,7 +2,8 @@
 //! status.
 //!
 //! The tools are there without the words, too. [`format_text`] writes a text's tree in the one style, and
-//! [`check_text`] reports where a text departs from it. [`run_store`] performs a session of commands, and
+//! [`check_text`] reports where a text departs from it. For the text of a file that was named, [`restyle`] returns that
+//! text, [`list_changed`] names the file if it is another one, and [`check_file`] reports as `FILE:LINE: S1`. [`run_store`] performs a session of commands, and
 //! [`export_store`] writes one configuration. [`change_store`] makes a single change, and [`make_store`] an empty store.
 //! The store may be on any disk. [`calls_hold`] says what these calls keep over any crashes.
 #![tactic(auto)]
@@ -10,6 +11,8 @@
 mod change_words;
 mod changes;
 mod exports;
+mod file_texts;
+mod file_words;
 mod findings;
 mod input;
 mod laws;
@@ -26,6 +29,7 @@ mod texts;
 
 pub use changes::{Change, change_store, make_store};
 pub use exports::export_store;
+pub use file_texts::{Restyled, check_file, list_changed, restyle};
 pub use laws::calls_hold;
 pub use program::{perform, refuse_words};
 pub use reading_fault::ReadingFault;

@@ -8,13 +8,14 @@ use crate::change_words::{
 };
 use crate::changes::Change;
 use crate::exports::export_store;
+use crate::file_words::{check_words, format_words};
 use crate::read_words::{
     get_from_folder, log_of_folder, names_of_folder, salvage_folder, verify_folder,
 };
 use crate::rest::write_rest;
 use crate::stores::{Grouping, StoreToolFault, run_store};
 use crate::tail::TailReader;
-use crate::texts::{ToolFault, check_text, format_text};
+use crate::texts::ToolFault;
 use clap::ArgMatches;
 use conf_folder::{FolderDisk, FolderFault};
 use conf_session::{Checkpoints, SessionFault};
@@ -122,15 +123,8 @@ fn obey<F: Files<File = File>, R: Read, W: Write, E: Write>(
         Some((LOG, words)) => log_of_folder(rt, alloc, words, writer, errors),
         Some((VERIFY, words)) => verify_folder(rt, alloc, words, writer, errors),
         Some((SALVAGE, words)) => salvage_folder(rt, alloc, words, writer, errors),
-        Some((FORMAT, _)) => match format_text(alloc, reader, writer) {
-            Ok(()) => Status::Done,
-            Err(fault) => write_fault(errors, fault),
-        },
-        Some((CHECK, _)) => match check_text(alloc, reader, writer) {
-            Ok(0) => Status::Done,
-            Ok(_) => Status::Found,
-            Err(fault) => write_fault(errors, fault),
-        },
+        Some((FORMAT, words)) => format_words(rt, alloc, words, reader, writer, errors),
+        Some((CHECK, words)) => check_words(rt, alloc, words, reader, writer, errors),
         _ => Status::WrongWords,
     }
 }

@@ -95,25 +95,54 @@ const NAME_HELP: &str = "The name of the configuration; after `--` if it begins 
 /// The word of the subcommand that writes a text in the one style.
 pub const FORMAT: &str = "format";
 
-const FORMAT_ABOUT: &str =
-    "Reads a YAML text from standard input and writes its tree in the one style";
+const FORMAT_ABOUT: &str = "Writes the tree of a YAML text in the one style";
+
+const FORMAT_HELP: &str = "\
+One FILE, or standard input, is written to standard output. More FILEs need -i or --check. Each FILE
+is tried, and the status is the worst. With -i a FILE that stands in the one style is not touched.
+Another is replaced whole: where the power fails, it is the old one or the new one. It keeps its mode,
+and its owner where the system allows it. A text that is refused is left as it is, and told on
+standard error, as `web.yaml:3:7: Syntax Flow`.
+
+With --check the status is 1 where a FILE would change.
+
+Examples:
+  confstore format < web.yaml
+  confstore format -i *.yaml
+  confstore format --check *.yaml";
+
+/// The word of `format` that has each file replaced.
+pub const IN_PLACE: &str = "in-place";
+
+const IN_PLACE_HELP: &str = "Replaces each FILE that would change by its text in the one style";
+
+/// The word of `format` that has the files named that would change.
+pub const ONLY_CHECK: &str = "check";
+
+const ONLY_CHECK_HELP: &str = "Changes nothing, and names each FILE that would change";
+
+const FILES_HELP: &str = "The files of the texts; standard input if none is given, or for `-`";
 
 /// The word of the subcommand that looks where a text departs from the one style.
 pub const CHECK: &str = "check";
 
-const CHECK_ABOUT: &str =
-    "Reads a YAML text from standard input and writes where it departs from the one style";
+const CHECK_ABOUT: &str = "Writes where YAML texts depart from the one style";
 
 const CHECK_HELP: &str = "\
-Each finding is one line, as `S1 3`: the rule, and the number of the line, from 1.
+Each finding is one line: of a FILE as `web.yaml:3: S1 the line ends in a space or TAB`, and of
+standard input without a FILE as `S1 3`, the rule and the number of the line, from 1.
   S1  the line ends in a space or TAB
   S2  the line ends in CR LF or CR, or it is the last line and has no break
   S3  the line has more than 120 characters
   S4  the text is not what `confstore format` writes for it, and first differs from that on this line
 
-The status is 0 where nothing is found. It is 1 where something is, and where the text is refused.
+A text that is refused is told on standard error, as `web.yaml:3:7: Syntax Flow`. Each FILE is tried.
+The status is 0 where nothing is found. It is 1 where something is, or a text is refused, and 3 where
+a FILE can't be read.
 
-As a hook, for each file:  confstore check < file";
+Examples:
+  confstore check *.yaml
+  confstore check < file";
 
 /// The word of the subcommand that makes a folder with an empty store.
 pub const INIT: &str = "init";
@@ -216,12 +245,8 @@ pub fn command<'a>(alloc: Global) -> Result<Command<'a>, AllocError> {
         .subcommand(log_command(alloc)?)?
         .subcommand(verify_command(alloc)?)?
         .subcommand(salvage_command(alloc)?)?
-        .subcommand(Command::new(alloc, FORMAT).about(FORMAT_ABOUT))?
-        .subcommand(
-            Command::new(alloc, CHECK)
-                .about(CHECK_ABOUT)
-                .after_help(CHECK_HELP),
-        )
+        .subcommand(format_command(alloc)?)?
+        .subcommand(check_command(alloc)?)
 }
 
 /// The argument that names the folder of a store.
@@ -315,4 +340,38 @@ fn export_command<'a>(alloc: Global) -> Result<Command<'a>, AllocError> {
         .after_help(EXPORT_HELP)
         .arg(folder_arg(alloc))?
         .arg(name_arg(alloc))
+}
+
+/// The argument that names any number of files.
+fn files_arg<'a>(alloc: Global) -> Arg<'a> {
+    Arg::new(alloc, FILE).num_args(1..).help(FILES_HELP)
+}
+
+fn format_command<'a>(alloc: Global) -> Result<Command<'a>, AllocError> {
+    Command::new(alloc, FORMAT)
+        .about(FORMAT_ABOUT)
+        .after_help(FORMAT_HELP)
+        .arg(
+            Arg::new(alloc, IN_PLACE)
+                .short('i')
+                .long(IN_PLACE)
+                .action(ArgAction::SetTrue)
+                .help(IN_PLACE_HELP)
+                .requires_arg(FILE)?,
+        )?
+        .arg(
+            Arg::new(alloc, ONLY_CHECK)
+                .long(ONLY_CHECK)
+                .action(ArgAction::SetTrue)
+                .help(ONLY_CHECK_HELP)
+                .conflicts_with(IN_PLACE)?,
+        )?
+        .arg(files_arg(alloc))
+}
+
+fn check_command<'a>(alloc: Global) -> Result<Command<'a>, AllocError> {
+    Command::new(alloc, CHECK)
+        .about(CHECK_ABOUT)
+        .after_help(CHECK_HELP)
+        .arg(files_arg(alloc))
 }

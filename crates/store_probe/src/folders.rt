@@ -2,7 +2,7 @@
 use crate::calls::FusedStore;
 use conf_disk::{Content, Cuts, Disk, DiskFault, Name};
 use conf_journal::STORE_LIMIT;
-use conf_store::Store;
+use conf_store::{Store, create_store, read_state};
 use probe_words::{meant, measured};
 use std::alloc::{AllocError, Global};
 use std::mem;
@@ -77,6 +77,33 @@ pub(crate) fn open(
         Ok((store, opened)) => {
             *place = Place::Open(store);
             format!(in alloc; "commands {}, dropped {}", opened.commands, opened.dropped)
+        }
+        Err((disk, fault)) => {
+            *place = Place::Folder(disk.into_inner());
+            format!(in alloc; "{fault:?}")
+        }
+    }
+}
+
+/// Makes a store of the state that the written text means as a `store.yaml`, over a disk that lets so many calls pass.
+pub(crate) fn create(
+    alloc: Global,
+    place: &mut Place,
+    calls: u64,
+    fuse: Fuse,
+    written: &str,
+) -> Result<String, AllocError> {
+    let text = meant(alloc, written)?.into_bytes();
+    let mut source = MemoryDisk::with_files(alloc, Some(text), None)?;
+    let state = match read_state(alloc, &mut source) {
+        Ok((state, _)) => state,
+        Err(fault) => return format!(in alloc; "{fault:?}"),
+    };
+    let disk = FusedDisk::new(place.take(alloc), calls, fuse);
+    match create_store(alloc, disk, &state) {
+        Ok(disk) => {
+            *place = Place::Folder(disk.into_inner());
+            String::from_str(alloc, "made")
         }
         Err((disk, fault)) => {
             *place = Place::Folder(disk.into_inner());

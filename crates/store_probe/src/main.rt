@@ -10,6 +10,8 @@
 //! - `open`: opens it. The answer is how many commands were found and how many bytes dropped, or why it is refused.
 //!   `open;FUSE;CALLS` does so over a disk that lets so many calls pass. Then all fail (`stop`), or one fails, which
 //!   has no effect (`undone`) or has it (`done`).
+//! - `create;TEXT`: makes a store of the state that this text means as a `store.yaml`. The answer is `made`, or why none
+//!   is made, or why the text means nothing. `create;FUSE;CALLS;TEXT` does so over such a disk.
 //! - `file` and `next`: the length of `store.yaml` or of `next.yaml`, and its text if it has at most 1,000 bytes.
 //! - `image;STAGE`: takes what a crash leaves of this stage if it keeps no pending byte.
 //!

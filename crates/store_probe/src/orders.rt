@@ -1,6 +1,6 @@
 // Orders on a store and their answers.
 use crate::calls::call;
-use crate::folders::{Place, image, open, renew, shown};
+use crate::folders::{Place, create, image, open, renew, shown};
 use conf_disk::Name;
 use probe_words::{Answers, number_of};
 use std::alloc::{AllocError, Global};
@@ -22,6 +22,14 @@ fn answer(alloc: Global, place: &mut Place, words: &[&str]) -> Result<String, Al
         ["folder", store, next] => renew(alloc, place, Some(store), Some(next)),
         ["open"] => open(alloc, place, u64::MAX, Fuse::Stop),
         ["open", fuse, calls] => open(alloc, place, number_of(calls), fuse_of(fuse)),
+        ["create", text] => create(alloc, place, u64::MAX, Fuse::Stop, text),
+        ["create", fuse, calls, text] => create(
+            alloc,
+            place,
+            number_of(calls),
+            fuse_of(fuse),
+            text,
+        ),
         ["file"] => shown(alloc, place, Name::Store),
         ["next"] => shown(alloc, place, Name::Next),
         ["image", stage] => image(alloc, place, number_of(stage)),

@@ -185,7 +185,8 @@ texts-back tokens left token some within is =
     let next : left - 1 + 1 ≡ left = omega arith in
     ap (λ n. texts (take n tokens)) (sym next) ∙ texts-turn tokens (left - 1) token (omega arith) is
 
-texts-split : (tokens : List (CowStr Global)) (n : ℕ) (token : CowStr Global) → n < length tokens → token ≡ get_or tokens n token
+-- the texts before the string at a place, its own, and those after it
+pub texts-split : (tokens : List (CowStr Global)) (n : ℕ) (token : CowStr Global) → n < length tokens → token ≡ get_or tokens n token
     → texts tokens ≡ texts (take n tokens) ++ chars (cow_str_bytes token) ∷ texts (drop (n + 1) tokens)
 texts-split tokens n token within is =
     ap texts (sym (take-append-drop n tokens)) ∙ texts-append (take n tokens) (drop n tokens)

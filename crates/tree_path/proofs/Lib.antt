@@ -5,3 +5,4 @@ pub mod Numbers
 pub mod Places
 pub mod StepLaws
 pub mod Steps
+pub mod Ways

@@ -58,10 +58,11 @@ index_below-number token count n is some =
 abbrev below : Index → ℕ → Result ℕ Miss
 below index count = at_index index (λ n. cond (nat_lt n count) (Some n) None) (Err Absent)
 
-below_true : (n count : ℕ) → nat_lt n count ≡ true → n < count
+-- the test of numbers, as a fact
+pub below_true : (n count : ℕ) → nat_lt n count ≡ true → n < count
 below_true n count is = grind (arith, nat_tests)
 
-below_false : (n count : ℕ) → nat_lt n count ≡ false → count ≤ n
+pub below_false : (n count : ℕ) → nat_lt n count ≡ false → count ≤ n
 below_false n count is = grind (arith, nat_tests)
 
 below-Ok : (index : Index) (count i : ℕ) → below index count ≡ Ok i → (index ≡ number i) × (i < count)

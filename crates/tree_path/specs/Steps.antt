@@ -1,13 +1,14 @@
 -- What the parts of one step are: the number that a token is, the element and the pair that it leads to.
-use Rattle.std.specs.Prelude.{◌≡◌, ◌==◌, ℕ, suc, List, [], ◌∷◌, Option, Some, None, option_map, min, Result, Ok, Err, if◌then◌else◌, nat_lt}
+use Rattle.std.specs.Prelude.{◌≡◌, ◌==◌, ◌<◌, ◌-◌, ℕ, suc, List, [], ◌∷◌, length, take, get_or, Option, Some, None, option_map, min, Result, Ok, Err, if◌then◌else◌, nat_lt}
 use Rattle.std.specs.Str.{chars}
 use Rattle.yaml_grammar.specs.Texts.{same_text}
-use Rattle.yaml_grammar.specs.Trees.{Tree}
+use Rattle.yaml_grammar.specs.Trees.{Tree, text, sequence, mapping}
 use Rattle.yaml_data.specs.Seen.{Pair}
 use Rattle.yaml_data.specs.TextBytes.{text_bytes}
-use Rattle.tree_path.specs.Paths.{is_number, number_after, index_of, at_index, child, put}
-use Rattle.tree_path.specs.declared.place.Known.{Known}
-use Rattle.tree_path.specs.declared.place.Known.TheVariants.{Place, Nothing}
+use Rattle.tree_path.specs.Paths.{is_number, number_after, index_of, at_index, present, element_at, place_of, child, put, last_key}
+use Rattle.tree_path.specs.declared.step_places.Known.{Known}
+use Rattle.tree_path.specs.declared.step_places.Known.TheVariants.{Found, Nothing}
+use Rattle.tree_path.specs.declared.step_places.StepPlaces.{StepPlaces}
 use Rattle.tree_path.specs.declared.place.Miss.{Miss}
 use Rattle.tree_path.specs.declared.place.Miss.TheVariants.{Absent}
 
@@ -29,10 +30,51 @@ key_place key [] = None
 key_place key (pair ∷ pairs) =
     if same_text key (chars (text_bytes pair.0)) then Some 0 else option_map suc (key_place key pairs)
 
--- what is known of a key's place is so
-abbrev pub Knows : Known → Option ℕ → Type 0
-Knows (Place place) there = place ≡ there
-Knows Nothing there = Unit {0}
+-- the place, from 0, of the element or the member to which a step leads
+unfoldable pub step_place : Tree → List ℕ → Result ℕ Miss
+step_place (text value) token = Err Absent
+step_place (sequence ts) token = at_index (index_of token) (λ n. option_map (λ _. n) (element_at ts n)) (Err Absent)
+step_place (mapping ms) token = present (place_of ms token)
+
+-- ---- the places of the steps of a path
+
+-- from t each step leads on, and the list begins with their places
+abbrev pub Leads : List (List ℕ) → Tree → List ℕ → Type 0
+Leads [] t places = Unit {0}
+Leads (token ∷ tokens) t [] = ⊥
+Leads (token ∷ tokens) t (place ∷ places) =
+    (next : Tree) × (step_place t token ≡ Ok place) × (child t token ≡ Ok next) × Leads tokens next places
+
+-- the steps of a path but the last
+abbrev pub parents_of : List (List ℕ) → List (List ℕ)
+parents_of path = take (length path - 1) path
+
+-- the places are those of the path's steps in t
+pub record ArePlaces (places : StepPlaces) (t : Tree) (path : List (List ℕ)) : Type 0 where
+  pub parents : Leads (parents_of path) t places.parents.items
+  pub last : places.last ≡ last_key t path
+
+-- what is known of a path's steps is so
+abbrev pub Knows : Known → Tree → List (List ℕ) → Type 0
+Knows (Found places) t path = ArePlaces places.now t path
+Knows Nothing t path = Unit {0}
+
+-- the same of steps before the last
+abbrev pub KnowsWay : Known → List (List ℕ) → Tree → Type 0
+KnowsWay (Found places) tokens t = Leads tokens t places.now.parents.items
+KnowsWay Nothing tokens t = Unit {0}
+
+-- the same of one of them, after so many
+abbrev pub KnowsStep : Known → ℕ → Tree → List ℕ → Type 0
+KnowsStep (Found places) passed t token =
+    (passed < length places.now.parents.items)
+    × (step_place t token ≡ Ok (get_or places.now.parents.items passed 0))
+KnowsStep Nothing passed t token = Unit {0}
+
+-- the same of the last key
+abbrev pub KnowsLast : Known → Option ℕ → Type 0
+KnowsLast (Found places) there = places.now.last ≡ there
+KnowsLast Nothing there = Unit {0}
 
 -- ---- a tree taken apart along a path
 

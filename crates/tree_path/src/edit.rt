@@ -6,11 +6,12 @@ ghost use Rattle.std.specs.Str.{chars};
 ghost use Rattle.std.specs.Vec.{vec_len, vec_capacity};
 ghost use Rattle.yaml_grammar.specs.Trees.{Tree as Meant, sequence, mapping};
 ghost use Rattle.yaml_data.specs.Seen.{tree_of, elements_of, members_of};
-ghost use Rattle.tree_path.specs.Paths.{at_step, at, put, cut, set, delete, child, key_in, last_key};
-ghost use Rattle.tree_path.specs.Steps.{key_place, Knows, Lowered, Rebuilt};
+ghost use Rattle.tree_path.specs.Paths.{at_step, at, put, cut, set, delete, child, key_in};
+ghost use Rattle.tree_path.specs.Steps.{ArePlaces, Knows, KnowsWay, Lowered, Rebuilt, key_place};
 ghost use Rattle.json_pointer.specs.Tokens.{texts};
 
-use crate::place::{self, Known, Miss};
+use crate::place::{self, Miss};
+use crate::step_places::{Known, StepPlaces};
 use json_pointer::{Path, PathFault};
 use std::alloc::{AllocError, Global};
 use std::borrow::CowStr;
@@ -57,16 +58,16 @@ pub fn set(
     set_at(alloc, tree, path.tokens(), Known::Nothing, value)
 }
 
-/// The edit of [`set`], where the place, from 0, of the path's last key in its mapping is known, or that the key is not
-/// there. `yaml_config::plan_set` returns it, so that the key is searched for once. The faults are those of [`set`].
+/// The edit of [`set`], where the places of the path's steps are known. [`StepPlaces::find`] finds them, so that each key
+/// is searched for once. The faults are those of [`set`].
 pub fn set_planned(
     alloc: Global,
     tree: &mut Tree,
     path: &Path,
-    place: Option<usize>,
+    places: &StepPlaces,
     value: Tree,
 ) -> Result<(), (Tree, PathFault)>
-    requires { place ≡ last_key (tree_of tree.old) path.now }
+    requires { ArePlaces places.now (tree_of tree.old) path.now }
     ensures ok { OnOk result (set (tree_of tree.old) path.now (tree_of value)
         ≡ Ok (tree_of tree.new)) }
     ensures refused { IfErr result
@@ -75,7 +76,7 @@ pub fn set_planned(
     ensures value_back { IfErr result (λ refused. tree_of refused.0 ≡ tree_of value) }
     ensures unchanged { OnErr result (tree_of tree.new ≡ tree_of tree.old) }
 {
-    set_at(alloc, tree, path.tokens(), Known::Place(place), value)
+    set_at(alloc, tree, path.tokens(), Known::Found(places), value)
 }
 
 /// Removes the value at a path, with its key, and returns it. In a sequence the elements after it move up. The path is
@@ -95,12 +96,11 @@ pub fn delete(tree: &mut Tree, path: &Path) -> Result<Tree, PathFault>
     delete_at(path.allocator(), tree, path.tokens(), Known::Nothing)
 }
 
-/// The edit of [`delete`], where the place, from 0, of the path's last key in its mapping is known, or that the key is
-/// not there. `yaml_config::plan_delete` returns it, so that the key is searched for once. The faults are those of
-/// [`delete`].
-pub fn delete_planned(tree: &mut Tree, path: &Path, place: Option<usize>) -> Result<Tree, PathFault>
+/// The edit of [`delete`], where the places of the path's steps are known. [`StepPlaces::find`] finds them, so that each key
+/// is searched for once. The faults are those of [`delete`].
+pub fn delete_planned(tree: &mut Tree, path: &Path, places: &StepPlaces) -> Result<Tree, PathFault>
     requires steps { 0 < length path.now }
-    requires place { place ≡ last_key (tree_of tree.old) path.now }
+    requires places { ArePlaces places.now (tree_of tree.old) path.now }
     ensures ok { OnOk result (delete (tree_of tree.old) path.now ≡ Ok (tree_of tree.new)) }
     ensures removed { IfOk result (λ removed.
         at (tree_of tree.old) path.now ≡ Ok (tree_of removed)) }
@@ -108,7 +108,7 @@ pub fn delete_planned(tree: &mut Tree, path: &Path, place: Option<usize>) -> Res
     ensures unchanged { OnErr result (tree_of tree.new ≡ tree_of tree.old) }
 {
     let alloc = path.allocator();
-    delete_at(alloc, tree, path.tokens(), Known::Place(place))
+    delete_at(alloc, tree, path.tokens(), Known::Found(places))
 }
 
 fn value_at<'t>(tree: &'t Tree, tokens: &[CowStr<'_>]) -> Result<&'t Tree, PathFault>
@@ -130,10 +130,10 @@ fn set_at(
     alloc: Global,
     tree: &mut Tree,
     tokens: &[CowStr<'_>],
-    known: Known,
+    known: Known<'_>,
     value: Tree,
 ) -> Result<(), (Tree, PathFault)>
-    requires { Knows known (last_key (tree_of tree.old) (texts tokens.now)) }
+    requires { Knows known (tree_of tree.old) (texts tokens.now) }
     ensures ok { OnOk result (set (tree_of tree.old) (texts tokens.now) (tree_of value)
         ≡ Ok (tree_of tree.new)) }
     ensures refused { IfErr result
@@ -147,13 +147,13 @@ fn set_at(
         return Ok(());
     };
     let mut above = Tree::Seq(Vec::new(alloc));
-    if let Err(fault) = descend(tree, &mut above, parents) {
+    if let Err(fault) = descend(tree, &mut above, parents, known) {
         return Err((value, fault));
     }
     let token = last.as_str();
-    let place = known.place_in(tree, token);
+    let place = known.key_place(tree, token);
     let outcome = put(alloc, tree, token, place, tokens.len(), value);
-    ascend(tree, &mut above, parents);
+    ascend(tree, &mut above, parents, known);
     outcome
 }
 
@@ -161,10 +161,10 @@ fn delete_at(
     alloc: Global,
     tree: &mut Tree,
     tokens: &[CowStr<'_>],
-    known: Known,
+    known: Known<'_>,
 ) -> Result<Tree, PathFault>
     requires steps { 0 < length tokens.now }
-    requires known { Knows known (last_key (tree_of tree.old) (texts tokens.now)) }
+    requires known { Knows known (tree_of tree.old) (texts tokens.now) }
     ensures ok { OnOk result (delete (tree_of tree.old) (texts tokens.now)
         ≡ Ok (tree_of tree.new)) }
     ensures removed { IfOk result (λ removed. at (tree_of tree.old) (texts tokens.now)
@@ -175,11 +175,11 @@ fn delete_at(
 {
     let (last, parents) = tokens.split_last().unwrap();
     let mut above = Tree::Seq(Vec::new(alloc));
-    descend(tree, &mut above, parents)?;
+    descend(tree, &mut above, parents, known)?;
     let token = last.as_str();
-    let place = known.place_in(tree, token);
+    let place = known.key_place(tree, token);
     let outcome = cut(tree, token, place);
-    ascend(tree, &mut above, parents);
+    ascend(tree, &mut above, parents, known);
     match outcome {
         Ok(removed) => Ok(removed),
         Err(miss) => Err(miss.at_step(tokens.len())),
@@ -188,7 +188,13 @@ fn delete_at(
 
 /// Goes down a tree by each token. The tree becomes the value that they lead to, and what is above it goes into
 /// `above`, together with what was there. A refusal leaves the tree as it was.
-fn descend(tree: &mut Tree, above: &mut Tree, tokens: &[CowStr<'_>]) -> Result<(), PathFault>
+fn descend(
+    tree: &mut Tree,
+    above: &mut Tree,
+    tokens: &[CowStr<'_>],
+    known: Known<'_>,
+) -> Result<(), PathFault>
+    requires { KnowsWay known (texts tokens.now) (tree_of tree.old) }
     ensures ok { OnOk result
         (Lowered (texts tokens.now) (tree_of tree.old) (tree_of above.old) (tree_of tree.new)
         (tree_of above.new)) }
@@ -196,10 +202,13 @@ fn descend(tree: &mut Tree, above: &mut Tree, tokens: &[CowStr<'_>]) -> Result<(
     ensures unchanged { OnErr result (tree_of tree.new ≡ tree_of tree.old) }
 {
     for (passed, token) in tokens.iter().enumerate() {
-        match place::exchange(tree, token.as_str(), above) {
-            Ok(()) => mem::swap(tree, above),
+        match known.step_place(passed, tree, token.as_str()) {
+            Ok(place) => {
+                place::exchange(tree, place, above);
+                mem::swap(tree, above);
+            }
             Err(miss) => {
-                ascend(tree, above, &tokens[..passed]);
+                ascend(tree, above, &tokens[..passed], known);
                 return Err(miss.at_step(passed + 1));
             }
         }
@@ -209,8 +218,9 @@ fn descend(tree: &mut Tree, above: &mut Tree, tokens: &[CowStr<'_>]) -> Result<(
 
 /// Goes back up by the tokens of [`descend`]: the tree becomes the one that it was taken out of, with what it was in
 /// its place. `above` becomes what it was before `descend`.
-fn ascend(tree: &mut Tree, above: &mut Tree, tokens: &[CowStr<'_>])
-    requires { (t a u : Meant) × Lowered (texts tokens.now) t a u (tree_of above.old) }
+fn ascend(tree: &mut Tree, above: &mut Tree, tokens: &[CowStr<'_>], known: Known<'_>)
+    requires { (t a u : Meant) × Lowered (texts tokens.now) t a u (tree_of above.old)
+        × KnowsWay known (texts tokens.now) t }
     ensures { (t a u : Meant) → Lowered (texts tokens.now) t a u (tree_of above.old)
         → Rebuilt (texts tokens.now) t (tree_of tree.old) (tree_of tree.new)
         × (tree_of above.new ≡ a) }
@@ -219,7 +229,8 @@ fn ascend(tree: &mut Tree, above: &mut Tree, tokens: &[CowStr<'_>])
     while left > 0 {
         left -= 1;
         mem::swap(tree, above);
-        place::exchange(tree, tokens[left].as_str(), above).unwrap();
+        let place = known.step_place(left, tree, tokens[left].as_str()).unwrap();
+        place::exchange(tree, place, above);
     }
 }
 

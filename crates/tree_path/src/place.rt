@@ -1,10 +1,10 @@
 // One step of a path: the value that it leads to.
-ghost use Rattle.std.specs.Prelude.{◌≡◌, IfOk, IfErr, OnOk, OnErr, Ok, Err, option_map};
+ghost use Rattle.std.specs.Prelude.{◌≡◌, ℕ, List, IfOk, IfErr, Ok, Err, option_map};
 ghost use Rattle.std.specs.Str.{chars};
 ghost use Rattle.yaml_grammar.specs.Trees.{sequence, mapping};
 ghost use Rattle.yaml_data.specs.Seen.{tree_of, elements_of, members_of};
 ghost use Rattle.tree_path.specs.Paths.{child, put, refusal, key_in};
-ghost use Rattle.tree_path.specs.Steps.{number_of, as_usize, index_below, key_place as place_of, Knows};
+ghost use Rattle.tree_path.specs.Steps.{number_of, as_usize, index_below, step_place, key_place as place_of};
 
 use json_pointer::PathFault;
 use std::mem;
@@ -84,25 +84,27 @@ pub fn key_in(tree: &Tree, key: &str) -> Option<usize>
     }
 }
 
-/// What is known of the place of a key in a tree.
-#[derive(Clone, Copy)]
-pub enum Known {
-    /// The place, from 0, or that the key is missing.
-    Place(Option<usize>),
-    /// It was not searched for.
-    Nothing,
+/// The place, from 0, of the element or the pair to which a step leads. The misses are those of [`child`].
+pub fn step_place(tree: &Tree, token: &str) -> Result<usize, Miss>
+    ensures { result ≡ step_place (tree_of tree.now) (chars token.now) }
+{
+    match tree {
+        Tree::Text(_) => Err(Miss::Absent),
+        Tree::Seq(items) => element_index(token, items.len()),
+        Tree::Map(pairs) => key_place(pairs, token).ok_or(Miss::Absent),
+    }
 }
 
-impl Known {
-    /// The place of a key: the known one, or what a search finds.
-    pub fn place_in(self, tree: &Tree, key: &str) -> Option<usize>
-        requires { Knows self (key_in (tree_of tree.now) (chars key.now)) }
-        ensures { result ≡ key_in (tree_of tree.now) (chars key.now) }
-    {
-        match self {
-            Known::Place(place) => place,
-            Known::Nothing => key_in(tree, key),
-        }
+/// The value at the place of a step, as [`step_place`] returns it.
+pub fn child_in(tree: &Tree, place: usize) -> &Tree
+    requires { (token : List ℕ) × (step_place (tree_of tree.now) token ≡ Ok place) }
+    ensures { (token : List ℕ) → step_place (tree_of tree.now) token ≡ Ok place
+        → child (tree_of tree.now) token ≡ Ok (tree_of result.now) }
+{
+    match tree {
+        Tree::Text(_) => unreachable!(),
+        Tree::Seq(items) => &items[place],
+        Tree::Map(pairs) => &pairs[place].1,
     }
 }
 
@@ -137,52 +139,45 @@ pub fn child_at<'t>(tree: &'t Tree, token: &str, place: Option<usize>) -> Result
     }
 }
 
-/// Swaps the value to which a step leads with another one. A miss changes neither.
-pub fn exchange(tree: &mut Tree, token: &str, other: &mut Tree) -> Result<(), Miss>
-    ensures taken { OnOk result (child (tree_of tree.old) (chars token.now)
-        ≡ Ok (tree_of other.new)) }
-    ensures put_there { OnOk result
-        (put (tree_of tree.old) (chars token.now) (tree_of other.old) ≡ Ok (tree_of tree.new)) }
-    ensures missed { IfErr result (λ miss. child (tree_of tree.old) (chars token.now) ≡ Err miss) }
-    ensures unchanged { OnErr result (tree.new ≡ tree.old) }
-    ensures other_unchanged { OnErr result (other.new ≡ other.old) }
+/// Swaps the value at the place of a step, as [`step_place`] returns it, with another one.
+pub fn exchange(tree: &mut Tree, place: usize, other: &mut Tree)
+    requires { (token : List ℕ) × (step_place (tree_of tree.old) token ≡ Ok place) }
+    ensures taken { (token : List ℕ) → step_place (tree_of tree.old) token ≡ Ok place
+        → child (tree_of tree.old) token ≡ Ok (tree_of other.new) }
+    ensures put_there { (token : List ℕ) → step_place (tree_of tree.old) token ≡ Ok place
+        → put (tree_of tree.old) token (tree_of other.old) ≡ Ok (tree_of tree.new) }
 {
     match tree {
-        Tree::Text(_) => Err(Miss::Absent),
-        Tree::Seq(items) => exchange_element(items, token, other),
-        Tree::Map(pairs) => exchange_value(pairs, token, other),
+        Tree::Text(_) => unreachable!(),
+        Tree::Seq(items) => exchange_element(items, place, other),
+        Tree::Map(pairs) => exchange_value(pairs, place, other),
     }
 }
 
-fn exchange_element(items: &mut Vec<Tree>, token: &str, other: &mut Tree) -> Result<(), Miss>
-    ensures taken { OnOk result
-        (child (sequence (elements_of items.old.items)) (chars token.now)
-        ≡ Ok (tree_of other.new)) }
-    ensures put_there { OnOk result
-        (put (sequence (elements_of items.old.items)) (chars token.now) (tree_of other.old)
-        ≡ Ok (sequence (elements_of items.new.items))) }
-    ensures missed { IfErr result
-        (λ miss. child (sequence (elements_of items.old.items)) (chars token.now) ≡ Err miss) }
-    ensures unchanged { OnErr result (items.new ≡ items.old) }
-    ensures other_unchanged { OnErr result (other.new ≡ other.old) }
+fn exchange_element(items: &mut Vec<Tree>, place: usize, other: &mut Tree)
+    requires { (token : List ℕ)
+        × (step_place (sequence (elements_of items.old.items)) token ≡ Ok place) }
+    ensures taken { (token : List ℕ)
+        → step_place (sequence (elements_of items.old.items)) token ≡ Ok place
+        → child (sequence (elements_of items.old.items)) token ≡ Ok (tree_of other.new) }
+    ensures put_there { (token : List ℕ)
+        → step_place (sequence (elements_of items.old.items)) token ≡ Ok place
+        → put (sequence (elements_of items.old.items)) token (tree_of other.old)
+        ≡ Ok (sequence (elements_of items.new.items)) }
 {
-    let index = element_index(token, items.len())?;
-    mem::swap(&mut items[index], other);
-    Ok(())
+    mem::swap(&mut items[place], other);
 }
 
-fn exchange_value(pairs: &mut Vec<(Text, Tree)>, key: &str, other: &mut Tree) -> Result<(), Miss>
-    ensures taken { OnOk result
-        (child (mapping (members_of pairs.old.items)) (chars key.now) ≡ Ok (tree_of other.new)) }
-    ensures put_there { OnOk result
-        (put (mapping (members_of pairs.old.items)) (chars key.now) (tree_of other.old)
-        ≡ Ok (mapping (members_of pairs.new.items))) }
-    ensures missed { IfErr result
-        (λ miss. child (mapping (members_of pairs.old.items)) (chars key.now) ≡ Err miss) }
-    ensures unchanged { OnErr result (pairs.new ≡ pairs.old) }
-    ensures other_unchanged { OnErr result (other.new ≡ other.old) }
+fn exchange_value(pairs: &mut Vec<(Text, Tree)>, place: usize, other: &mut Tree)
+    requires { (token : List ℕ)
+        × (step_place (mapping (members_of pairs.old.items)) token ≡ Ok place) }
+    ensures taken { (token : List ℕ)
+        → step_place (mapping (members_of pairs.old.items)) token ≡ Ok place
+        → child (mapping (members_of pairs.old.items)) token ≡ Ok (tree_of other.new) }
+    ensures put_there { (token : List ℕ)
+        → step_place (mapping (members_of pairs.old.items)) token ≡ Ok place
+        → put (mapping (members_of pairs.old.items)) token (tree_of other.old)
+        ≡ Ok (mapping (members_of pairs.new.items)) }
 {
-    let place = key_place(pairs, key).ok_or(Miss::Absent)?;
     mem::swap(&mut pairs[place].1, other);
-    Ok(())
 }

@@ -1,5 +1,5 @@
 -- What a plan of an edit knows of its tokens: all but the last one lead to the node that the edit changes.
-use Rattle.std.proofs.Common.{◌≡◌, ℕ, ◌+◌, ◌*◌, ◌≤◌, List, [], ◌∷◌, ◌++◌, Option, length, Global, sym, ap, subst, ◌∙◌, arith}
+use Rattle.std.proofs.Common.{◌≡◌, ℕ, ◌+◌, ◌*◌, ◌≤◌, List, [], ◌∷◌, ◌++◌, length, Global, sym, ap, subst, ◌∙◌, arith}
 use Rattle.std.specs.Cow.{cow_str_bytes}
 use Rattle.std.specs.declared.borrow.CowStr.{CowStr}
 use Rattle.std.specs.List.{IsLastAndRest}
@@ -10,13 +10,12 @@ use Rattle.yaml_grammar.specs.Texts.{byte_len}
 use Rattle.yaml_grammar.specs.Trees.{Tree, depth}
 use Rattle.yaml_config.specs.Kept.{IsKept, own_limits}
 use Rattle.yaml_config.specs.Changes.{Changes, Located, shifted_change}
-use Rattle.tree_path.specs.Paths.{key_in, last_key}
 use Rattle.json_pointer.specs.Tokens.{texts}
 use Rattle.yaml_config.specs.declared.change.Change.{Change}
 use Rattle.yaml_config.specs.declared.change.Slot.{Slot}
 use Rattle.yaml_config.specs.declared.change.Slot.TheVariants.{Value}
-use Rattle.tree_path.proofs.Descents.{texts-append, last_key-parent}
-use Rattle.yaml_config.proofs.Located.{Located-within, at_from-Located}
+use Rattle.tree_path.proofs.Descents.{texts-append}
+use Rattle.yaml_config.proofs.Located.{Located-within}
 
 -- the tokens split into the last one and those before it, as texts
 pub record IsSplit (tokens : List (CowStr Global)) (last : CowStr Global) (parents : List (CowStr Global)) : Type 0 where
@@ -40,16 +39,6 @@ pub node-small : (tokens : List (List ℕ)) (slot : Slot) (t u : Tree) → Locat
 node-small tokens slot t u low kept =
     let inside = Located-within tokens Value slot t u low in
     (omega (arith, inside.1, kept.deep), omega (arith, inside.0, kept.long))
-
--- the place of the last key in that node is its place after the whole path
-pub place-known : (tokens : List (CowStr Global)) (last : CowStr Global) (parents : List (CowStr Global))
-    (place : Option ℕ) (token : List ℕ) (slot : Slot) (t u : Tree)
-    → IsSplit tokens last parents → Located (texts parents) Value t slot u → token ≡ cow_str_bytes last
-    → place ≡ key_in u (chars token) → place ≡ last_key t (texts tokens)
-place-known tokens last parents place token slot t u parts low bytes found =
-    found ∙ ap (λ b. key_in u (chars b)) bytes
-    ∙ sym (ap (last_key t) parts.path
-    ∙ last_key-parent (texts parents) (chars (cow_str_bytes last)) 1 t u (at_from-Located (texts parents) 1 Value slot t u low))
 
 -- the change that is made as far in as the tokens lead
 pub changes-shifted : (parents : List (CowStr Global)) (change shifted : Change) (t w : Tree) → length (texts parents) ≡ length parents

@@ -6,7 +6,7 @@ ghost use Rattle.yaml_grammar.specs.Trees.{Tree as Meant, depth, distinct};
 ghost use Rattle.yaml_grammar.specs.Style.{style_text};
 ghost use Rattle.yaml_data.specs.Seen.{tree_of};
 ghost use Rattle.yaml_config.specs.Changes.{Changes};
-ghost use Rattle.tree_path.specs.Paths.{last_key};
+ghost use Rattle.tree_path.specs.Steps.{ArePlaces};
 ghost use Rattle.yaml_config.specs.Edits.{tree_after_edit};
 ghost use Rattle.yaml_config.specs.Limits.{config_limits};
 ghost use Rattle.json_pointer.specs.declared.fault.PathFault.{PathFault};
@@ -17,7 +17,7 @@ use crate::limits::Limits;
 use crate::measure::{Plan, plan_delete, plan_set_sized};
 use std::alloc::Global;
 use std::mem;
-use tree_path::{Path, PathFault, delete_planned, set_planned};
+use tree_path::{Path, PathFault, StepPlaces, delete_planned, set_planned};
 use yaml_data::Tree;
 
 /// An edit of a configuration, at a path that is not empty (RFC 6901). It can be planned before anything changes, and
@@ -31,24 +31,25 @@ pub enum Edit {
 }
 
 impl Edit {
-    /// What the edit changes in the configuration's length, and the place of the path's last key. It changes nothing.
-    /// Returns the fault of the path that [`tree_path::set`] or [`tree_path::delete`] would return.
-    pub fn plan(&self, config: &Config, path: &Path) -> Result<Plan, PathFault>
+    /// What the edit changes in the configuration's length, and the places of the path's steps. It changes nothing.
+    /// Returns the fault of the path that [`tree_path::set`] or [`tree_path::delete`] would return, or
+    /// [`PathFault::OutOfMemory`].
+    pub fn plan(&self, alloc: Global, config: &Config, path: &Path) -> Result<Plan, PathFault>
         requires { 0 < length path.now }
         ensures ok { IfOk result (λ plan. (new : Meant)
             × (tree_after_edit self.now (tree_of config.now) path.now ≡ Ok new)
             × Changes plan.change (tree_of config.now) new) }
-        ensures place { IfOk result (λ plan.
-            plan.place ≡ last_key (tree_of config.now) path.now) }
-        ensures refused { IfErr result (λ fault. tree_after_edit self.now (tree_of config.now)
-            path.now ≡ Err fault) }
+        ensures places { IfOk result (λ plan.
+            ArePlaces plan.places (tree_of config.now) path.now) }
+        ensures refused { IfErr result (λ fault. (fault ≡ PathFault.OutOfMemory)
+            ⊎ (tree_after_edit self.now (tree_of config.now) path.now ≡ Err fault)) }
     {
         match self {
             Edit::Set(value) => {
                 let element = value.size(Slot::Element);
-                plan_set_sized(config, path, value.tree(), element)
+                plan_set_sized(alloc, config, path, value.tree(), element)
             }
-            Edit::Delete => plan_delete(config, path),
+            Edit::Delete => plan_delete(alloc, config, path),
         }
     }
 
@@ -66,7 +67,7 @@ impl Edit {
         }
     }
 
-    /// Makes the edit that was planned: `place` is that of the path's last key, and `bytes` is how many bytes the
+    /// Makes the edit that was planned: `places` are those of the path's steps, and `bytes` is how many bytes the
     /// configuration then has in the one style. It is then within the limits, too. Returns `OutOfMemory` if memory runs
     /// out, and then changes nothing; no other fault comes.
     pub fn perform(
@@ -74,11 +75,11 @@ impl Edit {
         alloc: Global,
         config: &mut Config,
         path: &Path,
-        place: Option<usize>,
+        places: &StepPlaces,
         bytes: u64,
     ) -> Result<(), PathFault>
         requires steps { 0 < length path.now }
-        requires place { place ≡ last_key (tree_of config.old) path.now }
+        requires places { ArePlaces places.now (tree_of config.old) path.now }
         requires leaves { (new : Meant)
             × (tree_after_edit self (tree_of config.old) path.now ≡ Ok new)
             × (depth new ≤ config_limits.depth)
@@ -92,7 +93,7 @@ impl Edit {
     {
         let before = config.style_length();
         let mut tree = mem::replace(config, Config::empty()).into_tree();
-        match self.edit_tree(alloc, &mut tree, path, place) {
+        match self.edit_tree(alloc, &mut tree, path, places) {
             Ok(()) => {
                 *config = Config::from_parts(tree, bytes);
                 Ok(())
@@ -104,16 +105,16 @@ impl Edit {
         }
     }
 
-    /// Makes the edit in a tree, where the place of the path's last key is known. A fault changes nothing.
+    /// Makes the edit in a tree, where the places of the path's steps are known. A fault changes nothing.
     fn edit_tree(
         self,
         alloc: Global,
         tree: &mut Tree,
         path: &Path,
-        place: Option<usize>,
+        places: &StepPlaces,
     ) -> Result<(), PathFault>
         requires steps { 0 < length path.now }
-        requires place { place ≡ last_key (tree_of tree.old) path.now }
+        requires places { ArePlaces places.now (tree_of tree.old) path.now }
         ensures ok { OnOk result (tree_after_edit self (tree_of tree.old) path.now
             ≡ Ok (tree_of tree.new)) }
         ensures distinct { OnOk result (distinct (tree_of tree.old) ≡ true
@@ -125,13 +126,13 @@ impl Edit {
         match self {
             Edit::Set(value) => {
                 let value = value.into_tree();
-                if let Err((_, fault)) = set_planned(alloc, tree, path, place, value) {
+                if let Err((_, fault)) = set_planned(alloc, tree, path, places, value) {
                     return Err(fault);
                 }
                 Ok(())
             }
             Edit::Delete => {
-                let _ = delete_planned(tree, path, place)?;
+                let _ = delete_planned(tree, path, places)?;
                 Ok(())
             }
         }

@@ -1,8 +1,8 @@
 //! Configurations: trees of texts that are good to keep, and edits of them.
 //!
 //! A [`Config`] is a tree within [`Limits`] in whose mappings no key comes twice; its length in the one style is kept
-//! with it. An [`Edit`] is planned before it is made: the plan has the length after the edit, in bytes, and the place
-//! of the key, so that a configuration that would be too long is never made and no key is searched for twice.
+//! with it. An [`Edit`] is planned before it is made: the plan has the length after the edit, in bytes, and the places
+//! of the path's steps, so that a configuration that would be too long is never made and no key is searched for twice.
 //! [`set_len`] and [`delete_len`] are the lengths alone.
 #![tactic(auto)]
 

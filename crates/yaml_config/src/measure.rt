@@ -1,5 +1,5 @@
 // Lengths after edits, found without making the edits.
-ghost use Rattle.std.specs.Prelude.{◌≡◌, ◌<◌, ◌≤◌, Ok, Err, IfOk, IfErr, length};
+ghost use Rattle.std.specs.Prelude.{◌≡◌, ◌⊎◌, ◌<◌, ◌≤◌, Ok, Err, IfOk, IfErr, length};
 ghost use Rattle.std.specs.Str.{chars};
 ghost use Rattle.yaml_grammar.specs.Texts.{byte_len};
 ghost use Rattle.yaml_grammar.specs.Trees.{Tree as Meant, depth};
@@ -9,13 +9,15 @@ ghost use Rattle.yaml_data.specs.OwnLimits.{own_limits};
 ghost use Rattle.yaml_data.specs.Seen.{tree_of};
 ghost use Rattle.yaml_writer.specs.Sizes.{element_size};
 ghost use Rattle.yaml_config.specs.Changes.{Changes, ChangesSmall, Located};
-ghost use Rattle.tree_path.specs.Paths.{at, set, delete, child, put, cut, key_in, last_key};
+ghost use Rattle.tree_path.specs.Paths.{at, set, delete, child, put, cut, key_in};
+ghost use Rattle.tree_path.specs.Steps.{ArePlaces, Knows, KnowsWay};
 ghost use Rattle.json_pointer.specs.Tokens.{texts};
 
 use crate::change::{Change, Slot, element_row, growth, member_row};
 use crate::config::Config;
+use std::alloc::Global;
 use std::borrow::CowStr;
-use tree_path::{Miss, Path, PathFault, child, child_at, key_in};
+use tree_path::{Known, Miss, Path, PathFault, StepPlaces, child_at, child_in};
 use yaml_data::Tree;
 use yaml_writer::{Size, style_len};
 
@@ -26,37 +28,43 @@ struct Parent<'t> {
     slot: Slot,
 }
 
-/// What an edit changes in a tree's length, and the place of the path's last key in its mapping, from 0.
-#[derive(Clone, Copy, Debug, PartialEq, Eq)]
+/// What an edit changes in a tree's length, and the places of its path's steps.
+#[derive(Drop)]
 pub struct Plan {
     /// What the edit changes.
     pub change: Change,
-    /// Where the key is, from 0; `None` if it is missing, or the last step leads into a sequence.
-    pub place: Option<usize>,
+    /// Where the steps of the path lead.
+    pub places: StepPlaces,
 }
 
 /// What [`set`](tree_path::set) changes in the length of a configuration, without setting anything, and where the
-/// path's last key is, for [`set_planned`](tree_path::set_planned). The path is not empty, and the value is the tree of
-/// a configuration. The faults are those of `set`, but for running out of memory.
+/// path's steps lead, for [`set_planned`](tree_path::set_planned). The path is not empty, and the value is the tree of
+/// a configuration. The faults are those of `set`.
 ///
-/// It takes no memory. Its time grows with the path, the value and what the value replaces, and not with the
-/// configuration, except that a key is compared with the keys of its mapping one by one.
-pub fn plan_set(config: &Config, path: &Path, value: &Tree) -> Result<Plan, PathFault>
+/// Memory is taken for the places alone. Its time grows with the path, the value and what the value replaces, and not
+/// with the configuration, except that a key is compared with the keys of its mapping one by one.
+pub fn plan_set(
+    alloc: Global,
+    config: &Config,
+    path: &Path,
+    value: &Tree,
+) -> Result<Plan, PathFault>
     requires steps { 0 < length path.now }
     requires kept { IsKept (tree_of value.now) }
     ensures ok { IfOk result (λ plan. (new : Meant)
         × (set (tree_of config.now) path.now (tree_of value.now) ≡ Ok new)
         × Changes plan.change (tree_of config.now) new) }
-    ensures place { IfOk result (λ plan.
-        plan.place ≡ last_key (tree_of config.now) path.now) }
-    ensures refused { IfErr result (λ fault. set (tree_of config.now) path.now (tree_of value.now)
-        ≡ Err fault) }
+    ensures places { IfOk result (λ plan.
+        ArePlaces plan.places (tree_of config.now) path.now) }
+    ensures refused { IfErr result (λ fault. (fault ≡ PathFault.OutOfMemory)
+        ⊎ (set (tree_of config.now) path.now (tree_of value.now) ≡ Err fault)) }
 {
-    plan_set_sized(config, path, value, Size::of_element(value))
+    plan_set_sized(alloc, config, path, value, Size::of_element(value))
 }
 
 /// The plan of [`plan_set`] for a value whose size as an element is known, so that it isn't measured.
 pub(crate) fn plan_set_sized(
+    alloc: Global,
     config: &Config,
     path: &Path,
     value: &Tree,
@@ -68,32 +76,37 @@ pub(crate) fn plan_set_sized(
     ensures ok { IfOk result (λ plan. (new : Meant)
         × (set (tree_of config.now) path.now (tree_of value.now) ≡ Ok new)
         × Changes plan.change (tree_of config.now) new) }
-    ensures place { IfOk result (λ plan.
-        plan.place ≡ last_key (tree_of config.now) path.now) }
-    ensures refused { IfErr result (λ fault. set (tree_of config.now) path.now (tree_of value.now)
-        ≡ Err fault) }
+    ensures places { IfOk result (λ plan.
+        ArePlaces plan.places (tree_of config.now) path.now) }
+    ensures refused { IfErr result (λ fault. (fault ≡ PathFault.OutOfMemory)
+        ⊎ (set (tree_of config.now) path.now (tree_of value.now) ≡ Err fault)) }
 {
     let tree = config.tree();
-    plan_set_at(tree, path.tokens(), value, element)
+    let places = StepPlaces::find(alloc, tree, path)?;
+    let change = set_change(tree, path.tokens(), Known::Found(&places), value, element)?;
+    Ok(Plan { change, places })
 }
 
 /// What [`delete`](tree_path::delete) changes in the length of a configuration, without deleting anything, and where
-/// the path's last key is, for [`delete_planned`](tree_path::delete_planned). The path is not empty. The faults are
-/// those of `delete`.
+/// the path's steps lead, for [`delete_planned`](tree_path::delete_planned). The path is not empty. The faults are
+/// those of `delete`, and [`PathFault::OutOfMemory`].
 ///
-/// It takes no memory. Its time grows with the path and with what is deleted, and not with the configuration, except
-/// that a key is compared with the keys of its mapping one by one.
-pub fn plan_delete(config: &Config, path: &Path) -> Result<Plan, PathFault>
+/// Memory is taken for the places alone. Its time grows with the path and with what is deleted, and not with the
+/// configuration, except that a key is compared with the keys of its mapping one by one.
+pub fn plan_delete(alloc: Global, config: &Config, path: &Path) -> Result<Plan, PathFault>
     requires { 0 < length path.now }
     ensures ok { IfOk result (λ plan. (new : Meant)
         × (delete (tree_of config.now) path.now ≡ Ok new)
         × Changes plan.change (tree_of config.now) new) }
-    ensures place { IfOk result (λ plan.
-        plan.place ≡ last_key (tree_of config.now) path.now) }
-    ensures refused { IfErr result (λ fault. delete (tree_of config.now) path.now ≡ Err fault) }
+    ensures places { IfOk result (λ plan.
+        ArePlaces plan.places (tree_of config.now) path.now) }
+    ensures refused { IfErr result (λ fault. (fault ≡ PathFault.OutOfMemory)
+        ⊎ (delete (tree_of config.now) path.now ≡ Err fault)) }
 {
     let tree = config.tree();
-    plan_delete_at(tree, path.tokens())
+    let places = StepPlaces::find(alloc, tree, path)?;
+    let change = delete_change(tree, path.tokens(), Known::Found(&places))?;
+    Ok(Plan { change, places })
 }
 
 /// How many bytes a configuration has in the one style after [`set`](tree_path::set), without setting anything. The
@@ -110,8 +123,9 @@ pub fn set_len(config: &Config, path: &Path, value: &Tree) -> Result<u128, PathF
     if path.steps() == 0 {
         return Ok(u128::from(style_len(value, u64::MAX).unwrap()));
     }
-    let plan = plan_set(config, path, value)?;
-    Ok(plan.change.length_after(config.style_length(), 0))
+    let element = Size::of_element(value);
+    let change = set_change(config.tree(), path.tokens(), Known::Nothing, value, element)?;
+    Ok(change.length_after(config.style_length(), 0))
 }
 
 /// How many bytes a configuration has in the one style after [`delete`](tree_path::delete), without deleting anything.
@@ -122,69 +136,71 @@ pub fn delete_len(config: &Config, path: &Path) -> Result<u128, PathFault>
         × (delete (tree_of config.now) path.now ≡ Ok new) × (bytes ≡ byte_len (style_text new))) }
     ensures refused { IfErr result (λ fault. delete (tree_of config.now) path.now ≡ Err fault) }
 {
-    let plan = plan_delete(config, path)?;
-    Ok(plan.change.length_after(config.style_length(), 0))
+    let change = delete_change(config.tree(), path.tokens(), Known::Nothing)?;
+    Ok(change.length_after(config.style_length(), 0))
 }
 
-/// The plan of setting a value at the end of the tokens. `element` is the value's size as an element.
-fn plan_set_at(
+/// What setting a value at the end of the tokens changes. `element` is the value's size as an element.
+fn set_change(
     tree: &Tree,
     tokens: &[CowStr<'_>],
+    known: Known<'_>,
     value: &Tree,
     element: Size,
-) -> Result<Plan, PathFault>
+) -> Result<Change, PathFault>
     requires steps { 0 < length tokens.now }
+    requires known { Knows known (tree_of tree.now) (texts tokens.now) }
     requires tree { IsKept (tree_of tree.now) }
     requires value { IsKept (tree_of value.now) }
     requires size { element ≡ element_size (tree_of value.now) }
-    ensures ok { IfOk result (λ plan. (new : Meant)
+    ensures ok { IfOk result (λ change. (new : Meant)
         × (set (tree_of tree.now) (texts tokens.now) (tree_of value.now) ≡ Ok new)
-        × Changes plan.change (tree_of tree.now) new) }
-    ensures place { IfOk result (λ plan.
-        plan.place ≡ last_key (tree_of tree.now) (texts tokens.now)) }
+        × Changes change (tree_of tree.now) new) }
     ensures refused { IfErr result (λ fault.
         set (tree_of tree.now) (texts tokens.now) (tree_of value.now) ≡ Err fault) }
 {
     let (last, parents) = tokens.split_last().unwrap();
-    let parent = parent_at(tree, parents)?;
+    let parent = parent_at(tree, parents, known)?;
     let token = last.as_str();
-    let place = key_in(parent.node, token);
+    let place = known.key_place(parent.node, token);
     match put_change(&parent, token, place, value, element) {
-        Ok(change) => Ok(Plan {
-            change: change.shifted(2 * parents.len() as u128),
-            place,
-        }),
+        Ok(change) => Ok(change.shifted(2 * parents.len() as u128)),
         Err(miss) => Err(miss.at_step(tokens.len())),
     }
 }
 
-/// The plan of deleting what is at the end of the tokens.
-fn plan_delete_at(tree: &Tree, tokens: &[CowStr<'_>]) -> Result<Plan, PathFault>
+/// What deleting the value at the end of the tokens changes.
+fn delete_change(
+    tree: &Tree,
+    tokens: &[CowStr<'_>],
+    known: Known<'_>,
+) -> Result<Change, PathFault>
     requires steps { 0 < length tokens.now }
+    requires known { Knows known (tree_of tree.now) (texts tokens.now) }
     requires tree { IsKept (tree_of tree.now) }
-    ensures ok { IfOk result (λ plan. (new : Meant)
+    ensures ok { IfOk result (λ change. (new : Meant)
         × (delete (tree_of tree.now) (texts tokens.now) ≡ Ok new)
-        × Changes plan.change (tree_of tree.now) new) }
-    ensures place { IfOk result (λ plan.
-        plan.place ≡ last_key (tree_of tree.now) (texts tokens.now)) }
+        × Changes change (tree_of tree.now) new) }
     ensures refused { IfErr result (λ fault. delete (tree_of tree.now) (texts tokens.now)
         ≡ Err fault) }
 {
     let (last, parents) = tokens.split_last().unwrap();
-    let parent = parent_at(tree, parents)?;
+    let parent = parent_at(tree, parents, known)?;
     let token = last.as_str();
-    let place = key_in(parent.node, token);
+    let place = known.key_place(parent.node, token);
     match cut_change(&parent, token, place) {
-        Ok(change) => Ok(Plan {
-            change: change.shifted(2 * parents.len() as u128),
-            place,
-        }),
+        Ok(change) => Ok(change.shifted(2 * parents.len() as u128)),
         Err(miss) => Err(miss.at_step(tokens.len())),
     }
 }
 
 /// The node to which the tokens lead, and its context.
-fn parent_at<'t>(tree: &'t Tree, tokens: &[CowStr<'_>]) -> Result<Parent<'t>, PathFault>
+fn parent_at<'t>(
+    tree: &'t Tree,
+    tokens: &[CowStr<'_>],
+    known: Known<'_>,
+) -> Result<Parent<'t>, PathFault>
+    requires { KnowsWay known (texts tokens.now) (tree_of tree.now) }
     ensures ok { IfOk result (λ parent.
         Located (texts tokens.now) Slot.Value (tree_of tree.now) parent.slot
         (tree_of parent.node.now)) }
@@ -193,12 +209,12 @@ fn parent_at<'t>(tree: &'t Tree, tokens: &[CowStr<'_>]) -> Result<Parent<'t>, Pa
     let mut node = tree;
     let mut slot = Slot::Value;
     for (passed, token) in tokens.iter().enumerate() {
-        let child = match child(node, token.as_str()) {
-            Ok(child) => child,
+        let place = match known.step_place(passed, node, token.as_str()) {
+            Ok(place) => place,
             Err(miss) => return Err(miss.at_step(passed + 1)),
         };
         slot = Slot::in_collection(node);
-        node = child;
+        node = child_in(node, place);
     }
     Ok(Parent { node, slot })
 }

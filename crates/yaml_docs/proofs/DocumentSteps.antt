@@ -1,12 +1,10 @@
 -- Documents at a place of a text, from what is there.
-use Rattle.std.proofs.Common.{ap, append_assoc, arith, inl, inr, refl, subst, sym, ◌<◌, ◌∙◌, ◌≡◌}
-use Rattle.std.specs.Prelude.{All, Bool, List, None, Option, Some, [], codes, drop, false, length, nat_lt, true, ℕ, ◌&&◌, ◌++◌, ◌+◌, ◌||◌, ◌∷◌}
+use Rattle.std.proofs.Common.{ap, arith, refl, subst, sym, ◌<◌, ◌∙◌, ◌≡◌}
+use Rattle.std.specs.Prelude.{Bool, List, None, Some, [], codes, drop, false, length, nat_lt, true, ℕ, ◌&&◌, ◌++◌, ◌+◌, ◌∷◌}
 use Rattle.std.specs.Str.{IsCharBoundary, IsUtf8}
-use Rattle.std.proofs.lemmas.Bool.{and_from, and_parts, false≢true}
+use Rattle.std.proofs.lemmas.Bool.{and_from, and_parts}
 use Rattle.std.proofs.lemmas.Bool.Decides.{nat_tests}
-use Rattle.std.proofs.lemmas.List.{append-nil, map-append}
-use Rattle.std.proofs.lemmas.List.Elements.{All-append, All-cons, All-nil}
-use Rattle.yaml_chars.specs.Places.{between, rest}
+use Rattle.yaml_chars.specs.Places.{rest}
 use Rattle.yaml_chars.proofs.Places.{char_at}
 use Rattle.yaml_grammar.specs.BlockNodes.{Node, node_events}
 use Rattle.yaml_grammar.specs.BlockScalars.{spaces_before}
@@ -14,9 +12,9 @@ use Rattle.yaml_grammar.specs.Events as grammar
 use Rattle.yaml_grammar.specs.Events.{as_document, document_end, omitted_style, scalar_event}
 use Rattle.yaml_grammar.specs.Separation.{LineEnd}
 use Rattle.yaml_grammar.specs.Streams.{Document, Explicit, bare, content, directed, explicit, explicit_events, nothing}
-use Rattle.yaml_grammar.specs.Texts.{byte_len, is_empty, marker}
+use Rattle.yaml_grammar.specs.Texts.{is_empty, marker}
 use Rattle.yaml_events.specs.Borrowed.{BorrowsPlain}
-use Rattle.yaml_events.specs.Meant.{event_of, events_of}
+use Rattle.yaml_events.specs.Meant.{event_of}
 use Rattle.yaml_events.specs.EventPlaces.{line_starts}
 use Rattle.yaml_events.specs.declared.event.Event.{Event}
 use Rattle.yaml_events.specs.declared.event.Event.TheVariants.{DocEnd, DocStart}
@@ -27,7 +25,7 @@ use Rattle.yaml_recognizers.specs.Comments.{all_comments, closes_line}
 use Rattle.yaml_recognizers.specs.Ends.{block_node_stops}
 use Rattle.yaml_recognizers.specs.Reading.{Read, on}
 use Rattle.yaml_recognizers.specs.Recognizers.{document_node_at}
-use Rattle.yaml_recognizers.specs.Streams.{explicit_with, marker_of, order_mark, read_directed, read_explicit, suffix_with}
+use Rattle.yaml_recognizers.specs.Streams.{explicit_with, marker_of, read_directed, read_explicit, suffix_with}
 use Rattle.yaml_recognizers.proofs.Documents.StreamsBegin.{marked}
 use Rattle.yaml_recognizers.proofs.Documents.StreamsComplete.{begins_split}
 use Rattle.yaml_scan.proofs.LineStarts.{starts_after}

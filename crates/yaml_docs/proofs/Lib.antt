@@ -10,3 +10,4 @@ pub mod StreamSteps
 pub mod Readings
 pub mod CutLines
 pub mod NodesInBytes
+pub mod PieceReads

@@ -1,19 +1,19 @@
 -- The place after a byte order mark at the start of a text.
 use Rattle.std.proofs.Common.{ap, arith, inl, inr, refl, subst, sym, ◌∙◌, ◌≡◌}
-use Rattle.std.specs.Prelude.{Bool, List, None, Option, Some, [], false, true, ℕ, ◌++◌, ◌==◌, ◌∷◌}
-use Rattle.std.specs.Str.{IsCharBoundary, IsUtf8, chars}
+use Rattle.std.specs.Prelude.{List, None, Option, Some, [], false, true, ℕ, ◌==◌, ◌∷◌}
+use Rattle.std.specs.Str.{IsUtf8, chars}
 use Rattle.std.proofs.lemmas.Bool.{cases_Bool, eqb-true}
 use Rattle.std.proofs.lemmas.Str.{IsCharBoundary-start}
-use Rattle.yaml_chars.specs.Places.{between, rest}
-use Rattle.yaml_grammar.specs.Texts.{byte_len, first, starts_line}
-use Rattle.yaml_events.specs.EventPlaces.{line_starts, without_mark}
+use Rattle.yaml_chars.specs.Places.{rest}
+use Rattle.yaml_grammar.specs.Texts.{first, starts_line}
+use Rattle.yaml_events.specs.EventPlaces.{without_mark}
 use Rattle.yaml_recognizers.specs.CanonicalStreams.{Section}
 use Rattle.yaml_recognizers.specs.Recognizers.{sections_at}
 use Rattle.yaml_recognizers.specs.Streams.{order_mark, with_mark}
 use Rattle.yaml_recognizers.proofs.Meanings.Steps.{stream_steps}
 use Rattle.yaml_scan.proofs.LineStarts.{starts_at_beginning}
 use Rattle.yaml_docs.specs.Documents.{IsMarkEnd}
-use Rattle.yaml_docs.specs.Sections.{flat_meaning, meaning_from, sections_meaning, stream_meaning}
+use Rattle.yaml_docs.specs.Sections.{flat_meaning, sections_meaning, stream_meaning}
 use Rattle.yaml_docs.proofs.TextPlaces.{StandsUpTo, place_after}
 
 unmarked_meaning : (ps : Option (List Section)) → flat_meaning (with_mark false ps) ≡ sections_meaning 0 ps

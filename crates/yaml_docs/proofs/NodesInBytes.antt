@@ -1,14 +1,12 @@
 -- Each node of a presentation of a whole text is at its place in the bytes of the text.
 use Rattle.std.proofs.Common.{ap, append_assoc, refl, subst, sym, zero-add, ◌∙◌, ◌≡◌}
-use Rattle.std.specs.Prelude.{Bool, List, None, Option, Some, [], drop, false, true, ℕ, ◌++◌, ◌+◌, ◌==◌, ◌∷◌, if◌then◌else◌}
+use Rattle.std.specs.Prelude.{Bool, List, None, Option, Some, [], drop, false, true, ℕ, ◌++◌, ◌+◌, ◌∷◌, if◌then◌else◌}
 use Rattle.std.specs.List.{All}
 use Rattle.std.specs.Str.{IsCharBoundary, IsUtf8, chars}
-use Rattle.std.proofs.lemmas.Bool.{cases_Bool}
-use Rattle.std.proofs.Math.Logic.{◌⊎◌, inl, inr}
 use Rattle.std.proofs.lemmas.List.{append_cancel_right}
 use Rattle.std.proofs.lemmas.Str.{IsCharBoundary-start}
 use Rattle.yaml_chars.specs.Places.{rest}
-use Rattle.yaml_chars.proofs.Places.{between-nil, rest-start}
+use Rattle.yaml_chars.proofs.Places.{rest-start}
 use Rattle.yaml_grammar.specs.BlockNodes.{node_text}
 use Rattle.yaml_grammar.specs.FlowNodes.{flow_text}
 use Rattle.yaml_grammar.specs.Reads.{Presents}

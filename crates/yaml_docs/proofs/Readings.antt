@@ -1,6 +1,6 @@
 -- What bytes read as, from what the recognizer of streams finds in their characters.
-use Rattle.std.proofs.Common.{ap, refl, subst, sym, ◌∙◌, ◌≡◌, ◌≤◌}
-use Rattle.std.specs.Prelude.{Bool, List, None, Option, Some, length, ℕ, ◌∷◌, []}
+use Rattle.std.proofs.Common.{ap, refl, subst, sym, ◌∙◌, ◌≡◌}
+use Rattle.std.specs.Prelude.{List, None, Option, Some, length, ℕ}
 use Rattle.std.specs.Str.{IsUtf8, chars}
 use Rattle.yaml_chars.proofs.Places.{code_points-chars}
 use Rattle.yaml_grammar.specs.Events.{Event}

@@ -5,7 +5,7 @@ use Rattle.yaml_grammar.specs.Texts.{first}
 use Rattle.yaml_recognizers.specs.CanonicalComments.{is_line_end}
 use Rattle.yaml_recognizers.specs.Recognizers.{section_at}
 use Rattle.yaml_recognizers.specs.Streams.{marker_of, percent, read_section}
-use Rattle.yaml_docs.specs.Sections.{BeginsSection, read_as}
+use Rattle.yaml_docs.specs.Sections.{BeginsSection}
 use Rattle.yaml_docs.specs.declared.documents.Section.TheVariants.{Suffix, Explicit, Directed, Bare}
 
 -- at `...` there is a suffix

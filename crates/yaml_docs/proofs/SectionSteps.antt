@@ -1,24 +1,16 @@
 -- What a section at the start of a text adds to the meaning of the sections from there on.
-use Rattle.std.proofs.Common.{ap, arith, append-nil, inl, inr, refl, subst, sym, ◌∙◌, ◌≡◌, ◌≤◌}
-use Rattle.std.proofs.Math.Nat.{add-zero, add_assoc}
-use Rattle.std.specs.Prelude.{Bool, List, None, Option, Some, [], false, length, not, true, ℕ, ◌++◌, ◌+◌, ◌∷◌}
-use Rattle.std.proofs.lemmas.Bool.{cases_Bool, false≢true}
-use Rattle.yaml_grammar.specs.Separation.{LineEnd, comments_text, line_end_text}
-use Rattle.yaml_grammar.specs.Texts.{byte_len, first, is_empty, starts_line}
+use Rattle.std.proofs.Common.{ap, refl, subst, sym, ◌∙◌, ◌≡◌, ◌≤◌}
+use Rattle.std.specs.Prelude.{Bool, List, None, Option, Some, [], false, length, true, ℕ, ◌++◌, ◌+◌, ◌∷◌}
+use Rattle.yaml_grammar.specs.Texts.{byte_len, is_empty, starts_line}
 use Rattle.yaml_recognizers.specs.BlockScalars.{read_block}
-use Rattle.yaml_recognizers.specs.CanonicalComments.{is_line_end}
-use Rattle.yaml_recognizers.specs.CanonicalStreams.{Section, canonical_section, line, opens, section_events, section_text, sections_events}
-use Rattle.yaml_recognizers.specs.Comments.{all_comments, more_comments, read_line_end}
+use Rattle.yaml_recognizers.specs.CanonicalStreams.{Section, opens, section_events, section_text}
 use Rattle.yaml_recognizers.specs.FlowScalars.{read_scalar}
-use Rattle.yaml_recognizers.specs.Reading.{Read}
 use Rattle.yaml_recognizers.specs.Recognizers.{document_node_at, section_at, sections_at}
-use Rattle.yaml_recognizers.specs.Streams.{more_sections, section_and, read_section}
+use Rattle.yaml_recognizers.specs.Streams.{section_and}
 use Rattle.yaml_recognizers.proofs.Block.BlockNodesSound.{NodeOf}
 use Rattle.yaml_recognizers.proofs.Block.BlockNodesWhole.{whole_node_sound}
 use Rattle.yaml_recognizers.proofs.BlockScalars.BlockScalarFacts.{blocks_read}
-use Rattle.yaml_recognizers.proofs.Separation.CommentsDepth.{comments_step}
-use Rattle.yaml_recognizers.proofs.Separation.CommentsSound.{LineOf, all_sound, line_is_end, line_sound}
-use Rattle.yaml_recognizers.proofs.Basics.LineStarts.{byte_len_joined, line_not_end, line_or_end, line_starts}
+use Rattle.yaml_recognizers.proofs.Basics.LineStarts.{line_not_end, line_or_end}
 use Rattle.yaml_recognizers.proofs.Basics.Reading.{Sound, sound_is}
 use Rattle.yaml_recognizers.proofs.Scalars.ScalarsInNodes.{reads_scalars}
 use Rattle.yaml_recognizers.proofs.Meanings.Steps.{sections_steps}

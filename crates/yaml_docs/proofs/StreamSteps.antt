@@ -1,11 +1,10 @@
 -- Reading a stream from one place to the next: the events so far, and those of the sections that are left.
-use Rattle.std.proofs.Common.{ap, append-nil, append_assoc, arith, inl, inr, length, length-append, refl, subst, sym, ◌<◌, ◌∙◌, ◌≡◌, ◌≤◌}
-use Rattle.std.proofs.Math.Nat.{add-zero, add_assoc}
+use Rattle.std.proofs.Common.{ap, append-nil, append_assoc, arith, inl, inr, length, refl, subst, sym, ◌<◌, ◌∙◌, ◌≡◌, ◌≤◌}
+use Rattle.std.proofs.Math.Nat.{add-zero}
 use Rattle.std.proofs.Math.Logic.{◌⊎◌}
-use Rattle.std.specs.Prelude.{All, Bool, List, None, Option, Some, [], drop, false, true, ℕ, ◌++◌, ◌+◌, ◌||◌, ◌∷◌}
-use Rattle.std.specs.Str.{IsCharBoundary, IsUtf8, chars}
+use Rattle.std.specs.Prelude.{All, Bool, List, None, Option, Some, [], drop, false, true, ℕ, ◌++◌, ◌+◌, ◌∷◌}
+use Rattle.std.specs.Str.{IsUtf8, chars}
 use Rattle.std.proofs.lemmas.Bool.{cases_lt, false≢true, or_left, or_right}
-use Rattle.std.proofs.lemmas.List.{map-append}
 use Rattle.std.proofs.lemmas.List.Elements.{All-append, All-nil}
 use Rattle.std.proofs.lemmas.Str.{len_utf8_bounds}
 use Rattle.yaml_chars.specs.Places.{between, rest}
@@ -15,7 +14,7 @@ use Rattle.yaml_grammar.specs.Separation.{LineEnd, comments_text, line_end_text}
 use Rattle.yaml_grammar.specs.Streams.{bare, explicit}
 use Rattle.yaml_grammar.specs.Texts.{byte_len, first, is_empty, starts_line}
 use Rattle.yaml_events.specs.Borrowed.{BorrowsPlain}
-use Rattle.yaml_events.specs.Meant.{event_of, events_of}
+use Rattle.yaml_events.specs.Meant.{events_of}
 use Rattle.yaml_events.specs.EventPlaces.{line_starts}
 use Rattle.yaml_events.specs.declared.event.Event.{Event}
 use Rattle.yaml_recognizers.specs.CanonicalStreams.{line, opens, section_events, section_text}
@@ -24,7 +23,7 @@ use Rattle.yaml_recognizers.specs.CanonicalComments.{is_line_end}
 use Rattle.yaml_recognizers.specs.Comments.{all_comments, closes_line, more_comments, read_line_end}
 use Rattle.yaml_recognizers.specs.Reading.{Read}
 use Rattle.yaml_recognizers.specs.Recognizers.{document_node_at, section_at, sections_at}
-use Rattle.yaml_recognizers.specs.Streams.{order_mark, read_directed, read_explicit, read_section, suffix_with}
+use Rattle.yaml_recognizers.specs.Streams.{order_mark, read_directed, read_explicit, read_section}
 use Rattle.yaml_recognizers.proofs.Separation.CommentsDepth.{comments_step}
 use Rattle.yaml_recognizers.proofs.Separation.CommentsSound.{LineOf, all_sound, line_is_end, line_sound}
 use Rattle.yaml_recognizers.proofs.Basics.LineStarts.{byte_len_joined, line_or_end, line_starts as line_start}

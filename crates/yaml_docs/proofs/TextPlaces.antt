@@ -1,12 +1,11 @@
 -- Places of a text by what is between them.
 use Rattle.std.proofs.Common.{ap, arith, inl, inr, length, length-append, length-drop, refl, subst, sym, ◌<◌, ◌∙◌, ◌≡◌, ◌≤◌}
 use Rattle.std.proofs.Math.Logic.{◌⊎◌}
-use Rattle.std.specs.Prelude.{Bool, List, [], drop, false, true, ℕ, ◌++◌, ◌+◌, ◌==◌, ◌∷◌}
+use Rattle.std.specs.Prelude.{List, [], drop, false, true, ℕ, ◌++◌, ◌+◌, ◌==◌, ◌∷◌}
 use lib.Utf8.{encode, encodes}
 use Rattle.std.specs.Str.{IsCharBoundary, IsUtf8, chars}
-use Rattle.std.proofs.lemmas.Bool.{cases_Bool, cases_lt, false≢true}
+use Rattle.std.proofs.lemmas.Bool.{cases_Bool, false≢true}
 use Rattle.std.proofs.lemmas.Str.{IsCharBoundary-start, length-encode}
-use Rattle.yaml_chars.specs.Classes.{line_break}
 use Rattle.yaml_chars.specs.Places.{between, rest}
 use Rattle.yaml_chars.proofs.Places.{IsSplit, between-append, encodes-rest, rest-between, same_place, split_at}
 use Rattle.yaml_grammar.specs.Texts.{byte_len, first, is_empty, starts_line}

@@ -1,8 +1,8 @@
 -- Words of ASCII characters at a place of a text.
-use Rattle.std.proofs.Common.{ap, arith, inl, inr, length, refl, subst, sym, ◌<◌, ◌∙◌, ◌≡◌}
-use Rattle.std.specs.Prelude.{Bool, List, [], drop, false, nat_lt, suc, true, zero, ℕ, ◌++◌, ◌==◌, ◌∷◌}
+use Rattle.std.proofs.Common.{ap, arith, inl, inr, length, refl, sym, ◌∙◌, ◌≡◌}
+use Rattle.std.specs.Prelude.{Bool, List, [], drop, nat_lt, suc, true, zero, ℕ, ◌++◌, ◌==◌, ◌∷◌}
 use lib.Utf8.{encodes}
-use Rattle.std.specs.Str.{IsAscii, IsCharBoundary, IsUtf8, chars}
+use Rattle.std.specs.Str.{IsAscii, IsUtf8, chars}
 use Rattle.std.proofs.lemmas.Bool.{and_from, and_parts, cases_Bool, false≢true, ltb-true}
 use Rattle.std.proofs.lemmas.Str.{IsUtf8-from_ascii, chars-IsAscii, chars-append, encodes-IsAscii, encodes-append, encodes-chars}
 use Rattle.std.specs.List.{list_all}

@@ -1,5 +1,5 @@
 -- Cutting bytes that come in parts after each closing line.
-use Rattle.std.specs.Prelude.{◌≡◌, ℕ, ◌+◌, ◌≤◌, Bool, true, false, if◌then◌else◌, List, ◌++◌, length, take}
+use Rattle.std.specs.Prelude.{◌≡◌, ℕ, ◌+◌, ◌≤◌, Bool, true, false, List, ◌++◌, length, take}
 use Rattle.std.specs.Coded.{Coded, code_by, coded×, coded_ℕ, coded_list}
 use Rattle.std.proofs.Common.{refl}
 use Rattle.yaml_grammar.specs.Closings.{ClosesAt, ClosesOnce}

@@ -1,5 +1,5 @@
 -- Documents of a stream at places of a text.
-use Rattle.std.specs.Prelude.{◌≡◌, ℕ, ◌-◌, ◌<◌, ◌≤◌, Bool, true, false, List, Some, None, drop}
+use Rattle.std.specs.Prelude.{◌≡◌, ℕ, ◌<◌, true, false, List, Some, None, drop}
 use Rattle.std.proofs.Math.Logic.{◌⊎◌}
 use Rattle.std.specs.Str.{IsCharBoundary, chars}
 use Rattle.yaml_chars.specs.Places.{rest}

@@ -6,3 +6,4 @@ pub mod Directives
 pub mod Cutting
 pub mod LineBegun
 pub mod NodesInBytes
+pub mod PieceReading

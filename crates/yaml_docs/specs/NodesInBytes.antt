@@ -1,5 +1,5 @@
 -- The nodes of a presentation of a whole text, at their places in its bytes.
-use Rattle.std.specs.Prelude.{◌≡◌, ℕ, true, List}
+use Rattle.std.specs.Prelude.{ℕ, List}
 use Rattle.std.specs.List.{All}
 use Rattle.std.specs.Str.{IsCharBoundary, IsUtf8, chars}
 use Rattle.yaml_chars.specs.Places.{rest}

@@ -9,13 +9,37 @@ use Rattle.std.specs.Str.{chars}
 use Rattle.yaml_chars.specs.Classes.{in_range, is_in, printable}
 use Rattle.yaml_chars.specs.Signs.{line_feed, no_break_space, line_separator, paragraph_separator, byte_order_mark}
 use Rattle.std.specs.List.{list_all}
-use Rattle.yaml_grammar.specs.Style.{word_char, lower, feeds_at_end, shown_or_feed}
+use Rattle.yaml_grammar.specs.Style.{letter, word_char, plain_in_style, special_words, is_among, lower, feeds_at_end, shown_or_feed}
+use Rattle.yaml_grammar.specs.Texts.{first}
 use Rattle.yaml_writer.specs.Runs.{ascii_in_lines}
-use Rattle.yaml_data.proofs.CharacterLemmas.{every-bytes, every-push}
+use Rattle.yaml_data.proofs.CharacterLemmas.{every-IsAscii, chars-same, every-bytes, every-push}
 
 -- a character of a word is ASCII
 pub word_char-below : (c : ℕ) → word_char c ≡ true → c < 128
 word_char-below c e = grind (arith, nat_tests)
+
+third-false : (a b c : Bool) → (a && b && false && c) ≡ false
+third-false true true c = refl
+third-false true false c = refl
+third-false false b c = refl
+
+second-false : (a b c : Bool) → (a && false && b && c) ≡ false
+second-false true b c = refl
+second-false false b c = refl
+
+-- a text of more than 128 bytes is not plain: its characters are fewer only if one of them is not ASCII
+pub long-not-plain : (bs : List ℕ) → IsUtf8 bs → 128 < length bs → plain_in_style (chars bs) ≡ false
+long-not-plain bs utf8 long =
+    let cs = chars bs in
+    let rest = not (is_among (lower cs) special_words) in
+    let P : Bool → Type 0 = λ b. list_all word_char cs ≡ b → plain_in_style cs ≡ false in
+    (elim (list_all word_char cs) as P [
+      | true ↦ λ all.
+          let same : cs ≡ bs = chars-same bs utf8 (every-IsAscii word_char word_char-below cs all) in
+          let many : nat_le (length cs) 128 ≡ false = ap (λ ds. nat_le (length ds) 128) same ∙ grind (arith, nat_tests, long) in
+          ap (λ b. first letter cs && list_all word_char cs && b && rest) many ∙ third-false (first letter cs) (list_all word_char cs) rest
+      | false ↦ λ none. ap (λ b. first letter cs && b && nat_le (length cs) 128 && rest) none ∙ second-false (first letter cs) (nat_le (length cs) 128) rest
+    ]) refl
 
 ascii_in_lines-below : (c : ℕ) → ascii_in_lines c ≡ true → c < 128
 ascii_in_lines-below c e = grind (arith, nat_tests)

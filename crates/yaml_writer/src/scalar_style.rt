@@ -68,7 +68,7 @@ pub(crate) fn is_shown(c: char) -> bool
 fn is_plain_in_style(text: &str) -> bool
     ensures { result ≡ plain_in_style (chars text.now) }
 {
-    is_word(text) && text.len() <= 128 && !is_special(text)
+    text.len() <= 128 && is_word(text) && !is_special(text)
 }
 
 /// Whether a text is a letter and then word characters, all of them ASCII.

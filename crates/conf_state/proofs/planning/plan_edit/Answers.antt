@@ -36,5 +36,5 @@ returns-clause-ok c =
       long = omega (arith, alone, c.style_length.ensures, c.length_after-bytes.ensures, c.if-bytes-from.false);
       bytes = omega (arith, alone, c.style_length.ensures, c.length_after-bytes.ensures);
       changes = made.2;
-      place = c.in_ok-plan.ensures.place;
+      places = c.in_ok-plan.ensures.places;
     }

@@ -1,13 +1,14 @@
-use Rattle.std.proofs.Common.{◌≡◌, ◌-◌, length, take, sym, ap, ap₂, subst, ◌∙◌, refl, arith}
+use Rattle.std.proofs.Common.{◌≡◌, ◌-◌, length, take, Ok, sym, ap, ap₂, subst, ◌∙◌, refl, arith}
 use Rattle.std.specs.Cow.{cow_str_bytes}
+use Rattle.std.specs.Result.{IsOk}
 use Rattle.std.specs.Str.{chars}
 use Rattle.yaml_data.specs.Seen.{tree_of}
 use Rattle.tree_path.specs.Paths.{child, put}
-use Rattle.tree_path.specs.Steps.{Lowered, Rebuilt}
+use Rattle.tree_path.specs.Steps.{step_place, KnowsStep, Lowered, Rebuilt}
 use Rattle.json_pointer.specs.Tokens.{texts}
-use Rattle.tree_path.proofs.Descents.{texts-back, Lowered-there, Rebuilt-step, IsOk-there}
+use Rattle.tree_path.proofs.Descents.{texts-back, at_from-Lowered, Lowered-pop, Lowered-there, Rebuilt-step}
+use Rattle.tree_path.proofs.Ways.{knows-step, knows-above, place-there}
 use Rattle.std.proofs.lemmas.List.{take_all}
-use Rattle.std.proofs.lemmas.Result.{IfOk-at_ok}
 use Rattle.tree_path.proofs.edit.ascend.Goals as goal
 
 pub loop-left-init : goal.loop-left-init
@@ -21,16 +22,45 @@ loop-left-init c =
       ),
     )
 
-pub unwrap-requires : goal.unwrap-requires
-unwrap-requires c =
+pub step_place-requires : goal.step_place-requires
+step_place-requires c =
+    let known = c.args.known in
+    let tokens = c.args.tokens.now in
+    let left = c.loop-left.left in
+    let token = c.index-tokens-left.result in
+    let text = chars (cow_str_bytes token) in
+    let rest = texts (take (left - 1) tokens) in
+    let t = c.requires.0 in
+    let a = c.requires.1 in
+    let above = tree_of c.loop-left.above in
+    let l = c.loop-left.invariant.1 t a c.requires.2 c.requires.3 in
+    let low = subst (λ ts. Lowered ts t a l.0 above) (texts-back tokens left token c.loop-left-test.true c.loop-left.invariant.0 c.index-tokens-left.is) l.1 in
+    let p = Lowered-pop rest text t a l.0 above low in
+    let step = knows-step known tokens (left - 1) token t p.0 (omega (arith, c.loop-left-test.true, c.loop-left.invariant.0)) c.index-tokens-left.is c.requires.4
+    (at_from-Lowered rest 1 t a p.0 p.1 p.2) in
+    subst (λ b. KnowsStep known (left - 1) (tree_of c.swap.new.x) (chars b)) (sym c.as_str.ensures.value)
+    (subst (λ x. KnowsStep known (left - 1) (tree_of x) text) (sym c.swap.ensures.x_after) (knows-above known (left - 1) p.0 above l.0 p.1 text p.3 p.4 step))
+
+pub unwrap-place-requires : goal.unwrap-place-requires
+unwrap-place-requires c =
+    let tokens = c.args.tokens.now in
+    let left = c.loop-left.left in
     let token = chars (cow_str_bytes c.index-tokens-left.result) in
-    let rest = take (c.loop-left.left - 1) c.args.tokens.now in
-    let l = c.loop-left.invariant.1 c.requires.0 c.requires.1 c.requires.2 c.requires.3 in
-    let low = subst (λ ts. Lowered ts c.requires.0 c.requires.1 l.0 (tree_of c.loop-left.above))
-    (texts-back c.args.tokens.now c.loop-left.left c.index-tokens-left.result c.loop-left-test.true c.loop-left.invariant.0 c.index-tokens-left.is) l.1 in
-    let there = Lowered-there (texts rest) token c.requires.0 c.requires.1 l.0 (tree_of c.loop-left.above) low in
-    IsOk-there c.exchange.result (child (tree_of c.swap.new.x) (chars c.as_str.result.now)) there.0
-    (ap₂ (λ x bytes. child (tree_of x) (chars bytes)) c.swap.ensures.x_after c.as_str.ensures.value ∙ there.1) c.exchange.ensures.missed
+    let rest = texts (take (left - 1) tokens) in
+    let t = c.requires.0 in
+    let a = c.requires.1 in
+    let above = tree_of c.loop-left.above in
+    let l = c.loop-left.invariant.1 t a c.requires.2 c.requires.3 in
+    let low = subst (λ ts. Lowered ts t a l.0 above)
+    (texts-back tokens left c.index-tokens-left.result c.loop-left-test.true c.loop-left.invariant.0 c.index-tokens-left.is) l.1 in
+    let there = Lowered-there rest token t a l.0 above low in
+    let place = place-there above there.0 token there.1 in
+    subst IsOk
+    (sym (c.step_place.ensures ∙ ap₂ (λ x bytes. step_place (tree_of x) (chars bytes)) c.swap.ensures.x_after c.as_str.ensures.value ∙ place.1))
+    refl
+
+pub exchange-requires : goal.exchange-requires
+exchange-requires c = (chars c.as_str.result.now, sym c.step_place.ensures ∙ c.unwrap-place.ensures)
 
 pub loop-left-preserved : goal.loop-left-preserved
 loop-left-preserved c = (
@@ -42,8 +72,9 @@ loop-left-preserved c = (
       let split = texts-back c.args.tokens.now c.loop-left.left c.index-tokens-left.result c.loop-left-test.true c.loop-left.invariant.0 c.index-tokens-left.is in
       let l = c.loop-left.invariant.1 t a u low in
       let below = subst (λ ts. Lowered ts t a l.0 (tree_of c.loop-left.above)) split l.1 in
-      let found = IfOk-at_ok _ c.unwrap.ensures c.exchange.ensures.taken in
-      let put_there = IfOk-at_ok _ c.unwrap.ensures c.exchange.ensures.put_there in
+      let place = sym c.step_place.ensures ∙ c.unwrap-place.ensures in
+      let found = c.exchange.ensures.taken (chars c.as_str.result.now) place in
+      let put_there = c.exchange.ensures.put_there (chars c.as_str.result.now) place in
       let step = Rebuilt-step (texts rest) token t a l.0 (tree_of c.loop-left.above) (tree_of c.loop-left.tree) (tree_of c.exchange.new.other) (tree_of c.exchange.new.tree) below
       (sym (ap₂ (λ x bytes. child (tree_of x) (chars bytes)) c.swap.ensures.x_after same) ∙ found)
       (sym (ap₂ (λ x bytes. put (tree_of x) (chars bytes) (tree_of c.swap.new.y)) c.swap.ensures.x_after same

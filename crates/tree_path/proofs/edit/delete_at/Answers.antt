@@ -5,11 +5,12 @@ use Rattle.std.specs.Str.{chars}
 use Rattle.std.proofs.lemmas.List.{length-map}
 use Rattle.std.proofs.lemmas.Result.{err_from_is_err_and}
 use Rattle.yaml_data.specs.Seen.{tree_of}
-use Rattle.tree_path.specs.Paths.{child, cut, key_in, last_key}
-use Rattle.tree_path.specs.Steps.{Knows, Rebuilt}
+use Rattle.tree_path.specs.Paths.{child, cut, key_in}
+use Rattle.tree_path.specs.Steps.{KnowsLast, Rebuilt}
 use Rattle.json_pointer.specs.Tokens.{texts}
-use Rattle.tree_path.proofs.Descents.{texts-append, Rebuilt-same, last_key-parent, at_from-Lowered}
+use Rattle.tree_path.proofs.Descents.{texts-append, Rebuilt-same, at_from-Lowered}
 use Rattle.tree_path.proofs.Edits.{delete-Rebuilt, delete-missed, delete-refused, at-last}
+use Rattle.tree_path.proofs.Ways.{knows-way, knows-last}
 use Rattle.tree_path.proofs.edit.delete_at.Goals as goal
 
 pub returns-in_err-descend-clause-refused : goal.returns-in_err-descend-clause-refused
@@ -65,14 +66,34 @@ returns-clause-unchanged c =
     Rebuilt-same parents t _ u (tree_of c.descend.new.above) (tree_of c.ascend.new.tree) low
     (subst (λ x. Rebuilt parents t (tree_of x) (tree_of c.ascend.new.tree)) c.in-Err.ensures.unchanged (c.ascend.ensures t _ u low).0)
 
-pub place_in-place-requires : goal.place_in-place-requires
-place_in-place-requires c =
+pub descend-requires : goal.descend-requires
+descend-requires c =
+    let cases = rw c.unwrap.ensures at c.split_last.ensures.cases in
+    let last = c.unwrap.result.0.now in
+    let parents = c.unwrap.result.1.now in
+    knows-way c.args.known (tree_of c.args.tree.now) (texts c.args.tokens.now) (texts parents) (chars (cow_str_bytes last))
+    (ap texts cases.0 ∙ texts-append parents (last ∷ [])) c.requires.known
+
+pub key_place-place-requires : goal.key_place-place-requires
+key_place-place-requires c =
     let cases = rw c.unwrap.ensures at c.split_last.ensures.cases in
     let last = c.unwrap.result.0.now in
     let parents = c.unwrap.result.1.now in
     let t = tree_of c.args.tree.now in
     let u = tree_of c.descend.new.tree in
-    subst (Knows c.args.known)
-    (ap (last_key t) (ap texts cases.0 ∙ texts-append parents (last ∷ []))
-    ∙ last_key-parent (texts parents) (chars (cow_str_bytes last)) 1 t u (at_from-Lowered (texts parents) 1 t _ u (tree_of c.descend.new.above) c.in_ok-descend.ensures.ok)
-    ∙ ap (λ b. key_in u (chars b)) (sym c.as_str-token.ensures.value)) c.requires.known
+    subst (λ b. KnowsLast c.args.known (key_in u (chars b))) (sym c.as_str-token.ensures.value)
+    (knows-last c.args.known t u (texts c.args.tokens.now) (texts parents) (chars (cow_str_bytes last)) (ap texts cases.0 ∙ texts-append parents (last ∷ []))
+    (at_from-Lowered (texts parents) 1 t _ u (tree_of c.descend.new.above) c.in_ok-descend.ensures.ok) c.requires.known)
+
+pub ascend-requires : goal.ascend-requires
+ascend-requires c =
+    let cases = rw c.unwrap.ensures at c.split_last.ensures.cases in
+    let last = c.unwrap.result.0.now in
+    let parents = c.unwrap.result.1.now in
+    let t = tree_of c.args.tree.now in (
+      t,
+      _,
+      tree_of c.descend.new.tree,
+      c.in_ok-descend.ensures.ok,
+      knows-way c.args.known t (texts c.args.tokens.now) (texts parents) (chars (cow_str_bytes last)) (ap texts cases.0 ∙ texts-append parents (last ∷ [])) c.requires.known,
+    )

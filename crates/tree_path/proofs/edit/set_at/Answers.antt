@@ -5,11 +5,12 @@ use Rattle.std.specs.Str.{chars}
 use Rattle.std.proofs.lemmas.List.{length-map}
 use Rattle.std.proofs.lemmas.Result.{on_ok_weaker, on_err_weaker, IfErr-weaker}
 use Rattle.yaml_data.specs.Seen.{tree_of}
-use Rattle.tree_path.specs.Paths.{put, at_step, key_in, last_key}
-use Rattle.tree_path.specs.Steps.{Knows, Rebuilt}
+use Rattle.tree_path.specs.Paths.{put, at_step, key_in}
+use Rattle.tree_path.specs.Steps.{KnowsLast, Rebuilt}
 use Rattle.json_pointer.specs.Tokens.{texts}
-use Rattle.tree_path.proofs.Descents.{texts-append, Rebuilt-same, last_key-parent, at_from-Lowered}
+use Rattle.tree_path.proofs.Descents.{texts-append, Rebuilt-same, at_from-Lowered}
 use Rattle.tree_path.proofs.Edits.{IfOk-default, set-Rebuilt, set-missed, set-refused}
+use Rattle.tree_path.proofs.Ways.{knows-way, knows-last}
 use Rattle.tree_path.proofs.edit.set_at.Goals as goal
 
 pub returns-in-Err-clause-refused : goal.returns-in-Err-clause-refused
@@ -63,14 +64,29 @@ returns-clause-unchanged c =
     (subst (λ x. Rebuilt parents t x (tree_of c.ascend.new.tree)) same (c.ascend.ensures t _ u low).0))
     c.put-outcome.ensures.unchanged
 
-pub place_in-place-requires : goal.place_in-place-requires
-place_in-place-requires c =
+pub descend-requires : goal.descend-requires
+descend-requires c =
+    let parents = texts c.in-Some.parents.now in
+    let last = chars (cow_str_bytes c.in-Some.last.now) in
+    let split = ap texts c.in-Some.ensures.cases.0 ∙ texts-append c.in-Some.parents.now (c.in-Some.last.now ∷ []) in
+    knows-way c.args.known (tree_of c.args.tree.now) (texts c.args.tokens.now) parents last split c.requires
+
+pub key_place-place-requires : goal.key_place-place-requires
+key_place-place-requires c =
     let parents = texts c.in-Some.parents.now in
     let last = chars (cow_str_bytes c.in-Some.last.now) in
     let split = ap texts c.in-Some.ensures.cases.0 ∙ texts-append c.in-Some.parents.now (c.in-Some.last.now ∷ []) in
     let t = tree_of c.args.tree.now in
     let u = tree_of c.descend.new.tree in
     let low = IfOk-default c.descend.result c.descend.ensures.ok c.in_default-descend.not-Err in
-    subst (Knows c.args.known)
-    (ap (last_key t) split ∙ last_key-parent parents last 1 t u (at_from-Lowered parents 1 t _ u (tree_of c.descend.new.above) low)
-    ∙ ap (λ b. key_in u (chars b)) (sym c.as_str-token.ensures.value)) c.requires
+    subst (λ b. KnowsLast c.args.known (key_in u (chars b))) (sym c.as_str-token.ensures.value)
+    (knows-last c.args.known t u (texts c.args.tokens.now) parents last split (at_from-Lowered parents 1 t _ u (tree_of c.descend.new.above) low) c.requires)
+
+pub ascend-requires : goal.ascend-requires
+ascend-requires c =
+    let parents = texts c.in-Some.parents.now in
+    let last = chars (cow_str_bytes c.in-Some.last.now) in
+    let split = ap texts c.in-Some.ensures.cases.0 ∙ texts-append c.in-Some.parents.now (c.in-Some.last.now ∷ []) in
+    let t = tree_of c.args.tree.now in
+    let low = IfOk-default c.descend.result c.descend.ensures.ok c.in_default-descend.not-Err in
+    (t, _, tree_of c.descend.new.tree, low, knows-way c.args.known t (texts c.args.tokens.now) parents last split c.requires)

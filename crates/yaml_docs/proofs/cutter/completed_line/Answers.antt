@@ -1,4 +1,4 @@
-use Rattle.std.proofs.Common.{◌≡◌, ℕ, inl, inr, arith, subst, sym, ◌∙◌, true}
+use Rattle.std.proofs.Common.{◌≡◌, inl, inr, arith, subst, sym, ◌∙◌}
 use Rattle.std.proofs.lemmas.Bool.{cases_lt, false≢true}
 use Rattle.yaml_docs.specs.LineBegun.{Completes}
 use Rattle.yaml_docs.proofs.cutter.completed_line.Goals as goal

@@ -1,4 +1,4 @@
-use Rattle.std.proofs.Common.{ℕ, ◌-◌, sym, ◌∙◌, ap, List, ◌++◌, take, drop, length, subst, ◌≡◌}
+use Rattle.std.proofs.Common.{ℕ, ◌-◌, sym, ◌∙◌, ap, List, ◌++◌, take, drop, length, ◌≡◌}
 use Rattle.std.proofs.lemmas.Slice.Eq.{starts_is}
 use Rattle.std.proofs.lemmas.Bool.Decides.{Decides-eqb}
 use Rattle.std.proofs.lemmas.List.{take_rest}

@@ -1,4 +1,4 @@
-use Rattle.std.proofs.Common.{List, drop, length, subst, take, ℕ, ◌∙◌, ◌≡◌}
+use Rattle.std.proofs.Common.{List, drop, subst, ℕ, ◌≡◌}
 use Rattle.std.proofs.Math.Dec.{eqb}
 use Rattle.std.specs.List.{starts_with}
 use Rattle.std.proofs.lemmas.Bool.Decides.{Decides-eqb}

@@ -1,5 +1,5 @@
 use Rattle.std.proofs.Common.{sym, ◌∙◌}
-use Rattle.yaml_docs.proofs.DirectiveSteps.{first_there, name_there, no_percent, none_without_blank, none_without_version, second_there}
+use Rattle.yaml_docs.proofs.DirectiveSteps.{first_there, name_there, none_without_blank, none_without_version, second_there}
 use Rattle.yaml_docs.proofs.directive.version_end.Goals as goal
 
 pub white_end-version-requires : goal.white_end-version-requires

@@ -1,4 +1,4 @@
-use Rattle.std.specs.Prelude.{None, false, true, ◌≡◌}
+use Rattle.std.specs.Prelude.{None, false, ◌≡◌}
 use Rattle.yaml_chars.specs.Places.{rest}
 use Rattle.yaml_events.specs.EventPlaces.{line_starts}
 use Rattle.yaml_recognizers.specs.Comments.{all_comments}

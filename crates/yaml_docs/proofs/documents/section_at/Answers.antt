@@ -1,9 +1,5 @@
-use Rattle.std.proofs.Common.{subst, sym, ◌∙◌, ◌≡◌}
-use Rattle.std.specs.Prelude.{Bool, List, None, false, true, ℕ}
+use Rattle.std.proofs.Common.{sym, ◌∙◌}
 use Rattle.yaml_chars.specs.Places.{rest}
-use Rattle.yaml_recognizers.specs.Recognizers.{section_at}
-use Rattle.yaml_docs.specs.Sections.{BeginsSection}
-use Rattle.yaml_docs.specs.declared.documents.Section.TheVariants.{Directed, Bare}
 use Rattle.yaml_docs.proofs.SectionCases.{at_bare, at_directed, at_explicit, at_suffix, not_opened}
 use Rattle.yaml_docs.proofs.documents.section_at.Goals as goal
 

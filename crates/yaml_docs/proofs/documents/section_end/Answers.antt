@@ -8,7 +8,6 @@ use Rattle.yaml_scan.proofs.Outcomes.{faults_so, ok_so}
 use Rattle.yaml_docs.specs.Documents.{DocumentRead, ExplicitRead, SuffixRead}
 use Rattle.yaml_docs.specs.Sections.{SectionRead, read_as}
 use Rattle.yaml_docs.specs.declared.documents.Section.{Section}
-use Rattle.yaml_docs.specs.declared.documents.Section.TheVariants.{Suffix, Explicit, Directed, Bare}
 use Rattle.yaml_docs.proofs.DocumentSteps.{directed_section, explicit_none, directed_none, explicit_section, suffix_section}
 use Rattle.yaml_docs.proofs.documents.section_end.Goals as goal
 

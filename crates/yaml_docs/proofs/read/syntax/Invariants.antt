@@ -1,4 +1,4 @@
-use Rattle.std.proofs.Common.{length, ◌+◌, ◌-◌, ◌≤◌, ◌≡◌}
+use Rattle.std.proofs.Common.{length, ◌+◌, ◌-◌, ◌≤◌}
 use Rattle.std.specs.Str.{IsCharBoundary}
 use Rattle.yaml_docs.proofs.read.syntax.Given as goal
 

@@ -4,7 +4,7 @@ use Rattle.std.specs.Map.{lookup, set_value}
 use Rattle.std.specs.Option.{option_copied_mut}
 use Rattle.std.specs.Str.{chars}
 use Rattle.yaml_data.specs.Seen.{tree_of}
-use Rattle.tree_path.specs.Paths.{last_key}
+use Rattle.tree_path.specs.Steps.{ArePlaces}
 use Rattle.yaml_config.specs.Edits.{tree_after_edit}
 use Rattle.conf_state.specs.BaseTexts.{entries_length}
 use Rattle.conf_state.specs.Configs.{is_name}
@@ -96,10 +96,10 @@ pub perform-requires-clause-steps : goal.perform-requires-clause-steps
 perform-requires-clause-steps c =
     pointer-steps c.args.pointer.now c.in_ok-path.path c.utf8.pointer c.requires.steps c.in_ok-path.ensures.ok
 
-pub perform-requires-clause-place : goal.perform-requires-clause-place
-perform-requires-clause-place c =
-    let at = goal.at.perform-requires-clause-place c in
-    c.in_ok-plan.ensures.ok.place ∙ ap (λ t. last_key (tree_of t) c.in_ok-path.path) (same at.After-unwrap-config)
+pub perform-requires-clause-places : goal.perform-requires-clause-places
+perform-requires-clause-places c =
+    let at = goal.at.perform-requires-clause-places c in
+    subst (λ t. ArePlaces c.in_ok-plan.plan.places (tree_of t) c.in_ok-path.path) (same at.After-unwrap-config) c.in_ok-plan.ensures.ok.places
 
 pub perform-requires-clause-leaves : goal.perform-requires-clause-leaves
 perform-requires-clause-leaves c =

@@ -4,7 +4,7 @@ use Rattle.yaml_grammar.specs.Texts.{byte_len}
 use Rattle.yaml_grammar.specs.Trees.{Tree, depth, distinct}
 use Rattle.yaml_data.specs.Seen.{tree_of}
 use Rattle.yaml_config.proofs.TextTreeLemmas.{tree_of-IsTextTree}
-use Rattle.tree_path.specs.Paths.{last_key}
+use Rattle.tree_path.specs.Steps.{ArePlaces}
 use Rattle.yaml_config.specs.Edits.{tree_after_edit}
 use Rattle.yaml_config.specs.Limits.{config_limits}
 use Rattle.yaml_config.proofs.edit.Edit.perform.Goals as goal
@@ -28,7 +28,7 @@ from_parts-requires-clause-kept c =
       long = omega arith;
     }
 
-pub edit_tree-requires-clause-place : goal.edit_tree-requires-clause-place
-edit_tree-requires-clause-place c =
+pub edit_tree-requires-clause-places : goal.edit_tree-requires-clause-places
+edit_tree-requires-clause-places c =
     let before = ap (λ t. tree_of t) (c.into_tree-tree.ensures.same ∙ c.replace.ensures.value) in
-    c.requires.place ∙ ap (λ t. last_key t c.args.path.now) (sym before)
+    subst (λ t. ArePlaces c.args.places.now t c.args.path.now) (sym before) c.requires.places

@@ -1,5 +1,4 @@
-use Rattle.std.proofs.Common.{◌≡◌, ℕ, ◌+◌, ◌≤◌, List, length, sym, ◌∙◌, ap, subst, arith, refl}
-use Rattle.yaml_grammar.specs.Closings.{ClosesAt}
+use Rattle.std.proofs.Common.{◌≡◌, ℕ, List, length, sym, ◌∙◌, ap, subst, arith, refl}
 use Rattle.yaml_docs.specs.Cutting.{Held, Unclosed, Takes, Feeds, Overfeeds}
 use Rattle.yaml_docs.proofs.cutter.Cutter.feed.Goals as goal
 

@@ -1,0 +1,172 @@
+#!/usr/bin/env python3
+"""Lets each system call of `confstore format -i` on two files go wrong in turn, and looks at the files.
+
+The library and the ways in which a call goes wrong are those of fail_calls.py. The first file is named by a link. Each
+time a file is its old text or its new one, whole, with its mode, and the link stays. The status and the message tell
+what was done: status 0 and no message where both files are new; else status 3, and a line for each file that was not
+read or not replaced. Every file that is not named is new. One that is named as `Input` is old. One that is named as
+`Output` is old, or new where the rename was made but failed, or its folder could not be synced then.
+
+No new file is left beside them, but where the process was ended, the removal failed too, or the file was made by a call
+that failed. A run without faults then finds a folder in which it works as ever.
+
+Run it from the repository's root after the program is built. It takes some seconds, and needs a C compiler:
+
+    ./confstore --version && python3 checks/fail_file_calls.py
+
+The status is 0 if all is as it should be.
+"""
+
+import os
+import shutil
+import stat
+import subprocess
+import sys
+import tempfile
+from collections import Counter
+from concurrent.futures import ThreadPoolExecutor
+
+from fail_calls import ANY_CALL, ENDED, OF_CALLS
+from lib.store_runs import PROGRAM, Failures, compiled, need_program, read_file, write_file
+
+# The files: the name that the program is given, the file that it means, its old text, and its new one.
+FILES = [
+    ("link.yaml", "one.yaml", b"{port: 80, host: example}", b'port: "80"\nhost: example\n'),
+    ("two.yaml", "two.yaml", b"[a, b]\n", b"- a\n- b\n"),
+]
+
+# The mode of both files.
+MODE = 0o640
+
+# The calls of a run without faults that change the folder or sync it.
+CHANGES = [
+    "create .confstore-0.tmp", "write .confstore-0.tmp", "fchmod .confstore-0.tmp", "fsync .confstore-0.tmp",
+    "rename .confstore-0.tmp", "fsync folder",
+] * 2
+
+
+class Call:
+    """A call of a run without faults: its number from 1, its name, the file that it is made on, and how many bytes it
+    moves."""
+
+    def __init__(self, number, line):
+        self.number = number
+        self.name, self.file, size = line.split(" ")
+        self.size = int(size)
+
+    def __str__(self):
+        return f"call {self.number}, {self.name} {self.file}"
+
+    def may_replace(self):
+        """Whether a file may be new though the call failed: it is the rename, or the sync of the folder after it."""
+        return self.name == "rename" or (self.name == "fsync" and not self.file.endswith(".tmp"))
+
+    def kinds(self):
+        """The faults of this call. One byte has no half. A handle that is not closed shows nothing before the next
+        call."""
+        return [
+            kind for kind in OF_CALLS.get(self.name, ANY_CALL)
+            if not (kind.done == "half" and self.size == 1) and not (kind.later and self.name == "close")
+        ]
+
+
+def new_folder(top, name):
+    """A folder with the two files, and a link to the first."""
+    folder = os.path.join(top, name)
+    os.mkdir(folder)
+    for _, file, old, _ in FILES:
+        path = os.path.join(folder, file)
+        write_file(path, old)
+        os.chmod(path, MODE)
+    os.symlink("one.yaml", os.path.join(folder, "link.yaml"))
+    return folder
+
+
+def run(folder, **faults):
+    """The program on both files: its status, and what it wrote to standard error."""
+    words = [PROGRAM, "format", "-i", *(name for name, *_ in FILES)]
+    done = subprocess.run(words, cwd=folder, capture_output=True, check=False, env={**os.environ, **faults})
+    return done.returncode, done.stdout + done.stderr
+
+
+def calls_of(top, library, failures):
+    """The calls of a run without faults."""
+    log = os.path.join(top, "log")
+    folder = new_folder(top, "plain")
+    failures.expect("without faults", run(folder, LD_PRELOAD=library, FAULT_LOG=log), (0, b""))
+    expect_files("without faults", folder, [], failures)
+    shutil.rmtree(folder)
+    calls = [Call(number, line) for number, line in enumerate(read_file(log).decode().splitlines(), 1)]
+    changing = [
+        f"{call.name} {'folder' if call.name == 'fsync' and '.tmp' not in call.file else call.file}" for call in calls
+        if call.name in ("create", "write", "fchmod", "fchown", "fsync", "rename", "unlink")
+    ]
+    failures.expect("the calls that change something", changing, CHANGES)
+    return calls
+
+
+def expect_files(name, folder, named, failures, may_be_either=()):
+    """The files: new, or old where they are named, or either where that is allowed."""
+    failures.expect(f"{name}: the link", os.readlink(os.path.join(folder, "link.yaml")), "one.yaml")
+    for given, file, old, new in FILES:
+        path = os.path.join(folder, file)
+        content = read_file(path)
+        allowed = (old, new) if given in may_be_either else (old,) if given in named else (new,)
+        failures.expect(f"{name}: {file} is {content!r}, of {allowed}", content in allowed, True)
+        failures.expect(f"{name}: the mode of {file}", stat.S_IMODE(os.stat(path).st_mode), MODE)
+
+
+def left_over(folder):
+    return sorted(set(os.listdir(folder)) - {"link.yaml", "one.yaml", "two.yaml"})
+
+
+def try_fault(top, library, call, kind):
+    """A run with a fault: what is wrong with it, and how it ended."""
+    name = f"{call}, {kind}"
+    folder = new_folder(top, name)
+    failures = Failures()
+    status, said = run(folder, LD_PRELOAD=library, **kind.environment(call.number))
+    names = [given for given, *_ in FILES]
+    if kind.answer == "exit":
+        failures.expect(f"{name}: ending", (status, said), (ENDED, b""))
+        expect_files(name, folder, [], failures, names)
+    else:
+        expect_told(name, folder, status, said, call, failures)
+        may_be_left = kind.later or call.name == "unlink" or (call.name == "create" and kind.done == "whole")
+        failures.expect(f"{name}: left over", left_over(folder) if not may_be_left else [], [])
+    failures.expect(f"{name}: run again", run(folder), (0, b""))
+    expect_files(f"{name}: run again", folder, [], failures)
+    shutil.rmtree(folder)
+    return failures, "ended" if kind.answer == "exit" else "done" if status == 0 else said.decode().split()[-1]
+
+
+def expect_told(name, folder, status, said, call, failures):
+    """What a run that came to its end says of the files is so."""
+    lines = said.decode().splitlines()
+    told = dict(line.split(": ") for line in lines)
+    failures.expect(f"{name}: the status of {lines}", status, 3 if told else 0)
+    failures.expect(f"{name}: what is told of each file", set(told) <= {given for given, *_ in FILES}, True)
+    failures.expect(f"{name}: why", set(told.values()) <= {"Input", "Output"}, True)
+    either = [given for given, why in told.items() if why == "Output" and call.may_replace()]
+    expect_files(name, folder, told, failures, either)
+
+
+def main():
+    need_program()
+    failures = Failures()
+    with tempfile.TemporaryDirectory() as top:
+        library = compiled("fail_calls.c", top)
+        calls = calls_of(top, library, failures)
+        pairs = [(call, kind) for call in calls for kind in call.kinds()]
+        with ThreadPoolExecutor(os.cpu_count()) as workers:
+            results = list(workers.map(lambda pair: try_fault(top, library, *pair), pairs))
+    for found, _ in results:
+        failures.tried += found.tried
+        failures.wrong += found.wrong
+    endings = Counter(ending for _, ending in results)
+    print(f"  {len(calls)} calls, {len(pairs)} faults: " + ", ".join(f"{count} {end}" for end, count in sorted(endings.items())))
+    return failures.report()
+
+
+if __name__ == "__main__":
+    sys.exit(main())

@@ -1,0 +1,110 @@
+#!/usr/bin/env python3
+"""Runs the commands of docs/GUIDE.md and of README.md in a scratch folder, and compares what they print with the page.
+
+In the lists of GUIDE.md a line that begins with `$ ` is a command, one that begins with `> ` goes on with it, and the
+lines up to the next command are what it prints, on standard output or standard error. The commands of one page share
+a folder and run in order, by one bash each. Of README.md the first list is run, and the file compared that the second
+shows. The program has to be built first:
+
+    ./confstore --version && python3 checks/guide.py [--write]
+
+`--write` puts what the commands print into the page, to be looked at. The environment's CONFSTORE names another
+program. The last line is 'N passed, M failed', of commands; the status is 0 if M is 0.
+"""
+
+import os
+import re
+import subprocess
+import sys
+import tempfile
+
+from lib.store_runs import PROGRAM, TOP, Failures, need_program
+
+GUIDE = os.path.join(TOP, "docs", "GUIDE.md")
+README = os.path.join(TOP, "README.md")
+MARGIN = "    "
+PATIENCE = 60
+
+
+class Command:
+    """A command of a page: its lines there, what the shell is given, and what the page says that it prints."""
+
+    def __init__(self, line):
+        self.lines = [line]
+        self.printed = []
+
+    def script(self):
+        return "".join(line[len(MARGIN) + 2 :] + "\n" for line in self.lines)
+
+
+def parts_of(text):
+    """The page in order: commands, and the lines between them as texts."""
+    parts = []
+    for line in text.splitlines():
+        last = parts[-1] if parts else None
+        if line.startswith(MARGIN + "$ "):
+            parts.append(Command(line))
+        elif isinstance(last, Command) and line.startswith(MARGIN + "> "):
+            last.lines.append(line)
+        elif isinstance(last, Command) and line.startswith(MARGIN):
+            last.printed.append(line[len(MARGIN) :])
+        else:
+            parts.append(line)
+    return parts
+
+
+def environment(top):
+    """An environment in which the word `confstore` is the program."""
+    words = os.path.join(top, "bin")
+    os.mkdir(words)
+    os.symlink(os.environ.get("CONFSTORE", PROGRAM), os.path.join(words, "confstore"))
+    return {**os.environ, "PATH": f"{words}:{os.environ['PATH']}", "LC_ALL": "C.UTF-8"}
+
+
+def lines_printed(script, folder, settings):
+    done = subprocess.run(["bash", "-c", script], cwd=folder, env=settings, stdin=subprocess.DEVNULL, check=False,
+                          stdout=subprocess.PIPE, stderr=subprocess.STDOUT, timeout=PATIENCE)  # fmt: skip
+    return done.stdout.decode().splitlines()
+
+
+def run_guide(failures, settings, writes):
+    with open(GUIDE, encoding="utf-8") as page:
+        parts = parts_of(page.read())
+    with tempfile.TemporaryDirectory() as folder:
+        for part in parts:
+            if isinstance(part, Command):
+                printed = lines_printed(part.script(), folder, settings)
+                failures.expect(part.lines[0].strip(), printed, part.printed)
+                part.printed = printed
+    if writes:
+        with open(GUIDE, "w", encoding="utf-8") as page:
+            for part in parts:
+                lines = part.lines + [MARGIN + line for line in part.printed] if isinstance(part, Command) else [part]
+                page.write("".join(line.rstrip() + "\n" for line in lines))
+
+
+def run_readme(failures, settings):
+    """The first list of the README, and the file that it shows then."""
+    with open(README, encoding="utf-8") as page:
+        text = re.sub(r"^```.*?^```$", "", page.read(), flags=re.M | re.S)
+    lists = re.findall(r"(?:^    .*\n)+", text, re.M)
+    commands, shown = (re.sub(r"^    ", "", part, flags=re.M).splitlines() for part in lists[:2])
+    with tempfile.TemporaryDirectory() as folder:
+        printed = lines_printed("\n".join(commands), folder, settings)
+        failures.expect("README: the first commands", printed, ['port: "81"'])
+        failures.expect("README: the file", lines_printed(shown[0][2:], folder, settings), shown[1:])
+
+
+def main():
+    if "CONFSTORE" not in os.environ:
+        need_program()
+    failures = Failures()
+    with tempfile.TemporaryDirectory() as top:
+        settings = environment(top)
+        run_guide(failures, settings, "--write" in sys.argv[1:])
+        run_readme(failures, settings)
+    return failures.report()
+
+
+if __name__ == "__main__":
+    sys.exit(main())

@@ -1,0 +1,6 @@
+-- A mode under a mask is within the mode.
+use Rattle.conf_files.proofs.Masks.{masked_is_within}
+use Rattle.conf_files.proofs.owner.kept_mode.Goals as goal
+
+pub returns : goal.returns
+returns c = masked_is_within c.args.mode _

@@ -1,6 +1,0 @@
--- A mode under a mask is within the mode.
-use Rattle.conf_folder.proofs.Masks.{masked_is_within}
-use Rattle.conf_folder.proofs.owner.kept_mode.Goals as goal
-
-pub returns : goal.returns
-returns c = masked_is_within c.args.mode _

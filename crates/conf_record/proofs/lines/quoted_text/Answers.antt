@@ -1,0 +1,13 @@
+use Rattle.std.proofs.Common.{Some, sym, ap, ◌∙◌, lit<}
+use Rattle.std.proofs.lemmas.Str.Pattern.{strip_suffix_char}
+use Rattle.std.specs.List.{list_all}
+use Rattle.yaml_writer.specs.Runs.{stands_alone}
+use Rattle.conf_record.proofs.WrittenLemmas.{quoted_line}
+use Rattle.conf_record.proofs.lines.quoted_text.Goals as goal
+
+pub returns-in-Double : goal.returns-in-Double
+returns-in-Double c =
+    quoted_line c.args.quoted.now c.in-Some.text.now
+    (strip_suffix_char 34 c.args.quoted.now (Some c.in-Some.text) c.in-Some.ensures.cases (lit< tt))
+    (ap (list_all stands_alone) (sym c.as_bytes.ensures.value) ∙ sym c.are_alone.ensures ∙ c.if-not-are_alone.false)
+    c.in-Double.ensures

@@ -1,0 +1,102 @@
+-- What a tool has read and written for the text of a file that was named.
+use Rattle.std.specs.Prelude.{◌≡◌, ◌≢◌, ⊤, ℕ, Bool, true, false, List, [], ◌∷◌, ◌++◌, Option, None, length, codes, decimal, encode_utf8_all, string_bytes}
+use Rattle.std.specs.Io.KnownBytes.{Appends, Consumes, IsAtEnd, Keeps}
+use Rattle.yaml_grammar.specs.Style.{style_text}
+use Rattle.yaml_grammar.specs.Trees.{Tree}
+use Rattle.yaml_tree.specs.Reading.{IsRead}
+use Rattle.yaml_events.specs.declared.read_fault.ReadFault.{ReadFault}
+use Rattle.yaml_config.specs.Limits.{config_limits}
+use Rattle.yaml_style.specs.Checking.{IsChecked}
+use Rattle.yaml_style.specs.Findings.{name_of}
+use Rattle.yaml_style.specs.declared.finding.Finding.{Finding}
+use Rattle.yaml_style.specs.declared.finding.Rule.{Rule}
+use Rattle.yaml_style.specs.declared.finding.Rule.TheVariants.{TrailingWhitespace, LineEnd, LongLine, NotInStyle}
+use Rattle.conf_tools.specs.Tools.{RefusesInput, StopsInOutput}
+use Rattle.conf_tools.specs.declared.file_texts.Restyled.{Restyled}
+use Rattle.conf_tools.specs.declared.file_texts.Restyled.TheVariants.{Same, Changed}
+use Rattle.conf_tools.specs.declared.texts.ToolFault.{ToolFault}
+use Rattle.conf_tools.specs.declared.texts.ToolFault.TheVariants.{Input, Output, Read}
+
+-- ---- the one style
+
+-- what a text is in the one style, given that style's text of its tree: the same bytes, or others
+abbrev pub IsRestyled : List ℕ → List ℕ → Restyled → Type 0
+IsRestyled bytes styled Same = bytes ≡ styled
+IsRestyled bytes styled (Changed text) = (string_bytes text ≡ styled) × (bytes ≢ styled)
+
+-- the reader's bytes, to its end, give a tree, and this is what they are in the one style
+pub record Restyles (given left : Option (List ℕ)) (restyled : Restyled) : Type 0 where
+  pub bytes : List ℕ
+  pub tree : Tree
+  pub taken : Consumes given left bytes
+  pub at_end : IsAtEnd left
+  pub reads : IsRead bytes config_limits tree
+  pub styled : IsRestyled bytes (encode_utf8_all (style_text tree)) restyled
+
+-- what holds if a text is not read; memory may run out before everything is read
+abbrev pub StopsInReading : Option (List ℕ) → Option (List ℕ) → ToolFault → Type 0
+StopsInReading given left Input = ⊤
+StopsInReading given left Output = ⊥
+StopsInReading given left (Read ReadFault.OutOfMemory) = ⊤
+StopsInReading given left (Read fault) = RefusesInput given left None None fault
+
+-- what is written of a file: a line of its name, if its text would change
+abbrev pub name_line : List ℕ → Bool → List ℕ
+name_line file false = []
+name_line file true = file ++ codes "\n"
+
+-- whether a text is another one in the one style
+abbrev pub Differs : List ℕ → List ℕ → Bool → Type 0
+Differs bytes styled false = bytes ≡ styled
+Differs bytes styled true = bytes ≢ styled
+
+-- the reader's bytes, to its end, give a tree, and the file's name was written if they are other ones in the one style
+pub record Lists (file : List ℕ) (given left held written : Option (List ℕ)) (changes : Bool) : Type 0 where
+  pub bytes : List ℕ
+  pub tree : Tree
+  pub taken : Consumes given left bytes
+  pub at_end : IsAtEnd left
+  pub reads : IsRead bytes config_limits tree
+  pub differs : Differs bytes (encode_utf8_all (style_text tree)) changes
+  pub writes : Appends held written (name_line file changes)
+
+-- ---- findings
+
+-- what a finding of a rule says of its line
+abbrev pub words_of : Rule → List ℕ
+words_of TrailingWhitespace = codes "the line ends in a space or TAB"
+words_of LineEnd = codes "the line does not end in LF"
+words_of LongLine = codes "the line has more than 120 characters"
+words_of NotInStyle = codes "the text first differs from the one style here"
+
+-- The line for a finding of a file: the file's name, a colon, the number of the line, a colon and a space, the rule's
+-- name, a space, and its words.
+abbrev pub file_line : List ℕ → Finding → List ℕ
+file_line file f =
+    file ++ codes ":" ++ decimal f.line ++ codes ": " ++ name_of f.rule ++ codes " " ++ words_of f.rule ++ codes "\n"
+
+-- the lines for all findings of a file
+abbrev pub file_report : List ℕ → List Finding → List ℕ
+file_report file [] = []
+file_report file (f ∷ fs) = file_line file f ++ file_report file fs
+
+-- the reader's bytes, to its end, give a tree, and the lines of their findings were written; count is their number
+pub record ChecksFile (file : List ℕ) (given left held written : Option (List ℕ)) (count : ℕ) : Type 0 where
+  pub bytes : List ℕ
+  pub found : List Finding
+  pub taken : Consumes given left bytes
+  pub at_end : IsAtEnd left
+  pub checked : IsChecked bytes found
+  pub counts : count ≡ length found
+  pub writes : Appends held written (file_report file found)
+
+-- something may have been written after what was there
+abbrev pub Adds : Option (List ℕ) → Option (List ℕ) → Type 0
+Adds held written = (text : List ℕ) × Appends held written text
+
+-- what holds if the lines of a file end early; memory may run out before everything is read or written
+abbrev pub StopsInFile : Option (List ℕ) → Option (List ℕ) → Option (List ℕ) → Option (List ℕ) → ToolFault → Type 0
+StopsInFile given left held written Input = Keeps held written
+StopsInFile given left held written Output = StopsInOutput given left
+StopsInFile given left held written (Read ReadFault.OutOfMemory) = Adds held written
+StopsInFile given left held written (Read fault) = RefusesInput given left held written fault

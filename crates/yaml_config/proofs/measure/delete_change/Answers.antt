@@ -1,0 +1,79 @@
+use Rattle.std.proofs.Common.{◌≡◌, ◌<◌, Ok, Err, length, sym, ap, subst, ◌∙◌, arith}
+use Rattle.std.specs.Cow.{cow_str_bytes}
+use Rattle.std.specs.Str.{chars}
+use Rattle.std.proofs.lemmas.Result.{err_from_is_err_and}
+use Rattle.yaml_grammar.specs.Trees.{Tree}
+use Rattle.yaml_data.specs.Seen.{tree_of}
+use Rattle.yaml_config.specs.Changes.{ChangesSmall}
+use Rattle.tree_path.specs.Paths.{cut, key_in}
+use Rattle.tree_path.specs.Steps.{KnowsLast}
+use Rattle.json_pointer.specs.Tokens.{texts}
+use Rattle.tree_path.proofs.Edits.{delete-refused}
+use Rattle.tree_path.proofs.Ways.{knows-way, knows-last}
+use Rattle.yaml_config.specs.declared.change.Slot.TheVariants.{Value}
+use Rattle.yaml_config.proofs.Located.{at_from-Located}
+use Rattle.yaml_config.proofs.Measured.{delete_changes, delete_misses}
+use Rattle.yaml_config.proofs.Planned.{split, node-small, changes-shifted}
+use Rattle.yaml_config.proofs.measure.delete_change.Goals as goal
+
+pub returns-in_err-parent-clause-refused : goal.returns-in_err-parent-clause-refused
+returns-in_err-parent-clause-refused c =
+    let last = c.unwrap.result.0.now in
+    let parents = c.unwrap.result.1.now in
+    let parts = split c.args.tokens.now last parents (rw c.unwrap.ensures at c.split_last.ensures.cases) in
+    let p = err_from_is_err_and c.from_residual.result c.from_residual.ensures.1 in
+    rw (p.1, p.2)
+    (delete-refused (texts c.args.tokens.now) (texts parents) (chars (cow_str_bytes last)) (tree_of c.args.tree.now) c.in_err-parent.field-0.0
+    parts.path c.in_err-parent.ensures.refused)
+
+pub cut_change-requires-clause-deep : goal.cut_change-requires-clause-deep
+cut_change-requires-clause-deep c =
+    let small = node-small _ c.in_ok-parent.parent.slot (tree_of c.args.tree.now) _ c.in_ok-parent.ensures.ok c.requires.tree in small.0
+
+pub cut_change-requires-clause-long : goal.cut_change-requires-clause-long
+cut_change-requires-clause-long c =
+    let small = node-small _ c.in_ok-parent.parent.slot (tree_of c.args.tree.now) _ c.in_ok-parent.ensures.ok c.requires.tree in small.1
+
+pub returns-in-Ok-clause-ok : goal.returns-in-Ok-clause-ok
+returns-in-Ok-clause-ok c =
+    let last = c.unwrap.result.0.now in
+    let parents = c.unwrap.result.1.now in
+    let parts = split c.args.tokens.now last parents (rw c.unwrap.ensures at c.split_last.ensures.cases) in
+    let t = tree_of c.args.tree.now in
+    let u = tree_of c.in_ok-parent.parent.node.now in
+    let slot = c.in_ok-parent.parent.slot in
+    let few : length (texts parents) < 18446744073709551616 = omega (arith, parts.count) in
+    let edit = subst (λ bytes. (w : Tree) × (cut u (chars bytes) ≡ Ok w) × ChangesSmall slot c.in-Ok.change u w) c.as_str-token.ensures.value c.in-Ok.ensures.ok in
+    let whole = delete_changes (texts c.args.tokens.now) (texts parents) (chars (cow_str_bytes last)) slot t u c.in-Ok.change
+    parts.path few c.in_ok-parent.ensures.ok edit in
+    (whole.0, whole.1, changes-shifted parents c.in-Ok.change c.shifted.result t whole.0 parts.before c.shifted.ensures whole.2)
+
+pub returns-in-Err-clause-refused : goal.returns-in-Err-clause-refused
+returns-in-Err-clause-refused c =
+    let last = c.unwrap.result.0.now in
+    let parents = c.unwrap.result.1.now in
+    let parts = split c.args.tokens.now last parents (rw c.unwrap.ensures at c.split_last.ensures.cases) in
+    let u = tree_of c.in_ok-parent.parent.node.now in
+    delete_misses (texts c.args.tokens.now) (texts parents) (chars (cow_str_bytes last)) (length c.args.tokens.now) c.in_ok-parent.parent.slot (tree_of c.args.tree.now) u c.in-Err.miss
+    parts.path parts.count c.in_ok-parent.ensures.ok
+    (ap (λ b. cut u (chars b)) (sym c.as_str-token.ensures.value) ∙ c.in-Err.ensures.missed)
+    ∙ ap Err (sym c.at_step.ensures)
+
+pub parent_at-requires : goal.parent_at-requires
+parent_at-requires c =
+    let last = c.unwrap.result.0.now in
+    let parents = c.unwrap.result.1.now in
+    let parts = split c.args.tokens.now last parents (rw c.unwrap.ensures at c.split_last.ensures.cases) in
+    knows-way c.args.known (tree_of c.args.tree.now) (texts c.args.tokens.now) (texts parents) (chars (cow_str_bytes last)) parts.path c.requires.known
+
+pub key_place-place-requires : goal.key_place-place-requires
+key_place-place-requires c =
+    let last = c.unwrap.result.0.now in
+    let parents = c.unwrap.result.1.now in
+    let parts = split c.args.tokens.now last parents (rw c.unwrap.ensures at c.split_last.ensures.cases) in
+    let t = tree_of c.args.tree.now in
+    let u = tree_of c.in_ok-parent.parent.node.now in
+    let slot = c.in_ok-parent.parent.slot in
+    subst (λ b. KnowsLast c.args.known (key_in u (chars b))) (sym c.as_str-token.ensures.value)
+    (knows-last c.args.known t u (texts c.args.tokens.now) (texts parents) (chars (cow_str_bytes last)) parts.path
+    (at_from-Located (texts parents) 1 Value slot t u c.in_ok-parent.ensures.ok) c.requires.known)

@@ -1,0 +1,19 @@
+use Rattle.std.proofs.Common.{inl, inr, ⊎_elim, sym, ap, ◌∙◌}
+use Rattle.std.proofs.lemmas.Result.{err_from_is_err_and}
+use Rattle.yaml_data.specs.Seen.{tree_of}
+use Rattle.tree_path.specs.Paths.{at}
+use Rattle.tree_path.specs.Steps.{parents_of}
+use Rattle.tree_path.proofs.Edits.{delete-refused}
+use Rattle.tree_path.proofs.Ways.{path-split}
+use Rattle.yaml_config.proofs.measure.plan_delete.Goals as goal
+
+pub returns-in_err-places-clause-refused : goal.returns-in_err-places-clause-refused
+returns-in_err-places-clause-refused c =
+    let path = c.args.path.now in
+    let p = err_from_is_err_and c.from_residual.result c.from_residual.ensures.1 in
+    let split = path-split path c.requires in
+    rw (p.1, p.2)
+    (⊎_elim (λ memory. inl memory)
+    (λ refused. inr (delete-refused path (parents_of path) split.0 (tree_of c.args.config.now) _ split.1
+    (ap (λ t. at (tree_of t) (parents_of path)) (sym c.tree-tree.ensures.same) ∙ refused)))
+    c.in_err-places.ensures.refused)
