@@ -1,0 +1,32 @@
+//! What a store's file `store.yaml` held at each of its commands.
+//!
+//! The file is read once from its start, by any reader, and never changed. So it can be read while a session holds the
+//! store: what was read is then the base and the first of the records
+//! ([`reading_beside_a_writer`]).
+//!
+//! - [`state_at`] returns the state after all commands, or after the one with a number.
+//! - [`write_log`] writes which commands the file holds.
+//! - [`survey_store`] says what an opening would find, also in a damaged file.
+//! - [`salvage`] makes a new store of what stands before the damage.
+#![tactic(auto)]
+
+mod fault;
+mod laws;
+mod line;
+mod log;
+mod output;
+mod pieces;
+mod place;
+mod reading;
+mod records;
+mod saving;
+mod survey;
+mod walk;
+
+pub use fault::{HistoryFault, SalvageFault};
+pub use laws::reading_beside_a_writer;
+pub use log::{LogForm, write_log};
+pub use place::{BadPiece, NoRecord};
+pub use reading::state_at;
+pub use saving::salvage;
+pub use survey::{Bad, Findings, Survey, survey_store};

@@ -1,0 +1,80 @@
+// Where a piece begins, and why it is no next record.
+ghost use Rattle.std.specs.Prelude.{◌≡◌};
+
+use conf_state::StoreFault;
+
+/// Why a piece after the base is not the next record of a store.
+#[derive(Clone, Copy, Debug, PartialEq, Eq)]
+pub enum NoRecord {
+    /// It is no record.
+    NotARecord,
+    /// It is a record under another number than the count after the commands before it and one more.
+    WrongNumber { found: u64 },
+    /// It is the record with the next number, and the state refuses its command with this fault.
+    Refused(StoreFault),
+}
+
+/// The first piece of a file that is not the next record.
+#[derive(Clone, Copy, Debug, PartialEq, Eq)]
+pub struct BadPiece {
+    /// The number of the piece, from 1 after the base.
+    pub number: u64,
+    /// How many bytes of the file come before the piece.
+    pub byte: u64,
+    /// The line of the file in which the piece begins, from 1.
+    pub line: u64,
+    /// Why it is not the next record.
+    pub why: NoRecord,
+}
+
+/// Where the next piece of a file begins.
+#[derive(Clone, Copy)]
+pub(crate) struct Place {
+    /// How many pieces come before it, with the base.
+    pub number: u64,
+    /// How many bytes come before it.
+    pub byte: u64,
+    /// How many line feeds come before it.
+    pub feeds: u64,
+}
+
+impl Place {
+    /// The start of a file.
+    pub fn start() -> Place {
+        Place {
+            number: 0,
+            byte: 0,
+            feeds: 0,
+        }
+    }
+
+    /// The place after a piece that begins here.
+    pub fn after(self, piece: &[u8]) -> Place {
+        Place {
+            number: self.number + 1,
+            byte: self.byte + piece.len() as u64,
+            feeds: self.feeds + line_feeds(piece),
+        }
+    }
+
+    /// The piece that begins here as a bad one.
+    pub fn bad_piece(self, why: NoRecord) -> BadPiece {
+        BadPiece {
+            number: self.number,
+            byte: self.byte,
+            line: self.feeds + 1,
+            why,
+        }
+    }
+}
+
+/// How many line feeds the bytes have.
+fn line_feeds(bytes: &[u8]) -> u64 {
+    let mut count = 0;
+    for byte in bytes {
+        if *byte == b'\n' {
+            count += 1;
+        }
+    }
+    count
+}

@@ -1,0 +1,69 @@
+// The state that a store's file held after a command.
+
+use crate::fault::HistoryFault;
+use crate::walk::Walk;
+use conf_state::State;
+use std::alloc::Global;
+use std::io::Read;
+
+/// Reads the state that a store's file held: after all its commands, or after the one with the number `at`. Commands
+/// are numbered from 1, over all checkpoints. The number of the file's base, the count of commands before its first
+/// record, is that of the base's own state.
+///
+/// The file is read once. With a number nothing is read that this does not need, so that damage after that record is
+/// not found. It takes memory for the state, one piece and a chunk of 65,536 bytes, and time linear in what is read.
+///
+/// What was read may not be synced: a crash may take back its last commands, until the store is opened or flushed.
+///
+/// # Errors
+/// - `Input`: a read failed.
+/// - `NotAStore`: the file has more than 1,073,741,824 bytes or no closing line, or its first piece is no base.
+/// - `Damaged`: a piece is not the next record. It is the first such piece; with a number, one up to its record.
+/// - `NoSuchCommand`: the number is beyond the last record, or before the base.
+/// - `OutOfMemory`.
+pub fn state_at<R: Read>(
+    alloc: Global,
+    reader: &mut R,
+    at: Option<u64>,
+) -> Result<State, HistoryFault>
+{
+    let mut walk = Walk::begin(alloc, reader)?;
+    walk.check_start(at)?;
+    'records: while walk.goes_on(reader, at)? {
+        walk.perform_piece(alloc)?;
+    }
+    walk.check_end(at)?;
+    Ok(walk.state)
+}
+
+impl Walk {
+    /// Fails with `NoSuchCommand` if the number is before that of the base, whose state the walk has.
+    pub fn check_start(&self, at: Option<u64>) -> Result<(), HistoryFault>
+    {
+        match at {
+            Some(number) if number < self.state.count() => Err(HistoryFault::NoSuchCommand),
+            _ => Ok(()),
+        }
+    }
+
+    /// Goes on to the next piece, if the command with the number is not performed yet. Returns whether there is one.
+    ///
+    /// # Errors
+    /// Those of [`Walk::advance`].
+    pub fn goes_on<R: Read>(&mut self, reader: &mut R, at: Option<u64>) -> Result<bool, HistoryFault>
+    {
+        if at == Some(self.state.count()) {
+            return Ok(false);
+        }
+        self.advance(reader)
+    }
+
+    /// Fails with `NoSuchCommand` if the command with the number was not performed.
+    pub fn check_end(&self, at: Option<u64>) -> Result<(), HistoryFault>
+    {
+        match at {
+            Some(number) if number != self.state.count() => Err(HistoryFault::NoSuchCommand),
+            _ => Ok(()),
+        }
+    }
+}

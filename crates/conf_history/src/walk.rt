@@ -1,0 +1,101 @@
+// A walk over the pieces of a store's file, with the state after those so far.
+
+use crate::fault::{HistoryFault, fault_of_pieces};
+use crate::pieces::Pieces;
+use crate::place::Place;
+use crate::records::{RecordFault, perform_next, read_next};
+use conf_record::read_base;
+use conf_state::{Command, State};
+use std::alloc::Global;
+use std::io::Read;
+
+/// A walk over the pieces of a store's file: the state after the pieces so far, and where the next one begins.
+#[derive(Drop)]
+pub(crate) struct Walk {
+    pub pieces: Pieces,
+    pub state: State,
+    pub place: Place,
+}
+
+impl Walk {
+    /// Reads the first piece, a base.
+    ///
+    /// # Errors
+    /// `NotAStore` if there is no closing line within the limit, or the first piece is no base. `Input`, `OutOfMemory`.
+    pub fn begin<R: Read>(alloc: Global, reader: &mut R) -> Result<Walk, HistoryFault>
+    {
+        let mut pieces = Pieces::new(alloc)?;
+        match pieces.advance(reader) {
+            Ok(true) => {}
+            Ok(false) => return Err(HistoryFault::NotAStore),
+            Err(fault) => return Err(fault_of_pieces(fault)),
+        }
+        let Some(state) = read_base(alloc, pieces.piece())? else {
+            return Err(HistoryFault::NotAStore);
+        };
+        let place = Place::start().after(pieces.piece());
+        Ok(Walk {
+            pieces,
+            state,
+            place,
+        })
+    }
+
+    /// Goes on to the next piece, or to the bytes after the last one. Returns whether there is a piece.
+    ///
+    /// # Errors
+    /// `Input` if a read failed. `NotAStore` if the file has more than 1,073,741,824 bytes. `OutOfMemory`.
+    pub fn advance<R: Read>(&mut self, reader: &mut R) -> Result<bool, HistoryFault>
+    {
+        match self.pieces.advance(reader) {
+            Ok(found) => Ok(found),
+            Err(fault) => Err(fault_of_pieces(fault)),
+        }
+    }
+
+    /// Reads the piece as the next record, and returns its command.
+    ///
+    /// # Errors
+    /// `Damaged` if it is no record, or has another number. `OutOfMemory`.
+    pub fn command(&self, alloc: Global) -> Result<Command, HistoryFault>
+    {
+        match read_next(alloc, &self.state, self.pieces.piece()) {
+            Ok(command) => Ok(command),
+            Err(fault) => Err(self.fault_of_record(fault)),
+        }
+    }
+
+    /// Performs the command of the piece, and goes past the piece.
+    ///
+    /// # Errors
+    /// `Damaged` if the state refuses the command. `OutOfMemory`. The state is as it was.
+    pub fn perform(&mut self, alloc: Global, command: Command) -> Result<(), HistoryFault>
+    {
+        match perform_next(alloc, &mut self.state, command) {
+            Ok(()) => {
+                self.place = self.place.after(self.pieces.piece());
+                Ok(())
+            }
+            Err(fault) => Err(self.fault_of_record(fault)),
+        }
+    }
+
+    /// Reads the piece as the next record, and performs it.
+    ///
+    /// # Errors
+    /// `Damaged` if it is not the next record. `OutOfMemory`. The state is as it was.
+    pub fn perform_piece(&mut self, alloc: Global) -> Result<(), HistoryFault>
+    {
+        let command = self.command(alloc)?;
+        self.perform(alloc, command)
+    }
+
+    /// What is wrong with the piece, as a fault of the file.
+    fn fault_of_record(&self, fault: RecordFault) -> HistoryFault
+    {
+        match fault {
+            RecordFault::Bad(why) => HistoryFault::Damaged(self.place.bad_piece(why)),
+            RecordFault::OutOfMemory => HistoryFault::OutOfMemory,
+        }
+    }
+}
