@@ -1,60 +1,76 @@
-// The file of a store, cut into pieces as it is read.
+// A reader's bytes, cut into pieces as they are read.
+ghost use Rattle.std.specs.Prelude.{◌≡◌, ◌≤◌, ◌↔◌, true, [], IfOk, length, take};
+ghost use Rattle.std.specs.Io.KnownBytes.{ReadConsumes};
+ghost use Rattle.yaml_docs.specs.Cutting.{Unclosed};
+ghost use Rattle.conf_history.specs.PieceReading.{Advances, AdvancesAhead, Feeds, Fills, HasPieceAhead, IsSound, ahead, bytes_read, input_limit, piece_limit, piece_or_rest};
 
-use conf_journal::STORE_LIMIT;
+use yaml_docs::{CutFault, Cutter, next_close};
 use std::alloc::{AllocError, Global};
 use std::io;
 use std::io::Read;
-use yaml_docs::{CutFault, Cutter};
+use thiserror::Error;
 
 /// The most bytes that are read at once.
 const CHUNK: usize = 65_536;
 
-/// The most bytes of a file.
-const LIMIT: usize = STORE_LIMIT as usize;
-
-/// Why there is no next piece.
-#[derive(Clone, Copy)]
+/// Why there is no next piece. `Display` shows it as a sentence.
+#[derive(Clone, Copy, Debug, PartialEq, Eq, Error)]
 pub(crate) enum PiecesFault {
-    /// A read failed.
+    /// A read failed, and what was read before it closes no further piece.
+    #[error("a read failed")]
     Read,
-    /// A piece, or what comes after the last one, has more than 1,073,741,824 bytes.
+    /// The piece, or what comes after the last one, has more bytes than a piece may have.
+    #[error("the piece is longer than the limit")]
     TooLong,
-    /// There are more than 1,073,741,824 bytes.
+    /// The input has more bytes than it may have.
+    #[error("the input is longer than the limit")]
     InputLong,
     /// Out of memory.
+    #[error("out of memory")]
     OutOfMemory,
 }
 
-impl From<AllocError> for PiecesFault {
-    fn from(_error: AllocError) -> PiecesFault {
-        PiecesFault::OutOfMemory
-    }
-}
-
-/// The pieces of a file, each as soon as its closing line was read. A piece is everything up to and including a closing
-/// line, a line of exactly `...` and a line feed.
+/// The pieces of what a reader gives, each as soon as its closing line was read. A piece is everything up to and
+/// including a closing line, a line of exactly `...` and a line feed, as [`next_close`] finds it.
+///
+/// Contracts see the piece, or what comes after the last one (`piece_or_rest`), the bytes that were read and are in no
+/// piece yet (`ahead`), how many bytes were read (`bytes_read`), and how many a piece and the whole input may have
+/// (`piece_limit`, `input_limit`). That these fit together (`IsSound`) holds from [`Pieces::new`] on, until a call
+/// fails.
 #[derive(Drop)]
-pub(crate) struct Pieces {
+pub struct Pieces {
     cutter: Cutter,
     chunk: Vec<u8>,
     start: usize,
     end: usize,
     total: usize,
+    limit: usize,
 }
 
 impl Pieces {
-    /// Returns the pieces of a file of which nothing is read yet. It takes the memory for one chunk, 65,536 bytes.
+    /// Returns the pieces of a reader of which nothing is read yet. A piece may have `longest_piece` bytes, at least
+    /// 65,536, and the whole input `longest_input` bytes. It takes the memory for one chunk, 65,536 bytes.
     ///
     /// # Errors
     /// `AllocError` if there is no memory for the chunk.
-    pub fn new(alloc: Global) -> Result<Pieces, AllocError>
+    pub fn new(
+        alloc: Global,
+        longest_piece: u64,
+        longest_input: usize,
+    ) -> Result<Pieces, AllocError>
+        requires { 65536 ≤ longest_piece }
+        ensures sound { IfOk result IsSound }
+        ensures unread { IfOk result (λ pieces. (ahead pieces ≡ []) × (bytes_read pieces ≡ 0)) }
+        ensures limits { IfOk result (λ pieces. (piece_limit pieces ≡ longest_piece)
+            × (input_limit pieces ≡ longest_input)) }
     {
         Ok(Pieces {
-            cutter: Cutter::new(alloc, STORE_LIMIT),
+            cutter: Cutter::new(alloc, longest_piece),
             chunk: vec![in alloc; 0; CHUNK]?,
             start: 0,
             end: 0,
             total: 0,
+            limit: longest_input,
         })
     }
 
@@ -62,13 +78,16 @@ impl Pieces {
     /// if what was read before closes no further piece, and at most 65,536 bytes at a time.
     ///
     /// # Errors
-    /// After an error nothing is promised of the pieces.
+    /// After an error nothing is promised of the input.
     ///
     /// - `Read`: a read failed, and what was read before it closes no further piece.
-    /// - `TooLong`: the piece, or what comes after the last one, has more than 1,073,741,824 bytes.
-    /// - `InputLong`: there are more than 1,073,741,824 bytes, and the first that many close no further piece.
+    /// - `TooLong`: the piece, or what comes after the last one, has more bytes than a piece may have.
+    /// - `InputLong`: the input has more bytes than it may have, and the first that many close no further piece.
     /// - `OutOfMemory`: there is no memory for the piece.
     pub fn advance<R: Read>(&mut self, reader: &mut R) -> Result<bool, PiecesFault>
+        requires { IsSound self.old }
+        ensures { Advances (R.remaining reader.old) (R.remaining reader.new)
+            self.old self.new result }
     {
         self.cutter.clear();
         'parts: loop {
@@ -81,14 +100,43 @@ impl Pieces {
         }
     }
 
-    /// Returns the piece, or the bytes after the last one, as the last call of [`advance`](Pieces::advance) left them.
+    /// Returns whether the bytes that were read close a further piece, so that there is one without a read.
+    pub fn has_piece_ahead(&self) -> bool
+        requires { IsSound self.now }
+        ensures { (result ≡ true) ↔ HasPieceAhead self.now }
+    {
+        next_close(&self.chunk[self.start..self.end], 0).is_some()
+    }
+
+    /// Goes on to the next piece, which the bytes that were read close. It never reads.
+    ///
+    /// # Errors
+    /// `OutOfMemory`: there is no memory for the piece. After it nothing is promised of the input.
+    pub fn advance_ahead(&mut self) -> Result<(), PiecesFault>
+        requires sound { IsSound self.old }
+        requires ahead { HasPieceAhead self.old }
+        ensures { AdvancesAhead self.old self.new result }
+    {
+        self.cutter.clear();
+        match self.feed() {
+            Ok(_) => Ok(()),
+            Err(fault) => Err(fault),
+        }
+    }
+
+    /// Returns the piece, or the bytes after the last one, as the last call of [`advance`](Pieces::advance) or
+    /// [`advance_ahead`](Pieces::advance_ahead) left them.
     pub fn piece(&self) -> &[u8]
+        ensures { result.now ≡ piece_or_rest self.now }
     {
         self.cutter.piece()
     }
 
     /// Appends what was read to the piece, up to the piece's end. Returns whether the piece is complete.
     fn feed(&mut self) -> Result<bool, PiecesFault>
+        requires sound { IsSound self.old }
+        requires unclosed { Unclosed self.old.cutter.bytes }
+        ensures { Feeds self.old self.new result }
     {
         match self.cutter.feed(&self.chunk[self.start..self.end]) {
             Ok(fed) => {
@@ -100,13 +148,17 @@ impl Pieces {
         }
     }
 
-    /// Reads once. Returns whether there was anything to read. At the limit it looks whether there is one byte more.
+    /// Reads once. Returns whether there was anything to read. At the limit of the input it looks whether there is one
+    /// byte more.
     fn fill<R: Read>(&mut self, reader: &mut R) -> Result<bool, PiecesFault>
+        requires sound { IsSound self.old }
+        requires used { ahead self.old ≡ [] }
+        ensures { Fills (R.remaining reader.old) (R.remaining reader.new) self.old self.new result }
     {
-        let room = CHUNK.min(LIMIT - self.total).max(1);
+        let room = CHUNK.min(self.limit - self.total).max(1);
         match read_prefix(reader, &mut self.chunk, room) {
             Ok(0) => Ok(false),
-            Ok(_) if self.total == LIMIT => Err(PiecesFault::InputLong),
+            Ok(_) if self.total == self.limit => Err(PiecesFault::InputLong),
             Ok(count) => {
                 self.start = 0;
                 self.end = count;
@@ -120,6 +172,10 @@ impl Pieces {
 
 /// Reads once, into the first `room` bytes of the chunk.
 fn read_prefix<R: Read>(reader: &mut R, chunk: &mut [u8], room: usize) -> io::Result<usize>
+    requires { room ≤ length chunk.old }
+    ensures bound { IfOk result (λ count. count ≤ room) }
+    ensures bytes { ReadConsumes (R.remaining reader.old) (R.remaining reader.new)
+        result (take room chunk.new) }
 {
     reader.read(&mut chunk[..room])
 }

@@ -1,10 +1,19 @@
 // The state that a store's file held after a command.
+ghost use Rattle.std.specs.Prelude.{◌≡◌, ◌≢◌, ◌<◌, ◌≤◌, ℕ, List, Option, None, Some, OnOk, OnErr, IfOk, IfErr, IfSome};
+ghost use Rattle.std.specs.Io.KnownBytes.{IsAtEnd};
+ghost use Rattle.conf_journal.specs.Store.{store_limit};
+ghost use Rattle.conf_state.specs.Commands.{Command as Meant};
+ghost use Rattle.conf_state.specs.Limits.{IsState};
+ghost use Rattle.conf_state.specs.States.{Contents};
+ghost use Rattle.conf_history.specs.Histories.{HoldsAt, ReadsAtMost, RefusesReading};
+ghost use Rattle.conf_history.specs.Walks.{AfterGoing, HasLimits, IsBetween};
 
 use crate::fault::HistoryFault;
 use crate::walk::Walk;
 use conf_state::State;
 use std::alloc::Global;
 use std::io::Read;
+use yaml_recognizers::closings::one_list_of_pieces;
 
 /// Reads the state that a store's file held: after all its commands, or after the one with the number `at`. Commands
 /// are numbered from 1, over all checkpoints. The number of the file's base, the count of commands before its first
@@ -26,7 +35,15 @@ pub fn state_at<R: Read>(
     reader: &mut R,
     at: Option<u64>,
 ) -> Result<State, HistoryFault>
+    ensures state { IfSome (R.remaining reader.old) (λ bytes. IfOk result (HoldsAt bytes at)) }
+    ensures refused { IfSome (R.remaining reader.old) (λ bytes.
+        IfErr result (RefusesReading bytes at)) }
+    ensures limits { IfOk result (λ state. IsState state) }
+    ensures read { OnOk result
+        (ReadsAtMost store_limit (R.remaining reader.old) (R.remaining reader.new)) }
+    ensures whole { at ≡ None → OnOk result (IsAtEnd (R.remaining reader.new)) }
 {
+    one_list_of_pieces();
     let mut walk = Walk::begin(alloc, reader)?;
     walk.check_start(at)?;
     'records: while walk.goes_on(reader, at)? {
@@ -39,6 +56,10 @@ pub fn state_at<R: Read>(
 impl Walk {
     /// Fails with `NoSuchCommand` if the number is before that of the base, whose state the walk has.
     pub fn check_start(&self, at: Option<u64>) -> Result<(), HistoryFault>
+        ensures ok { OnOk result ((number : ℕ) → at ≡ Some number → self.now.state.count ≤ number) }
+        ensures before { OnErr result
+            ((number : ℕ) × (at ≡ Some number) × (number < self.now.state.count)) }
+        ensures fault { IfErr result (λ fault. fault ≡ HistoryFault.NoSuchCommand) }
     {
         match at {
             Some(number) if number < self.state.count() => Err(HistoryFault::NoSuchCommand),
@@ -51,6 +72,12 @@ impl Walk {
     /// # Errors
     /// Those of [`Walk::advance`].
     pub fn goes_on<R: Read>(&mut self, reader: &mut R, at: Option<u64>) -> Result<bool, HistoryFault>
+        requires { HasLimits self.old.pieces }
+        ensures walks { (given : Option (List ℕ)) (pieces : List (List ℕ)) (start : Contents)
+            (commands : List Meant)
+            → IsBetween given (R.remaining reader.old) self.old pieces start commands
+            → AfterGoing at given (R.remaining reader.new) self.new pieces start commands result }
+        ensures state { self.new.state ≡ self.old.state }
     {
         if at == Some(self.state.count()) {
             return Ok(false);
@@ -60,6 +87,11 @@ impl Walk {
 
     /// Fails with `NoSuchCommand` if the command with the number was not performed.
     pub fn check_end(&self, at: Option<u64>) -> Result<(), HistoryFault>
+        ensures ok { OnOk result ((number : ℕ) → at ≡ Some number → self.now.state.count ≡ number) }
+        ensures other { OnErr result
+            ((number : ℕ) × (at ≡ Some number) × (self.now.state.count ≢ number)) }
+        ensures fault { IfErr result (λ fault. fault ≡ HistoryFault.NoSuchCommand) }
+        ensures limits { IsState self.now.state }
     {
         match at {
             Some(number) if number != self.state.count() => Err(HistoryFault::NoSuchCommand),
