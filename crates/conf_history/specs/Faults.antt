@@ -1,6 +1,6 @@
 -- What a fault of the pieces is for a file.
-use Rattle.conf_history.specs.declared.pieces.PiecesFault.{PiecesFault}
-use Rattle.conf_history.specs.declared.pieces.PiecesFault.TheVariants as pieces
+use Rattle.yaml_docs.specs.declared.pieces.PiecesFault.{PiecesFault}
+use Rattle.yaml_docs.specs.declared.pieces.PiecesFault.TheVariants as pieces
 use Rattle.conf_history.specs.declared.fault.HistoryFault.{HistoryFault}
 use Rattle.conf_history.specs.declared.fault.HistoryFault.TheVariants.{Input, NotAStore, OutOfMemory}
 

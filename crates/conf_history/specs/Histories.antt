@@ -1,9 +1,10 @@
 -- What the bytes of a store's file hold: at each command, and before a bad piece.
-use Rattle.std.specs.Prelude.{◌≡◌, ◌<◌, ◌≤◌, ◌⊎◌, ℕ, ◌+◌, suc, List, [], ◌∷◌, ◌++◌, length, Option, Some, None, Result, Ok, Err}
-use Rattle.std.specs.Io.KnownBytes.{Consumes}
+use Rattle.std.specs.Prelude.{◌≡◌, ◌<◌, ◌≤◌, ◌⊎◌, ℕ, suc, List, [], ◌∷◌, ◌++◌, length, Option, Some, None, IfSome}
+use Rattle.std.specs.Io.KnownBytes.{Consumes, IsAtEnd}
 use Rattle.yaml_grammar.specs.Closings.{Pieces}
 use Rattle.conf_journal.specs.Store.{store_limit}
 use Rattle.conf_state.specs.States.{Contents}
+use Rattle.conf_state.specs.Limits.{IsState}
 use Rattle.conf_record.specs.Documents.{IsBase}
 use Rattle.conf_store.specs.Meaning.{PiecesMean, Means}
 use Rattle.conf_store.specs.Opens.{HasNoBase}
@@ -70,6 +71,14 @@ RefusesReading bytes at OutOfMemory = Unit {0}
 -- at most so many bytes were read
 abbrev pub ReadsAtMost : ℕ → Option (List ℕ) → Option (List ℕ) → Type 0
 ReadsAtMost most given left = (read : List ℕ) × Consumes given left read × (length read ≤ most)
+
+-- What is returned is the state that known bytes hold. At most 1,073,741,824 bytes were read; all that there are, if no
+-- number was given.
+pub record ReadsState (given left : Option (List ℕ)) (at : Option ℕ) (s : Contents) : Type 0 where
+  pub holds : IfSome given (λ bytes. HoldsAt bytes at s)
+  pub kept : IsState s
+  pub read : ReadsAtMost store_limit given left
+  pub whole : at ≡ None → IsAtEnd left
 
 -- ---- a survey
 

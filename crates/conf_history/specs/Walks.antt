@@ -4,7 +4,7 @@ use Rattle.std.specs.List.{All, concat}
 use Rattle.std.specs.Io.KnownBytes.{Consumes, IsAtEnd}
 use Rattle.yaml_grammar.specs.Closings.{ClosesOnce}
 use Rattle.yaml_docs.specs.Cutting.{Unclosed}
-use Rattle.conf_history.specs.PieceReading.{IsSound, ahead, bytes_read, input_limit, piece_limit, piece_or_rest}
+use Rattle.yaml_docs.specs.PieceReading.{IsSound, ahead, bytes_read, piece_or_rest}
 use Rattle.conf_journal.specs.Store.{store_limit}
 use Rattle.conf_state.specs.Commands.{Command}
 use Rattle.conf_state.specs.States.{Contents}
@@ -19,7 +19,7 @@ use Rattle.conf_history.specs.declared.fault.HistoryFault.{HistoryFault}
 use Rattle.conf_history.specs.declared.fault.HistoryFault.TheVariants.{Damaged, OutOfMemory}
 use Rattle.conf_history.specs.declared.place.Place.{Place}
 use Rattle.conf_history.specs.declared.walk.Walk.{Walk}
-use Rattle.conf_history.specs.declared.pieces.Pieces.{Pieces}
+use Rattle.yaml_docs.specs.declared.pieces.Pieces.{Pieces}
 
 -- the place is after these pieces
 pub record IsAfter (pieces : List (List ℕ)) (place : Place) : Type 0 where
@@ -37,10 +37,8 @@ pub record ArePerformed (pieces : List (List ℕ)) (start : Contents) (commands 
   pub performed : mean.commands ≡ commands
 
 -- the reader's pieces are in order, with the limits of a store's file
-pub record HasLimits (pieces : Pieces) : Type 0 where
-  pub sound : IsSound pieces
-  pub piece : piece_limit pieces ≡ store_limit
-  pub whole : input_limit pieces ≡ store_limit
+abbrev pub HasLimits : Pieces → Type 0
+HasLimits pieces = IsSound store_limit store_limit pieces
 
 -- The bytes that were read are pieces, which were performed, and these further ones.
 pub record HasRead (given left : Option (List ℕ)) (walk : Walk) (further : List ℕ) (pieces : List (List ℕ))

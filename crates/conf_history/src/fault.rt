@@ -2,10 +2,11 @@
 ghost use Rattle.std.specs.Prelude.{◌≡◌};
 ghost use Rattle.conf_history.specs.Faults.{fault_of_pieces};
 
-use crate::pieces::PiecesFault;
+
 use crate::place::BadPiece;
 use std::alloc::AllocError;
 use thiserror::Error;
+use yaml_docs::PiecesFault;
 
 /// Why the file of a store does not answer. The message is the fault's own name.
 #[derive(Clone, Copy, Debug, PartialEq, Eq, Error)]

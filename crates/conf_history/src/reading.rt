@@ -1,11 +1,9 @@
 // The state that a store's file held after a command.
-ghost use Rattle.std.specs.Prelude.{◌≡◌, ◌≢◌, ◌<◌, ◌≤◌, ℕ, List, Option, None, Some, OnOk, OnErr, IfOk, IfErr, IfSome};
-ghost use Rattle.std.specs.Io.KnownBytes.{IsAtEnd};
-ghost use Rattle.conf_journal.specs.Store.{store_limit};
+ghost use Rattle.std.specs.Prelude.{◌≡◌, ◌≢◌, ◌<◌, ◌≤◌, ℕ, List, Option, Some, true, false, OnOk, OnErr, IfOk, IfErr, IfSome};
 ghost use Rattle.conf_state.specs.Commands.{Command as Meant};
 ghost use Rattle.conf_state.specs.Limits.{IsState};
 ghost use Rattle.conf_state.specs.States.{Contents};
-ghost use Rattle.conf_history.specs.Histories.{HoldsAt, ReadsAtMost, RefusesReading};
+ghost use Rattle.conf_history.specs.Histories.{ReadsState, RefusesReading};
 ghost use Rattle.conf_history.specs.Walks.{AfterGoing, HasLimits, IsBetween};
 
 use crate::fault::HistoryFault;
@@ -35,13 +33,10 @@ pub fn state_at<R: Read>(
     reader: &mut R,
     at: Option<u64>,
 ) -> Result<State, HistoryFault>
-    ensures state { IfSome (R.remaining reader.old) (λ bytes. IfOk result (HoldsAt bytes at)) }
-    ensures refused { IfSome (R.remaining reader.old) (λ bytes.
-        IfErr result (RefusesReading bytes at)) }
-    ensures limits { IfOk result (λ state. IsState state) }
-    ensures read { OnOk result
-        (ReadsAtMost store_limit (R.remaining reader.old) (R.remaining reader.new)) }
-    ensures whole { at ≡ None → OnOk result (IsAtEnd (R.remaining reader.new)) }
+    ensures ok { IfOk result
+        (ReadsState (R.remaining reader.old) (R.remaining reader.new) at) }
+    ensures refused { IfErr result (λ fault.
+        IfSome (R.remaining reader.old) (λ bytes. RefusesReading bytes at fault)) }
 {
     one_list_of_pieces();
     let mut walk = Walk::begin(alloc, reader)?;
@@ -78,8 +73,9 @@ impl Walk {
             → IsBetween given (R.remaining reader.old) self.old pieces start commands
             → AfterGoing at given (R.remaining reader.new) self.new pieces start commands result }
         ensures state { self.new.state ≡ self.old.state }
+        ensures place { self.new.place ≡ self.old.place }
     {
-        if at == Some(self.state.count()) {
+        if is_reached(at, self.state.count()) {
             return Ok(false);
         }
         self.advance(reader)
@@ -93,9 +89,21 @@ impl Walk {
         ensures fault { IfErr result (λ fault. fault ≡ HistoryFault.NoSuchCommand) }
         ensures limits { IsState self.now.state }
     {
+        let count = self.state.count();
         match at {
-            Some(number) if number != self.state.count() => Err(HistoryFault::NoSuchCommand),
+            Some(number) if number != count => Err(HistoryFault::NoSuchCommand),
             _ => Ok(()),
         }
+    }
+}
+
+/// Whether a count is the number that is asked for.
+fn is_reached(at: Option<u64>, count: u64) -> bool
+    ensures reached { result ≡ true → at ≡ Some count }
+    ensures not_yet { result ≡ false → at ≢ Some count }
+{
+    match at {
+        Some(number) => number == count,
+        None => false,
     }
 }

@@ -1,12 +1,12 @@
 // One record on a state.
-ghost use Rattle.std.specs.Prelude.{◌≡◌, ◌+◌, ℕ, List, Ok, OnOk, OnErr, IfOk, IfErr};
+ghost use Rattle.std.specs.Prelude.{◌≡◌, ◌≢◌, ◌+◌, ℕ, List, true, false, Ok, OnOk, OnErr, IfOk, IfErr};
 ghost use Rattle.conf_state.specs.Commands.{command_of};
 ghost use Rattle.conf_state.specs.Steps.{step};
 ghost use Rattle.conf_record.specs.Documents.{IsRecord};
 ghost use Rattle.conf_history.specs.Records.{RefusesRecord};
 
 use crate::place::NoRecord;
-use conf_record::{documents_are_read, read_record};
+use conf_record::read_record;
 use conf_state::{Command, Room, State, StoreFault, step};
 use std::alloc::{AllocError, Global};
 
@@ -42,14 +42,21 @@ pub(crate) fn read_next(
         IsRecord piece.now (command_of command) (state.now.count + 1)) }
     ensures refused { IfErr result (RefusesRecord piece.now state.now) }
 {
-    documents_are_read();
     let Some((command, number)) = read_record(alloc, piece)? else {
         return Err(RecordFault::Bad(NoRecord::NotARecord));
     };
-    if state.count().checked_add(1) != Some(number) {
+    if !is_next(state.count(), number) {
         return Err(RecordFault::Bad(NoRecord::WrongNumber { found: number }));
     }
     Ok(command)
+}
+
+/// Whether a record's number is the next one after a count.
+fn is_next(count: u64, number: u64) -> bool
+    ensures next { result ≡ true → number ≡ count + 1 }
+    ensures other { result ≡ false → number ≢ count + 1 }
+{
+    count < u64::MAX && number == count + 1
 }
 
 /// Performs the command of the next record.

@@ -3,13 +3,13 @@ ghost use Rattle.std.specs.Prelude.{◌≡◌, ◌+◌, ℕ, List, [], Option, O
 ghost use Rattle.conf_state.specs.Commands.{Command as Meant, command_of};
 ghost use Rattle.conf_state.specs.States.{Contents};
 ghost use Rattle.conf_record.specs.Documents.{IsRecord};
-ghost use Rattle.conf_history.specs.PieceReading.{piece_or_rest};
+ghost use Rattle.yaml_docs.specs.PieceReading.{piece_or_rest};
 ghost use Rattle.conf_history.specs.Histories.{RefusesSurvey};
 ghost use Rattle.conf_history.specs.Records.{RefusesRecord};
 ghost use Rattle.conf_history.specs.Walks.{AfterAdvance, HasLimits, HasRoom, IsBetween, Performs, RefusesPiece};
 
 use crate::fault::{HistoryFault, fault_of_pieces};
-use crate::pieces::Pieces;
+
 use crate::place::Place;
 use crate::records::{RecordFault, perform_next, read_next};
 use conf_journal::STORE_LIMIT;
@@ -17,6 +17,7 @@ use conf_record::read_base;
 use conf_state::{Command, State};
 use std::alloc::Global;
 use std::io::Read;
+use yaml_docs::Pieces;
 use yaml_recognizers::closings::one_list_of_pieces;
 
 /// A walk over the pieces of a store's file: the state after the pieces so far, and where the next one begins.
@@ -35,8 +36,8 @@ impl Walk {
     pub fn begin<R: Read>(alloc: Global, reader: &mut R) -> Result<Walk, HistoryFault>
         ensures ok { IfOk result (λ walk. (pieces : List (List ℕ)) × IsBetween
             (R.remaining reader.old) (R.remaining reader.new) walk pieces walk.state []) }
-        ensures refused { IfSome (R.remaining reader.old) (λ bytes.
-            IfErr result (RefusesSurvey bytes)) }
+        ensures refused { IfErr result (λ fault.
+            IfSome (R.remaining reader.old) (λ bytes. RefusesSurvey bytes fault)) }
     {
         one_list_of_pieces();
         let mut pieces = Pieces::new(alloc, STORE_LIMIT, STORE_LIMIT as usize)?;
@@ -67,6 +68,7 @@ impl Walk {
             → IsBetween given (R.remaining reader.old) self.old pieces start commands
             → AfterAdvance given (R.remaining reader.new) self.new pieces start commands result }
         ensures state { self.new.state ≡ self.old.state }
+        ensures place { self.new.place ≡ self.old.place }
     {
         match self.pieces.advance(reader) {
             Ok(found) => Ok(found),
