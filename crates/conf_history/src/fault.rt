@@ -1,11 +1,12 @@
 // Why the file of a store is not read to its end, and why nothing is saved from it.
 ghost use Rattle.std.specs.Prelude.{◌≡◌};
+ghost use Rattle.conf_history.specs.Faults.{fault_of_pieces};
 
-use crate::pieces::PiecesFault;
+
 use crate::place::BadPiece;
-use crate::records::RecordFault;
 use std::alloc::AllocError;
 use thiserror::Error;
+use yaml_docs::PiecesFault;
 
 /// Why the file of a store does not answer. The message is the fault's own name.
 #[derive(Clone, Copy, Debug, PartialEq, Eq, Error)]
@@ -41,7 +42,9 @@ impl From<AllocError> for HistoryFault {
 }
 
 /// What the fault of the pieces is for a file: one that is too long is no store.
-pub(crate) fn fault_of_pieces(fault: PiecesFault) -> HistoryFault {
+pub(crate) fn fault_of_pieces(fault: PiecesFault) -> HistoryFault
+    ensures { result ≡ fault_of_pieces fault }
+{
     match fault {
         PiecesFault::Read => HistoryFault::Input,
         PiecesFault::TooLong | PiecesFault::InputLong => HistoryFault::NotAStore,

@@ -15,7 +15,6 @@ mod laws;
 mod line;
 mod log;
 mod output;
-mod pieces;
 mod place;
 mod reading;
 mod records;

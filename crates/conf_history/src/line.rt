@@ -3,7 +3,7 @@
 use conf_state::{Command, Edit};
 use itoa::Buffer;
 use std::alloc::{AllocError, Global};
-use yaml_writer::{Sink, write_quoted};
+use yaml_writer::{Sink, write_scalar};
 
 /// The line of a command with a number.
 pub(crate) fn record_line(
@@ -68,4 +68,9 @@ fn write_at<S: Sink>(word: &str, name: &str, path: &str, sink: &mut S) -> Result
     sink.put_text(name)?;
     sink.put_char(' ')?;
     write_quoted(path, sink)
+}
+
+fn write_quoted<S: Sink>(text: &str, sink: &mut S) -> Result<(), S::Fault>
+{
+    write_scalar(text, 2, sink)
 }

@@ -1,7 +1,9 @@
 // Where a piece begins, and why it is no next record.
-ghost use Rattle.std.specs.Prelude.{◌≡◌};
+ghost use Rattle.std.specs.Prelude.{◌≡◌, ◌+◌, ◌≤◌, ◌<◌, ◌^◌, length};
+ghost use Rattle.conf_history.specs.BadPieces.{line_feeds};
 
 use conf_state::StoreFault;
+use memchr::memchr_iter;
 
 /// Why a piece after the base is not the next record of a store.
 #[derive(Clone, Copy, Debug, PartialEq, Eq)]
@@ -40,7 +42,9 @@ pub(crate) struct Place {
 
 impl Place {
     /// The start of a file.
-    pub fn start() -> Place {
+    pub fn start() -> Place
+        ensures { result ≡ record { number = 0; byte = 0; feeds = 0 } }
+    {
         Place {
             number: 0,
             byte: 0,
@@ -49,7 +53,13 @@ impl Place {
     }
 
     /// The place after a piece that begins here.
-    pub fn after(self, piece: &[u8]) -> Place {
+    pub fn after(self, piece: &[u8]) -> Place
+        requires few { self.number ≤ self.byte }
+        requires lines { self.feeds ≤ self.byte }
+        requires short { self.byte + length piece.now < 2 ^ 63 }
+        ensures { result ≡ record { number = self.number + 1; byte = self.byte + length piece.now;
+            feeds = self.feeds + line_feeds piece.now } }
+    {
         Place {
             number: self.number + 1,
             byte: self.byte + piece.len() as u64,
@@ -58,7 +68,11 @@ impl Place {
     }
 
     /// The piece that begins here as a bad one.
-    pub fn bad_piece(self, why: NoRecord) -> BadPiece {
+    pub fn bad_piece(self, why: NoRecord) -> BadPiece
+        requires { self.feeds < 2 ^ 63 }
+        ensures { result ≡ record { number = self.number; byte = self.byte; line = self.feeds + 1;
+            why = why } }
+    {
         BadPiece {
             number: self.number,
             byte: self.byte,
@@ -69,12 +83,8 @@ impl Place {
 }
 
 /// How many line feeds the bytes have.
-fn line_feeds(bytes: &[u8]) -> u64 {
-    let mut count = 0;
-    for byte in bytes {
-        if *byte == b'\n' {
-            count += 1;
-        }
-    }
-    count
+fn line_feeds(bytes: &[u8]) -> u64
+    ensures { result ≡ line_feeds bytes.now }
+{
+    memchr_iter(b'\n', bytes).count() as u64
 }

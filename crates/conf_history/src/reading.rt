@@ -1,10 +1,17 @@
 // The state that a store's file held after a command.
+ghost use Rattle.std.specs.Prelude.{◌≡◌, ◌≢◌, ◌<◌, ◌≤◌, ℕ, List, Option, Some, true, false, OnOk, OnErr, IfOk, IfErr, IfSome};
+ghost use Rattle.conf_state.specs.Commands.{Command as Meant};
+ghost use Rattle.conf_state.specs.Limits.{IsState};
+ghost use Rattle.conf_state.specs.States.{Contents};
+ghost use Rattle.conf_history.specs.Histories.{ReadsState, RefusesReading};
+ghost use Rattle.conf_history.specs.Walks.{AfterGoing, HasLimits, IsBetween};
 
 use crate::fault::HistoryFault;
 use crate::walk::Walk;
 use conf_state::State;
 use std::alloc::Global;
 use std::io::Read;
+use yaml_recognizers::closings::one_list_of_pieces;
 
 /// Reads the state that a store's file held: after all its commands, or after the one with the number `at`. Commands
 /// are numbered from 1, over all checkpoints. The number of the file's base, the count of commands before its first
@@ -26,7 +33,12 @@ pub fn state_at<R: Read>(
     reader: &mut R,
     at: Option<u64>,
 ) -> Result<State, HistoryFault>
+    ensures ok { IfOk result
+        (ReadsState (R.remaining reader.old) (R.remaining reader.new) at) }
+    ensures refused { IfErr result (λ fault.
+        IfSome (R.remaining reader.old) (λ bytes. RefusesReading bytes at fault)) }
 {
+    one_list_of_pieces();
     let mut walk = Walk::begin(alloc, reader)?;
     walk.check_start(at)?;
     'records: while walk.goes_on(reader, at)? {
@@ -39,6 +51,10 @@ pub fn state_at<R: Read>(
 impl Walk {
     /// Fails with `NoSuchCommand` if the number is before that of the base, whose state the walk has.
     pub fn check_start(&self, at: Option<u64>) -> Result<(), HistoryFault>
+        ensures ok { OnOk result ((number : ℕ) → at ≡ Some number → self.now.state.count ≤ number) }
+        ensures before { OnErr result
+            ((number : ℕ) × (at ≡ Some number) × (number < self.now.state.count)) }
+        ensures fault { IfErr result (λ fault. fault ≡ HistoryFault.NoSuchCommand) }
     {
         match at {
             Some(number) if number < self.state.count() => Err(HistoryFault::NoSuchCommand),
@@ -51,8 +67,15 @@ impl Walk {
     /// # Errors
     /// Those of [`Walk::advance`].
     pub fn goes_on<R: Read>(&mut self, reader: &mut R, at: Option<u64>) -> Result<bool, HistoryFault>
+        requires { HasLimits self.old.pieces }
+        ensures walks { (given : Option (List ℕ)) (pieces : List (List ℕ)) (start : Contents)
+            (commands : List Meant)
+            → IsBetween given (R.remaining reader.old) self.old pieces start commands
+            → AfterGoing at given (R.remaining reader.new) self.new pieces start commands result }
+        ensures state { self.new.state ≡ self.old.state }
+        ensures place { self.new.place ≡ self.old.place }
     {
-        if at == Some(self.state.count()) {
+        if is_reached(at, self.state.count()) {
             return Ok(false);
         }
         self.advance(reader)
@@ -60,10 +83,27 @@ impl Walk {
 
     /// Fails with `NoSuchCommand` if the command with the number was not performed.
     pub fn check_end(&self, at: Option<u64>) -> Result<(), HistoryFault>
+        ensures ok { OnOk result ((number : ℕ) → at ≡ Some number → self.now.state.count ≡ number) }
+        ensures other { OnErr result
+            ((number : ℕ) × (at ≡ Some number) × (self.now.state.count ≢ number)) }
+        ensures fault { IfErr result (λ fault. fault ≡ HistoryFault.NoSuchCommand) }
+        ensures limits { IsState self.now.state }
     {
+        let count = self.state.count();
         match at {
-            Some(number) if number != self.state.count() => Err(HistoryFault::NoSuchCommand),
+            Some(number) if number != count => Err(HistoryFault::NoSuchCommand),
             _ => Ok(()),
         }
+    }
+}
+
+/// Whether a count is the number that is asked for.
+fn is_reached(at: Option<u64>, count: u64) -> bool
+    ensures reached { result ≡ true → at ≡ Some count }
+    ensures not_yet { result ≡ false → at ≢ Some count }
+{
+    match at {
+        Some(number) => number == count,
+        None => false,
     }
 }

@@ -1,12 +1,13 @@
 // What an opening of a store would find in its file.
 
 use crate::fault::{HistoryFault, fault_of_pieces};
-use crate::pieces::Pieces;
+
 use crate::place::BadPiece;
 use crate::walk::Walk;
 use conf_state::State;
 use std::alloc::Global;
 use std::io::Read;
+use yaml_docs::Pieces;
 
 /// The first bad piece of a file, and how many closed pieces follow it.
 #[derive(Clone, Copy, Debug, PartialEq, Eq)]

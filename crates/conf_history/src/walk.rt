@@ -1,13 +1,24 @@
 // A walk over the pieces of a store's file, with the state after those so far.
+ghost use Rattle.std.specs.Prelude.{◌≡◌, ◌+◌, ℕ, List, [], Option, OnOk, OnErr, IfOk, IfErr, IfSome};
+ghost use Rattle.conf_state.specs.Commands.{Command as Meant, command_of};
+ghost use Rattle.conf_state.specs.States.{Contents};
+ghost use Rattle.conf_record.specs.Documents.{IsRecord};
+ghost use Rattle.yaml_docs.specs.PieceReading.{piece_or_rest};
+ghost use Rattle.conf_history.specs.Histories.{RefusesSurvey};
+ghost use Rattle.conf_history.specs.Records.{RefusesRecord};
+ghost use Rattle.conf_history.specs.Walks.{AfterAdvance, HasLimits, HasRoom, IsBetween, Performs, RefusesPiece};
 
 use crate::fault::{HistoryFault, fault_of_pieces};
-use crate::pieces::Pieces;
+
 use crate::place::Place;
 use crate::records::{RecordFault, perform_next, read_next};
+use conf_journal::STORE_LIMIT;
 use conf_record::read_base;
 use conf_state::{Command, State};
 use std::alloc::Global;
 use std::io::Read;
+use yaml_docs::Pieces;
+use yaml_recognizers::closings::one_list_of_pieces;
 
 /// A walk over the pieces of a store's file: the state after the pieces so far, and where the next one begins.
 #[derive(Drop)]
@@ -23,8 +34,13 @@ impl Walk {
     /// # Errors
     /// `NotAStore` if there is no closing line within the limit, or the first piece is no base. `Input`, `OutOfMemory`.
     pub fn begin<R: Read>(alloc: Global, reader: &mut R) -> Result<Walk, HistoryFault>
+        ensures ok { IfOk result (λ walk. (pieces : List (List ℕ)) × IsBetween
+            (R.remaining reader.old) (R.remaining reader.new) walk pieces walk.state []) }
+        ensures refused { IfErr result (λ fault.
+            IfSome (R.remaining reader.old) (λ bytes. RefusesSurvey bytes fault)) }
     {
-        let mut pieces = Pieces::new(alloc)?;
+        one_list_of_pieces();
+        let mut pieces = Pieces::new(alloc, STORE_LIMIT, STORE_LIMIT as usize)?;
         match pieces.advance(reader) {
             Ok(true) => {}
             Ok(false) => return Err(HistoryFault::NotAStore),
@@ -46,6 +62,13 @@ impl Walk {
     /// # Errors
     /// `Input` if a read failed. `NotAStore` if the file has more than 1,073,741,824 bytes. `OutOfMemory`.
     pub fn advance<R: Read>(&mut self, reader: &mut R) -> Result<bool, HistoryFault>
+        requires { HasLimits self.old.pieces }
+        ensures walks { (given : Option (List ℕ)) (pieces : List (List ℕ)) (start : Contents)
+            (commands : List Meant)
+            → IsBetween given (R.remaining reader.old) self.old pieces start commands
+            → AfterAdvance given (R.remaining reader.new) self.new pieces start commands result }
+        ensures state { self.new.state ≡ self.old.state }
+        ensures place { self.new.place ≡ self.old.place }
     {
         match self.pieces.advance(reader) {
             Ok(found) => Ok(found),
@@ -58,6 +81,10 @@ impl Walk {
     /// # Errors
     /// `Damaged` if it is no record, or has another number. `OutOfMemory`.
     pub fn command(&self, alloc: Global) -> Result<Command, HistoryFault>
+        requires { HasRoom self.now }
+        ensures ok { IfOk result (λ command. IsRecord (piece_or_rest self.now.pieces)
+            (command_of command) (self.now.state.count + 1)) }
+        ensures refused { IfErr result (RefusesPiece self.now) }
     {
         match read_next(alloc, &self.state, self.pieces.piece()) {
             Ok(command) => Ok(command),
@@ -70,6 +97,12 @@ impl Walk {
     /// # Errors
     /// `Damaged` if the state refuses the command. `OutOfMemory`. The state is as it was.
     pub fn perform(&mut self, alloc: Global, command: Command) -> Result<(), HistoryFault>
+        requires room { HasRoom self.old }
+        requires is_record { IsRecord (piece_or_rest self.old.pieces) (command_of command)
+            (self.old.state.count + 1) }
+        ensures ok { OnOk result (Performs self.old self.new (command_of command)) }
+        ensures refused { IfErr result (RefusesPiece self.old) }
+        ensures unchanged { OnErr result (self.new ≡ self.old) }
     {
         match perform_next(alloc, &mut self.state, command) {
             Ok(()) => {
@@ -85,6 +118,10 @@ impl Walk {
     /// # Errors
     /// `Damaged` if it is not the next record. `OutOfMemory`. The state is as it was.
     pub fn perform_piece(&mut self, alloc: Global) -> Result<(), HistoryFault>
+        requires { HasRoom self.old }
+        ensures ok { OnOk result ((command : Meant) × Performs self.old self.new command) }
+        ensures refused { IfErr result (RefusesPiece self.old) }
+        ensures unchanged { OnErr result (self.new ≡ self.old) }
     {
         let command = self.command(alloc)?;
         self.perform(alloc, command)
@@ -92,6 +129,9 @@ impl Walk {
 
     /// What is wrong with the piece, as a fault of the file.
     fn fault_of_record(&self, fault: RecordFault) -> HistoryFault
+        requires { HasRoom self.now }
+        ensures { RefusesRecord (piece_or_rest self.now.pieces) self.now.state fault
+            → RefusesPiece self.now result }
     {
         match fault {
             RecordFault::Bad(why) => HistoryFault::Damaged(self.place.bad_piece(why)),

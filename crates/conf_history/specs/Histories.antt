@@ -1,0 +1,111 @@
+-- What the bytes of a store's file hold: at each command, and before a bad piece.
+use Rattle.std.specs.Prelude.{◌≡◌, ◌<◌, ◌≤◌, ◌⊎◌, ℕ, suc, List, [], ◌∷◌, ◌++◌, length, Option, Some, None, IfSome}
+use Rattle.std.specs.Io.KnownBytes.{Consumes, IsAtEnd}
+use Rattle.yaml_grammar.specs.Closings.{Pieces}
+use Rattle.conf_journal.specs.Store.{store_limit}
+use Rattle.conf_state.specs.States.{Contents}
+use Rattle.conf_state.specs.Limits.{IsState}
+use Rattle.conf_record.specs.Documents.{IsBase}
+use Rattle.conf_store.specs.Meaning.{PiecesMean, Means}
+use Rattle.conf_store.specs.Opens.{HasNoBase}
+use Rattle.conf_history.specs.BadPieces.{IsBadPiece}
+use Rattle.conf_history.specs.declared.place.BadPiece.{BadPiece}
+use Rattle.conf_history.specs.declared.fault.HistoryFault.{HistoryFault}
+use Rattle.conf_history.specs.declared.fault.HistoryFault.TheVariants.{Input, Output, NotAStore, Damaged, NoSuchCommand, OutOfMemory}
+use Rattle.conf_history.specs.declared.survey.Bad.{Bad}
+use Rattle.conf_history.specs.declared.survey.Findings.{Findings}
+
+-- The first pieces of the bytes are a base and the records up to the one with this number, and mean `s`.
+pub record MeansUpTo (bytes : List ℕ) (number : ℕ) (s : Contents) : Type 0 where
+  pub pieces : List (List ℕ)
+  pub further : List (List ℕ)
+  pub rest : List ℕ
+  pub cut : Pieces bytes (pieces ++ further) rest
+  pub mean : PiecesMean pieces s
+  pub numbered : s.count ≡ number
+
+-- the state after all commands, or after the one with a number
+abbrev pub HoldsAt : List ℕ → Option ℕ → Contents → Type 0
+HoldsAt bytes None s = Means bytes s
+HoldsAt bytes (Some number) s = MeansUpTo bytes number s
+
+-- The pieces before the first bad one mean `s`, and so many pieces follow it.
+pub record IsBadAt (bytes : List ℕ) (s : Contents) (bad : BadPiece) (following : ℕ) : Type 0 where
+  pub pieces : List (List ℕ)
+  pub piece : List ℕ
+  pub further : List (List ℕ)
+  pub rest : List ℕ
+  pub cut : Pieces bytes (pieces ++ piece ∷ further) rest
+  pub mean : PiecesMean pieces s
+  pub is_bad : IsBadPiece pieces piece s bad
+  pub counted : length further ≡ following
+
+-- The first piece is a base with a count above this number.
+pub record StartsAfter (bytes : List ℕ) (number : ℕ) : Type 0 where
+  pub base : List ℕ
+  pub further : List (List ℕ)
+  pub rest : List ℕ
+  pub cut : Pieces bytes (base ∷ further) rest
+  pub start : Contents
+  pub is_base : IsBase base start
+  pub above : number < start.count
+
+-- the base comes after the command with this number, or all records before it
+abbrev pub HasNoCommand : List ℕ → ℕ → Type 0
+HasNoCommand bytes number = StartsAfter bytes number ⊎ ((s : Contents) × Means bytes s × (s.count < number))
+
+-- the bytes are too many, or have no base
+abbrev pub IsNoStore : List ℕ → Type 0
+IsNoStore bytes = (store_limit < length bytes) ⊎ HasNoBase bytes
+
+-- Why the bytes don't answer with a state. Input and OutOfMemory say nothing of them.
+abbrev pub RefusesReading : List ℕ → Option ℕ → HistoryFault → Type 0
+RefusesReading bytes at NotAStore = IsNoStore bytes
+RefusesReading bytes at (Damaged bad) = (s : Contents) × (following : ℕ) × IsBadAt bytes s bad following
+RefusesReading bytes None NoSuchCommand = ⊥
+RefusesReading bytes (Some number) NoSuchCommand = HasNoCommand bytes number
+RefusesReading bytes at Output = ⊥
+RefusesReading bytes at Input = Unit {0}
+RefusesReading bytes at OutOfMemory = Unit {0}
+
+-- at most so many bytes were read
+abbrev pub ReadsAtMost : ℕ → Option (List ℕ) → Option (List ℕ) → Type 0
+ReadsAtMost most given left = (read : List ℕ) × Consumes given left read × (length read ≤ most)
+
+-- What is returned is the state that known bytes hold. At most 1,073,741,824 bytes were read; all that there are, if no
+-- number was given.
+pub record ReadsState (given left : Option (List ℕ)) (at : Option ℕ) (s : Contents) : Type 0 where
+  pub holds : IfSome given (λ bytes. HoldsAt bytes at s)
+  pub kept : IsState s
+  pub read : ReadsAtMost store_limit given left
+  pub whole : at ≡ None → IsAtEnd left
+
+-- ---- a survey
+
+-- The pieces after these: none, or a bad one and others.
+abbrev pub AreUnread : List (List ℕ) → List (List ℕ) → Contents → Option Bad → Type 0
+AreUnread before [] s None = Unit {0}
+AreUnread before [] s (Some bad) = ⊥
+AreUnread before (piece ∷ further) s None = ⊥
+AreUnread before (piece ∷ further) s (Some bad) =
+    IsBadPiece before piece s bad.piece × (length further ≡ bad.following)
+
+-- The bytes begin with a base and records, which mean `s`. What comes after these is as the findings say.
+pub record IsSurvey (bytes : List ℕ) (s : Contents) (findings : Findings) : Type 0 where
+  pub short : length bytes ≤ store_limit
+  pub pieces : List (List ℕ)
+  pub unread : List (List ℕ)
+  pub rest : List ℕ
+  pub cut : Pieces bytes (pieces ++ unread) rest
+  pub mean : PiecesMean pieces s
+  pub base : findings.base ≡ mean.start.count
+  pub commands : length pieces ≡ suc findings.commands
+  pub dropped : length rest ≡ findings.dropped
+  pub bad : AreUnread pieces unread s findings.bad
+
+-- Why the bytes can't be surveyed. Input and OutOfMemory say nothing of them.
+abbrev pub RefusesSurvey : List ℕ → HistoryFault → Type 0
+RefusesSurvey bytes NotAStore = IsNoStore bytes
+RefusesSurvey bytes Input = Unit {0}
+RefusesSurvey bytes OutOfMemory = Unit {0}
+RefusesSurvey bytes fault = ⊥
