@@ -1,7 +1,7 @@
 -- What the words that read a store write, piece after piece.
 use Rattle.std.proofs.Common.{◌≡◌, ℕ, List, [], ◌∷◌, ◌++◌, refl, sym, ap, ◌∙◌, append_assoc, append-nil, codes, Ok, Err}
 use Rattle.std.proofs.lemmas.Str.{encodes-chars}
-use Rattle.std.specs.Prelude.{encode_utf8_all}
+use Rattle.std.specs.Prelude.{encode_utf8_all, Result, OnOk}
 use Rattle.std.specs.Str.{IsUtf8, chars}
 use Rattle.yaml_grammar.specs.Style.{style_text}
 use Rattle.yaml_grammar.specs.Trees.{Tree, Elements, Members, text, sequence, mapping}
@@ -16,6 +16,11 @@ use Rattle.conf_store.specs.Calls.{tree_at, tree_named}
 use Rattle.conf_session.specs.Answers.{value_at_path}
 use Rattle.conf_tools.specs.Reads.{name_lines, shown}
 use Rattle.conf_tools.specs.declared.reads.ValueForm.TheVariants.{Raw}
+
+-- what holds at `Ok` leads to another fact there
+pub on_ok : {A E P Q : Type 0} (r : Result A E) → (P → Q) → OnOk r P → OnOk r Q
+on_ok (Ok x) leads holds = leads holds
+on_ok (Err e) leads holds = tt
 
 -- a name and its line feed, one after the other
 pub name_pushed : (old one two name : List ℕ) → IsUtf8 name → one ≡ old ++ name → two ≡ one ++ codes "\n"
