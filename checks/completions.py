@@ -43,9 +43,6 @@ LINES = [
     ("export sto", "export store"),
     ("set --ya", "set --yaml"),
     ("import store app fil", "import store app file.yaml"),
-    ("format --in", "format --in-place"),
-    ("format -i fil", "format -i file.yaml"),
-    ("check fil", "check file.yaml"),
     ("verif", "verify"),
     ("log --ya", "log --yaml"),
     ("get --at 1 --ra", "get --at 1 --raw"),
@@ -53,6 +50,9 @@ LINES = [
     ("get --at 1 store we", "get --at 1 store web"),
     ("export store ap", "export store app"),
     ("salvage store sto", "salvage store store"),
+    ("format --in", "format --in-place"),
+    ("format -i fil", "format -i file.yaml"),
+    ("check fil", "check file.yaml"),
 ]
 
 # How many seconds a shell may take to start, and to say what its words are.

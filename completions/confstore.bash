@@ -6,18 +6,18 @@ _confstore_options() {
     case $1 in
     run) echo '--group --checkpoint-after --help' ;;
     set) echo '--yaml --help' ;;
-    format) echo '-i --in-place --check --help' ;;
     names) echo '--at --help' ;;
     get) echo '--raw --at --help' ;;
     log) echo '--yaml --at --help' ;;
+    format) echo '-i --in-place --check --help' ;;
     *) echo '--help' ;;
     esac
 }
 
-# The names of the configurations in a folder that was typed.
+# The names of the configurations in a folder as it was typed, perhaps in quotes or with a `~`.
 _confstore_names() {
-    local folder
-    eval "folder=$1" 2>/dev/null || return
+    local folder=${1//[\\\"\']/}
+    [[ $folder != '~'* ]] || folder=$HOME${folder#'~'}
     confstore names -- "$folder" 2>/dev/null
 }
 

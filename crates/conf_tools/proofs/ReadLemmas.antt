@@ -1,7 +1,7 @@
 -- What the words that read a store write, piece after piece.
 use Rattle.std.proofs.Common.{◌≡◌, ℕ, List, [], ◌∷◌, ◌++◌, refl, sym, ap, ◌∙◌, append_assoc, append-nil, codes, Ok, Err}
 use Rattle.std.proofs.lemmas.Str.{encodes-chars}
-use Rattle.std.specs.Prelude.{encode_utf8_all}
+use Rattle.std.specs.Prelude.{encode_utf8_all, Result, OnOk, is_ok, if◌then◌else◌, Option, Some, None}
 use Rattle.std.specs.Str.{IsUtf8, chars}
 use Rattle.yaml_grammar.specs.Style.{style_text}
 use Rattle.yaml_grammar.specs.Trees.{Tree, Elements, Members, text, sequence, mapping}
@@ -14,8 +14,18 @@ use Rattle.conf_state.specs.declared.fault.StoreFault.{StoreFault}
 use Rattle.conf_state.specs.declared.fault.StoreFault.TheVariants.{Path}
 use Rattle.conf_store.specs.Calls.{tree_at, tree_named}
 use Rattle.conf_session.specs.Answers.{value_at_path}
+use Rattle.conf_history.specs.declared.fault.HistoryFault.TheVariants as history
+use Rattle.conf_history.specs.declared.survey.Findings.{Findings}
 use Rattle.conf_tools.specs.Reads.{name_lines, shown}
+use Rattle.conf_tools.specs.Surveys.{CannotWrite, FileIsAs, RefusesWriting}
+use Rattle.conf_tools.specs.declared.reading_fault.ReadingFault.{ReadingFault}
+use Rattle.conf_tools.specs.declared.reading_fault.ReadingFault.TheVariants as reading
 use Rattle.conf_tools.specs.declared.reads.ValueForm.TheVariants.{Raw}
+
+-- bytes that were put behind others, where there was memory for them
+pub on_pushed : {A E Q : Type 0} (r : Result A E) (new more old : List ℕ) → new ≡ (if is_ok r then more else old) → (new ≡ more → Q) → OnOk r Q
+on_pushed (Ok x) new more old is leads = leads is
+on_pushed (Err fault) new more old is leads = tt
 
 -- a name and its line feed, one after the other
 pub name_pushed : (old one two name : List ℕ) → IsUtf8 name → one ≡ old ++ name → two ≡ one ++ codes "\n"
@@ -83,3 +93,20 @@ module _ (s : Contents) (name p : List ℕ) where
   -- the value at the tokens of a path
   pub value_at_tokens : (t v : Tree) (tokens : List (List ℕ)) → tree_named s name ≡ Ok t → at t tokens ≡ Ok v → tree_at s name tokens ≡ Ok v
   value_at_tokens t v tokens named e = ap (λ r. and_then r (λ u. by_path (at u tokens))) named ∙ ap by_path e
+
+-- ---- findings
+
+-- why the findings of a file were not written whole
+pub cannot_write : (given held written : Option (List ℕ)) (state : Contents) (findings : Findings) → FileIsAs given state findings
+    → (fault : ReadingFault) → CannotWrite held written fault → RefusesWriting given held written fault
+cannot_write None held written state findings is (reading.History history.OutOfMemory) kept = (tt, kept)
+cannot_write (Some bytes) held written state findings is (reading.History history.OutOfMemory) kept = (tt, kept)
+cannot_write given held written state findings is reading.Output cannot = (state, findings, is)
+cannot_write given held written state findings is (reading.History history.Input) cannot = absurd cannot
+cannot_write given held written state findings is (reading.History history.Output) cannot = absurd cannot
+cannot_write given held written state findings is (reading.History history.NotAStore) cannot = absurd cannot
+cannot_write given held written state findings is (reading.History (history.Damaged bad)) cannot = absurd cannot
+cannot_write given held written state findings is (reading.History history.NoSuchCommand) cannot = absurd cannot
+cannot_write given held written state findings is (reading.Folder fault) cannot = absurd cannot
+cannot_write given held written state findings is (reading.Value fault) cannot = absurd cannot
+cannot_write given held written state findings is (reading.Salvage fault) cannot = absurd cannot

@@ -118,13 +118,13 @@ fn obey<F: Files<File = File>, R: Read, W: Write, E: Write>(
         Some((SET, words)) => set_in_folder(rt, alloc, words, reader, errors),
         Some((DELETE, words)) => delete_in_folder(rt, alloc, words, errors),
         Some((CHECKPOINT, words)) => change_folder(rt, alloc, words, Change::Checkpoint, errors),
-        Some((FORMAT, words)) => format_words(rt, alloc, words, reader, writer, errors),
-        Some((CHECK, words)) => check_words(rt, alloc, words, reader, writer, errors),
         Some((NAMES, words)) => names_of_folder(rt, alloc, words, writer, errors),
         Some((GET, words)) => get_from_folder(rt, alloc, words, writer, errors),
         Some((LOG, words)) => log_of_folder(rt, alloc, words, writer, errors),
         Some((VERIFY, words)) => verify_folder(rt, alloc, words, writer, errors),
         Some((SALVAGE, words)) => salvage_folder(rt, alloc, words, writer, errors),
+        Some((FORMAT, words)) => format_words(rt, alloc, words, reader, writer, errors),
+        Some((CHECK, words)) => check_words(rt, alloc, words, reader, writer, errors),
         _ => Status::WrongWords,
     }
 }

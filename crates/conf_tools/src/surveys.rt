@@ -1,13 +1,13 @@
 // What stands in a store's file, and a store of what stands before its first bad piece, over any reader, disk and writer.
-ghost use Rattle.std.specs.Prelude.{IfOk, IfErr, OnOk};
+ghost use Rattle.std.specs.Prelude.{◌≡◌, IfOk, IfErr, OnOk};
 ghost use Rattle.std.specs.Io.KnownBytes.{Appends};
-ghost use Rattle.conf_tools.specs.Surveys.{CannotWrite, RefusesSaving, RefusesWriting, WritesFindings, WritesSurvey, findings_text};
+ghost use Rattle.conf_tools.specs.Surveys.{CannotWrite, RefusesSaving, RefusesWriting, WritesFindings, WritesSurvey, findings_text, soundness_of};
 
 use crate::findings::findings_text;
 use crate::reading_fault::ReadingFault;
 use crate::texts::write_whole;
 use conf_disk::Disk;
-use conf_history::{Findings, HistoryFault, salvage, survey_store};
+use conf_history::{Bad, Findings, HistoryFault, salvage, survey_store};
 use std::alloc::Global;
 use std::io::{Read, Write};
 
@@ -40,10 +40,19 @@ pub fn write_survey<R: Read, W: Write>(
         Ok(found) => found,
         Err(fault) => return Err(ReadingFault::History(fault)),
     };
-    write_findings(alloc, &found.findings, writer)?;
-    match found.findings.bad {
-        None => Ok(Soundness::Whole),
-        Some(_) => Ok(Soundness::Damaged),
+    match write_findings(alloc, &found.findings, writer) {
+        Ok(()) => Ok(soundness_of(&found.findings.bad)),
+        Err(fault) => Err(fault),
+    }
+}
+
+/// Whether a store's file can be opened, by its first bad piece.
+fn soundness_of(bad: &Option<Bad>) -> Soundness
+    ensures { result ≡ soundness_of bad.now }
+{
+    match bad {
+        None => Soundness::Whole,
+        Some(_) => Soundness::Damaged,
     }
 }
 

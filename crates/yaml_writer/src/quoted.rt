@@ -12,7 +12,7 @@ use crate::scalar_style::is_shown;
 use crate::sink::Sink;
 
 /// Writes a text in double quotes, on one line, without the line's end. It fails only if the sink does.
-pub fn write_quoted<S: Sink>(text: &str, sink: &mut S) -> Result<(), S::Fault>
+pub(crate) fn write_quoted<S: Sink>(text: &str, sink: &mut S) -> Result<(), S::Fault>
     ensures { OnOk result (S.Takes sink.old (in_double_quotes (chars text.now)) sink.new) }
 {
     sink.put_char('"')?;
