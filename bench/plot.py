@@ -4,9 +4,9 @@
     python3 bench/read.py -n FOLDER >bench/data/read.txt
     python3 bench/plot.py
 
-It takes what was measured with malloc's own settings, the first part. Each row is a corpus of 1 MiB, each mark a reader,
-and further to the right is faster; one that is too slow for the axis has its number. It needs the standard library
-alone, and the same data gives the same bytes.
+It takes the first part, which was measured with malloc's own settings. Each row is a corpus of 1 MiB, each mark a
+reader, and further to the right is faster; one that is too slow for the axis has its number. It needs the standard
+library alone, and the same data gives the same bytes.
 """
 
 import math
