@@ -8,7 +8,9 @@ use Rattle.json_pointer.specs.declared.fault.PathFault.TheVariants as path
 use Rattle.conf_state.specs.States.{Contents}
 use Rattle.conf_state.specs.declared.fault.StoreFault.{StoreFault}
 use Rattle.conf_state.specs.declared.fault.StoreFault.TheVariants as store
+use Rattle.conf_disk.specs.Folder.{Folder}
 use Rattle.conf_history.specs.Histories.{IsSurvey, RefusesSurvey}
+use Rattle.conf_history.specs.Salvages.{RefusesSalvage, Saves}
 use Rattle.conf_history.specs.declared.fault.HistoryFault.TheVariants.{OutOfMemory}
 use Rattle.conf_history.specs.declared.place.NoRecord.{NoRecord}
 use Rattle.conf_history.specs.declared.place.NoRecord.TheVariants.{NotARecord, WrongNumber, Refused}
@@ -123,11 +125,22 @@ RefusesWriting given held written fault = ⊥
 
 -- ---- a store of what stands before the damage
 
--- the findings of some file were written
-abbrev pub WritesFindings : Option (List ℕ) → Option (List ℕ) → Type 0
-WritesFindings held written = (findings : Findings) × Appends held written (findings_text findings)
+-- The store was made of what stands in the file before its first bad piece, if the disk is honest.
+abbrev pub SavesOn : {D : Type 0} → Type 0 → (D → Folder) → Option (List ℕ) → Option (List ℕ) → D → D → Findings → Type 0
+SavesOn honest folder given left old new findings = honest → Saves given left (folder old) (folder new) findings
 
--- why no store was saved, or the findings were not written whole; but for Output nothing was written
-abbrev pub RefusesSaving : Option (List ℕ) → Option (List ℕ) → ReadingFault → Type 0
-RefusesSaving held written (Salvage fault) = Keeps held written
-RefusesSaving held written fault = CannotWrite held written fault
+-- the store was made, and what stands in the file was written
+abbrev pub SavesStore : {D : Type 0} → Type 0 → (D → Folder) → Option (List ℕ) → Option (List ℕ) → Option (List ℕ)
+    → Option (List ℕ) → D → D → Type 0
+SavesStore honest folder given left held written old new =
+    (findings : Findings) × SavesOn honest folder given left old new findings
+    × Appends held written (findings_text findings)
+
+-- Why no store was made, and nothing was written; or the store was made, and what stands in the file was not written
+-- whole.
+abbrev pub RefusesSaving : {D : Type 0} → Type 0 → (D → Folder) → Option (List ℕ) → Option (List ℕ) → Option (List ℕ)
+    → Option (List ℕ) → D → D → ReadingFault → Type 0
+RefusesSaving honest folder given left held written old new (Salvage fault) =
+    (honest → RefusesSalvage given left (folder old) (folder new) fault) × Keeps held written
+RefusesSaving honest folder given left held written old new fault =
+    (findings : Findings) × SavesOn honest folder given left old new findings × CannotWrite held written fault

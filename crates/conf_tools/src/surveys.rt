@@ -1,7 +1,7 @@
 // What stands in a store's file, and a store of what stands before its first bad piece, over any reader, disk and writer.
 ghost use Rattle.std.specs.Prelude.{◌≡◌, IfOk, IfErr, OnOk};
 ghost use Rattle.std.specs.Io.KnownBytes.{Appends};
-ghost use Rattle.conf_tools.specs.Surveys.{CannotWrite, RefusesSaving, RefusesWriting, WritesFindings, WritesSurvey, findings_text, soundness_of};
+ghost use Rattle.conf_tools.specs.Surveys.{CannotWrite, RefusesSaving, RefusesWriting, SavesStore, WritesSurvey, findings_text, soundness_of};
 
 use crate::findings::findings_text;
 use crate::reading_fault::ReadingFault;
@@ -70,10 +70,12 @@ pub fn salvage_store<R: Read, D: Disk + Drop, W: Write>(
     disk: D,
     writer: &mut W,
 ) -> Result<D, (D, ReadingFault)>
-    ensures ok { OnOk result
-        (WritesFindings (W.contents writer.old) (W.contents writer.new)) }
-    ensures refused { IfErr result (λ r.
-        RefusesSaving (W.contents writer.old) (W.contents writer.new) r.1) }
+    ensures ok { IfOk result (λ disk_behind. SavesStore D.honest D.folder
+        (R.remaining reader.old) (R.remaining reader.new)
+        (W.contents writer.old) (W.contents writer.new) disk disk_behind) }
+    ensures refused { IfErr result (λ r. RefusesSaving D.honest D.folder
+        (R.remaining reader.old) (R.remaining reader.new)
+        (W.contents writer.old) (W.contents writer.new) disk r.0 r.1) }
 {
     let (disk, findings) = match salvage(alloc, reader, disk) {
         Ok(made) => made,

@@ -6,7 +6,7 @@ pub returns-in-Ok-write_findings-clause-ok : goal.returns-in-Ok-write_findings-c
 returns-in-Ok-write_findings-clause-ok g c = record {
   state = c.in-Ok.found.state;
   findings = c.in-Ok.found.findings;
-  finds = c.in-Ok.ensures.survey;
+  finds = c.in-Ok.ensures.ok.holds;
   writes = c.in-Ok-write_findings.ensures.ok;
   says = c.soundness_of.ensures;
 }
@@ -14,4 +14,4 @@ returns-in-Ok-write_findings-clause-ok g c = record {
 pub returns-clause-refused : goal.returns-clause-refused
 returns-clause-refused g c =
     cannot_write (g.R.Read.remaining c.args.reader.now) (g.W.Write.contents c.args.writer.now) (g.W.Write.contents c.write_findings.new.writer)
-    c.in-Ok.found.state c.in-Ok.found.findings c.in-Ok.ensures.survey c.in-Err-write_findings.fault c.in-Err-write_findings.ensures.refused
+    c.in-Ok.found.state c.in-Ok.found.findings c.in-Ok.ensures.ok.holds c.in-Err-write_findings.fault c.in-Err-write_findings.ensures.refused
