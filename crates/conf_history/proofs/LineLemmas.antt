@@ -1,9 +1,12 @@
 -- Texts in double quotes, by the one style of a text that begins with a space.
-use Rattle.std.proofs.Common.{◌≡◌, refl, sym, ◌∙◌, ap, subst, arith, ◌≤◌, append_assoc, length-append, take_all, take-append-le}
+use Rattle.std.proofs.Common.{◌≡◌, refl, ◌∙◌, ap, arith, ◌<◌, ◌≤◌, nat_lt, length-append, take_all}
 use Rattle.std.specs.Prelude.{ℕ, ◌+◌, ◌-◌, Bool, true, false, ◌&&◌, if◌then◌else◌, List, [], ◌∷◌, ◌++◌, length, take, drop, slice_range, codes, encode_utf8_all}
 use Rattle.std.specs.List.{list_all}
-use Rattle.std.specs.Str.{chars, IsUtf8}
-use Rattle.std.proofs.lemmas.Str.{encodes-append, encode_ascii, chars_from_encodes}
+use Rattle.std.proofs.lemmas.List.{take-append-le}
+use Rattle.std.specs.Str.{IsUtf8}
+use Rattle.std.proofs.lemmas.Bool.Decides.{nat_tests}
+use Rattle.yaml_data.proofs.CharacterLemmas.{every-IsAscii}
+use Rattle.std.proofs.lemmas.Str.{encodes-append, encode_ascii, IsUtf8-from_ascii}
 use Rattle.yaml_chars.specs.Classes.{is_in}
 use Rattle.yaml_chars.specs.Signs.{line_feed}
 use Rattle.yaml_grammar.specs.Style.{scalar_lines, in_double_quotes, quoted_chars, literal_mark, literal_lines, feeds_at_end, shown_or_feed}
@@ -49,3 +52,10 @@ long-enough bytes rest is =
     let size : length bytes ≡ 2 + length (rest ++ more) = ap length is ∙ omega arith in
     let apart = length-append rest more in
     omega (arith, size, apart)
+
+-- text of ASCII, by a test that computes
+pub ascii-text : (cs : List ℕ) → list_all (λ c. nat_lt c 128) cs ≡ true → IsUtf8 cs
+ascii-text cs e = IsUtf8-from_ascii cs (every-IsAscii (λ c. nat_lt c 128) below cs e)
+  where
+    below : (c : ℕ) → nat_lt c 128 ≡ true → c < 128
+    below c passed = grind (arith, nat_tests)

@@ -1,6 +1,8 @@
 -- Bytes that go out part by part.
-use Rattle.std.proofs.Common.{◌≡◌, sym, ◌∙◌, ap, arith, append_assoc, take-append-drop}
-use Rattle.std.specs.Prelude.{ℕ, ◌+◌, List, ◌++◌, take, drop, Option, Some, None}
+use Rattle.std.proofs.Common.{◌≡◌, sym, ◌∙◌, ap, subst, arith, append_assoc, take-append-drop}
+use Rattle.conf_history.specs.declared.fault.HistoryFault.{HistoryFault}
+use Rattle.conf_history.specs.declared.fault.HistoryFault.TheVariants.{Output}
+use Rattle.std.specs.Prelude.{Result, Ok, Err, IfErr, OnErr, ℕ, ◌+◌, List, ◌++◌, take, drop, Option, Some, None}
 use Rattle.std.specs.Io.KnownBytes.{Appends}
 use Rattle.std.proofs.lemmas.List.{take-take, drop-take}
 
@@ -18,3 +20,8 @@ appends-more (Some xs) None now bytes done n first second = absurd first
 appends-more (Some xs) (Some ys) None bytes done n first second = absurd second
 appends-more (Some xs) (Some ys) (Some zs) bytes done n first second =
     second ∙ ap (λ l. l ++ take n (drop done bytes)) first ∙ append_assoc xs (take done bytes) (take n (drop done bytes)) ∙ ap (λ l. xs ++ l) (take-more bytes done n)
+
+-- why not all was written, from what was
+pub put-refused : (r : Result (Unit {0}) HistoryFault) (part : Type 0) (refusal : HistoryFault → Type 0) → IfErr r (λ f. f ≡ Output) → OnErr r part → (part → refusal Output) → IfErr r refusal
+put-refused (Ok done) part refusal fault cut right = tt
+put-refused (Err f) part refusal fault cut right = subst refusal (sym fault) (right cut)

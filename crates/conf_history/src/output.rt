@@ -9,7 +9,13 @@ use std::io::Write;
 ///
 /// # Errors
 /// `Output` if a write fails, or takes nothing: only the first of the bytes are written.
-pub(crate) fn put_bytes<W: Write>(writer: &mut W, bytes: &[u8]) -> Result<(), HistoryFault> {
+pub(crate) fn put_bytes<W: Write>(writer: &mut W, bytes: &[u8]) -> Result<(), HistoryFault>
+    ensures whole { OnOk result
+        (Appends (W.contents writer.old) (W.contents writer.new) bytes.now) }
+    ensures part { OnErr result ((kept : ℕ) × (kept < length bytes.now)
+        × Appends (W.contents writer.old) (W.contents writer.new) (take kept bytes.now)) }
+    ensures fault { IfErr result (λ fault. fault ≡ HistoryFault.Output) }
+{
     let mut done = 0;
     'parts: while done < bytes.len() {
         match writer.write(&bytes[done..]) {

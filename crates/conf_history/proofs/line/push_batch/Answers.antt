@@ -6,10 +6,14 @@ use Rattle.yaml_writer.specs.Encoded.{encoded_none, encoded_both}
 use Rattle.conf_state.specs.Commands.{edit_of}
 use Rattle.conf_state.proofs.LineLemmas.{ascii}
 use Rattle.conf_history.specs.Logs.{edit_words, edits_words}
+use Rattle.conf_history.proofs.LineLemmas.{ascii-text}
 use Rattle.conf_history.proofs.line.push_batch.Goals as goal
 
 pub loop-edit-init : goal.loop-edit-init
-loop-edit-init c = record { ascii = ascii [] refl; left = λ end left. left }
+loop-edit-init c = record { text = ascii-text [] refl; ascii = ascii [] refl; left = λ end left. left }
+
+pub push_text-requires-in-loop-edit-text-text : goal.push_text-requires-in-loop-edit-text-text
+push_text-requires-in-loop-edit-text-text c = λ lifetimes. c.loop-edit.invariant.text
 
 pub loop-edit-preserved : goal.loop-edit-preserved
 loop-edit-preserved c =
@@ -24,6 +28,7 @@ loop-edit-preserved c =
     let words = edit_words (edit_of c.edit-item.result) in
     let edited = encoded_both start mid new mark words marked c.in_ok-push_edit.ensures in
     record {
+      text = ascii-text (codes ";") refl;
       ascii = ascii (codes ";") refl;
       left = λ end left.
           inv.left end (subst (λ es. end ≡ start ++ encode_utf8_all (edits_words mark (map edit_of es))) (sym here)
