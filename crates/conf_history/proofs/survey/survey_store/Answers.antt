@@ -1,10 +1,10 @@
 -- Each turn performs one piece, up to the first bad one.
-use Rattle.std.proofs.Common.{◌≡◌, ◌≤◌, sym, ap, subst, arith, [], ◌∷◌, ◌++◌}
-use Rattle.std.specs.Prelude.{true, false, Ok}
+use Rattle.std.proofs.Common.{◌≡◌, sym, ap, subst, arith, [], ◌∷◌, ◌++◌}
+use Rattle.std.specs.Prelude.{Ok}
 use Rattle.std.proofs.lemmas.Result.{err_from_is_err_and}
 use Rattle.yaml_docs.specs.PieceReading.{piece_or_rest}
 use Rattle.conf_history.specs.Histories.{ReadsSurvey}
-use Rattle.conf_history.specs.Walks.{IsAtPiece, IsAtEndOf, IsBadHere, RefusesPiece, HasLimits, AfterAdvance}
+use Rattle.conf_history.specs.Walks.{IsAtPiece, IsAtEndOf, IsBadHere, RefusesPiece, AfterAdvance}
 use Rattle.conf_history.specs.declared.place.Place.{Place}
 use Rattle.conf_history.specs.declared.walk.Walk.{Walk}
 use Rattle.conf_history.proofs.WalkLemmas.{closed-some, has-room, performs-on}
