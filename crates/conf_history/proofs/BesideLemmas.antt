@@ -1,6 +1,6 @@
 -- A prefix of the bytes of a store's file.
-use Rattle.std.proofs.Common.{◌≡◌, ◌⊎◌, inl, inr, ⊎_elim, refl, sym, ◌∙◌, ap, subst, arith, ◌<◌, ◌≤◌, append_assoc, take-append-drop, length-take}
-use Rattle.std.specs.Prelude.{ℕ, ◌+◌, ◌-◌, zero, suc, List, [], ◌∷◌, ◌++◌, length, take, drop, replicate, Some, Ok}
+use Rattle.std.proofs.Common.{◌≡◌, ⊎_elim, refl, sym, ◌∙◌, ap, subst, arith, ◌<◌, ◌≤◌, append_assoc, take-append-drop, length-take}
+use Rattle.std.specs.Prelude.{ℕ, ◌+◌, ◌-◌, zero, suc, List, [], ◌∷◌, ◌++◌, length, take, drop, replicate}
 use Rattle.std.specs.List.{All, concat}
 use Rattle.std.proofs.lemmas.Bool.{cases_lt}
 use Rattle.std.proofs.lemmas.List.Elements.{All-nil, All-cons, All-head, All-tail}
@@ -9,10 +9,8 @@ use Rattle.yaml_docs.proofs.ClosingLines.{lies_within}
 use Rattle.yaml_docs.proofs.CutLines.{closes-longer, closes-shorter}
 use Rattle.conf_disk.specs.Folder.{File}
 use Rattle.conf_state.specs.Commands.{Command}
-use Rattle.conf_state.specs.States.{Contents}
 use Rattle.conf_record.specs.Documents.{RecordsTear, records_bytes}
-use Rattle.conf_store.specs.Meaning.{AreRecords, Means}
-use Rattle.conf_store.specs.Durable.{AfterPrefix}
+use Rattle.conf_store.specs.Meaning.{AreRecords}
 use Rattle.conf_store.proofs.MeaningLemmas.{after-prefix, journal-left}
 use Rattle.conf_history.specs.Beside.{PrefixesAreRead, AppendedRecordsAreRead}
 

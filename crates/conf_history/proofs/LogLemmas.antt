@@ -1,6 +1,6 @@
 -- The log: what is written so far, and how writing it ends.
-use Rattle.std.proofs.Common.{◌≡◌, ◌≢◌, ◌⊎◌, inl, inr, refl, sym, ◌∙◌, ap, subst, arith, ◌<◌, ◌≤◌, append_assoc, length-append}
-use Rattle.std.specs.Prelude.{ℕ, ◌+◌, Bool, true, false, List, [], ◌∷◌, ◌++◌, length, take, Option, Some, None, Ok, IfSome}
+use Rattle.std.proofs.Common.{◌≡◌, inl, inr, refl, sym, ◌∙◌, ap, subst, arith, append_assoc}
+use Rattle.std.specs.Prelude.{ℕ, ◌+◌, false, List, [], ◌∷◌, ◌++◌, length, take, Option, Some, None, Ok, IfSome}
 use Rattle.std.specs.List.{All, concat}
 use Rattle.std.specs.Io.KnownBytes.{Appends}
 use Rattle.std.proofs.KnownBytes.{Appends-nil, Appends-trans, Consumes-whole}
@@ -13,8 +13,8 @@ use Rattle.conf_state.specs.States.{Contents}
 use Rattle.conf_state.proofs.RunLaws.{after-count}
 use Rattle.conf_store.specs.Meaning.{AreRecords}
 use Rattle.conf_history.specs.Histories.{RefusesReading, RefusesSurvey}
-use Rattle.conf_history.specs.Logs.{entry_bytes, log_bytes, log_of_pieces, BeginsLog, IsUpTo, IsWholeLog, LogsAll, LogsBefore, CutsLog, FailsToLog, CutsEntry, FailsToLogPiece}
-use Rattle.conf_history.specs.Walks.{HasRead, ArePerformed, IsBetween, IsAtPiece, IsAtEndOf, Performs, AfterGoing}
+use Rattle.conf_history.specs.Logs.{entry_bytes, log_bytes, log_of_pieces, BeginsLog, IsUpTo, IsWholeLog, LogsAll, LogsBefore, CutsLog, FailsToLog, FailsToLogPiece}
+use Rattle.conf_history.specs.Walks.{HasRead, ArePerformed, IsBetween, IsAtPiece, IsAtEndOf, AfterGoing}
 use Rattle.conf_history.specs.declared.log.LogForm.{LogForm}
 use Rattle.conf_history.specs.declared.walk.Walk.{Walk}
 use Rattle.conf_history.specs.declared.fault.HistoryFault.{HistoryFault}

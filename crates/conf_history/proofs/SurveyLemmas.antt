@@ -1,6 +1,6 @@
 -- A survey: what was gone past after a bad piece, and what was found.
 use Rattle.std.proofs.Common.{◌≡◌, refl, sym, ◌∙◌, ap, subst, arith, ◌<◌, ◌≤◌, append_assoc, length-append, length-take}
-use Rattle.std.specs.Prelude.{ℕ, ◌+◌, ◌-◌, suc, List, [], ◌∷◌, ◌++◌, length, drop, Option, Some, None, Ok, Err, IfSome}
+use Rattle.std.specs.Prelude.{ℕ, ◌+◌, ◌-◌, suc, List, [], ◌∷◌, ◌++◌, length, drop, Option, Some, None, Err, IfSome}
 use Rattle.std.specs.List.{All, concat}
 use Rattle.std.specs.Io.KnownBytes.{Consumes}
 use Rattle.std.proofs.KnownBytes.{Consumes-nil, Consumes-trans, Consumes-whole}
@@ -22,7 +22,6 @@ use Rattle.conf_history.specs.Counting.{CountsPieces}
 use Rattle.conf_history.specs.Faults.{fault_of_pieces}
 use Rattle.conf_history.specs.Histories.{IsSurvey, ReadsSurvey, RefusesSurvey}
 use Rattle.conf_history.specs.Walks.{IsAtPiece, IsAtEndOf, IsBadHere, ArePerformed}
-use Rattle.conf_history.specs.declared.place.BadPiece.{BadPiece}
 use Rattle.conf_history.specs.declared.survey.Bad.{Bad}
 use Rattle.conf_history.specs.declared.survey.Findings.{Findings}
 use Rattle.conf_history.specs.declared.walk.Walk.{Walk}

@@ -1,5 +1,5 @@
 -- The walk over a store's file: what each call makes of what was read, and what the bytes of the file are then.
-use Rattle.std.proofs.Common.{◌≡◌, ◌⊎◌, inl, inr, refl, sym, ◌∙◌, ap, subst, arith, ◌<◌, ◌≤◌, append_assoc, length-append}
+use Rattle.std.proofs.Common.{◌≡◌, inl, inr, refl, sym, ◌∙◌, ap, subst, arith, ◌<◌, append_assoc, length-append}
 use Rattle.std.specs.Prelude.{ℕ, ◌+◌, Bool, true, false, List, [], ◌∷◌, ◌++◌, length, ◌==◌, cond, Option, Some, None, Result, Ok, Err, IfSome}
 use Rattle.std.specs.List.{All, concat}
 use Rattle.std.specs.Io.KnownBytes.{Consumes}

@@ -1,5 +1,4 @@
-use Rattle.std.proofs.Common.{◌≡◌, List, [], ◌∷◌, ◌++◌, codes, encode_utf8_all, map, refl, sym, subst, arith}
-use Rattle.std.specs.Str.{chars}
+use Rattle.std.proofs.Common.{◌≡◌, [], ◌++◌, codes, encode_utf8_all, map, refl, sym, subst, arith}
 use Rattle.std.proofs.lemmas.List.{drop_all}
 use Rattle.yaml_data.proofs.ListLemmas.{drop_item}
 use Rattle.yaml_writer.specs.Encoded.{encoded_none, encoded_both}

@@ -1,4 +1,4 @@
-use Rattle.std.proofs.Common.{◌≡◌, ◌++◌, [], codes, encode_utf8_all, map, subst, sym}
+use Rattle.std.proofs.Common.{◌≡◌, ◌++◌, codes, encode_utf8_all, subst, sym}
 use Rattle.std.specs.Str.{chars}
 use Rattle.std.proofs.lemmas.Result.{on_ok_weaker}
 use Rattle.yaml_grammar.specs.Style.{in_double_quotes}

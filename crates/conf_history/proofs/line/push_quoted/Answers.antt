@@ -1,5 +1,5 @@
-use Rattle.std.proofs.Common.{◌≡◌, ℕ, List, [], ◌∷◌, ◌++◌, codes, encode_utf8_all, length, string_bytes, rules, refl, sym, subst, ap, ◌∙◌}
-use Rattle.std.specs.Str.{chars, IsUtf8}
+use Rattle.std.proofs.Common.{◌≡◌, [], ◌∷◌, ◌++◌, codes, encode_utf8_all, string_bytes, rules, refl, sym, subst, ap, ◌∙◌}
+use Rattle.std.specs.Str.{chars}
 use Rattle.std.proofs.lemmas.Str.{chars_from_encodes, IsUtf8-string_bytes}
 use Rattle.yaml_grammar.specs.Style.{scalar_lines}
 use Rattle.yaml_writer.specs.Encoded.{encoded_both}

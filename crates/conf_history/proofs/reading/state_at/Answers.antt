@@ -1,13 +1,12 @@
 -- Each turn performs one piece.
-use Rattle.std.proofs.Common.{◌≡◌, ◌≢◌, ◌≤◌, ◌+◌, refl, sym, ◌∙◌, ap, subst, arith, List, [], ◌∷◌, ◌++◌}
-use Rattle.std.specs.Prelude.{ℕ, true, false, Some, Ok}
+use Rattle.std.proofs.Common.{◌≡◌, ◌≢◌, ◌≤◌, ◌+◌, refl, sym, ◌∙◌, ap, subst, arith, [], ◌∷◌, ◌++◌}
+use Rattle.std.specs.Prelude.{false, Some, Ok}
 use Rattle.std.proofs.lemmas.Result.{err_from_is_err_and}
 use Rattle.yaml_docs.specs.PieceReading.{piece_or_rest}
-use Rattle.conf_state.specs.Commands.{Command}
 use Rattle.conf_state.specs.States.{Contents}
 use Rattle.conf_state.specs.declared.room.Room.TheVariants.{Enough}
 use Rattle.conf_state.proofs.RunLaws.{step-one}
-use Rattle.conf_history.specs.Walks.{IsBetween, IsAtPiece, AfterGoing}
+use Rattle.conf_history.specs.Walks.{IsAtPiece, AfterGoing}
 use Rattle.conf_history.specs.declared.place.Place.{Place}
 use Rattle.conf_history.proofs.WalkLemmas.{closed-some, has-room, performs-on}
 use Rattle.conf_history.proofs.ReadingLemmas.{below, refuses-all, refuses-before, refuses-piece, refuses-after, reads-state}

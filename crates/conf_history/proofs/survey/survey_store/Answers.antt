@@ -1,10 +1,10 @@
 -- Each turn performs one piece, up to the first bad one.
-use Rattle.std.proofs.Common.{◌≡◌, ◌≤◌, sym, ap, subst, arith, [], ◌∷◌, ◌++◌}
-use Rattle.std.specs.Prelude.{true, false, Ok}
+use Rattle.std.proofs.Common.{◌≡◌, sym, ap, subst, arith, [], ◌∷◌, ◌++◌}
+use Rattle.std.specs.Prelude.{Ok}
 use Rattle.std.proofs.lemmas.Result.{err_from_is_err_and}
 use Rattle.yaml_docs.specs.PieceReading.{piece_or_rest}
 use Rattle.conf_history.specs.Histories.{ReadsSurvey}
-use Rattle.conf_history.specs.Walks.{IsAtPiece, IsAtEndOf, IsBadHere, RefusesPiece, HasLimits, AfterAdvance}
+use Rattle.conf_history.specs.Walks.{IsAtPiece, IsAtEndOf, IsBadHere, RefusesPiece, AfterAdvance}
 use Rattle.conf_history.specs.declared.place.Place.{Place}
 use Rattle.conf_history.specs.declared.walk.Walk.{Walk}
 use Rattle.conf_history.proofs.WalkLemmas.{closed-some, has-room, performs-on}
@@ -99,7 +99,7 @@ returns-in-Err-Damaged-clause-ok g c =
     let kept : IsAtPiece given left c.perform_piece.new.self walked.0 walked.1 walked.2 = subst (λ (w : Walk). IsAtPiece given left w walked.0 walked.1 walked.2) (sym same) going in
     let here : IsBadHere walk c.in-Err-Damaged.bad =
     subst (RefusesPiece walk) c.in-Err-Damaged.field-0-is c.in-Err-Damaged.ensures.refused in
-    c.finish_survey.ensures.ok given walked.0 walked.1 walked.2 kept (subst (λ (w : Walk). IsBadHere w c.in-Err-Damaged.bad) (sym same) here) walked.4
+    c.finish_survey.ensures.ok given walked.0 walked.1 walked.2 kept (subst (IsBadHere c.perform_piece.new.self) (sym c.in-Err-Damaged.bad-is) (subst (λ (w : Walk). IsBadHere w c.in-Err-Damaged.bad) (sym same) here)) walked.4
 
 pub returns-in-Err-Damaged-clause-refused : goal.returns-in-Err-Damaged-clause-refused
 returns-in-Err-Damaged-clause-refused g c =

@@ -1,6 +1,6 @@
 -- The first piece is a base, or the file is no store.
-use Rattle.std.proofs.Common.{rules, sym, ◌∙◌, ap, subst, [], ◌∷◌}
-use Rattle.std.specs.Prelude.{true, false, Ok}
+use Rattle.std.proofs.Common.{rules, subst, [], ◌∷◌}
+use Rattle.std.specs.Prelude.{Ok}
 use Rattle.conf_journal.specs.Store.{store_limit}
 use Rattle.yaml_docs.specs.PieceReading.{Advances, AdvancesToPiece, AdvancesToEnd, piece_or_rest}
 use Rattle.conf_record.specs.Documents.{IsBase, IsNoBase}
