@@ -1,11 +1,11 @@
 #!/usr/bin/env python3
 """Times a replicated store: commands a second from 1, 4 and 16 clients, beside etcd alone with the same bytes.
 
-Three members of etcd and three nodes are on 127.0.0.1, so all share this machine's processors and its disk. Each client
-is a process that awaits each answer; the clients are spread over the nodes. A command sets one value. Beside it the same
-entries are put into etcd alone, by the same calls; and the same commands go to one store on this machine through
-`clients/serve.py`, which replicates nothing. The ways take turns, and the best of several runs is printed, with the
-times that its clients waited.
+Three members of etcd and three nodes are on 127.0.0.1, so all share this machine's processors and its disk. Each
+client is a process that awaits each answer; the clients are spread over the nodes. A command sets one value. Beside it
+the same entries are put into etcd alone, by the same calls; and the same commands go to one store on this machine
+through `clients/serve.py`, which replicates nothing. The ways take turns, and the best of several runs is printed, with
+the times that its clients waited.
 
     ./confstore --version && python3 bench/replicated.py [COMMANDS]
 
@@ -84,8 +84,9 @@ def timed(make, place, clients):
     """Commands a second of all clients together, and how long they waited, in order."""
     forked = multiprocessing.get_context("fork")
     starts, waits = forked.Barrier(clients + 1), forked.Queue()
+    count = COUNT // clients
     processes = [
-        forked.Process(target=work, args=(make, place, which, COUNT // clients, starts, waits)) for which in range(clients)
+        forked.Process(target=work, args=(make, place, which, count, starts, waits)) for which in range(clients)
     ]
     for process in processes:
         process.start()
@@ -131,7 +132,11 @@ def main():
             asked(cluster, 0, {"import": "app", "text": "n: 0"})
             for number in range(MACHINES):
                 asked(cluster, number, {"fresh": "yes", "names": ""}, elsewhere=False)
-            ways = {"replicated": (through_node, cluster), "etcd alone": (etcd_alone, cluster), "one store": (one_store, path)}
+            ways = {
+                "replicated": (through_node, cluster),
+                "etcd alone": (etcd_alone, cluster),
+                "one store": (one_store, path),
+            }
             for clients in CLIENTS:
                 runs = {name: [] for name in ways}
                 for run in range(RUNS):

@@ -13,7 +13,7 @@ others while clients send 1,000 more commands. After each part it looks at these
 
     checks/replicated.sh [COMMANDS]
 
-It needs etcd on the PATH (Debian's package etcd-server), PyYAML and the built program, and takes two to four minutes.
+It needs etcd on the PATH (Debian's package etcd-server), PyYAML and the built program, and takes some two minutes.
 The namespaces, and a small file system that is filled, need root; without it a limit of file sizes is the full disk,
 and the part with namespaces is left out. All that it starts is stopped at the end. The last line is 'N passed, M
 failed'.
@@ -141,8 +141,9 @@ class Namespaces:
             self.run("netns", "add", name)
             self.run("link", "add", end, "type", "veth", "peer", "name", "eth0", "netns", name)
             self.run("link", "set", end, "master", MARK, "up")
-            for words in (["addr", "add", f"{host}/24", "dev", "eth0"], ["link", "set", "eth0", "up"], ["link", "set", "lo", "up"]):
-                self.run("-n", name, *words)
+            self.run("-n", name, "addr", "add", f"{host}/24", "dev", "eth0")
+            for link in ("eth0", "lo"):
+                self.run("-n", name, "link", "set", link, "up")
 
     def run(self, *words):
         subprocess.run(["ip", *words], check=True, stdin=subprocess.DEVNULL, capture_output=True)
@@ -274,15 +275,17 @@ def some_command(chance, number):
         return {"set": name, "path": chance.choice(["/at", "/list/-", "/list/0", "/none/x"]), "value": str(number)}
     if kind < 8:
         return {"delete": name, "path": chance.choice(["", "/list/0", "/at"])}
-    return {"batch": [{"set": name, "path": "/at", "value": str(number)}, {"import": f"d{chance.randrange(3)}", "text": "[x]"}]}
+    other = {"import": f"d{chance.randrange(3)}", "text": "[x]"}
+    return {"batch": [{"set": name, "path": "/at", "value": str(number)}, other]}
 
 
-def run_client(cluster, part, which, count, answers):
+def run_client(cluster, part, which, count, answers, pause):
     chance = random.Random(f"{part}{which}")
     for number in range(count):
         identity = f"{part}-{which}-{number}"
         command = {"id": identity, **some_command(chance, number)}
         answers[identity] = command, asked(cluster, which % MACHINES, command)
+        time.sleep(pause)
 
 
 class Witness:
@@ -405,12 +408,12 @@ class Run:
         self.cluster.start()
         self.witness.start()
 
-    def send(self, part, count, trouble=None):
-        """Has the clients send so many commands in all, with some trouble meanwhile."""
+    def send(self, part, count, trouble=None, pause=0.0):
+        """Has the clients send so many commands in all, with pauses between them and some trouble meanwhile."""
         ended, done, began = threading.Event(), {}, time.monotonic()
         clients = [
             threading.Thread(
-                target=run_client, args=(self.cluster, part, which, count // CLIENTS, self.answers), daemon=True
+                target=run_client, args=(self.cluster, part, which, count // CLIENTS, self.answers, pause), daemon=True
             )
             for which in range(CLIENTS)
         ]
@@ -481,7 +484,8 @@ class Run:
         for number, identity, _ in log:
             numbers.setdefault(identity, []).append(number)
         for identity, (_, answer) in self.answers.items():
-            self.checks.is_so(len(numbers.get(identity, ())) == 1, f"{identity} has the numbers {numbers.get(identity)}")
+            mine = numbers.get(identity, [])
+            self.checks.is_so(len(mine) == 1, f"{identity} has the numbers {mine}")
             self.checks.is_so(answer == wanted.get(identity), f"{identity}: {answer}, alone {wanted.get(identity)}")
         were_refused = sum("refused" in answer for _, answer in self.answers.values())
         print(f"{len(log)} entries, {were_refused} of them refused, {len(exports)} configurations", flush=True)
@@ -503,7 +507,7 @@ def on_one_machine(run):
 
 def on_machines_apart(run):
     run.start()
-    run.send("apart", CUT_OFF_COMMANDS, cut_off_all)
+    run.send("apart", CUT_OFF_COMMANDS, cut_off_all, pause=0.1)
     run.compare()
 
 

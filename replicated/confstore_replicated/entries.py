@@ -4,8 +4,8 @@ An entry is a JSON object, `{"edits": [..]}`. Each edit is an object of strings,
 `batch` has, but that a value may be a tree: a string, a list of trees, or an object of trees. Its number is the
 revision of etcd that made it, so later entries have greater numbers.
 
-A store keeps the number of the last entry that it performed under a name of its own. The batch of an entry takes out the
-number of the entry before it, makes the entry's edits, and puts its own number, all or nothing. So a store takes no
+A store keeps the number of the last entry that it performed under a name of its own. The batch of an entry takes out
+the number of the entry before it, makes the entry's edits, and puts its own number, all or nothing. So a store takes no
 entry twice, and none before its turn: the batch would be refused. An entry that is refused has its number put alone.
 """
 
@@ -57,7 +57,9 @@ def _is_edit(edit: Any) -> bool:
     if not isinstance(edit, dict) or tuple(edit) not in KEYS:
         return False
     *texts, last = edit.values()
-    return all(isinstance(text, str) for text in texts) and (_is_tree(last) if "value" in edit else isinstance(last, str))
+    if not all(isinstance(text, str) for text in texts):
+        return False
+    return _is_tree(last) if "value" in edit else isinstance(last, str)
 
 
 def edits_of(command: Any) -> List[Edit]:

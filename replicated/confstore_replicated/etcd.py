@@ -97,8 +97,8 @@ class Etcd:
                 time.sleep(0.05)
 
     def create(self, name: bytes, stands_for: bytes, key: bytes, value: bytes) -> Tuple[int, bytes]:
-        """Puts a name that is not there yet, with what it stands for, and a key with it, by one transaction. Returns the
-        revision that made the name, and what it stands for.
+        """Puts a name that is not there yet, with what it stands for, and a key with it, by one transaction. Returns
+        the revision that made the name, and what it stands for.
 
         A name that is there stays, and then the key is not put, so that a call that is repeated makes it once.
         """
@@ -134,8 +134,8 @@ class Etcd:
         return found[0].value if found else None
 
     def created_after(self, prefix: bytes, revision: int, most: int, local: bool = True) -> Tuple[List[Item], int]:
-        """The keys with a prefix that were made after a revision, in the order in which they were made, at most so many,
-        and the revision at which this was so.
+        """The keys with a prefix that were made after a revision, in the order in which they were made, at most so
+        many, and the revision at which this was so.
 
         With `local` one member says what it knows, which may be less than there is, but is never out of order.
         """

@@ -231,7 +231,7 @@ class Follower(threading.Thread):
         """Performs the entries that the log has behind the store's. Returns the revision up to which these are all."""
         while not self._ended.is_set():
             entries, revision = self._etcd.created_after(self._log, self._position, GROUP)
-            # Entries are taken out only after the base says so. It is read after them, and not from what one member knows.
+            # Entries are taken out after the base says so. It is read after them, and not from what one member knows.
             if self._position < self._base().get("floor", 0):
                 raise Behind
             if not entries:

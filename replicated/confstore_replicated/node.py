@@ -11,14 +11,14 @@ A client sends one JSON object a line, and gets one back for each, in order.
     {"names": ""}                                        {"names": [NAME, ..]}
 
 A refusal is `{"refused": WORD}`, with the words of a session, and three more: `NotText` of a text with a lone
-surrogate, which no YAML can hold, `TooLong` of a command that is too long for the log, and `IdTaken`. `{"failed": WORD}`
-says that nothing is known of the command yet: it may be in the log or not.
+surrogate, which no YAML can hold, `TooLong` of a command that is too long for the log, and `IdTaken`.
+`{"failed": WORD}` says that nothing is known of the command yet: it may be in the log or not.
 
-An object may have two more keys: `id`, a text of 1 to 200 characters of the client's own for a change, under which it is
-performed at most once, however often it is sent within the next 100,000 revisions of etcd (`IdTaken` if another command
-has it); and `fresh` with the value `yes` for a question, which is then answered after all changes that were acknowledged
-anywhere before it was asked. `{"failed": "Forgotten"}` is said of an `id` whose command was performed, where this node
-does not know any more what it was answered; another may.
+An object may have two more keys: `id`, a text of 1 to 200 characters of the client's own for a change, under which it
+is performed at most once, however often it is sent within the next 100,000 revisions of etcd (`IdTaken` if another
+command has it); and `fresh` with the value `yes` for a question, which is then answered after all changes that were
+acknowledged anywhere before it was asked. `{"failed": "Forgotten"}` is said of an `id` whose command was performed,
+where this node does not know any more what it was answered; another may.
 """
 
 from __future__ import annotations
@@ -80,7 +80,9 @@ class Answers:
 class Node:
     """Answers the requests of clients."""
 
-    def __init__(self, folder: str, members: "list[str]", cluster: str, program: Optional[str], base_after: int) -> None:
+    def __init__(
+        self, folder: str, members: "list[str]", cluster: str, program: Optional[str], base_after: int
+    ) -> None:
         self._members = members
         self._log, self._ids = (f"/confstore/{cluster}/{kind}/".encode() for kind in ("log", "ids"))
         self._answers = Answers()
@@ -176,7 +178,7 @@ class _Handler(socketserver.StreamRequestHandler):
 
 
 class _Server(socketserver.ThreadingMixIn, socketserver.UnixStreamServer):
-    """Takes clients on a Unix socket, those who may write in the folder. A socket that nobody listens to is replaced."""
+    """Takes clients on a Unix socket, those who may write in the folder. One that nobody listens to is replaced."""
 
     daemon_threads = True
     request_queue_size = 64

@@ -10,8 +10,8 @@ import unittest
 import confstore
 from confstore import Store
 from confstore_replicated import Client
-from confstore_replicated.entries import LONGEST, RESERVED, SPARE, Refused, edits_in, edits_of, entry_of, marked, number_in
-from confstore_replicated.entries import refused as refusal_of
+from confstore_replicated.entries import LONGEST, RESERVED, SPARE, Refused, edits_in, edits_of, entry_of, marked
+from confstore_replicated.entries import number_in, refused as refusal_of
 from confstore_replicated.etcd import Item
 from confstore_replicated.follower import Follower
 from confstore_replicated.node import _Server
@@ -116,7 +116,7 @@ class Batches(StoreTest):
 class Followers(StoreTest):
     def follower(self):
         told = []
-        follower = Follower(self.folder, ["127.0.0.1:1"], "x", told=lambda number, answer: told.append((number, answer)))
+        follower = Follower(self.folder, ["127.0.0.1:1"], "x", told=lambda *answer: told.append(answer))
         self.addCleanup(follower._close)
         follower._open()
         return follower, told
