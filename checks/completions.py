@@ -43,6 +43,13 @@ LINES = [
     ("export sto", "export store"),
     ("set --ya", "set --yaml"),
     ("import store app fil", "import store app file.yaml"),
+    ("verif", "verify"),
+    ("log --ya", "log --yaml"),
+    ("get --at 1 --ra", "get --at 1 --raw"),
+    ("get store we", "get store web"),
+    ("get --at 1 store we", "get --at 1 store web"),
+    ("export store ap", "export store app"),
+    ("salvage store sto", "salvage store store"),
     ("format --in", "format --in-place"),
     ("format -i fil", "format -i file.yaml"),
     ("check fil", "check file.yaml"),
@@ -61,11 +68,12 @@ def store_with_names(top):
 
 
 def put_program(top):
-    """A program that says its words."""
+    """A program that says its words. For `names`, which completions call, it is the one that was built."""
     folder = os.path.join(top, "bin")
     os.mkdir(folder)
     path = os.path.join(folder, "confstore")
-    write_file(path, b'#!/bin/sh\necho "called: $*."\n')
+    script = f'#!/bin/sh\nif [ "$1" = names ]; then exec "{PROGRAM}" "$@"; fi\necho "called: $*."\n'
+    write_file(path, script.encode())
     os.chmod(path, 0o755)
     return folder
 

@@ -11,6 +11,8 @@ checkpoint is made, and the state is read from the new base.
   reads another YAML in places. Files that only one of them opens are counted, and so are those with breaks of YAML
   1.1 alone on which they differ.
 - Of the files with one flipped bit it counts how many are refused, how many differ in one text, and how many do not.
+- Of one file in 100, `verify` has to say what opening finds, and `salvage` has to make a store of what comes before the
+  first bad piece. Neither changes the file, nor makes another one beside it.
 
 Run it from the repository's root after the program is built; it takes two minutes, and needs PyYAML:
 
@@ -21,6 +23,8 @@ A number of files and a seed may follow. The status is 0 if all is as it should 
 
 import os
 import random
+import re
+import shutil
 import subprocess
 import sys
 import tempfile
@@ -29,7 +33,7 @@ from concurrent.futures import ProcessPoolExecutor
 
 from lib.mutations import changed, flip_bit, place
 from lib.store_model import OLD_BREAKS, Damaged, NotAStore, Refused, meaning, pieces_of, read_base
-from lib.store_runs import EMPTY, Failures, need_program, read_file, session, write_file
+from lib.store_runs import EMPTY, PROGRAM, Failures, need_program, read_file, session, write_file
 
 COUNT = 100_000
 CHUNK = 500
@@ -39,6 +43,9 @@ HANGS = 20
 
 # One file in so many is also opened by a session without commands, to see that opening changes no file.
 LOOKED_AT = 10
+
+# One file in so many is also read by `verify`, and salvaged.
+VERIFIED = 100
 
 MEMORY = "/dev/shm"
 
@@ -170,6 +177,58 @@ def opening_changes_nothing(folder, content, outcome, failures):
         failures.expect(f"the base of {content!r} after opening", (list(configs.items()), count), outcome[:2])
 
 
+def run_word(*words):
+    """The status, the output and the first line of the errors of a word."""
+    done = subprocess.run([PROGRAM, *words], capture_output=True, check=False, timeout=HANGS)
+    return done.returncode, done.stdout.decode(), done.stderr.decode().partition("\n")[0]
+
+
+def findings_of(output):
+    """The lines that `verify` writes, as numbers and words by their keys."""
+    return {key: int(value[1:-1]) if value[0] == '"' else value for key, value in re.findall(r"(?m)^(\w+): (.+)$", output)}
+
+
+def place_of_damage(content, found):
+    """The first bytes of the content before the piece that `verify` found, with the number and the line of the piece."""
+    pieces = pieces_of(content)[0]
+    before = b"".join(pieces[: found["commands"] + 1])
+    return before, {
+        "piece": found["commands"] + 1,
+        "byte": len(before),
+        "line": before.count(b"\n") + 1,
+        "following": len(pieces) - found["commands"] - 2,
+    }
+
+
+def verified(folder, content, outcome, failures):
+    """What `verify` and `salvage` say and make of a file whose opening ended so."""
+    write_file(os.path.join(folder, "store.yaml"), content)
+    saved = os.path.join(folder, "saved")
+    names = sorted(os.listdir(folder))
+    status, output, errors = run_word("verify", folder)
+    if outcome == "NotAStore":
+        failures.expect(f"verify of {content!r}", (status, output, errors), (1, "", "confstore: NotAStore"))
+        failures.expect(f"salvage of {content!r}", run_word("salvage", folder, saved), (1, "", "confstore: NotAStore"))
+        shutil.rmtree(saved, ignore_errors=True)
+        return
+    found, kept = findings_of(output), content
+    if outcome == "Damaged":
+        failures.expect(f"verify of {content!r}", (status, errors, found["state"]), (1, "confstore: Damaged", "damaged"))
+        kept, place = place_of_damage(content, found)
+        failures.expect(f"the damage in {content!r}", {key: found[key] for key in place}, place)
+    else:
+        failures.expect(f"verify of {content!r}", (status, errors, found["state"]), (0, "", "whole"))
+        failures.expect(f"the count in {content!r}", found["base"] + found["commands"], outcome[1])
+    failures.expect(f"the bytes that {content!r} drops", found["dropped"], len(pieces_of(content)[1]))
+    failures.expect(f"salvage of {content!r}", run_word("salvage", folder, saved), (0, output, ""))
+    configs, count = read_base(read_file(os.path.join(saved, "store.yaml")))
+    salvaged = outcome_of_program(saved, kept, failures)[:2] if outcome == "Damaged" else outcome[:2]
+    failures.expect(f"what {content!r} is salvaged to", (list(configs.items()), count), salvaged)
+    shutil.rmtree(saved)
+    failures.expect(f"the folder of {content!r}", sorted(os.listdir(folder)), names)
+    failures.expect(f"the file {content!r} after salvage", read_file(os.path.join(folder, "store.yaml")), content)
+
+
 def texts_of(tree):
     """The texts of a tree, and its shape without them."""
     if isinstance(tree, str):
@@ -226,6 +285,8 @@ def try_files(stores, seed, count):
                 counts["one flipped bit", difference(outcome_of_model(store), program)] += 1
             if number % LOOKED_AT == 0:
                 opening_changes_nothing(folder, content, program, failures)
+            if number % VERIFIED == 0:
+                verified(folder, content, program, failures)
     return counts, failures.tried, failures.wrong
 
 

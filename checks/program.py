@@ -11,6 +11,7 @@ The rows are in checks/data/program.txt. A row is some lines, and an empty line 
     input TEXT      what it reads; nothing without this line
     reader broken   reading fails after the input
     writer full     what it writes goes to a full device
+    writer gone     what it writes goes to a pipe that nobody reads any more
     closed STREAMS  these streams are closed when it starts, of input, output and errors
     status NUMBER   the status it ends with
     output TEXT     what it writes; nothing without a line on its output
@@ -111,6 +112,15 @@ def broken_reader(content):
         yield theirs
 
 
+@contextlib.contextmanager
+def unread_pipe():
+    """The end for writing of a pipe whose other end is closed."""
+    reading, writing = os.pipe()
+    os.close(reading)
+    with open(writing, "wb") as end:
+        yield end
+
+
 def close(streams):
     """Closes standard streams."""
     for stream in streams:
@@ -130,6 +140,8 @@ def run(row, top):
         output = subprocess.PIPE
         if value(row, "writer") == "full":
             output = ends.enter_context(open("/dev/full", "wb"))
+        if value(row, "writer") == "gone":
+            output = ends.enter_context(unread_pipe())
         closed = value(row, "closed").split()
         if closed:
             given["preexec_fn"] = lambda: close(closed)
@@ -162,7 +174,8 @@ def faults_of_files(row, top):
     """What is wrong with the files that the program left."""
     for file in values(row, "left"):
         path, _, text = file.partition(" ")
-        found = read_file(os.path.join(top, path))
+        place = os.path.join(top, path)
+        found = read_file(place) if os.path.isfile(place) else None
         if found != bytes_of(text):
             yield f"{path} has {found!r}"
     for link in values(row, "leads"):

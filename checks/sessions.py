@@ -4,8 +4,8 @@
 - Each answer arrives before the next command is sent, and a session's input may come byte by byte.
 - 200 sessions of 50 commands are killed at random moments. The store is opened again each time: no command that was
   answered is missing, and none is there that was not sent.
-- Output to a full device, and folders that are missing, a file, read-only or locked. An export reads a store in a
-  folder that is read-only, and one that a full device keeps from being recovered.
+- Output to a full device, and folders that are missing, a file, read-only or locked. An export and `get` read a store
+  in a folder that is read-only, and an export one that a full device keeps from being recovered.
 - The lock's file is deleted or replaced and the folder moved during a session, also where there is no /proc; links,
   FIFOs and folders lie at the names of the files.
 - A file that replaces a store has its owner, its group and its mode, for root and for `nobody`.
@@ -203,6 +203,9 @@ def read_only_folders_are_refused(top, failures):
         done = subprocess.run([program, "export", folder, "a"], capture_output=True, check=False, **who)
         wanted = (0, b"x\n", b"") if files else (1, b"", b"confstore: NoConfig\n")
         failures.expect(f"an export, {name}", (done.returncode, done.stdout, done.stderr), wanted)
+        done = subprocess.run([program, "get", folder, "a"], capture_output=True, check=False, **who)
+        wanted = (0, b"x\n", b"") if files else (1, b"", b"confstore: NotAStore\n")
+        failures.expect(f"a value, {name}", (done.returncode, done.stdout, done.stderr), wanted)
         left = {file: read_file(os.path.join(folder, file)) for file in os.listdir(folder)}
         failures.expect(f"the files of a read-only folder, {name}", left, files)
         os.chmod(folder, 0o755)
@@ -312,6 +315,8 @@ def only_plain_files_are_used(top, failures):
             make(os.path.join(folder, name), outside, missing)
             before = {file: os.lstat(os.path.join(folder, file)).st_ino for file in os.listdir(folder)}
             failures.expect(f"{thing} at {name}", session(folder, CHECKPOINT, timeout=SECONDS), DEVICE)
+            if name == "store.yaml":
+                failures.expect(f"`names` of {thing}", session(folder, b"", ("names",), timeout=SECONDS), DEVICE)
             after = {file: os.lstat(os.path.join(folder, file)).st_ino for file in os.listdir(folder)}
             failures.expect(f"the folder with {thing} at {name}", after, before)
             failures.expect(f"the file outside of {thing} at {name}", read_file(outside), EMPTY)

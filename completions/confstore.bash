@@ -1,18 +1,28 @@
 # Completion of confstore for bash: `source` it, or put it as `confstore` where bash-completion looks for such files.
 
-_confstore_words='init import set delete checkpoint run export format check help'
+_confstore_words='init import set delete checkpoint run export names get log verify salvage format check help'
 
 _confstore_options() {
     case $1 in
     run) echo '--group --checkpoint-after --help' ;;
     set) echo '--yaml --help' ;;
+    names) echo '--at --help' ;;
+    get) echo '--raw --at --help' ;;
+    log) echo '--yaml --at --help' ;;
     format) echo '-i --in-place --check --help' ;;
     *) echo '--help' ;;
     esac
 }
 
+# The names of the configurations in a folder as it was typed, perhaps in quotes or with a `~`.
+_confstore_names() {
+    local folder=${1//[\\\"\']/}
+    [[ $folder != '~'* ]] || folder=$HOME${folder#'~'}
+    confstore names -- "$folder" 2>/dev/null
+}
+
 _confstore() {
-    local current=${COMP_WORDS[COMP_CWORD]} word=${COMP_WORDS[1]-} place=0 index
+    local current=${COMP_WORDS[COMP_CWORD]} word=${COMP_WORDS[1]-} place=0 index folder=''
     COMPREPLY=()
     if [ "$COMP_CWORD" -eq 1 ]; then
         mapfile -t COMPREPLY < <(compgen -W "$_confstore_words --help --version" -- "$current")
@@ -24,13 +34,16 @@ _confstore() {
     fi
     for ((index = 2; index < COMP_CWORD; index++)); do
         case ${COMP_WORDS[index]} in
-        --checkpoint-after) index=$((index + 1)) ;;
+        --checkpoint-after | --at) index=$((index + 1)) ;;
         -?*) ;;
-        *) place=$((place + 1)) ;;
+        *)
+            place=$((place + 1))
+            [ "$place" -ne 1 ] || folder=${COMP_WORDS[index]}
+            ;;
         esac
     done
     case ${COMP_WORDS[COMP_CWORD - 1]} in
-    --checkpoint-after) return ;;
+    --checkpoint-after | --at) return ;;
     esac
     if [[ $current == -* ]]; then
         mapfile -t COMPREPLY < <(compgen -W "$(_confstore_options "$word")" -- "$current")
@@ -41,7 +54,10 @@ _confstore() {
         compopt -o filenames
         mapfile -t COMPREPLY < <(compgen -f -- "$current")
         ;;
-    *:0)
+    export:1 | import:1 | set:1 | delete:1 | get:1)
+        mapfile -t COMPREPLY < <(compgen -W "$(_confstore_names "$folder")" -- "$current")
+        ;;
+    *:0 | salvage:1)
         compopt -o filenames
         mapfile -t COMPREPLY < <(compgen -d -- "$current")
         ;;

@@ -1,6 +1,7 @@
 # Completion of confstore for fish: put it into a folder of `fish_complete_path`.
 
-set -l stores run export import set delete checkpoint init
+set -l stores run export import set delete checkpoint init names get log verify salvage
+set -l named export import set delete get
 
 # The words after the subcommand that are no options and no option's value.
 function __confstore_places
@@ -9,7 +10,7 @@ function __confstore_places
     for word in (commandline -opc)[3..-1]
         if test $is_value = 1
             set is_value 0
-        else if test $word = --checkpoint-after
+        else if contains -- $word --checkpoint-after --at
             set is_value 1
         else if not string match -q -- '-?*' $word
             set -a places $word
@@ -27,11 +28,22 @@ function __confstore_at
     and contains -- "$words[2]" $argv[2..-1]
 end
 
+# The names of the configurations in the folder that was written.
+function __confstore_names
+    set -l places (__confstore_places)
+    confstore names -- $places[1] 2>/dev/null
+end
+
 complete -c confstore -f
 complete -c confstore -l help -d 'Say what the word does'
 complete -c confstore -n __fish_use_subcommand -l version -d 'Write the version'
 complete -c confstore -n __fish_use_subcommand -a run -d 'Perform the commands on standard input'
 complete -c confstore -n __fish_use_subcommand -a export -d 'Write a configuration in the one style'
+complete -c confstore -n __fish_use_subcommand -a names -d 'Write the names of the configurations'
+complete -c confstore -n __fish_use_subcommand -a get -d 'Write the value at a pointer'
+complete -c confstore -n __fish_use_subcommand -a log -d 'Write the commands since the last checkpoint'
+complete -c confstore -n __fish_use_subcommand -a verify -d 'Write whether a store can be opened'
+complete -c confstore -n __fish_use_subcommand -a salvage -d 'Make a store of what comes before the damage'
 complete -c confstore -n __fish_use_subcommand -a import -d 'Put the tree of a text under a name'
 complete -c confstore -n __fish_use_subcommand -a set -d 'Set the value at a pointer'
 complete -c confstore -n __fish_use_subcommand -a delete -d 'Take out a value, or a configuration'
@@ -42,10 +54,15 @@ complete -c confstore -n __fish_use_subcommand -a check -d 'Write where a text d
 complete -c confstore -n __fish_use_subcommand -a help -d 'Say what a word does'
 
 complete -c confstore -n "__confstore_at 0 $stores" -a '(__fish_complete_directories)'
+complete -c confstore -n "__confstore_at 1 $named" -a '(__confstore_names)'
+complete -c confstore -n '__confstore_at 1 salvage' -a '(__fish_complete_directories)'
 complete -c confstore -n '__confstore_at 2 import' -F
 complete -c confstore -n '__fish_seen_subcommand_from run' -l group -d 'Sync once for all commands at hand'
 complete -c confstore -n '__fish_seen_subcommand_from run' -l checkpoint-after -x -d 'Make checkpoints meanwhile'
 complete -c confstore -n '__fish_seen_subcommand_from set' -l yaml -d 'Read the value as a text'
+complete -c confstore -n '__fish_seen_subcommand_from names get log' -l at -x -d 'Read the store as it was after a command'
+complete -c confstore -n '__fish_seen_subcommand_from get' -l raw -d 'Write a text as it is'
+complete -c confstore -n '__fish_seen_subcommand_from log' -l yaml -d 'Write the records as they stand'
 complete -c confstore -n '__fish_seen_subcommand_from format check' -F
 complete -c confstore -n '__fish_seen_subcommand_from format' -s i -l in-place -d 'Replace each file that would change'
 complete -c confstore -n '__fish_seen_subcommand_from format' -l check -d 'Name each file that would change'

@@ -15,6 +15,9 @@ use std::os::unix::fs::OpenOptionsExt;
 use std::rt::Files;
 use std::{fs, io};
 
+/// The name of the file that a store is read from.
+pub(crate) const STORE_FILE: &str = "store.yaml";
+
 /// The disk of a real folder: `store.yaml` and `next.yaml` in it. It holds a lock on the folder, one on `store.lock`,
 /// and a handle for appending to each file that it appended to, until it is dropped. Where a name has no plain file but
 /// a link, a FIFO or a folder, a call on it fails.
@@ -53,13 +56,14 @@ struct Paths {
 impl Paths {
     fn new(alloc: Global, folder: &str) -> Result<Paths, AllocError> {
         let lock = path_in(alloc, folder, "store.lock")?;
-        let store = path_in(alloc, folder, "store.yaml")?;
+        let store = path_in(alloc, folder, STORE_FILE)?;
         let next = path_in(alloc, folder, "next.yaml")?;
         Ok(Paths { lock, store, next })
     }
 }
 
-fn path_in(alloc: Global, folder: &str, name: &str) -> Result<String, AllocError> {
+/// The path of a file in a folder.
+pub(crate) fn path_in(alloc: Global, folder: &str, name: &str) -> Result<String, AllocError> {
     format!(in alloc; "{folder}/{name}")
 }
 

@@ -103,13 +103,13 @@ performs_files given left held written Done tried = record {
 performs_files given left held written Found tried = record {
   known = omega arith;
   done = λ e. absurd (omega (arith, e));
-  refused = λ e. inr (inr (inr tried));
+  refused = λ e. inr (inr (inr (inl tried)));
   wrong = λ e. absurd (omega (arith, e));
 }
 performs_files given left held written Refused tried = record {
   known = omega arith;
   done = λ e. absurd (omega (arith, e));
-  refused = λ e. inr (inr (inr tried));
+  refused = λ e. inr (inr (inr (inl tried)));
   wrong = λ e. absurd (omega (arith, e));
 }
 performs_files given left held written WrongWords tried = absurd tried

@@ -6,4 +6,5 @@ pub mod TailLemmas
 pub mod CallLemmas
 pub mod ExportLemmas
 pub mod ChangeLemmas
+pub mod ReadLemmas
 pub mod FileLemmas

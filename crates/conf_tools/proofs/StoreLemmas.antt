@@ -1,9 +1,10 @@
 -- What a session's end says of the program's status.
-use Rattle.std.proofs.Common.{◌⊎◌, ⊎_elim, ◌≤◌, ℕ, List, Option, None, Some, Err, inl, inr, refl, arith}
+use Rattle.std.proofs.Common.{◌≡◌, ◌⊎◌, ⊎_elim, ◌≤◌, ℕ, List, Option, None, Some, Err, inl, inr, refl, arith}
 use Rattle.std.specs.Io.KnownBytes.{Keeps}
 use Rattle.conf_disk.specs.Folder.{Folder}
 use Rattle.conf_disk.specs.Image.{Image}
 use Rattle.conf_store.specs.declared.fault.OpenFault.TheVariants as OpenFault
+use Rattle.conf_tools.specs.ReadingStatuses.{TellsOfStore}
 use Rattle.conf_tools.specs.Stores.{RunsOn}
 use Rattle.conf_tools.specs.Statuses.{Performs, TakesSome, FindsSome, AnswersSome, TriesFiles, code_of, status_of_store}
 use Rattle.conf_tools.specs.declared.program.Status.TheVariants.{Found}
@@ -21,7 +22,8 @@ at_three = record {
 }
 
 at_one : {given left held written : Option (List ℕ)}
-    → FindsSome given left held written ⊎ AnswersSome given left held written ⊎ Keeps held written ⊎ TriesFiles given left held written Found
+    → FindsSome given left held written ⊎ AnswersSome given left held written ⊎ Keeps held written
+    ⊎ TriesFiles given left held written Found ⊎ TellsOfStore held written
     → Performs given left held written 1
 at_one why = record {
   known = omega arith;
@@ -64,3 +66,13 @@ performs_change status known takes keeps = record {
 pub keeps_same : (held : Option (List ℕ)) → Keeps held held
 keeps_same None = tt
 keeps_same (Some bytes) = refl
+
+-- a word that reads a store, and nothing of the input
+pub performs_reading : {given held written : Option (List ℕ)} (status : ℕ) → status ≤ 3 → (status ≡ 1 → Keeps held written ⊎ TellsOfStore held written)
+    → (status ≡ 2 → Keeps held written) → Performs given given held written status
+performs_reading {given} status known refused wrong = record {
+  known = known;
+  done = λ e. inr (inr (inr (inl (keeps_same given))));
+  refused = λ e. ⊎_elim (λ kept. inr (inr (inl kept))) (λ tells. inr (inr (inr (inr tells)))) (refused e);
+  wrong = wrong;
+}

@@ -6,3 +6,6 @@ pub mod Changes
 pub mod Tails
 pub mod ProgramCalls
 pub mod Exports
+pub mod Reads
+pub mod Surveys
+pub mod ReadingStatuses

@@ -13,6 +13,7 @@ use Rattle.conf_session.specs.declared.session.Tally.{Tally}
 use Rattle.conf_tools.specs.Stores.{Answers, Work}
 use Rattle.conf_tools.specs.FileTexts.{Adds}
 use Rattle.conf_tools.specs.Tools.{Checks, Formats, ReadsAtMost, most_input}
+use Rattle.conf_tools.specs.ReadingStatuses.{TellsOfStore}
 use Rattle.conf_tools.specs.declared.stores.Grouping.{Grouping}
 use Rattle.conf_tools.specs.declared.stores.StoreToolFault.{StoreToolFault}
 use Rattle.conf_tools.specs.declared.stores.StoreToolFault.TheVariants.{Folder as InFolder, Open, Session, Export, Output as StoreOutput, Refused as RefusedChange, StoreExists}
@@ -119,12 +120,12 @@ FormatsSome given left held written (Err fault) = Keeps held written
 -- At 0 the input was formatted, or checked and nothing found in it, or its commands were answered, or nothing of it was
 -- read, as for help and `export`, or it was the text of a change, or nothing was found in files. At 1 the findings of
 -- the input were written, or some answers, or nothing: the input was refused, or memory ran out. Or lines were written
--- of files. At 2 nothing was written. Of 3 nothing is said.
+-- of files, or what a log or `verify` tells of a store. At 2 nothing was written. Of 3 nothing is said.
 pub record Performs (given left held written : Option (List ℕ)) (status : ℕ) : Type 0 where
   pub known : status ≤ 3
   pub done : status ≡ 0 → Formats given left held written ⊎ Checks given left held written 0
       ⊎ AnswersAll given left held written ⊎ Keeps given left ⊎ TakesText given left held written
       ⊎ TriesFiles given left held written Done
   pub refused : status ≡ 1 → FindsSome given left held written ⊎ AnswersSome given left held written
-      ⊎ Keeps held written ⊎ TriesFiles given left held written Found
+      ⊎ Keeps held written ⊎ TriesFiles given left held written Found ⊎ TellsOfStore held written
   pub wrong : status ≡ 2 → Keeps held written

@@ -9,6 +9,9 @@ use crate::change_words::{
 use crate::changes::Change;
 use crate::exports::export_store;
 use crate::file_words::{check_words, format_words};
+use crate::read_words::{
+    get_from_folder, log_of_folder, names_of_folder, salvage_folder, verify_folder,
+};
 use crate::rest::write_rest;
 use crate::stores::{Grouping, StoreToolFault, run_store};
 use crate::tail::TailReader;
@@ -19,8 +22,8 @@ use conf_session::{Checkpoints, SessionFault};
 use conf_state::StoreFault;
 use conf_store::OpenFault;
 use conf_words::{
-    CHECK, CHECKPOINT, CHECKPOINT_AFTER, DELETE, EXPORT, FOLDER, FORMAT, GROUP, IMPORT, INIT, NAME,
-    RUN, SET, command,
+    CHECK, CHECKPOINT, CHECKPOINT_AFTER, DELETE, EXPORT, FOLDER, FORMAT, GET, GROUP, IMPORT, INIT,
+    LOG, NAME, NAMES, RUN, SALVAGE, SET, VERIFY, command,
 };
 use std::alloc::{AllocError, Global};
 use std::fs::File;
@@ -115,6 +118,11 @@ fn obey<F: Files<File = File>, R: Read, W: Write, E: Write>(
         Some((SET, words)) => set_in_folder(rt, alloc, words, reader, errors),
         Some((DELETE, words)) => delete_in_folder(rt, alloc, words, errors),
         Some((CHECKPOINT, words)) => change_folder(rt, alloc, words, Change::Checkpoint, errors),
+        Some((NAMES, words)) => names_of_folder(rt, alloc, words, writer, errors),
+        Some((GET, words)) => get_from_folder(rt, alloc, words, writer, errors),
+        Some((LOG, words)) => log_of_folder(rt, alloc, words, writer, errors),
+        Some((VERIFY, words)) => verify_folder(rt, alloc, words, writer, errors),
+        Some((SALVAGE, words)) => salvage_folder(rt, alloc, words, writer, errors),
         Some((FORMAT, words)) => format_words(rt, alloc, words, reader, writer, errors),
         Some((CHECK, words)) => check_words(rt, alloc, words, reader, writer, errors),
         _ => Status::WrongWords,

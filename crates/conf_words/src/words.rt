@@ -1,4 +1,5 @@
 // The words of the program, and what its help says of them.
+use crate::reads::{get_command, log_command, names_command, salvage_command, verify_command};
 use clap::{Arg, ArgAction, Command, value_parser};
 use std::alloc::{AllocError, Global};
 
@@ -6,7 +7,14 @@ const VERSION: &str = "0.1.0";
 
 const ABOUT: &str = "A crash-safe store of named configuration trees, and tools for their texts.";
 
-const STATUSES: &str = "\
+const GROUPS_AND_STATUSES: &str = "\
+The words by what they do:
+  change a store  init, import, set, delete, checkpoint, run
+  read a store    export, names, get, log, verify, salvage
+  read a text     format, check
+
+`names`, `get`, `log` and `verify` take no lock, so they run beside a session that holds the store.
+
 Statuses:
   0  done
   1  a text or a store was refused, memory ran out, or `check` found something
@@ -183,7 +191,7 @@ pub const POINTER: &str = "POINTER";
 
 const POINTER_HELP: &str = "A JSON Pointer, as /port or /tags/0";
 
-const WHOLE_POINTER_HELP: &str =
+pub(crate) const WHOLE_POINTER_HELP: &str =
     "A JSON Pointer, as /port; the whole configuration if it is left out";
 
 /// The argument of `set` that is the value.
@@ -223,7 +231,7 @@ pub fn command<'a>(alloc: Global) -> Result<Command<'a>, AllocError> {
     Command::new(alloc, "confstore")
         .version(VERSION)
         .about(ABOUT)
-        .after_help(STATUSES)
+        .after_help(GROUPS_AND_STATUSES)
         .subcommand_required(true)
         .subcommand(init_command(alloc)?)?
         .subcommand(import_command(alloc)?)?
@@ -232,17 +240,22 @@ pub fn command<'a>(alloc: Global) -> Result<Command<'a>, AllocError> {
         .subcommand(checkpoint_command(alloc)?)?
         .subcommand(run_command(alloc)?)?
         .subcommand(export_command(alloc)?)?
+        .subcommand(names_command(alloc)?)?
+        .subcommand(get_command(alloc)?)?
+        .subcommand(log_command(alloc)?)?
+        .subcommand(verify_command(alloc)?)?
+        .subcommand(salvage_command(alloc)?)?
         .subcommand(format_command(alloc)?)?
         .subcommand(check_command(alloc)?)
 }
 
 /// The argument that names the folder of a store.
-fn folder_arg<'a>(alloc: Global) -> Arg<'a> {
+pub(crate) fn folder_arg<'a>(alloc: Global) -> Arg<'a> {
     Arg::new(alloc, FOLDER).required(true).help(FOLDER_HELP)
 }
 
 /// The argument that names a configuration.
-fn name_arg<'a>(alloc: Global) -> Arg<'a> {
+pub(crate) fn name_arg<'a>(alloc: Global) -> Arg<'a> {
     Arg::new(alloc, NAME).required(true).help(NAME_HELP)
 }
 

@@ -3,9 +3,17 @@
 //!
 //! A standard stream that is closed at the start is a stream whose reads or writes fail. Else the first file that is
 //! opened would have its number: the answers, or the commands, would be those of a store's own file.
+//!
+//! Where whoever reads standard output closes its pipe, as `head` does, nothing is told of that on standard error. A
+//! session tells it: its answers were wanted.
 #![tactic(auto)]
 
+mod pipe;
+
+use crate::pipe::{Errors, Output};
 use conf_tools::{TailReader, ToolFault, perform, refuse_words};
+use conf_words::RUN;
+use std::cell::Cell;
 use std::fs::{File, OpenOptions};
 use std::io::Write;
 use std::os::fd::AsFd;
@@ -70,6 +78,14 @@ fn is_closed<S: AsFd>(stream: &S) -> bool {
     }
 }
 
+/// Whether the words, of which the first is the program's name, ask for a session.
+fn is_session(words: &[String]) -> bool {
+    match words {
+        [_, word, ..] => word.as_str() == RUN,
+        _ => false,
+    }
+}
+
 fn main(rt: HostRuntime) -> ExitCode {
     let alloc = rt.alloc();
     let stderr = rt.stderr();
@@ -86,6 +102,13 @@ fn main(rt: HostRuntime) -> ExitCode {
         Err(error) => return ExitCode::from(refuse_words(&mut errors, &error)),
     };
     let mut reader = TailReader::new(rt.reader());
-    let mut writer = io::writer(&rt);
+    let (is_closed, is_never) = (Cell::new(false), Cell::new(false));
+    let mut writer = Output::new(io::writer(&rt), &is_closed);
+    let is_silent = if is_session(&words) {
+        &is_never
+    } else {
+        &is_closed
+    };
+    let mut errors = Errors::new(errors, is_silent);
     ExitCode::from(perform(&rt, alloc, &words, &mut reader, &mut writer, &mut errors))
 }

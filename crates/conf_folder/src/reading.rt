@@ -1,0 +1,35 @@
+// The file of a store, opened to be read beside a run that holds the store.
+use crate::FolderFault;
+use crate::disk::{STORE_FILE, path_in};
+use crate::folder::OpenFolder;
+use crate::plain::open_to_read;
+use std::alloc::Global;
+use std::fs::File;
+use std::io::ErrorKind;
+use std::rt::Files;
+
+/// Opens `store.yaml` in the folder at a path, to be read. It takes no lock, and makes and changes no file, so it serves
+/// beside a run that holds the store, and for a folder that can't be written. `None` if the folder has no such file.
+///
+/// What another run is about to append may be read in part, and what was read may not be synced. If another run puts a
+/// new file in the place of `store.yaml`, the one that was opened is still read.
+///
+/// # Errors
+/// `Device` if there is no folder at the path, `store.yaml` is no plain file but something else, as a link or a FIFO,
+/// or a call of the system fails; and `OutOfMemory`. The folder is unchanged.
+pub fn open_store_file<R: Files<File = File>>(
+    rt: &R,
+    alloc: Global,
+    folder: &str,
+) -> Result<Option<File>, FolderFault> {
+    let folder = OpenFolder::new(rt, alloc, folder)?;
+    let path = path_in(alloc, folder.path(), STORE_FILE)?;
+    if !folder.is_in_place(rt) {
+        return Err(FolderFault::Device);
+    }
+    match open_to_read(rt, path.as_str()) {
+        Ok(file) => Ok(Some(file)),
+        Err(error) if error.kind() == ErrorKind::NotFound => Ok(None),
+        Err(_) => Err(FolderFault::Device),
+    }
+}

@@ -1,0 +1,45 @@
+-- The statuses of the words that read a store, and what they may have written before a fault.
+use Rattle.std.specs.Prelude.{◌≡◌, ◌⊎◌, ℕ, List, Option}
+use Rattle.std.specs.Io.KnownBytes.{Appends}
+use Rattle.conf_folder.specs.declared.fault.FolderFault.TheVariants as FolderFault
+use Rattle.conf_history.specs.declared.fault.HistoryFault.{HistoryFault}
+use Rattle.conf_history.specs.declared.fault.HistoryFault.TheVariants as HistoryFaults
+use Rattle.conf_history.specs.declared.fault.SalvageFault.TheVariants as SalvageFault
+use Rattle.conf_history.specs.declared.survey.Findings.{Findings}
+use Rattle.conf_tools.specs.Surveys.{findings_text, soundness_of}
+use Rattle.conf_tools.specs.declared.program.Status.{Status}
+use Rattle.conf_tools.specs.declared.program.Status.TheVariants.{Refused, Device}
+use Rattle.conf_tools.specs.declared.reading_fault.ReadingFault.{ReadingFault}
+use Rattle.conf_tools.specs.declared.reading_fault.ReadingFault.TheVariants.{Folder, History, Value, Salvage, Output}
+use Rattle.conf_tools.specs.declared.surveys.Soundness.TheVariants.{Damaged}
+
+-- the status after a fault of a store's file
+abbrev pub status_of_history : HistoryFault → Status
+status_of_history HistoryFaults.Input = Device
+status_of_history HistoryFaults.Output = Device
+status_of_history fault = Refused
+
+-- the status after a fault of a word that reads a store, or salvages one
+abbrev pub status_of_reading : ReadingFault → Status
+status_of_reading (Folder FolderFault.Device) = Device
+status_of_reading (Folder FolderFault.Locked) = Device
+status_of_reading (Folder FolderFault.OutOfMemory) = Refused
+status_of_reading (History fault) = status_of_history fault
+status_of_reading (Value fault) = Refused
+status_of_reading (Salvage (SalvageFault.History fault)) = status_of_history fault
+status_of_reading (Salvage SalvageFault.Device) = Device
+status_of_reading (Salvage fault) = Refused
+status_of_reading Output = Device
+
+-- lines of a log were written, before the fault
+abbrev pub LogsSome : Option (List ℕ) → Option (List ℕ) → Type 0
+LogsSome held written = (lines : List ℕ) × Appends held written lines
+
+-- what an opening would find in a damaged store was written
+abbrev pub FindsDamage : Option (List ℕ) → Option (List ℕ) → Type 0
+FindsDamage held written =
+    (findings : Findings) × (soundness_of findings.bad ≡ Damaged) × Appends held written (findings_text findings)
+
+-- what a word that reads a store has written where its status is 1
+abbrev pub TellsOfStore : Option (List ℕ) → Option (List ℕ) → Type 0
+TellsOfStore held written = LogsSome held written ⊎ FindsDamage held written

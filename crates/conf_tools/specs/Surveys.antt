@@ -1,0 +1,146 @@
+-- What is written of a store's file by `verify`: what an opening would find in it.
+use Rattle.std.specs.Prelude.{◌≡◌, ℕ, List, [], ◌++◌, Option, Some, None, IfSome, codes, decimal}
+use Rattle.std.specs.Io.KnownBytes.{Keeps, Appends}
+use Rattle.yaml_events.specs.declared.read_fault.ReadFault.{ReadFault}
+use Rattle.yaml_events.specs.declared.read_fault.ReadFault.TheVariants as read
+use Rattle.json_pointer.specs.declared.fault.PathFault.{PathFault}
+use Rattle.json_pointer.specs.declared.fault.PathFault.TheVariants as path
+use Rattle.conf_state.specs.States.{Contents}
+use Rattle.conf_state.specs.declared.fault.StoreFault.{StoreFault}
+use Rattle.conf_state.specs.declared.fault.StoreFault.TheVariants as store
+use Rattle.conf_disk.specs.Folder.{Folder}
+use Rattle.conf_history.specs.Histories.{IsSurvey, RefusesSurvey}
+use Rattle.conf_history.specs.Salvages.{RefusesSalvage, Saves}
+use Rattle.conf_history.specs.declared.fault.HistoryFault.TheVariants.{OutOfMemory}
+use Rattle.conf_history.specs.declared.place.NoRecord.{NoRecord}
+use Rattle.conf_history.specs.declared.place.NoRecord.TheVariants.{NotARecord, WrongNumber, Refused}
+use Rattle.conf_history.specs.declared.survey.Bad.{Bad}
+use Rattle.conf_history.specs.declared.survey.Findings.{Findings}
+use Rattle.conf_tools.specs.declared.reading_fault.ReadingFault.{ReadingFault}
+use Rattle.conf_tools.specs.declared.reading_fault.ReadingFault.TheVariants.{History, Salvage, Output}
+use Rattle.conf_tools.specs.declared.surveys.Soundness.{Soundness}
+use Rattle.conf_tools.specs.declared.surveys.Soundness.TheVariants.{Whole, Damaged}
+
+-- ---- words: the innermost fault's own name
+
+abbrev pub read_word : ReadFault → List ℕ
+read_word read.TooLong = codes "TooLong"
+read_word (read.NotUtf8 at) = codes "NotUtf8"
+read_word (read.Syntax line column why) = codes "Syntax"
+read_word (read.Documents count) = codes "Documents"
+read_word read.KeyNotText = codes "KeyNotText"
+read_word read.KeyTwice = codes "KeyTwice"
+read_word read.TooDeep = codes "TooDeep"
+read_word read.LargeInStyle = codes "LargeInStyle"
+read_word read.OutOfMemory = codes "OutOfMemory"
+
+abbrev pub path_word : PathFault → List ℕ
+path_word (path.BadPath at) = codes "BadPath"
+path_word (path.NoSuchPlace step) = codes "NoSuchPlace"
+path_word (path.NotIndex step) = codes "NotIndex"
+path_word path.OutOfMemory = codes "OutOfMemory"
+
+abbrev pub refusal_word : StoreFault → List ℕ
+refusal_word store.EmptyBatch = codes "EmptyBatch"
+refusal_word store.BadName = codes "BadName"
+refusal_word store.NoConfig = codes "NoConfig"
+refusal_word (store.Path fault) = path_word fault
+refusal_word (store.Read fault) = read_word fault
+refusal_word store.TooDeep = codes "TooDeep"
+refusal_word store.ConfigLarge = codes "ConfigLarge"
+refusal_word store.StoreFull = codes "StoreFull"
+refusal_word store.RecordLong = codes "RecordLong"
+refusal_word store.JournalLong = codes "JournalLong"
+refusal_word store.CountFull = codes "CountFull"
+refusal_word store.Reopen = codes "Reopen"
+refusal_word store.Device = codes "Device"
+refusal_word store.OutOfMemory = codes "OutOfMemory"
+
+-- why a piece is not the next record
+abbrev pub why_word : NoRecord → List ℕ
+why_word NotARecord = codes "NotARecord"
+why_word (WrongNumber found) = codes "WrongNumber"
+why_word (Refused fault) = refusal_word fault
+
+-- ---- the text
+
+-- the line of a key whose value is a word
+abbrev pub word_line : List ℕ → List ℕ → List ℕ
+word_line key word = key ++ codes ": " ++ word ++ codes "\n"
+
+-- the line of a key whose value is a number
+abbrev pub number_line : List ℕ → ℕ → List ℕ
+number_line key number = key ++ codes ": \"" ++ decimal number ++ codes "\"\n"
+
+-- whether the file can be opened
+abbrev pub soundness_of : Option Bad → Soundness
+soundness_of None = Whole
+soundness_of (Some bad) = Damaged
+
+abbrev pub state_word : Option Bad → List ℕ
+state_word None = codes "whole"
+state_word (Some bad) = codes "damaged"
+
+-- the lines on the first bad piece, if there is one
+abbrev pub bad_lines : Option Bad → List ℕ
+bad_lines None = []
+bad_lines (Some bad) =
+    number_line (codes "piece") bad.piece.number ++ number_line (codes "byte") bad.piece.byte
+    ++ number_line (codes "line") bad.piece.line ++ word_line (codes "why") (why_word bad.piece.why)
+    ++ number_line (codes "following") bad.following
+
+-- what an opening would find: a YAML mapping in the one style
+abbrev pub findings_text : Findings → List ℕ
+findings_text found =
+    word_line (codes "state") (state_word found.bad) ++ number_line (codes "base") found.base
+    ++ number_line (codes "commands") found.commands ++ bad_lines found.bad
+    ++ number_line (codes "dropped") found.dropped
+
+-- ---- what was written
+
+-- the bytes of the file, where they are known, are as the findings say
+abbrev pub FileIsAs : Option (List ℕ) → Contents → Findings → Type 0
+FileIsAs given state findings = IfSome given (λ bytes. IsSurvey bytes state findings)
+
+-- the findings were not written whole: memory ran out before, or the writer failed
+abbrev pub CannotWrite : Option (List ℕ) → Option (List ℕ) → ReadingFault → Type 0
+CannotWrite held written (History OutOfMemory) = Keeps held written
+CannotWrite held written Output = Unit {0}
+CannotWrite held written fault = ⊥
+
+-- what an opening would find in the file was written
+pub record WritesSurvey (given held written : Option (List ℕ)) (sound : Soundness) : Type 0 where
+  pub state : Contents
+  pub findings : Findings
+  pub finds : FileIsAs given state findings
+  pub writes : Appends held written (findings_text findings)
+  pub says : sound ≡ soundness_of findings.bad
+
+-- why that was not written whole: the file doesn't answer, and nothing was written; or the writer failed
+abbrev pub RefusesWriting : Option (List ℕ) → Option (List ℕ) → Option (List ℕ) → ReadingFault → Type 0
+RefusesWriting given held written (History fault) =
+    IfSome given (λ bytes. RefusesSurvey bytes fault) × Keeps held written
+RefusesWriting given held written Output = (state : Contents) × (findings : Findings) × FileIsAs given state findings
+RefusesWriting given held written fault = ⊥
+
+-- ---- a store of what stands before the damage
+
+-- The store was made of what stands in the file before its first bad piece, if the disk is honest.
+abbrev pub SavesOn : {D : Type 0} → Type 0 → (D → Folder) → Option (List ℕ) → Option (List ℕ) → D → D → Findings → Type 0
+SavesOn honest folder given left old new findings = honest → Saves given left (folder old) (folder new) findings
+
+-- the store was made, and what stands in the file was written
+abbrev pub SavesStore : {D : Type 0} → Type 0 → (D → Folder) → Option (List ℕ) → Option (List ℕ) → Option (List ℕ)
+    → Option (List ℕ) → D → D → Type 0
+SavesStore honest folder given left held written old new =
+    (findings : Findings) × SavesOn honest folder given left old new findings
+    × Appends held written (findings_text findings)
+
+-- Why no store was made, and nothing was written; or the store was made, and what stands in the file was not written
+-- whole.
+abbrev pub RefusesSaving : {D : Type 0} → Type 0 → (D → Folder) → Option (List ℕ) → Option (List ℕ) → Option (List ℕ)
+    → Option (List ℕ) → D → D → ReadingFault → Type 0
+RefusesSaving honest folder given left held written old new (Salvage fault) =
+    (honest → RefusesSalvage given left (folder old) (folder new) fault) × Keeps held written
+RefusesSaving honest folder given left held written old new fault =
+    (findings : Findings) × SavesOn honest folder given left old new findings × CannotWrite held written fault

@@ -1,0 +1,129 @@
+// What stands in a store's file, as lines of text.
+ghost use Rattle.std.specs.Prelude.{◌≡◌, ◌++◌, IfOk, OnOk};
+ghost use Rattle.conf_tools.specs.Surveys.{bad_lines, findings_text, number_line, path_word, read_word, refusal_word, state_word, why_word, word_line};
+
+use conf_history::{Bad, Findings, NoRecord};
+use conf_state::StoreFault;
+use itoa::Buffer;
+use std::alloc::{AllocError, Global};
+use tree_path::PathFault;
+use yaml_tree::ReadFault;
+
+/// What stands in a store's file, as a YAML mapping in the one style: a line for each key. It fails only if memory runs
+/// out.
+pub(crate) fn findings_text(alloc: Global, findings: &Findings) -> Result<Vec<u8>, AllocError>
+    ensures { IfOk result (λ text. text.items ≡ findings_text findings.now) }
+{
+    let mut text = Vec::new(alloc);
+    push_word(&mut text, "state", state_word(&findings.bad))?;
+    push_number(&mut text, "base", findings.base)?;
+    push_number(&mut text, "commands", findings.commands)?;
+    push_bad(&mut text, &findings.bad)?;
+    push_number(&mut text, "dropped", findings.dropped)?;
+    Ok(text)
+}
+
+/// Whether the store can be opened, in a word.
+fn state_word(bad: &Option<Bad>) -> &'static str
+    ensures { result.now ≡ state_word bad.now }
+{
+    match bad {
+        None => "whole",
+        Some(_) => "damaged",
+    }
+}
+
+/// Appends what is known of the first bad piece, if there is one.
+fn push_bad(text: &mut Vec<u8>, bad: &Option<Bad>) -> Result<(), AllocError>
+    ensures { OnOk result (text.new.items ≡ text.old.items ++ bad_lines bad.now) }
+{
+    let Some(bad) = bad else {
+        return Ok(());
+    };
+    push_number(text, "piece", bad.piece.number)?;
+    push_number(text, "byte", bad.piece.byte)?;
+    push_number(text, "line", bad.piece.line)?;
+    push_word(text, "why", why_word(bad.piece.why))?;
+    push_number(text, "following", bad.following)
+}
+
+/// Appends the line of a key whose value is a word.
+fn push_word(text: &mut Vec<u8>, key: &str, word: &str) -> Result<(), AllocError>
+    ensures { OnOk result (text.new.items ≡ text.old.items ++ word_line key.now word.now) }
+{
+    text.extend_from_slice(key.as_bytes())?;
+    text.extend_from_slice(b": ")?;
+    text.extend_from_slice(word.as_bytes())?;
+    text.extend_from_slice(b"\n")
+}
+
+/// Appends the line of a key whose value is a number. The one style writes digits in double quotes.
+fn push_number(text: &mut Vec<u8>, key: &str, number: u64) -> Result<(), AllocError>
+    ensures { OnOk result (text.new.items ≡ text.old.items ++ number_line key.now number) }
+{
+    let mut digits = Buffer::new();
+    text.extend_from_slice(key.as_bytes())?;
+    text.extend_from_slice(b": \"")?;
+    text.extend_from_slice(digits.format(number).as_bytes())?;
+    text.extend_from_slice(b"\"\n")
+}
+
+/// Why a piece is not the next record, in a word: that of its refusal, if its command is refused.
+fn why_word(why: NoRecord) -> &'static str
+    ensures { result.now ≡ why_word why }
+{
+    match why {
+        NoRecord::NotARecord => "NotARecord",
+        NoRecord::WrongNumber { .. } => "WrongNumber",
+        NoRecord::Refused(fault) => refusal_word(fault),
+    }
+}
+
+/// The name of the innermost fault.
+fn refusal_word(fault: StoreFault) -> &'static str
+    ensures { result.now ≡ refusal_word fault }
+{
+    match fault {
+        StoreFault::Path(fault) => path_word(fault),
+        StoreFault::Read(fault) => read_word(fault),
+        StoreFault::EmptyBatch => "EmptyBatch",
+        StoreFault::BadName => "BadName",
+        StoreFault::NoConfig => "NoConfig",
+        StoreFault::TooDeep => "TooDeep",
+        StoreFault::ConfigLarge => "ConfigLarge",
+        StoreFault::StoreFull => "StoreFull",
+        StoreFault::RecordLong => "RecordLong",
+        StoreFault::JournalLong => "JournalLong",
+        StoreFault::CountFull => "CountFull",
+        StoreFault::Reopen => "Reopen",
+        StoreFault::Device => "Device",
+        StoreFault::OutOfMemory => "OutOfMemory",
+    }
+}
+
+fn path_word(fault: PathFault) -> &'static str
+    ensures { result.now ≡ path_word fault }
+{
+    match fault {
+        PathFault::BadPath { .. } => "BadPath",
+        PathFault::NoSuchPlace { .. } => "NoSuchPlace",
+        PathFault::NotIndex { .. } => "NotIndex",
+        PathFault::OutOfMemory => "OutOfMemory",
+    }
+}
+
+fn read_word(fault: ReadFault) -> &'static str
+    ensures { result.now ≡ read_word fault }
+{
+    match fault {
+        ReadFault::TooLong => "TooLong",
+        ReadFault::NotUtf8 { .. } => "NotUtf8",
+        ReadFault::Syntax { .. } => "Syntax",
+        ReadFault::Documents { .. } => "Documents",
+        ReadFault::KeyNotText => "KeyNotText",
+        ReadFault::KeyTwice => "KeyTwice",
+        ReadFault::TooDeep => "TooDeep",
+        ReadFault::LargeInStyle => "LargeInStyle",
+        ReadFault::OutOfMemory => "OutOfMemory",
+    }
+}

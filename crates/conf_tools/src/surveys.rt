@@ -1,0 +1,108 @@
+// What stands in a store's file, and a store of what stands before its first bad piece, over any reader, disk and writer.
+ghost use Rattle.std.specs.Prelude.{◌≡◌, IfOk, IfErr, OnOk};
+ghost use Rattle.std.specs.Io.KnownBytes.{Appends};
+ghost use Rattle.conf_tools.specs.Surveys.{CannotWrite, RefusesSaving, RefusesWriting, SavesStore, WritesSurvey, findings_text, soundness_of};
+
+use crate::findings::findings_text;
+use crate::reading_fault::ReadingFault;
+use crate::texts::write_whole;
+use conf_disk::Disk;
+use conf_history::{Bad, Findings, HistoryFault, salvage, survey_store};
+use std::alloc::Global;
+use std::io::{Read, Write};
+
+/// Whether a store's file can be opened.
+#[derive(Clone, Copy, Debug, PartialEq, Eq)]
+pub enum Soundness {
+    /// The file means a state.
+    Whole,
+    /// One of its pieces is not the next record.
+    Damaged,
+}
+
+/// Writes what an opening of a store would find in its file, as a YAML mapping in the one style, and returns whether it
+/// could be opened. The file is read as by [`survey_store`].
+///
+/// # Errors
+/// - `History` if [`survey_store`] fails, or memory runs out. Nothing is written.
+/// - `Output` if the writer fails. Some of the text may be written.
+pub fn write_survey<R: Read, W: Write>(
+    alloc: Global,
+    reader: &mut R,
+    writer: &mut W,
+) -> Result<Soundness, ReadingFault>
+    ensures ok { IfOk result (WritesSurvey (R.remaining reader.old)
+        (W.contents writer.old) (W.contents writer.new)) }
+    ensures refused { IfErr result (RefusesWriting (R.remaining reader.old)
+        (W.contents writer.old) (W.contents writer.new)) }
+{
+    let found = match survey_store(alloc, reader) {
+        Ok(found) => found,
+        Err(fault) => return Err(ReadingFault::History(fault)),
+    };
+    match write_findings(alloc, &found.findings, writer) {
+        Ok(()) => Ok(soundness_of(&found.findings.bad)),
+        Err(fault) => Err(fault),
+    }
+}
+
+/// Whether a store's file can be opened, by its first bad piece.
+fn soundness_of(bad: &Option<Bad>) -> Soundness
+    ensures { result ≡ soundness_of bad.now }
+{
+    match bad {
+        None => Soundness::Whole,
+        Some(_) => Soundness::Damaged,
+    }
+}
+
+/// Makes a store on `disk` of the state that stands before the first bad piece of a store's file, and writes what stands
+/// in the file, as [`write_survey`] does. Returns the disk. The file is read as by [`salvage`].
+///
+/// # Errors
+/// The disk is returned with the fault.
+/// - `Salvage` if [`salvage`] fails. Nothing is written.
+/// - `History` with `OutOfMemory` if memory runs out when the store is made. Nothing is written.
+/// - `Output` if the writer fails. The store is made, and some of the text may be written.
+pub fn salvage_store<R: Read, D: Disk + Drop, W: Write>(
+    alloc: Global,
+    reader: &mut R,
+    disk: D,
+    writer: &mut W,
+) -> Result<D, (D, ReadingFault)>
+    ensures ok { IfOk result (λ disk_behind. SavesStore D.honest D.folder
+        (R.remaining reader.old) (R.remaining reader.new)
+        (W.contents writer.old) (W.contents writer.new) disk disk_behind) }
+    ensures refused { IfErr result (λ r. RefusesSaving D.honest D.folder
+        (R.remaining reader.old) (R.remaining reader.new)
+        (W.contents writer.old) (W.contents writer.new) disk r.0 r.1) }
+{
+    let (disk, findings) = match salvage(alloc, reader, disk) {
+        Ok(made) => made,
+        Err((disk, fault)) => return Err((disk, ReadingFault::Salvage(fault))),
+    };
+    match write_findings(alloc, &findings, writer) {
+        Ok(()) => Ok(disk),
+        Err(fault) => Err((disk, fault)),
+    }
+}
+
+/// Writes what stands in a store's file.
+fn write_findings<W: Write>(
+    alloc: Global,
+    findings: &Findings,
+    writer: &mut W,
+) -> Result<(), ReadingFault>
+    ensures ok { OnOk result (Appends (W.contents writer.old) (W.contents writer.new)
+        (findings_text findings.now)) }
+    ensures refused { IfErr result (CannotWrite (W.contents writer.old) (W.contents writer.new)) }
+{
+    let text = match findings_text(alloc, findings) {
+        Ok(text) => text,
+        Err(_) => return Err(ReadingFault::History(HistoryFault::OutOfMemory)),
+    };
+    match write_whole(writer, &text) {
+        Ok(()) => Ok(()),
+        Err(_) => Err(ReadingFault::Output),
+    }
+}

@@ -1,0 +1,73 @@
+// Standard output, whose pipe may be closed by whoever reads it, and standard error, which then says nothing of it.
+//
+// `confstore names store | head -1` has what it wants after one line. So a write that fails since nobody reads it any
+// more is no fault to tell: standard error stays silent from then on. The status is still that of a failed write.
+use std::cell::Cell;
+use std::io;
+use std::io::{ErrorKind, Write};
+
+/// Standard output. It notes when a write fails since nobody reads its pipe any more.
+#[derive(Drop)]
+pub(crate) struct Output<'c, W> {
+    inner: W,
+    is_closed: &'c Cell<bool>,
+}
+
+impl<'c, W> Output<'c, W> {
+    /// Writes to `inner`, and notes a closed pipe in `is_closed`.
+    pub(crate) fn new(inner: W, is_closed: &'c Cell<bool>) -> Self {
+        Output { inner, is_closed }
+    }
+
+    /// Notes whether this failure is that of a closed pipe.
+    fn note(&self, failure: &io::Error) {
+        if failure.kind() == ErrorKind::BrokenPipe {
+            self.is_closed.set(true);
+        }
+    }
+}
+
+impl<W: Write> Write for Output<'_, W> {
+    fn write(&mut self, buf: &[u8]) -> io::Result<usize> {
+        let done = self.inner.write(buf);
+        if let Err(failure) = &done {
+            self.note(failure);
+        }
+        done
+    }
+
+    fn flush(&mut self) -> io::Result<()> {
+        let done = self.inner.flush();
+        if let Err(failure) = &done {
+            self.note(failure);
+        }
+        done
+    }
+}
+
+/// Standard error. It drops what it is given once it has to be silent.
+#[derive(Drop)]
+pub(crate) struct Errors<'c, E> {
+    inner: E,
+    is_silent: &'c Cell<bool>,
+}
+
+impl<'c, E> Errors<'c, E> {
+    /// Writes to `inner` as long as `is_silent` holds false.
+    pub(crate) fn new(inner: E, is_silent: &'c Cell<bool>) -> Self {
+        Errors { inner, is_silent }
+    }
+}
+
+impl<E: Write> Write for Errors<'_, E> {
+    fn write(&mut self, buf: &[u8]) -> io::Result<usize> {
+        if self.is_silent.get() {
+            return Ok(buf.len());
+        }
+        self.inner.write(buf)
+    }
+
+    fn flush(&mut self) -> io::Result<()> {
+        self.inner.flush()
+    }
+}
