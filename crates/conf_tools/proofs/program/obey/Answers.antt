@@ -31,3 +31,22 @@ returns-in-Some-log-default g c =
 pub returns-in-Some-verify-default : goal.returns-in-Some-verify-default
 returns-in-Some-verify-default g c =
     performs_reading (code_of c.verify_folder.result) c.verify_folder.ensures.known (λ e. ⊎_elim (λ tells. inr (inr tells)) inl (c.verify_folder.ensures.refused e)) c.verify_folder.ensures.wrong
+
+pub returns-in-Some-export-default : goal.returns-in-Some-export-default
+returns-in-Some-export-default g c =
+    performs_reading (code_of c.export_folder.result) c.export_folder.ensures.known (λ e. inl (c.export_folder.ensures.refused e)) c.export_folder.ensures.wrong
+
+pub returns-in-Some-init-default : goal.returns-in-Some-init-default
+returns-in-Some-init-default g c =
+    performs_reading (code_of c.init_folder.result) c.init_folder.ensures (λ e. inl (keeps_same (g.W.Write.contents c.args.writer.now)))
+    (λ e. keeps_same (g.W.Write.contents c.args.writer.now))
+
+pub returns-in-Some-delete-default : goal.returns-in-Some-delete-default
+returns-in-Some-delete-default g c =
+    performs_reading (code_of c.delete_in_folder.result) c.delete_in_folder.ensures (λ e. inl (keeps_same (g.W.Write.contents c.args.writer.now)))
+    (λ e. keeps_same (g.W.Write.contents c.args.writer.now))
+
+pub returns-in-Some-checkpoint-default : goal.returns-in-Some-checkpoint-default
+returns-in-Some-checkpoint-default g c =
+    performs_reading (code_of c.change_folder.result) c.change_folder.ensures (λ e. inl (keeps_same (g.W.Write.contents c.args.writer.now)))
+    (λ e. keeps_same (g.W.Write.contents c.args.writer.now))
