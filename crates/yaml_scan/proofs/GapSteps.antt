@@ -139,6 +139,18 @@ space_taken bs i u b d e h =
       leaves = ap (drop_while white) e ∙ stop.1;
     }
 
+-- where something solid follows whitespace, the line does not end
+pub solid_no_end : (bs : List ℕ) (i j : ℕ) → IsUtf8 bs → IsCharBoundary bs i → AreTaken white bs i j → first solid (rest bs j) ≡ true → read_line_end false (rest bs i) ≡ None
+solid_no_end bs i j u b w s =
+    ap (read_line_end false) (rest-between bs i j u w.above b w.boundary) ∙ solid_no_line false (between bs i j) (rest bs j) (take_while_white bs i j w) s
+
+-- and the text does not
+pub solid_within : (bs : List ℕ) (i j : ℕ) → AreTaken white bs i j → first solid (rest bs j) ≡ true → i < length bs
+solid_within bs i j w s = elim (cases_lt j (length bs)) [
+  | inl l ↦ (let above = w.above in omega arith)
+  | inr past ↦ absurd (false≢true (sym (ap (first solid) (rest-end bs j past)) ∙ s))
+]
+
 -- whitespace before something solid is a gap, in a key or not
 pub short_gap_is : (n : ℕ) (d : FlowContext) (bs : List ℕ) (i j : ℕ) → IsUtf8 bs → IsCharBoundary bs i → AreTaken white bs i j → first solid (rest bs j) ≡ true
     → IsGap n d bs i (record { end = j; is_over_lines = false })

@@ -62,7 +62,7 @@ pub fn gap_end(text: &str, at: usize, n: u64, context: FlowContext) -> Result<Ga
 
 /// Returns the end of a gap of nothing or of one space, if something solid follows it.
 #[inline(always)]
-fn short_gap_end(text: &str, at: usize) -> Option<usize>
+pub(crate) fn short_gap_end(text: &str, at: usize) -> Option<usize>
     requires { IsCharBoundary text.now at }
     ensures taken { IfSome result (AreTaken white text.now at) }
     ensures solid { IfSome result (λ end. first solid (rest text.now end) ≡ true) }

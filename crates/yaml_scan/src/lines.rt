@@ -1,11 +1,12 @@
 // The ends of lines, and lines of comments.
-ghost use Rattle.std.specs.Prelude.{◌≡◌, ◌≤◌, true, false, [], None, IfSome, IfNone};
+ghost use Rattle.std.specs.Prelude.{◌≡◌, ◌<◌, ◌≤◌, true, false, [], None, IfSome, IfNone, IsTrue, length};
 ghost use Rattle.std.specs.Str.{IsCharBoundary};
 ghost use Rattle.yaml_chars.specs.Places.{rest};
 ghost use Rattle.yaml_recognizers.specs.Comments.{read_line_end, all_comments, closes_line};
 ghost use Rattle.yaml_scan.specs.Lines.{IsLineStart, IsCommentEnd, IsLineEnd, EndsLineAfter, NoLineEndAfter, IsSolidLine};
 
 use crate::breaks::stop_at;
+use crate::gap::short_gap_end;
 use crate::runs::{nb_end, spaces_end, white_end};
 use crate::signs::{solid_at, stands_at};
 
@@ -109,6 +110,9 @@ pub fn line_after(text: &str, at: usize) -> Option<Line>
     ensures no_comments { IfNone result (all_comments false (rest text.now at)
         ≡ ([], rest text.now at)) }
 {
+    if goes_on_at(text, at) {
+        return None;
+    }
     if let Some(next) = rest_of_line_end(text, at) {
         return Some(solid_line(text, next));
     }
@@ -119,4 +123,17 @@ pub fn line_after(text: &str, at: usize) -> Option<Line>
         start: at,
         first: at,
     })
+}
+
+/// Returns whether something solid is at `at`, or after one space there. Then the line goes on.
+#[inline(always)]
+fn goes_on_at(text: &str, at: usize) -> bool
+    requires { IsCharBoundary text.now at }
+    ensures no_end { IsTrue result → read_line_end false (rest text.now at) ≡ None }
+    ensures within { IsTrue result → at < length text.now }
+{
+    match short_gap_end(text, at) {
+        Some(_) => true,
+        None => false,
+    }
 }
