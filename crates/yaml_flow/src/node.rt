@@ -1,5 +1,5 @@
 // Flow nodes.
-ghost use Rattle.std.specs.Prelude.{◌≡◌, ℕ, IfOk, IfErr};
+ghost use Rattle.std.specs.Prelude.{◌≡◌, ℕ, [], ◌∷◌, ◌++◌, IfOk, IfErr};
 ghost use Rattle.std.specs.Str.{IsCharBoundary};
 ghost use Rattle.yaml_chars.specs.Places.{rest};
 ghost use Rattle.yaml_events.specs.Meant.{context_of};
@@ -7,10 +7,11 @@ ghost use Rattle.yaml_events.specs.EventPlaces.{line_starts, Refuses};
 ghost use Rattle.yaml_recognizers.specs.StandingNodes.{NoFlowNode};
 ghost use Rattle.yaml_flow.specs.FlowNodes.{FlowNodeRead, FlowNodeIs, NoFlowNodeFound};
 ghost use Rattle.yaml_flow.specs.Frames.{Kept};
+ghost use Rattle.yaml_flow.specs.Scalars.{scalar_event_at};
 
 use crate::collection::{bracket_at, collection};
 use crate::push::push;
-use crate::scalar::scalar_at;
+use crate::scalar::{FlowScalar, plain_line_at, scalar_at};
 use std::alloc::Global;
 use yaml_events::{Events, FlowContext, ScanFault};
 use yaml_recognizers::flow_nodes::flow_node_stands;
@@ -76,7 +77,25 @@ fn read_node<'a>(
     if let Some(kind) = bracket_at(text, at) {
         return collection(alloc, events, text, at, kind, n, c);
     }
+    if let Some(found) = plain_line_at(text, at, n, c) {
+        return put_scalar(events, at, found);
+    }
     let found = scalar_at(alloc, text, at, n, c)?;
+    put_scalar(events, at, found)
+}
+
+/// Appends the event of the flow scalar that starts at `at`. Returns the place after it.
+#[inline(always)]
+fn put_scalar<'a>(
+    events: &mut Events<'a>,
+    at: usize,
+    found: FlowScalar<'a>,
+) -> Result<usize, ScanFault>
+    ensures written { IfOk result (λ end. (end ≡ found.entry.end)
+        × (events.new ≡ events.old ++ scalar_event_at at found.entry ∷ [])) }
+    ensures none { IfErr result (λ fault. Refuses fault ⊥) }
+    ensures kept { (k : ℕ) → Kept k events.old events.new }
+{
     let end = found.end;
     push(events, found.into_event(at))?;
     Ok(end)

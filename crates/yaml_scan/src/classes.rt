@@ -60,6 +60,7 @@ static CLASSES: [u8; 256] = [
 ];
 
 /// Returns the end of the run of characters of a class from `at` on, which is `at` if there are none.
+#[inline(always)]
 pub fn run_end(text: &str, at: usize, class: Class) -> usize
     requires { IsCharBoundary text.now at }
     ensures { IsRun (test_of class) text.now at result }
@@ -76,6 +77,7 @@ pub(crate) fn line_run_end(text: &str, at: usize) -> usize
 }
 
 /// Returns the end of the bytes of a class from `at` on.
+#[inline(always)]
 fn passed_end(bytes: &[u8], at: usize, class: Class) -> usize
     requires { at ≤ length bytes.now }
     ensures passed { ArePassed (test_of class) bytes.now at result }
@@ -94,6 +96,7 @@ fn passed_end(bytes: &[u8], at: usize, class: Class) -> usize
 }
 
 /// Returns the end of the run of characters of a class at `at`, byte by byte, as [`passed_end`] does in blocks.
+#[inline(never)]
 fn last_passed_end(bytes: &[u8], at: usize, class: Class) -> usize
     requires { at ≤ length bytes.now }
     ensures passed { ArePassed (test_of class) bytes.now at result }

@@ -55,6 +55,7 @@ pub fn spaces_end(text: &str, at: usize) -> usize
 }
 
 /// Returns the end of the spaces at `at`, byte by byte, as [`spaces_end`] does in blocks.
+#[inline(never)]
 fn last_spaces_end(bytes: &[u8], at: usize) -> usize
     requires { at ≤ length bytes.now }
     ensures passed { ArePassed space bytes.now at result }
