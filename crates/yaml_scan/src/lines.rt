@@ -44,7 +44,21 @@ pub fn comment_line_end(text: &str, at: usize) -> Option<usize>
 /// Returns the end of the line of a part that ends at `at`, if nothing follows it on its line but whitespace and, after
 /// whitespace, a comment (6.6, `s-b-comment`): the place after its break, or the end of the text. Returns None if more
 /// follows, and at the end of the text.
+#[inline(always)]
 pub fn rest_of_line_end(text: &str, at: usize) -> Option<usize>
+    requires { IsCharBoundary text.now at }
+    ensures found { IfSome result (IsLineEnd false text.now at) }
+    ensures none { IfNone result (read_line_end false (rest text.now at) ≡ None) }
+{
+    if stands_at(text, at, b'\n') {
+        return after_content(text, at, at);
+    }
+    blank_line_end(text, at)
+}
+
+/// Returns the end of the line of a part that ends at `at`, with whitespace after the part or not, as
+/// [`rest_of_line_end`] does.
+fn blank_line_end(text: &str, at: usize) -> Option<usize>
     requires { IsCharBoundary text.now at }
     ensures found { IfSome result (IsLineEnd false text.now at) }
     ensures none { IfNone result (read_line_end false (rest text.now at) ≡ None) }
