@@ -73,8 +73,8 @@ pub fn plain<'a>(
     Ok((CowStr::Owned(value), end))
 }
 
-/// Returns the end of the plain scalar at `at`, if it begins with an ASCII letter or digit and is on one line. Most plain
-/// scalars are such. Returns None at any other, and where none is at `at`.
+/// Returns the end of the plain scalar at `at`, if it begins with an ASCII letter or digit and is on one line. Most
+/// plain scalars are such. Returns None at any other, and where none is at `at`.
 #[inline(always)]
 pub fn plain_line_end(text: &str, at: usize, n: u64, context: FlowContext) -> Option<usize>
     requires { IsCharBoundary text.now at }
@@ -93,8 +93,8 @@ pub fn plain_line_end(text: &str, at: usize, n: u64, context: FlowContext) -> Op
     Some(end)
 }
 
-/// Returns whether a line of a plain scalar that ends at `at` is seen to be its last one. Where no plain character is on
-/// the line after it, it may be the last one too.
+/// Returns whether a line of a plain scalar that ends at `at` is seen to be its last one. Where no plain character is
+/// on the line after it, it may be the last one too.
 #[inline(always)]
 fn is_last_line(text: &str, at: usize, n: u64, context: FlowContext) -> bool
     requires { IsCharBoundary text.now at }
@@ -247,8 +247,10 @@ fn special_end(text: &str, at: usize, before: Before, context: FlowContext) -> O
 fn colon_end(text: &str, at: usize, context: FlowContext) -> Option<usize>
     requires within { at < length text.now }
     requires colon { slice_index text.now at ≡ colon }
-    ensures found { IfSome result (λ end. (black : Bool) → IsPlainPiece (context_of context) black text.now at end) }
-    ensures none { IfNone result ((black : Bool) → NoPlainPiece (context_of context) black text.now at) }
+    ensures found { IfSome result (λ end. (black : Bool)
+        → IsPlainPiece (context_of context) black text.now at end) }
+    ensures none { IfNone result ((black : Bool)
+        → NoPlainPiece (context_of context) black text.now at) }
 {
     let end = at + 1;
     if safe_at(text, end, context) {
