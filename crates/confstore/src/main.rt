@@ -12,7 +12,7 @@ mod pipe;
 
 use crate::pipe::{Errors, Output};
 use conf_tools::{TailReader, ToolFault, perform, refuse_words};
-use conf_words::RUN;
+use conf_words::Subcommand;
 use std::cell::Cell;
 use std::fs::{File, OpenOptions};
 use std::io::Write;
@@ -81,7 +81,7 @@ fn is_closed<S: AsFd>(stream: &S) -> bool {
 /// Whether the words, of which the first is the program's name, ask for a session.
 fn is_session(words: &[String]) -> bool {
     match words {
-        [_, word, ..] => word.as_str() == RUN,
+        [_, word, ..] => Subcommand::named(word) == Some(Subcommand::Run),
         _ => false,
     }
 }
