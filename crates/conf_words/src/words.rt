@@ -89,8 +89,8 @@ const FORMAT_HELP: &str = "\
 One FILE, or standard input, is written to standard output. More FILEs need -i or --check. Each FILE
 is tried, and the status is the worst. With -i a FILE that stands in the one style is not touched.
 Another is replaced whole: where the power fails, it is the old one or the new one. It keeps its mode,
-and its owner where the system allows it. A text that is refused is left as it is, and told on
-standard error, as `web.yaml:3:7: Syntax Flow`.
+and its owner where the system allows it. A text that is refused is left as it is, and reported
+on standard error, as `web.yaml:3:7: Syntax Flow`.
 
 With --check the status is 1 where a FILE would change.
 
@@ -119,7 +119,7 @@ standard input without a FILE as `S1 3`, the rule and the number of the line, fr
   S3  the line has more than 120 characters
   S4  the text is not what `confstore format` writes for it, and first differs from that on this line
 
-A text that is refused is told on standard error, as `web.yaml:3:7: Syntax Flow`. Each FILE is tried.
+A refused text is reported on standard error, as `web.yaml:3:7: Syntax Flow`. Each FILE is tried.
 The status is 0 where nothing is found. It is 1 where something is, or a text is refused, and 3 where
 a FILE can't be read.
 

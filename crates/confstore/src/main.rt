@@ -4,8 +4,8 @@
 //! A standard stream that is closed at the start is a stream whose reads or writes fail. Else the first file that is
 //! opened would have its number: the answers, or the commands, would be those of a store's own file.
 //!
-//! Where whoever reads standard output closes its pipe, as `head` does, nothing is told of that on standard error. A
-//! session tells it: its answers were wanted.
+//! Where whoever reads standard output closes its pipe, as `head` does, nothing on standard error says so. A session
+//! reports it: its answers were wanted.
 #![tactic(auto)]
 
 mod pipe;
