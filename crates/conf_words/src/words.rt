@@ -188,7 +188,7 @@ Example:  confstore checkpoint store";
 /// which the first is its name. If the second is a subcommand, no other has its arguments, so that a start takes less
 /// time. It fails only if memory runs out.
 pub fn command<'a>(alloc: Global, words: &[String]) -> Result<Command<'a>, AllocError> {
-    let asked = words.get(1).and_then(|word| Subcommand::named(word));
+    let asked = asked_in(words);
     let mut program = Command::new(alloc, "confstore")
         .version(VERSION)
         .about(ABOUT)
@@ -203,6 +203,14 @@ pub fn command<'a>(alloc: Global, words: &[String]) -> Result<Command<'a>, Alloc
         program = program.subcommand(taken)?;
     }
     Ok(program)
+}
+
+/// The subcommand that the second word asks for.
+fn asked_in(words: &[String]) -> Option<Subcommand> {
+    match words {
+        [_, word, ..] => Subcommand::named(word),
+        _ => None,
+    }
 }
 
 /// A subcommand with its arguments and its help.
