@@ -1,13 +1,13 @@
 -- Tests of the bytes of a block at once, and of all bytes by blocks.
-use Rattle.std.proofs.Common.{◌≡◌, ℕ, zero, suc, ◌+◌, ◌-◌, ◌*◌, ◌%◌, ◌^◌, ◌≤◌, ◌==◌, Bool, true, false, not, cond, ◌&&◌, List, [], ◌∷◌, ◌++◌, map, length, take, drop, Fits, w8, refl, sym, ap, ap₂, ◌∙◌, subst, arith}
+use Rattle.std.proofs.Common.{◌≡◌, ℕ, ◌+◌, ◌-◌, ◌*◌, ◌%◌, ◌^◌, ◌≤◌, ◌==◌, Bool, true, false, not, cond, ◌&&◌, List, [], ◌∷◌, ◌++◌, map, length, take, drop, Fits, w8, refl, sym, ap, ap₂, ◌∙◌, subst, arith}
 use Rattle.std.proofs.Math.Seq.{take-add}
 use Rattle.std.proofs.lemmas.Bool.{agree_below, agree_below_at, and_parts}
 use Rattle.std.proofs.lemmas.Bool.Decides.{nat_tests}
-use Rattle.std.proofs.lemmas.List.{length-map, length-drop, take-append-drop, take_all}
+use Rattle.std.proofs.lemmas.List.{length-append, length-map, length-take-le, length-drop, take-append-drop, take_all}
 use Rattle.std.proofs.lemmas.List.Folds.{list_all-append}
-use Rattle.std.proofs.lemmas.Simd.{map-map, mask_l-mod}
-use Rattle.std.specs.List.{list_all}
-use lib.Lanes.{chunk, mask_l, top, Each1}
+use Rattle.std.proofs.lemmas.Simd.{map-map, mask_l-mod, pick_l_whole}
+use Rattle.std.specs.List.{list_all, range_with_len}
+use lib.Lanes.{chunk, mask_l, top, Each1, pick_l}
 
 -- ---- one block
 
@@ -88,6 +88,26 @@ pub last_block : (p : ℕ → Bool) (xs : List ℕ) (at n : ℕ) → list_all p 
     → list_all p (chunk (length xs - n) n xs) ≡ list_all p xs
 last_block p xs at n passed room reached =
     ap (list_all p) (last_chunk xs n room) ∙ last_pass p xs (length xs - n) at passed reached
+
+length-outer : (xs : List ℕ) (n : ℕ) → n ≤ length xs → length (take n xs ++ drop (length xs - n) xs) ≡ n + n
+length-outer xs n room =
+    omega (arith, length-append (take n xs) (drop (length xs - n) xs), length-take-le n xs room, length-drop (length xs - n) xs, room)
+
+-- the lanes of two vectors, one of the first n and one of the last n
+pub outer_lanes : (xs : List ℕ) (n : ℕ) → n ≤ length xs
+    → pick_l 0 (chunk 0 n xs ++ chunk (length xs - n) n xs) (range_with_len 0 (n + n)) ≡ take n xs ++ drop (length xs - n) xs
+outer_lanes xs n room =
+    ap (λ last. pick_l 0 (take n xs ++ last) (range_with_len 0 (n + n))) (last_chunk xs n room)
+    ∙ pick_l_whole 0 (take n xs ++ drop (length xs - n) xs) (n + n) (length-outer xs n room)
+
+-- the lanes of such a vector, twice
+pub outer_lanes_twice : (xs : List ℕ) (n : ℕ) → n ≤ length xs → (outer : List ℕ) → outer ≡ take n xs ++ drop (length xs - n) xs
+    → pick_l 0 (outer ++ outer) (range_with_len 0 ((n + n) + (n + n)))
+    ≡ (take n xs ++ drop (length xs - n) xs) ++ (take n xs ++ drop (length xs - n) xs)
+outer_lanes_twice xs n room outer same =
+    let long = ap length same ∙ length-outer xs n room in
+    pick_l_whole 0 (outer ++ outer) ((n + n) + (n + n)) (length-append outer outer ∙ ap₂ (λ a b. a + b) long long)
+    ∙ ap₂ (λ a b. a ++ b) same same
 
 -- the first n and the last n, where there are at most twice as many
 pub outer_pass : (p : ℕ → Bool) (xs : List ℕ) (n : ℕ) → n ≤ length xs → length xs ≤ n + n

@@ -12,5 +12,5 @@ returns-then-len-ge8 g c =
 pub returns-then-len-ge4 : goal.returns-then-len-ge4
 returns-then-len-ge4 g c =
     let p = g.C.ByteClass.passes in
-    c.has_block.ensures ∙ ap (list_all p) c.outer_fours.ensures
+    c.has_block-then-len-ge4.ensures ∙ ap (list_all p) c.outer_fours.ensures
     ∙ outer_pass_twice p c.args.bytes.now 4 (omega (arith, c.if-len-ge4.true)) (omega (arith, c.if-len-ge8.false))

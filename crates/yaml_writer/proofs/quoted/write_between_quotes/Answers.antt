@@ -13,5 +13,5 @@ returns-then-are_all g c =
     let same = ap (list_all stands_alone) (sym c.as_bytes.ensures.value) in
     let all = sym (every-bytes stands_alone stands_alone-below text c.utf8.text) ∙ same ∙ sym c.are_all.ensures ∙ c.if-are_all.true in
     on_ok_weaker c.put_text.result
-    (subst (λ cs. g.S.Sink.Takes c.args.sink.now cs c.put_text.new.sink) (sym (quoted_chars-alone (chars text) all)))
+    (subst (λ cs. g.S.Sink.Takes c.args.sink.now cs c.put_text.new.self) (sym (quoted_chars-alone (chars text) all)))
     c.put_text.ensures
