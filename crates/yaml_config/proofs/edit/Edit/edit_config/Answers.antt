@@ -7,7 +7,7 @@ use Rattle.yaml_config.proofs.TextTreeLemmas.{tree_of-IsTextTree}
 use Rattle.tree_path.specs.Steps.{ArePlaces}
 use Rattle.yaml_config.specs.Edits.{tree_after_edit}
 use Rattle.yaml_config.specs.Limits.{config_limits}
-use Rattle.yaml_config.proofs.edit.Edit.perform.Goals as goal
+use Rattle.yaml_config.proofs.edit.Edit.edit_config.Goals as goal
 
 -- a result is one tree at most
 same_edit : {E : Type 0} (r : Result Tree E) (t u : Tree) → r ≡ Ok t → r ≡ Ok u → t ≡ u
