@@ -1,7 +1,7 @@
 use Rattle.std.proofs.Common.{◌≡◌, ◌⊎◌, ◌<◌, ◌∷◌, [], map, length, Err, IfErr, ap, sym, subst, ◌∙◌, arith}
 use Rattle.std.proofs.lemmas.List.{length-map}
 use Rattle.conf_state.specs.Commands.{edit_of, batch}
-use Rattle.conf_state.specs.Steps.{and_then, next_state, step}
+use Rattle.conf_state.specs.Steps.{and_then, all_edited, next_state, step}
 use Rattle.conf_state.specs.declared.fault.StoreFault.TheVariants.{OutOfMemory}
 use Rattle.conf_state.proofs.StepLemmas.{batch-all, batch-one, one_item}
 use Rattle.conf_state.proofs.steps.step_batch.Goals as goal
@@ -21,5 +21,6 @@ returns-in_ok-draft-in_default-clause-refused c =
     let s = c.args.state.now in
     let edits = map edit_of c.args.edits.items in
     let some : 0 < length edits = omega (arith, length-map c.args.edits.items edit_of, c.args.edits.ok) in
-    let same = batch-all s edits c.args.room some ∙ ap (λ r. and_then r (next_state s c.args.room)) c.in_ok-draft-in_default.ensures.ok in
+    let drafted_all = ap (λ es. all_edited es edits) (sym (c.new.ensures.same s.configs)) ∙ c.in_ok-draft-in_default.ensures.ok in
+    let same = batch-all s edits c.args.room some ∙ ap (λ r. and_then r (next_state s c.args.room)) drafted_all in
     subst (λ r. IfErr c.take.result (λ fault. (fault ≡ OutOfMemory) ⊎ (r ≡ Err fault))) (sym same) c.take.ensures.refused
