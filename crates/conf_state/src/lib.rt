@@ -1,8 +1,9 @@
 //! The state of a store: configurations by name, and what each command makes of them.
 //!
-//! [`step`] performs a [`Command`] on a [`State`], or returns a [`StoreFault`], which says why it is refused. [`replay`]
-//! does so for a state that is dropped then. A command is a single [`Edit`] or a batch of them. A [`Room`] says whether the journal has room for the command's record.
-//! [`good_name`] says which texts name a configuration. The texts of states and commands are those of `conf_record`.
+//! [`step`] performs a [`Command`] on a [`State`], or returns a [`StoreFault`], which says why it is refused.
+//! [`replay`] does so for a state that is dropped then. A command is a single [`Edit`] or a batch of them. A [`Room`]
+//! says whether the journal has room for the command's record. [`good_name`] says which texts name a configuration.
+//! The texts of states and commands are those of `conf_record`.
 #![tactic(auto)]
 
 mod base;

@@ -10,8 +10,8 @@ use crate::state::State;
 use crate::steps::{draft_edits, step};
 use std::alloc::Global;
 
-/// Performs a command as [`step`] does, where there is room for its record. After a refusal the state has to be dropped.
-/// So a batch makes its edits in place, and copies no configuration.
+/// Performs a command as [`step`] does, where there is room for its record. After a refusal the state has to be
+/// dropped. So a batch makes its edits in place, and copies no configuration.
 pub fn replay(alloc: Global, state: &mut State, command: Command) -> Result<(), StoreFault>
     ensures ok { OnOk result (step state.old (command_of command) Room.Enough ≡ Ok state.new) }
     ensures refused { IfErr result (λ fault. (fault ≡ StoreFault.OutOfMemory)
