@@ -11,8 +11,9 @@ use crate::bytes::{are_alone, is_alone};
 use crate::scalar_style::is_shown;
 use crate::sink::Sink;
 
-/// Writes a text in double quotes, on one line, without the line's end. It fails only if the sink does.
-pub(crate) fn write_quoted<S: Sink>(text: &str, sink: &mut S) -> Result<(), S::Fault>
+/// Writes a text in double quotes (YAML 1.2.2, 7.3.1), on one line, without the line's end. It fails only if the sink
+/// does.
+pub fn write_quoted<S: Sink>(text: &str, sink: &mut S) -> Result<(), S::Fault>
     ensures { OnOk result (S.Takes sink.old (in_double_quotes (chars text.now)) sink.new) }
 {
     sink.put_char('"')?;
