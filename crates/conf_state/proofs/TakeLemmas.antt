@@ -3,9 +3,10 @@ use Rattle.std.proofs.Common.{◌≡◌, ℕ, true, List, [], ◌∷◌, ◌++�
 use Rattle.std.proofs.lemmas.Str.{IsUtf8-string_bytes}
 use Rattle.yaml_data.specs.declared.tree.Tree.{Tree}
 use Rattle.conf_state.specs.Configs.{put_under, put_each, cut_from, cut_each}
-use Rattle.conf_state.specs.Drafts.{cut_all, put_all, texts_of, drafted, IsDraft}
+use Rattle.conf_state.specs.Drafts.{cut_all, put_all, texts_of, drafted, IsCounted, IsDraft}
 use Rattle.conf_state.specs.declared.draft.Draft.{Draft}
-use Rattle.conf_state.specs.Kept.{entries_of, ArePlain}
+use Rattle.conf_state.specs.BaseTexts.{entries_length}
+use Rattle.conf_state.specs.Kept.{entries_of, ArePlain, IsKept}
 use Rattle.conf_state.specs.Limits.{AreConfigs}
 use Rattle.conf_state.specs.States.{Entry, config_named, names_of, names_differ, put_config, cut_config}
 use Rattle.conf_state.proofs.EntryLemmas.{cut_from-named, plain_cut_from, put_under-named, plain_put_under}
@@ -99,3 +100,20 @@ module _ (draft : Draft) (good : IsDraft draft) where
 
     pub taken-plain : ArePlain new
     taken-plain = subst ArePlain (sym is) (plain_put_each draft.touched (cut_each draft.removed.keys es) good.plain (plain_cut_each draft.removed.keys es plain))
+
+-- a draft that holds the configurations of a state, and removes none
+module _ (es : List (String Global × Tree)) (count bytes : ℕ) (kept : IsKept es count bytes) (draft : Draft) (none : draft.removed.keys ≡ []) (holds : draft.touched ≡ es) where
+  pub whole-draft : IsDraft draft
+  whole-draft = record {
+    plain = subst ArePlain (sym holds) kept.plain;
+    configs = subst (λ xs. AreConfigs (entries_of xs)) (sym holds) kept.state.configs;
+    distinct = ap (λ xs. names_differ (names_of (entries_of xs))) holds ∙ kept.state.distinct;
+    removed = ap (λ ks. names_differ (texts_of ks)) none;
+  }
+
+  -- of no configurations it makes those of the state
+  pub whole-drafted : drafted [] draft ≡ entries_of es
+  whole-drafted = drafted-nothing draft whole-draft ∙ ap entries_of holds
+
+  pub whole-counted : draft.length ≡ bytes → IsCounted [] draft
+  whole-counted same = same ∙ kept.counted ∙ ap entries_length (sym whole-drafted)

@@ -45,9 +45,10 @@ impl Draft {
         ensures { result
             ≡ entries_length (cut_config (drafted state.now.configs self.now) (chars name.now)) }
     {
+        let length = self.length;
         match self.get(state, name) {
-            Some(config) => self.length - entry_length(name, config),
-            None => self.length,
+            Some(config) => length - entry_length(name, config),
+            None => length,
         }
     }
 }

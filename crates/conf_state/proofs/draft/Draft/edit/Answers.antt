@@ -16,5 +16,5 @@ length_changed-requires c =
 pub returns-clause-counted : goal.returns-clause-counted
 returns-clause-counted c =
     let es = c.args.state.now.configs in
-    c.in_ok-length_changed.ensures (drafted es c.args.self.now) (drafted es c.edit_uncounted.new.self) (text_of c.args.name)
+    c.in_ok-self.ensures (drafted es c.args.self.now) (drafted es c.edit_uncounted.new.self) (text_of c.args.name)
     (c.in_ok-change.ensures.length ∙ c.requires.counted) c.in_ok-change.ensures.changes

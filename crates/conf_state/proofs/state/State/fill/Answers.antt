@@ -7,8 +7,8 @@ use Rattle.conf_state.proofs.StateLemmas.{kept_new}
 use Rattle.conf_state.proofs.TakeLemmas.{drafted-nothing, drafted-configs, drafted-distinct}
 use Rattle.conf_state.proofs.state.State.fill.Goals as goal
 
-pub invariant_of-self-2 : goal.invariant_of-self-2
-invariant_of-self-2 c =
+pub invariant_of-self : goal.invariant_of-self
+invariant_of-self c =
     let draft = c.args.draft in
     let made = ap (λ es. drafted es draft) c.requires.nothing in
     let room = c.in_ok-check_room.ensures.ok (drafted c.args.self.now.configs draft) (omega (arith, c.requires.counted, c.in_ok-check_room.ensures.short)) in
