@@ -12,7 +12,7 @@ use crate::state::State;
 use std::alloc::AllocError;
 use yaml_config::{Change, Config};
 
-// No memory holds configurations of 18,446,744,073,709,551,615 bytes or more, and so such a sum is told as an
+// No memory holds configurations of 18,446,744,073,709,551,615 bytes or more, and so such a sum is returned as an
 // `AllocError`.
 
 impl Draft {
