@@ -12,7 +12,7 @@ use std::alloc::{AllocError, Global};
 use std::borrow::CowStr;
 use yaml_data::{Text, Tree};
 
-/// How many walks along wide mappings come before an index is made, which takes the time of some ten walks.
+/// How many walks along wide mappings come before an index is made, which takes longer than a walk.
 const WALKS: u32 = 4;
 
 /// The most keys of one bucket that are looked at.
