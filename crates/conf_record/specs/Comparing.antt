@@ -1,6 +1,6 @@
 -- A text compared with what is written.
-use Rattle.std.specs.Prelude.{◌≡◌, ℕ, Bool, true, List, ◌++◌, encode_utf8_all}
+use Rattle.std.specs.Prelude.{◌≡◌, ℕ, List, ◌++◌, encode_utf8_all}
 
--- Characters are written. If all agrees after them, it did before, and they are what the text went on with.
-abbrev pub Goes : Bool → List ℕ → List ℕ → Bool → List ℕ → Type 0
-Goes agreed before written agrees after = agrees ≡ true → (agreed ≡ true) × (before ≡ encode_utf8_all written ++ after)
+-- a text begins with characters, and after them goes on with the rest
+abbrev pub GoesOn : List ℕ → List ℕ → List ℕ → Type 0
+GoesOn text written rest = text ≡ encode_utf8_all written ++ rest

@@ -1,75 +1,72 @@
 // A text compared with what is written.
-ghost use Rattle.std.specs.Prelude.{◌≡◌, ◌++◌, [], true, IsTrue};
+ghost use Rattle.std.specs.Prelude.{◌≡◌, ◌++◌, [], IsTrue, OnOk};
 
-use std::convert::Infallible;
 use yaml_tree::Sink;
 
-/// A sink that compares what is written with a text. It takes no memory, and never fails.
+/// What is written differs from the text.
+#[derive(Drop)]
+pub(crate) struct Differs;
+
+/// A sink that compares what is written with a text. It fails at the first piece that the text does not go on with. It
+/// takes no memory.
 #[derive(Drop)]
 pub(crate) struct Comparison<'t> {
-    /// What is left of the text after what was written, as long as that agrees.
+    /// What is left of the text after what was written.
     rest: &'t str,
-    /// Whether the text begins with what was written.
-    agrees: bool,
 }
 
 impl<'t> Comparison<'t> {
     /// A comparison with a text, before anything is written.
     pub(crate) fn new(text: &'t str) -> Comparison<'t>
-        ensures rest { result.rest.now ≡ text.now }
+        ensures { result.rest.now ≡ text.now }
     {
-        Comparison {
-            rest: text,
-            agrees: true,
-        }
+        Comparison { rest: text }
     }
 
     /// Whether what was written is the whole text.
     pub(crate) fn is_whole(&self) -> bool
-        ensures { IsTrue result → (self.now.agrees ≡ true) × (self.now.rest.now ≡ []) }
+        ensures { IsTrue result → self.now.rest.now ≡ [] }
     {
-        self.agrees && self.rest.is_empty()
+        self.rest.is_empty()
     }
 
     /// Compares the next piece.
-    fn compare(&mut self, piece: &str)
-        ensures { self.new.agrees ≡ true → (self.old.agrees ≡ true)
-            × (self.old.rest.now ≡ piece.now ++ self.new.rest.now) }
+    fn compare(&mut self, piece: &str) -> Result<(), Differs>
+        ensures { OnOk result (self.old.rest.now ≡ piece.now ++ self.new.rest.now) }
     {
-        match self.rest.strip_prefix(piece) {
-            Some(rest) => self.rest = rest,
-            None => self.agrees = false,
-        }
+        let Some(rest) = self.rest.strip_prefix(piece) else {
+            return Err(Differs);
+        };
+        self.rest = rest;
+        Ok(())
     }
 }
 
 impl Sink for Comparison<'_> {
-    ghost use Rattle.conf_record.specs.Comparing.{Goes};
-    ghost use Rattle.conf_record.specs.ComparingLaws.{Goes-none, Goes-both};
+    ghost use Rattle.conf_record.specs.Comparing.{GoesOn};
+    ghost use Rattle.conf_record.specs.ComparingLaws.{goes_on_none, goes_on_both};
 
-    type Fault = Infallible;
+    type Fault = Differs;
 
-    ghost Takes = { λ a cs b. Goes a.agrees a.rest.now cs b.agrees b.rest.now };
+    ghost Takes = { λ a cs b. GoesOn a.rest.now cs b.rest.now };
 
-    ghost takes_none = { λ s. Goes-none s.agrees s.rest.now };
+    ghost takes_none = { λ s. goes_on_none s.rest.now };
 
     ghost takes_both = { λ a b c xs ys first second.
-        Goes-both a.agrees a.rest.now b.agrees b.rest.now c.agrees c.rest.now xs ys first second };
+        goes_on_both a.rest.now b.rest.now c.rest.now xs ys first second };
 
-    fn put_text(&mut self, text: &str) -> Result<(), Infallible> {
-        self.compare(text);
-        Ok(())
+    fn put_text(&mut self, text: &str) -> Result<(), Differs> {
+        self.compare(text)
     }
 
-    fn put_char(&mut self, c: char) -> Result<(), Infallible> {
+    fn put_char(&mut self, c: char) -> Result<(), Differs> {
         let mut bytes = [0; 4];
-        self.compare(c.encode_utf8(&mut bytes));
-        Ok(())
+        self.compare(c.encode_utf8(&mut bytes))
     }
 
-    fn put_spaces(&mut self, count: u64) -> Result<(), Infallible> {
+    fn put_spaces(&mut self, count: u64) -> Result<(), Differs> {
         for _ in 0..count {
-            self.compare(" ");
+            self.compare(" ")?;
         }
         Ok(())
     }

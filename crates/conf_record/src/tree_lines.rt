@@ -26,7 +26,7 @@ impl<T: Drop> From<AllocFailed<T>> for Miss {
     }
 }
 
-/// The most collections in one another. With their outermost mapping, trees of configurations have fewer.
+/// The most collections in one another that are read: more than a base has.
 const MOST_LEVELS: usize = 132;
 
 /// A collection whose end is still to come.
@@ -144,7 +144,6 @@ impl TreeLines {
             }
             content
         };
-        literal.text.reserve(content.len().saturating_add(1))?;
         literal.text.push_str(content)?;
         literal.text.push('\n')?;
         Ok(true)

@@ -5,7 +5,7 @@ ghost use Rattle.conf_state.specs.BaseTexts.{base_bytes};
 ghost use Rattle.conf_record.specs.Documents.{IsBase};
 
 use crate::base_writer::write_base;
-use crate::comparison::Comparison;
+use crate::comparison::{Comparison, Differs};
 use crate::documents::documents_are_read;
 use crate::fields::number_from;
 use crate::parts::part;
@@ -15,8 +15,8 @@ use std::alloc::{AllocError, Global};
 use std::str;
 use yaml_tree::{Config, ReadFault, Text, Tree};
 
-/// The state whose base the bytes are, if they are the very text that [`base_text`](crate::base_text) writes for it. `None` says nothing
-/// of the bytes.
+/// The state whose base the bytes are, if they are the very text that [`base_text`](crate::base_text) writes for it.
+/// `None` says nothing of the bytes.
 ///
 /// The lines are read as such a text has them, and what that gives is only a guess. Then the base of the guess is
 /// written, and compared with them. It fails only if memory runs out.
@@ -43,7 +43,7 @@ fn is_base_of(text: &str, state: &State) -> bool
     let mut comparison = Comparison::new(text);
     match write_base(state, &mut comparison) {
         Ok(()) => comparison.is_whole(),
-        Err(never) => match never {},
+        Err(Differs) => false,
     }
 }
 

@@ -1,7 +1,7 @@
 -- So many spaces were compared.
 use Rattle.yaml_grammar.specs.Texts.{spaces}
-use Rattle.conf_record.specs.Comparing.{Goes}
+use Rattle.conf_record.specs.Comparing.{GoesOn}
 use Rattle.conf_record.proofs.comparison.ComparisonSink.put_spaces.Given as goal
 
 abbrev pub invariant-loop : goal.invariant-loop
-invariant-loop l = Goes l.initial.self.agrees l.initial.self.rest.now (spaces l.counter) l.self.agrees l.self.rest.now
+invariant-loop l = GoesOn l.initial.self.rest.now (spaces l.counter) l.self.rest.now
