@@ -7,7 +7,7 @@ use Rattle.conf_record.specs.RecordsRead.{base_of}
 use Rattle.conf_record.specs.Reading.{state_of_parts}
 use Rattle.conf_record.proofs.PieceLemmas.{own_parts}
 use Rattle.conf_record.proofs.TreeLemmas.{no_parts, one_base, no_base}
-use Rattle.conf_record.proofs.read.read_base.Goals as goal
+use Rattle.conf_record.proofs.read.spelled_base.Goals as goal
 
 pub returns-in-None-clause-none : goal.returns-in-None-clause-none
 returns-in-None-clause-none c = λ state r.
