@@ -195,14 +195,33 @@ pub fn command<'a>(alloc: Global, words: &[String]) -> Result<Command<'a>, Alloc
         .after_help(GROUPS_AND_STATUSES)
         .subcommand_required(true);
     for subcommand in Subcommand::ALL {
-        let listed = Command::new(alloc, subcommand.name()).about(subcommand.about());
-        let taken = match asked {
-            Some(asked) if asked != subcommand => listed,
-            _ => with_arguments(alloc, subcommand, listed)?,
-        };
-        program = program.subcommand(taken)?;
+        program = with_subcommand(alloc, program, subcommand, asked)?;
     }
     Ok(program)
+}
+
+/// The program with one more subcommand.
+fn with_subcommand<'a>(
+    alloc: Global,
+    program: Command<'a>,
+    subcommand: Subcommand,
+    asked: Option<Subcommand>,
+) -> Result<Command<'a>, AllocError> {
+    program.subcommand(listed(alloc, subcommand, asked)?)
+}
+
+/// A subcommand. It has its arguments if it is asked for, or none is.
+fn listed<'a>(
+    alloc: Global,
+    subcommand: Subcommand,
+    asked: Option<Subcommand>,
+) -> Result<Command<'a>, AllocError> {
+    let (name, about): (&'a str, &'a str) = (subcommand.name(), subcommand.about());
+    let listed = Command::new(alloc, name).about(about);
+    match asked {
+        Some(asked) if asked != subcommand => Ok(listed),
+        _ => with_arguments(alloc, subcommand, listed),
+    }
 }
 
 /// The subcommand that the second word asks for.
