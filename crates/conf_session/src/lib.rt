@@ -28,6 +28,6 @@ mod words;
 
 pub use fault::SessionFault;
 pub use groups::{Checkpoints, run_grouped};
-pub use laws::{answers_acknowledge, answers_are_short};
+pub use laws::{answers_acknowledge, answers_are_short, requests_are_answered};
 pub use rounds::{Piece, RoundFault, round};
 pub use session::{Tally, run};
