@@ -13,10 +13,12 @@
 mod answer;
 mod command_lines;
 mod fault;
+mod field_lines;
 mod groups;
 mod input;
 mod laws;
 mod output;
+mod part_lines;
 mod parts;
 mod pieces;
 mod reply;
