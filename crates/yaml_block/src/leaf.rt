@@ -24,6 +24,7 @@ impl<'a> Reader<'a> {
     /// mapping, which it opens. Appends its events. Returns what is read next, and where.
     ///
     /// It fails if no block node begins so, or memory runs out.
+    #[inline(always)]
     pub(crate) fn leaf(&mut self, text: &'a str, leaf: Leaf) -> Result<Next, ScanFault>
         requires at { IsCharBoundary text.now leaf.at }
         requires least { leaf.least ≤ 2 ^ 63 }

@@ -1,5 +1,5 @@
 -- A scalar as a node.
-use Rattle.std.proofs.Common.{◌≡◌, ap, refl, sym, ◌∙◌, ℕ, ◌+◌, length}
+use Rattle.std.proofs.Common.{◌≡◌, ap, refl, subst, sym, ◌∙◌, ℕ, ◌+◌, length}
 use Rattle.std.specs.Prelude.{false, ◌==◌, List, [], ◌∷◌, ◌++◌, None, Some}
 use Rattle.std.specs.Cow.{cow_str_bytes}
 use Rattle.std.specs.Str.{IsUtf8, IsCharBoundary, chars}
@@ -18,7 +18,7 @@ use Rattle.yaml_flow.specs.declared.collection.NodeEnd.{NodeEnd}
 use Rattle.yaml_flow.specs.declared.collection.Open.{Open}
 use Rattle.yaml_flow.specs.declared.scalar.FlowScalar.{FlowScalar}
 use Rattle.yaml_flow.specs.Scalars.{FlowScalarRead, scalar_event_at}
-use Rattle.yaml_flow.specs.FlowNodes.{Appended}
+use Rattle.yaml_flow.specs.FlowNodes.{Appended, FlowNodeRead}
 use Rattle.yaml_flow.specs.Frames.{AtNode, Collection, EventList, NodeRead, ends_plain, is_plain_style}
 use Rattle.yaml_flow.proofs.Appends.{appended_one}
 use Rattle.yaml_flow.proofs.NodeSteps.{node_length}
@@ -53,6 +53,20 @@ module _ (n : ℕ) (d : flow.FlowContext) (text : List ℕ) where
       ∙ (ap (λ x. grammar.scalar_event (flow.style_of read.scalar) at x (chars (cow_str_bytes found.value))) (sym long)
       ∙ ap (λ x. grammar.scalar_event (flow.style_of read.scalar) at (at + byte_len (flow.scalar_text read.scalar)) x) read.means))
       read.borrows
+
+  -- a flow scalar that is read, with its event appended, is a flow node that is read
+  pub scalar_node_read : (at end : ℕ) (found : FlowScalar) (old new : EventList) → IsUtf8 text → IsCharBoundary text at → first (λ x. x == 91) (rest text at) ≡ false
+      → first (λ x. x == 123) (rest text at) ≡ false → FlowScalarRead n d text at found → end ≡ found.end → new ≡ old ++ scalar_event_at at found ∷ []
+      → FlowNodeRead n d text at end old new
+  scalar_node_read at end found old new u b h k read e w = subst (λ x. FlowNodeRead n d text at x old new) (sym e) (record {
+    above = read.above;
+    boundary = read.boundary;
+    within = read.within;
+    inside_line = read.inside_line;
+    node = scalar read.scalar;
+    found = scalar_found at found.end read.scalar h k read.reads;
+    appended = scalar_appended at found old new u b h k read w;
+  })
 
   -- so it is the node of the entry
   pub scalar_node : (w : Collection) (top : Open) (node_end : NodeEnd) (found : FlowScalar) (events new : EventList) → IsUtf8 text → IsCharBoundary text top.start

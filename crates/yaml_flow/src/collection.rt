@@ -117,6 +117,7 @@ fn end_event<'a>(kind: BracketKind) -> Event<'a>
 
 /// Returns the place after the gap at a place, which may be empty. If the gap goes over lines, `line` becomes the place
 /// after it.
+#[inline(always)]
 pub(crate) fn pass_gap(
     text: &str,
     at: usize,

@@ -1,16 +1,19 @@
 // Flow nodes.
-ghost use Rattle.std.specs.Prelude.{◌≡◌, ℕ, IfOk, IfErr};
+ghost use Rattle.std.specs.Prelude.{◌≡◌, ℕ, ◌==◌, false, [], ◌∷◌, ◌++◌, IfOk, IfErr};
 ghost use Rattle.std.specs.Str.{IsCharBoundary};
 ghost use Rattle.yaml_chars.specs.Places.{rest};
+ghost use Rattle.yaml_chars.specs.Signs.{open_brace, open_bracket};
+ghost use Rattle.yaml_grammar.specs.Texts.{first};
 ghost use Rattle.yaml_events.specs.Meant.{context_of};
 ghost use Rattle.yaml_events.specs.EventPlaces.{line_starts, Refuses};
 ghost use Rattle.yaml_recognizers.specs.StandingNodes.{NoFlowNode};
 ghost use Rattle.yaml_flow.specs.FlowNodes.{FlowNodeRead, FlowNodeIs, NoFlowNodeFound};
 ghost use Rattle.yaml_flow.specs.Frames.{Kept};
+ghost use Rattle.yaml_flow.specs.Scalars.{scalar_event_at};
 
 use crate::collection::{bracket_at, collection};
 use crate::push::push;
-use crate::scalar::scalar_at;
+use crate::scalar::{FlowScalar, plain_line_at, scalar_at};
 use std::alloc::Global;
 use yaml_events::{Events, FlowContext, ScanFault};
 use yaml_recognizers::flow_nodes::flow_node_stands;
@@ -25,6 +28,7 @@ use yaml_recognizers::flow_nodes::flow_node_stands;
 ///
 /// [`ScanFault::At`] only if no flow node is at `at`, and [`ScanFault::OutOfMemory`] if there is no memory for the
 /// events, a value or the open brackets. The list of events is then as it was.
+#[inline(always)]
 pub fn flow_node<'a>(
     alloc: Global,
     events: &mut Events<'a>,
@@ -76,7 +80,47 @@ fn read_node<'a>(
     if let Some(kind) = bracket_at(text, at) {
         return collection(alloc, events, text, at, kind, n, c);
     }
+    if let Some(found) = plain_line_at(text, at, n, c) {
+        return put_scalar(events, at, found);
+    }
+    any_scalar(alloc, events, text, at, n, c)
+}
+
+/// Reads the flow scalar at a place, of any kind. If it fails, no event has been appended.
+#[inline(never)]
+fn any_scalar<'a>(
+    alloc: Global,
+    events: &mut Events<'a>,
+    text: &'a str,
+    at: usize,
+    n: u64,
+    c: FlowContext,
+) -> Result<usize, ScanFault>
+    requires at { IsCharBoundary text.now at }
+    requires no_seq { first (λ x. x == open_bracket) (rest text.now at) ≡ false }
+    requires no_map { first (λ x. x == open_brace) (rest text.now at) ≡ false }
+    ensures reads { IfOk result (λ end.
+        FlowNodeRead n (context_of c) text.now at end events.old events.new) }
+    ensures missing { IfErr result (λ fault.
+        Refuses fault (NoFlowNodeFound n (context_of c) text.now at)) }
+    ensures kept { (k : ℕ) → Kept k events.old events.new }
+{
     let found = scalar_at(alloc, text, at, n, c)?;
+    put_scalar(events, at, found)
+}
+
+/// Appends the event of the flow scalar that starts at `at`. Returns the place after it.
+#[inline(always)]
+fn put_scalar<'a>(
+    events: &mut Events<'a>,
+    at: usize,
+    found: FlowScalar<'a>,
+) -> Result<usize, ScanFault>
+    ensures written { IfOk result (λ end. (end ≡ found.entry.end)
+        × (events.new ≡ events.old ++ scalar_event_at at found.entry ∷ [])) }
+    ensures none { IfErr result (λ fault. Refuses fault ⊥) }
+    ensures kept { (k : ℕ) → Kept k events.old events.new }
+{
     let end = found.end;
     push(events, found.into_event(at))?;
     Ok(end)

@@ -31,6 +31,7 @@ pub fn key_limit()
 {}
 
 /// Reads what follows the node that the innermost bracket waited for, which ends at `end`: the gap, and perhaps a `:`.
+#[inline(always)]
 pub(crate) fn plug(
     events: &mut Events<'_>,
     text: &str,

@@ -1,5 +1,5 @@
 // The flow scalar at a place.
-ghost use Rattle.std.specs.Prelude.{◌≡◌, ◌≤◌, true, not, IfOk, IfErr};
+ghost use Rattle.std.specs.Prelude.{◌≡◌, ◌≤◌, true, not, IfOk, IfErr, IfSome};
 ghost use Rattle.std.specs.Cow.{IsBorrowedStr};
 ghost use Rattle.std.specs.Str.{IsCharBoundary};
 ghost use Rattle.yaml_events.specs.Meant.{context_of};
@@ -10,7 +10,7 @@ ghost use Rattle.yaml_scan.specs.ScanPlaces.{unbroken_between};
 use std::alloc::Global;
 use std::borrow::CowStr;
 use yaml_events::{Event, FlowContext, ScanFault, Span, Style};
-use yaml_flow_scalars::{double, plain, single};
+use yaml_flow_scalars::{double, plain, plain_line_end, single};
 use yaml_scan::{has_break, stands_at};
 
 /// A flow scalar that starts at a known place.
@@ -97,6 +97,28 @@ pub fn scalar_at<'a>(
     Ok(FlowScalar {
         style: Style::Plain,
         value,
+        end,
+    })
+}
+
+/// Returns the plain scalar at `at` in the context `c`, if it begins with an ASCII letter or digit and is on one line.
+/// Returns None at any other scalar. It does what [`scalar_at`] does for the scalars that are most frequent.
+#[inline(always)]
+pub(crate) fn plain_line_at<'a>(
+    text: &'a str,
+    at: usize,
+    n: u64,
+    c: FlowContext,
+) -> Option<FlowScalar<'a>>
+    requires { IsCharBoundary text.now at }
+    ensures { IfSome result (FlowScalarRead n (context_of c) text.now at) }
+{
+    let Some(end) = plain_line_end(text, at, n, c) else {
+        return None;
+    };
+    Some(FlowScalar {
+        style: Style::Plain,
+        value: CowStr::Borrowed(&text[at..end]),
         end,
     })
 }

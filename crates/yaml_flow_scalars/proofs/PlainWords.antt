@@ -6,6 +6,7 @@ use Rattle.std.specs.Str.{IsUtf8, IsCharBoundary}
 use Rattle.std.proofs.lemmas.Bool.{and_from, and_parts, cases_Bool, cases_lt, false≢true, ne_eqb, or_parts}
 use Rattle.std.proofs.lemmas.Bool.Decides.{nat_tests}
 use Rattle.std.proofs.lemmas.List.Sums.{AllPass-from_list_all, list_all-from_AllPass}
+use Rattle.std.proofs.lemmas.Str.{IsCharBoundary-before_ascii}
 use Rattle.yaml_chars.specs.Classes.{indicator, ns, white}
 use Rattle.yaml_chars.specs.Places.{rest, between, IsRun}
 use Rattle.yaml_chars.proofs.Places.{between-append, rest-ascii, rest-between, rest-end}
@@ -17,10 +18,10 @@ use Rattle.yaml_recognizers.specs.PlainScalars.{read_run}
 use Rattle.yaml_recognizers.proofs.Scalars.PlainRuns.{unplain}
 use Rattle.yaml_recognizers.proofs.Scalars.PlainSteps.{step_char, step_white}
 use Rattle.yaml_scan.specs.Classes.{simple, word}
-use Rattle.yaml_scan.proofs.ByteRuns.{ascii_at_beginning}
+use Rattle.yaml_scan.proofs.ByteRuns.{ascii_at_beginning, ascii_prefix}
 use Rattle.yaml_flow_scalars.specs.Folds.{IsWhiteStart}
-use Rattle.yaml_flow_scalars.specs.PlainPlaces.{goes_on_plain, letter_or_digit, BeginsPlain, NoPlainPiece}
-use Rattle.yaml_flow_scalars.proofs.PlainPieces.{before_of, between_some, one_goes_on, simple_is_plain, GoesOn}
+use Rattle.yaml_flow_scalars.specs.PlainPlaces.{goes_on_plain, letter_or_digit, BeginsPlain, IsPlainPiece, NoPlainPiece}
+use Rattle.yaml_flow_scalars.proofs.PlainPieces.{before_of, between_some, one_goes_on, one_piece, simple_is_plain, GoesOn}
 
 -- ---- the first character
 
@@ -168,3 +169,32 @@ no_special c black text at u l low h n m before e =
 -- at the end of the text there is no piece
 pub none_at_end : (c : FlowContext) (black : Bool) (text : List ℕ) (at : ℕ) → length text ≤ at → NoPlainPiece c black text at
 none_at_end c black text at l before e = ap (goes_on_plain c before) (rest-end text at l)
+
+-- ---- a colon
+
+-- a `:` is plain if a safe character follows it, whatever is before it
+colon_plain : (c : FlowContext) (before : ℕ) (after : List ℕ) → plain_next c before 58 after ≡ first (safe c) after
+colon_plain c before after = either (safe c 58) (first (safe c) after) (ns before)
+  where
+    either : (a b p : Bool) → ((a && false) || (true && b)) || (false && p) ≡ b
+    either true true p = refl
+    either true false p = refl
+    either false true p = refl
+    either false false p = refl
+
+-- the character that the byte of a `:` is, and what follows it
+pub colon_splits : (text : List ℕ) (at : ℕ) → IsUtf8 text → at < length text → get_or text at 0 ≡ 58 → (rest text at ≡ 58 ∷ rest text (at + 1)) × IsCharBoundary text (at + 1)
+colon_splits text at u l e = ascii_prefix text at 58 u l (omega arith) e
+
+-- before a safe character a `:` goes on
+pub colon_goes_on : (c : FlowContext) (black : Bool) (text : List ℕ) (at : ℕ) → IsUtf8 text → at < length text → get_or text at 0 ≡ 58 → first (safe c) (rest text (at + 1)) ≡ true
+    → IsPlainPiece c black text at (at + 1)
+colon_goes_on c black text at u l e h =
+    let here = IsCharBoundary-before_ascii text at l (omega arith) in
+    let split = colon_splits text at u l e in
+    one_piece c black text at (at + 1) 58 u here (omega arith) split.1 split.0 (λ before p. colon_plain c before (rest text (at + 1)) ∙ h)
+
+-- before another one it ends
+pub colon_stops : (c : FlowContext) (black : Bool) (text : List ℕ) (at : ℕ) → IsUtf8 text → at < length text → get_or text at 0 ≡ 58 → first (safe c) (rest text (at + 1)) ≡ false
+    → NoPlainPiece c black text at
+colon_stops c black text at u l e h before p = ap (goes_on_plain c before) (colon_splits text at u l e).0 ∙ (colon_plain c before (rest text (at + 1)) ∙ h)

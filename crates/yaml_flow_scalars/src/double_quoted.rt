@@ -39,7 +39,7 @@ struct Escape {
 /// the place `at`, an unknown escape, a control character, a break in a key, or a line that is indented too little or
 /// is a document marker.
 /// [`ScanFault::OutOfMemory`] if there is no memory for a value that is not borrowed.
-#[inline(never)]
+#[inline(always)]
 pub fn double<'a>(
     alloc: Global,
     text: &'a str,
@@ -75,6 +75,7 @@ pub fn double<'a>(
 
 /// Returns the value of a scalar whose first run of characters goes from `start` to `first`, and the place after its
 /// closing quote.
+#[inline(never)]
 fn unescaped(
     alloc: Global,
     text: &str,

@@ -1,10 +1,13 @@
 // Plain scalars (YAML 1.2.2, 7.3.3).
-ghost use Rattle.std.specs.Prelude.{◌≡◌, ℕ, ◌<◌, ◌≤◌, ◌&&◌, ◌||◌, ◌==◌, nat_lt, false, ◌++◌, IfOk, IfErr, IfSome, IfNone, length, slice_index};
+ghost use Rattle.std.specs.Prelude.{◌≡◌, ℕ, Bool, ◌<◌, ◌≤◌, ◌&&◌, ◌||◌, ◌==◌, nat_lt, true, false, ◌++◌, IsTrue, IfOk, IfErr, IfSome, IfNone, length, slice_index};
 ghost use Rattle.std.specs.Str.{IsCharBoundary, chars};
 ghost use Rattle.std.specs.Cow.{cow_str_bytes};
+ghost use Rattle.std.specs.List.{list_all};
 ghost use Rattle.std.specs.String.{string_bytes};
+ghost use Rattle.yaml_chars.specs.Breaks.{no_break};
 ghost use Rattle.yaml_chars.specs.Classes.{ns};
 ghost use Rattle.yaml_chars.specs.Places.{rest, between};
+ghost use Rattle.yaml_chars.specs.Signs.{colon};
 ghost use Rattle.yaml_grammar.specs.Events.{plain_style};
 ghost use Rattle.yaml_grammar.specs.Texts.{first};
 ghost use Rattle.yaml_grammar.specs.FlowScalars.{plain_first, plain_next, folded_break};
@@ -68,6 +71,42 @@ pub fn plain<'a>(
     let mut value = String::from_str(alloc, &text[at..end])?;
     let end = push_lines(&mut value, text, line, n, context)?;
     Ok((CowStr::Owned(value), end))
+}
+
+/// Returns the end of the plain scalar at `at`, if it begins with an ASCII letter or digit and is on one line. Most
+/// plain scalars are such. Returns None at any other, and where none is at `at`.
+#[inline(always)]
+pub fn plain_line_end(text: &str, at: usize, n: u64, context: FlowContext) -> Option<usize>
+    requires { IsCharBoundary text.now at }
+    ensures found { IfSome result (λ end.
+        ScalarAt plain_style n (context_of context) text.now at (between text.now at end) end) }
+    ensures unbroken { IfSome result (λ end. list_all no_break (between text.now at end) ≡ true) }
+    ensures ends_inside_line { IfSome result (λ end. line_starts text.now end ≡ false) }
+{
+    if !letter_or_digit_at(text, at) {
+        return None;
+    }
+    let end = plain_run_end(text, at + 1, Before::Content, context);
+    if !is_last_line(text, end, n, context) {
+        return None;
+    }
+    Some(end)
+}
+
+/// Returns whether a line of a plain scalar that ends at `at` is seen to be its last one. Where no plain character is
+/// on the line after it, it may be the last one too.
+#[inline(always)]
+fn is_last_line(text: &str, at: usize, n: u64, context: FlowContext) -> bool
+    requires { IsCharBoundary text.now at }
+    ensures { IsTrue result → NoNextLine n (context_of context) text.now at }
+{
+    if !is_on_one_line(context) {
+        return match fold_at(text, white_end(text, at), n) {
+            Some(_) => false,
+            None => true,
+        };
+    }
+    true
 }
 
 /// Returns the place after the first character of a plain scalar.
@@ -194,10 +233,31 @@ fn special_end(text: &str, at: usize, before: Before, context: FlowContext) -> O
         return None;
     }
     let byte = bytes[at];
-    if byte < 128 && byte != b':' && byte != b'#' {
+    if byte == b':' {
+        return colon_end(text, at, context);
+    }
+    if byte < 128 && byte != b'#' {
         return None;
     }
     decoded_end(text, at, before, context)
+}
+
+/// Returns the end of the `:` at `at`, if a safe character follows it.
+#[inline(always)]
+fn colon_end(text: &str, at: usize, context: FlowContext) -> Option<usize>
+    requires within { at < length text.now }
+    requires colon { slice_index text.now at ≡ colon }
+    ensures found { IfSome result (λ end. (black : Bool)
+        → IsPlainPiece (context_of context) black text.now at end) }
+    ensures none { IfNone result ((black : Bool)
+        → NoPlainPiece (context_of context) black text.now at) }
+{
+    let end = at + 1;
+    if safe_at(text, end, context) {
+        Some(end)
+    } else {
+        None
+    }
 }
 
 /// Returns the end of the plain character at `at`, by the character itself.

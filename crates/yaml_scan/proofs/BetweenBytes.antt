@@ -1,9 +1,9 @@
 -- What is between two places: breaks, and how many characters.
-use Rattle.std.proofs.Common.{◌≡◌, ℕ, ◌+◌, ◌-◌, ◌*◌, ◌<◌, ◌≤◌, Bool, true, false, List, [], ◌∷◌, ◌++◌, refl, ap, sym, ◌∙◌, arith, length, get_or, length-append, length-take, length-drop, drop, slice_range}
-use Rattle.std.specs.Prelude.{not, ◌&&◌, nat_le, ◌/◌}
+use Rattle.std.proofs.Common.{◌≡◌, ℕ, ◌+◌, ◌-◌, ◌*◌, ◌<◌, ◌≤◌, Bool, true, false, List, [], ◌∷◌, ◌++◌, refl, ap, sym, ◌∙◌, arith, length, get_or, length-append, length-take, length-drop, drop, slice_range, inl, inr}
+use Rattle.std.specs.Prelude.{not, ◌&&◌, nat_le, nat_lt, ◌/◌}
 use lib.Utf8.{encodes, encode}
 use Rattle.std.specs.Str.{IsUtf8, IsCharBoundary}
-use Rattle.std.proofs.lemmas.Bool.{le-leb, lt-leb}
+use Rattle.std.proofs.lemmas.Bool.{cases_lt, le-leb, lt-leb, lt-ltb, not-false, not-true}
 use Rattle.std.proofs.lemmas.Bool.Decides.{nat_tests}
 use Rattle.std.proofs.lemmas.Str.{length-encode, length-le-encodes, len_utf8_bounds, IsCharBoundary-before_ascii}
 use Rattle.yaml_chars.specs.Breaks.{no_break}
@@ -12,6 +12,7 @@ use Rattle.yaml_chars.specs.Places.{between}
 use Rattle.yaml_chars.proofs.Places.{between-append, between-ascii, encodes-between}
 use Rattle.yaml_chars.proofs.Runs.{blind-no_break, test-between}
 use Rattle.std.specs.List.{list_all}
+use Rattle.yaml_scan.specs.Classes.{ArePassed}
 use Rattle.yaml_scan.specs.ScanPlaces.{unbroken_between}
 
 -- ---- breaks
@@ -40,6 +41,21 @@ pub no_break_between : (bs : List ℕ) (i j : ℕ) → IsUtf8 bs → IsCharBound
     → false ≡ not (unbroken_between bs i j)
 no_break_between bs i j u b d l h =
     sym (ap not (test-between no_break bs i j blind-no_break u l b d (λ k from to. ap not (h k from to))))
+
+-- a byte that is not no break is one
+pub is_line_break : (x : ℕ) → no_break x ≡ false → line_break x ≡ true
+is_line_break x h = not-false (line_break x) h
+
+-- whether the first byte of a break is before the second place
+pub break_before : (bs : List ℕ) (i j end : ℕ) → IsUtf8 bs → IsCharBoundary bs i → IsCharBoundary bs j → i ≤ j → ArePassed no_break bs i end → (end < j → line_break (get_or bs end 0) ≡ true)
+    → nat_lt end j ≡ not (unbroken_between bs i j)
+break_before bs i j end u b d l h stop = elim (cases_lt end j) [
+  | inl before ↦ lt-ltb end j before ∙ break_between bs i j end u b d h.above before (stop before)
+  | inr after ↦ not_before end j after ∙ no_break_between bs i j u b d l (λ k from to. not-true (line_break (get_or bs k 0)) (h.passes k from (omega arith)))
+]
+  where
+    not_before : (m n : ℕ) → n ≤ m → nat_lt m n ≡ false
+    not_before m n l = grind (arith, nat_tests)
 
 -- ---- lengths
 

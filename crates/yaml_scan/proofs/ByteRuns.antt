@@ -17,7 +17,7 @@ use Rattle.yaml_grammar.specs.Texts.{first, spaces}
 use Rattle.yaml_recognizers.proofs.Basics.Prefixes.{drop_while_all, spaces_counted, spaces_passed, take_while_all}
 use Rattle.yaml_recognizers.proofs.Basics.Spaces.{spaces_dropped}
 use Rattle.yaml_recognizers.specs.Prefixes.{drop_while, take_while}
-use Rattle.yaml_scan.specs.Classes.{line_ascii}
+use Rattle.yaml_scan.specs.Classes.{line_ascii, ArePassed}
 use Rattle.yaml_scan.specs.ScanPlaces.{AreSpaces, AreTaken, IsNb}
 
 -- ---- the first character
@@ -125,6 +125,10 @@ spaces_are bs i j u b l within h stop =
       counts = ap spaces_before split ∙ spaces_counted (j - i) (rest bs j) end;
       leaves = ap past_spaces split ∙ spaces_passed (j - i) (rest bs j) end;
     }
+
+-- the same, of bytes that were passed
+pub spaces_passed_are : (bs : List ℕ) (i j : ℕ) → IsUtf8 bs → IsCharBoundary bs i → ArePassed space bs i j → (j < length bs → space (get_or bs j 0) ≡ false) → AreSpaces bs i j
+spaces_passed_are bs i j u b h stop = spaces_are bs i j u b h.above h.within h.passes stop
 
 -- after the first q of them
 pub spaces_dropped_at : (bs : List ℕ) (i j q : ℕ) → IsUtf8 bs → IsCharBoundary bs i → AreSpaces bs i j → q ≤ j - i → (drop q (rest bs i) ≡ rest bs (i + q)) × IsCharBoundary bs (i + q)

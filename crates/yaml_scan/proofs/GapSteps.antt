@@ -3,7 +3,7 @@ use Rattle.std.proofs.Common.{◌≡◌, ℕ, zero, suc, ◌+◌, ◌-◌, ◌<�
 use Rattle.std.specs.Prelude.{not, ◌&&◌, ◌||◌, ◌==◌, nat_le, nat_lt, is_some, cond}
 use Rattle.std.specs.Str.{IsUtf8, IsCharBoundary}
 use Rattle.std.specs.Char.{len_utf8}
-use Rattle.std.proofs.lemmas.Bool.{and_from, and_parts, cases_Bool, cases_lt, false≢true, le-leb, lt-leb, lt-ltb, or_left}
+use Rattle.std.proofs.lemmas.Bool.{and_from, and_parts, cases_Bool, cases_lt, cond-false, false≢true, le-leb, lt-leb, lt-ltb, or_left}
 use Rattle.std.proofs.lemmas.Bool.Decides.{nat_tests}
 use Rattle.std.proofs.lemmas.List.{append_cancel_right}
 use Rattle.yaml_chars.specs.Breaks.{no_break}
@@ -108,6 +108,56 @@ pub reads_before_solid : (n : ℕ) (d : FlowContext) (bs : List ℕ) (i j : ℕ)
 reads_before_solid n d bs i j u b w s h =
     reads_on_line n d (rest bs i) h
     (ap (read_line_end false) (rest-between bs i j u w.above b w.boundary) ∙ solid_no_line false (between bs i j) (rest bs j) (take_while_white bs i j w) s)
+
+-- nothing solid is white
+white_stops : (text : List ℕ) → first solid text ≡ true → (take_while white text ≡ []) × (drop_while white text ≡ text)
+white_stops [] h = (refl, refl)
+white_stops (c ∷ cs) h =
+    let other : white c ≡ false = no_white c h in
+    (cond-false (white c) (c ∷ take_while white cs) [] other, cond-false (white c) (drop_while white cs) (c ∷ cs) other)
+  where
+    no_white : (c : ℕ) → solid c ≡ true → white c ≡ false
+    no_white c h = grind (arith, nat_tests)
+
+-- before something solid no whitespace is taken
+pub no_white_taken : (bs : List ℕ) (i : ℕ) → IsCharBoundary bs i → first solid (rest bs i) ≡ true → AreTaken white bs i i
+no_white_taken bs i b h =
+    let stop = white_stops (rest bs i) h in
+    record { above = omega arith; boundary = b; takes = stop.0 ∙ sym (between-nil bs i); leaves = stop.1 }
+
+-- a space before something solid is all that is taken
+pub space_taken : (bs : List ℕ) (i : ℕ) → IsUtf8 bs → IsCharBoundary bs i → IsCharBoundary bs (i + 1) → rest bs i ≡ 32 ∷ rest bs (i + 1) → first solid (rest bs (i + 1)) ≡ true
+    → AreTaken white bs i (i + 1)
+space_taken bs i u b d e h =
+    let stop = white_stops (rest bs (i + 1)) h in
+    let one : between bs i (i + 1) ≡ 32 ∷ [] =
+    append_cancel_right (between bs i (i + 1)) (32 ∷ []) (rest bs (i + 1)) (sym (rest-between bs i (i + 1) u (omega arith) b d) ∙ e) in
+    record {
+      above = omega arith;
+      boundary = d;
+      takes = ap (take_while white) e ∙ ap (λ t. 32 ∷ t) stop.0 ∙ sym one;
+      leaves = ap (drop_while white) e ∙ stop.1;
+    }
+
+-- where something solid follows whitespace, the line does not end
+pub solid_no_end : (bs : List ℕ) (i j : ℕ) → IsUtf8 bs → IsCharBoundary bs i → AreTaken white bs i j → first solid (rest bs j) ≡ true → read_line_end false (rest bs i) ≡ None
+solid_no_end bs i j u b w s =
+    ap (read_line_end false) (rest-between bs i j u w.above b w.boundary) ∙ solid_no_line false (between bs i j) (rest bs j) (take_while_white bs i j w) s
+
+-- and the text does not
+pub solid_within : (bs : List ℕ) (i j : ℕ) → AreTaken white bs i j → first solid (rest bs j) ≡ true → i < length bs
+solid_within bs i j w s = elim (cases_lt j (length bs)) [
+  | inl l ↦ (let above = w.above in omega arith)
+  | inr past ↦ absurd (false≢true (sym (ap (first solid) (rest-end bs j past)) ∙ s))
+]
+
+-- whitespace before something solid is a gap, in a key or not
+pub short_gap_is : (n : ℕ) (d : FlowContext) (bs : List ℕ) (i j : ℕ) → IsUtf8 bs → IsCharBoundary bs i → AreTaken white bs i j → first solid (rest bs j) ≡ true
+    → IsGap n d bs i (record { end = j; is_over_lines = false })
+short_gap_is n d bs i j u b w s = inline_gap_is n d bs i j u b w (elim (cases_Bool (one_line d)) [
+  | inl key ↦ reads_in_key n d (rest bs i) key
+  | inr other ↦ reads_before_solid n d bs i j u b w s other
+])
 
 -- ---- the last line of a gap
 

@@ -8,3 +8,4 @@ pub mod Outcomes
 pub mod GapSteps
 pub mod ClassTable
 pub mod LineRuns
+pub mod BlockRuns

@@ -2,7 +2,8 @@
 use Rattle.std.proofs.Common.{◌≡◌, ℕ, ◌+◌, ◌-◌, ◌<◌, ◌≤◌, Bool, true, false, List, [], ◌∷◌, ◌++◌, Option, Some, None, refl, ap, sym, ◌∙◌, subst, arith, length, inl, inr, append_assoc, length-append}
 use Rattle.std.specs.Prelude.{not, ◌&&◌, ◌||◌, ◌==◌}
 use Rattle.std.specs.Str.{IsUtf8, IsCharBoundary}
-use Rattle.std.proofs.lemmas.Bool.{cases_Bool, eqb-true, false≢true}
+use Rattle.std.proofs.lemmas.Bool.{cases_Bool, cond-false, eqb-true, false≢true}
+use Rattle.std.proofs.lemmas.Bool.Decides.{nat_tests}
 use Rattle.std.proofs.lemmas.List.{append_cancel_right}
 use Rattle.std.proofs.lemmas.Str.{IsCharBoundary-start}
 use Rattle.yaml_chars.specs.Classes.{nb, space, white}
@@ -23,7 +24,7 @@ use Rattle.yaml_recognizers.proofs.Basics.Prefixes.{every_space, spaces_split, t
 use Rattle.yaml_recognizers.proofs.Separation.LineEnds.{line_parts}
 use Rattle.yaml_recognizers.proofs.Basics.Reading.{sound_is}
 use Rattle.yaml_scan.specs.Lines.{IsCommentEnd, IsContentEnd, IsLineEnd, IsLineStart, IsSolidLine, past_comment}
-use Rattle.yaml_scan.specs.ScanPlaces.{AreSpaces, AreTaken, IsStop}
+use Rattle.yaml_scan.specs.ScanPlaces.{AreSpaces, AreTaken, IsStop, is_sign}
 use Rattle.yaml_scan.specs.declared.lines.Line.{Line}
 use Rattle.yaml_scan.proofs.ByteRuns.{first_at_end}
 use Rattle.yaml_scan.proofs.ByteSigns.{IsSign}
@@ -92,6 +93,21 @@ white_filled bs i j u l b d = go (between bs i j) (rest-between bs i j u (omega 
     go : (xs : List ℕ) → rest bs i ≡ xs ++ rest bs j → not (is_empty xs) ≡ true
     go [] e = (let place : i ≡ j = same_place bs i j u b d e in absurd (omega arith))
     go (x ∷ xs) e = refl
+
+-- before a line feed no whitespace is taken
+pub line_feed_taken : (bs : List ℕ) (i : ℕ) → IsCharBoundary bs i → first (is_sign 10) (rest bs i) ≡ true → AreTaken white bs i i
+line_feed_taken bs i b h =
+    let stop = feed_stops (rest bs i) h in
+    record { above = omega arith; boundary = b; takes = stop.0 ∙ sym (between-nil bs i); leaves = stop.1 }
+  where
+    feed_white : (c : ℕ) → (c == 10) ≡ true → white c ≡ false
+    feed_white c h = grind (arith, nat_tests)
+
+    feed_stops : (text : List ℕ) → first (is_sign 10) text ≡ true → (take_while white text ≡ []) × (drop_while white text ≡ text)
+    feed_stops [] h = (refl, refl)
+    feed_stops (c ∷ cs) h =
+        let other : white c ≡ false = feed_white c h in
+        (cond-false (white c) (c ∷ take_while white cs) [] other, cond-false (white c) (drop_while white cs) (c ∷ cs) other)
 
 -- so is nothing, where no comment is allowed
 pub content_bare : (bs : List ℕ) (i j : ℕ) → IsUtf8 bs → IsCharBoundary bs i → j ≤ i → AreTaken white bs i j → IsContentEnd false bs i j

@@ -3,3 +3,4 @@ pub mod Markers
 pub mod Lines
 pub mod Gaps
 pub mod Classes
+pub mod Blocks

@@ -1,11 +1,15 @@
 // Line breaks, the starts of lines, and what is between two places.
-ghost use Rattle.std.specs.Prelude.{◌≡◌, ◌≤◌, ◌↔◌, not, nat_le, None, IsTrue, IfSome, IfNone, length};
+ghost use Rattle.std.specs.Prelude.{◌≡◌, ◌<◌, ◌≤◌, ◌↔◌, true, not, nat_le, None, IsTrue, IfSome, IfNone, length, slice_index};
 ghost use Rattle.std.specs.Str.{IsCharBoundary, chars};
+ghost use Rattle.yaml_chars.specs.Breaks.{no_break};
 ghost use Rattle.yaml_chars.specs.Classes.{line_break};
 ghost use Rattle.yaml_chars.specs.Places.{rest, between};
 ghost use Rattle.yaml_events.specs.EventPlaces.{line_starts};
 ghost use Rattle.yaml_recognizers.specs.Comments.{read_break, read_stop};
+ghost use Rattle.yaml_scan.specs.Classes.{ArePassed};
 ghost use Rattle.yaml_scan.specs.ScanPlaces.{IsBreak, IsStop, byte_order_mark_bytes, unbroken_between};
+
+use crate::blocks::unbroken_in_block;
 
 /// Returns the end of the break at `at`: LF, CR LF, or a CR that no LF follows (5.4, `b-break`). Returns None if there
 /// is none.
@@ -91,7 +95,7 @@ fn is_byte_order_mark(text: &str) -> bool
     text == "\u{feff}"
 }
 
-/// Returns whether there is a line break between two places. It looks at each byte between them once, up to the first
+/// Returns whether there is a line break between two places. It looks at the bytes between them once, up to the first
 /// break.
 pub fn has_break(text: &str, from: usize, to: usize) -> bool
     requires order { from ≤ to }
@@ -100,12 +104,30 @@ pub fn has_break(text: &str, from: usize, to: usize) -> bool
     ensures { result ≡ not (unbroken_between text.now from to) }
 {
     let bytes = text.as_bytes();
-    for at in from..to {
-        if is_break(bytes[at]) {
-            return true;
+    let mut at = from;
+    'sixteens: while at < to && bytes.len() - at >= 16 {
+        let count = unbroken_in_block(bytes, at);
+        at += count;
+        if count < 16 {
+            return at < to;
         }
     }
-    false
+    last_unbroken_end(bytes, at, to) < to
+}
+
+/// Returns the place of the first byte from `at` on that begins a break, if it is before `to`, byte by byte. Else it
+/// returns `to`, or `at` if this is after `to`.
+fn last_unbroken_end(bytes: &[u8], at: usize, to: usize) -> usize
+    requires at { at ≤ length bytes.now }
+    requires to { to ≤ length bytes.now }
+    ensures passed { ArePassed no_break bytes.now at result }
+    ensures stop { result < to → line_break (slice_index bytes.now result) ≡ true }
+{
+    let mut end = at;
+    while end < to && !is_break(bytes[end]) {
+        end += 1;
+    }
+    end
 }
 
 /// Returns whether at most `limit` characters are between two places. It counts them only if the number of bytes does

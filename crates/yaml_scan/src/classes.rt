@@ -1,8 +1,10 @@
-// Runs of characters of a class, by one look in a table for each byte.
-ghost use Rattle.std.specs.Prelude.{◌≡◌, ◌+◌, ◌<◌, ◌≤◌, false, IsTrue, length, slice_index};
+// Runs of characters of a class: sixteen bytes at a time, and at the end of the text by a look in a table for each.
+ghost use Rattle.std.specs.Prelude.{◌≡◌, ◌<◌, ◌≤◌, false, length, slice_index};
 ghost use Rattle.std.specs.Str.{IsCharBoundary};
 ghost use Rattle.yaml_chars.specs.Places.{IsRun};
 ghost use Rattle.yaml_scan.specs.Classes.{test_of, bit_of, line_ascii, ArePassed};
+
+use crate::blocks::class_in_block;
 
 /// A class of characters. A byte decides it: the characters from U+0080 on are all in the class or all outside of it.
 #[derive(Clone, Copy, Debug, PartialEq, Eq)]
@@ -58,6 +60,7 @@ static CLASSES: [u8; 256] = [
 ];
 
 /// Returns the end of the run of characters of a class from `at` on, which is `at` if there are none.
+#[inline(always)]
 pub fn run_end(text: &str, at: usize, class: Class) -> usize
     requires { IsCharBoundary text.now at }
     ensures { IsRun (test_of class) text.now at result }
@@ -65,18 +68,16 @@ pub fn run_end(text: &str, at: usize, class: Class) -> usize
     passed_end(text.as_bytes(), at, class)
 }
 
-/// Returns the end of the run of ASCII characters from `at` on that a line may hold. Lines are long, so it looks at
-/// sixteen bytes at once as long as it can.
+/// Returns the end of the run of ASCII characters from `at` on that a line may hold.
 pub(crate) fn line_run_end(text: &str, at: usize) -> usize
     requires { IsCharBoundary text.now at }
     ensures { IsRun line_ascii text.now at result }
 {
-    let bytes = text.as_bytes();
-    let start = sixteens_end(bytes, at);
-    passed_end(bytes, start, Class::Line)
+    run_end(text, at, Class::Line)
 }
 
 /// Returns the end of the bytes of a class from `at` on.
+#[inline(always)]
 fn passed_end(bytes: &[u8], at: usize, class: Class) -> usize
     requires { at ≤ length bytes.now }
     ensures passed { ArePassed (test_of class) bytes.now at result }
@@ -84,33 +85,18 @@ fn passed_end(bytes: &[u8], at: usize, class: Class) -> usize
         → test_of class (slice_index bytes.now result) ≡ false }
 {
     let mut end = at;
-    'eights: while bytes.len() - end >= 8 {
-        let count = count_of_eight(bytes, end, class);
+    'sixteens: while bytes.len() - end >= 16 {
+        let count = class_in_block(bytes, end, class);
         end += count;
-        if count < 8 {
+        if count < 16 {
             return end;
         }
     }
     last_passed_end(bytes, end, class)
 }
 
-/// Returns how many of the eight bytes from `at` on are of the class, before the first one that is not. Without a test
-/// for the end of the text at each byte, eight bytes take half the time.
-#[inline(always)]
-fn count_of_eight(bytes: &[u8], at: usize, class: Class) -> usize
-    requires { at + 8 ≤ length bytes.now }
-    ensures passed { ArePassed (test_of class) bytes.now at (at + result) }
-    ensures stop { result < 8 → test_of class (slice_index bytes.now (at + result)) ≡ false }
-{
-    for count in 0..8 {
-        if !class.has(bytes[at + count]) {
-            return count;
-        }
-    }
-    8
-}
-
 /// Returns the end of the run of characters of a class at `at`, byte by byte, as [`passed_end`] does in blocks.
+#[inline(never)]
 fn last_passed_end(bytes: &[u8], at: usize, class: Class) -> usize
     requires { at ≤ length bytes.now }
     ensures passed { ArePassed (test_of class) bytes.now at result }
@@ -122,33 +108,6 @@ fn last_passed_end(bytes: &[u8], at: usize, class: Class) -> usize
         end += 1;
     }
     end
-}
-
-/// Returns the end of the bytes from `at` on that can be taken sixteen at a time, each of them by itself a character
-/// that a line may hold.
-fn sixteens_end(bytes: &[u8], at: usize) -> usize
-    requires { at ≤ length bytes.now }
-    ensures { ArePassed line_ascii bytes.now at result }
-{
-    let mut end = at;
-    while bytes.len() - end >= 16 && are_sixteen(bytes, end) {
-        end += 16;
-    }
-    end
-}
-
-/// Returns whether each of sixteen bytes from `at` on is by itself a character that a line may hold. It tests all of
-/// them, so that the compiler can test them together.
-#[inline(always)]
-fn are_sixteen(bytes: &[u8], at: usize) -> bool
-    requires { at + 16 ≤ length bytes.now }
-    ensures { IsTrue result → ArePassed line_ascii bytes.now at (at + 16) }
-{
-    let mut all = true;
-    for count in 0..16 {
-        all &= is_line_byte(bytes[at + count]);
-    }
-    all
 }
 
 /// Returns whether a byte is by itself a character that a line may hold.

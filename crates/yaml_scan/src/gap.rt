@@ -1,15 +1,19 @@
 // Gaps between the parts of a flow node.
-ghost use Rattle.std.specs.Prelude.{◌≡◌, ◌≢◌, IfOk, IfErr};
+ghost use Rattle.std.specs.Prelude.{◌≡◌, ◌≢◌, true, IfOk, IfErr, IfSome};
 ghost use Rattle.std.specs.Str.{IsCharBoundary};
+ghost use Rattle.yaml_chars.specs.Classes.{white};
 ghost use Rattle.yaml_chars.specs.Places.{rest};
 ghost use Rattle.yaml_events.specs.Meant.{context_of};
 ghost use Rattle.yaml_events.specs.EventPlaces.{Refuses};
 ghost use Rattle.yaml_grammar.specs.FlowScalars.{one_line};
+ghost use Rattle.yaml_grammar.specs.Texts.{first};
+ghost use Rattle.yaml_recognizers.specs.Ends.{solid};
+ghost use Rattle.yaml_scan.specs.ScanPlaces.{AreTaken};
 ghost use Rattle.yaml_scan.specs.Gaps.{IsGap, NoGap, IsLinesGap, NoLinesGap};
 
 use crate::lines::{rest_of_line_end, solid_line};
 use crate::runs::white_end;
-use crate::signs::{is_marker, solid_at};
+use crate::signs::{is_marker, solid_at, stands_at};
 use yaml_events::{FlowContext, ScanFault, Why};
 
 /// A gap between two parts of a flow node, which may be empty.
@@ -39,7 +43,42 @@ pub fn is_on_one_line(context: FlowContext) -> bool
 /// [`ScanFault::At`] if nothing of the node can follow: with [`Why::Flow`] if the text ends after the lines of the gap,
 /// and if its last line has fewer than `n` spaces, with [`Why::Marker`] at a document marker and else with
 /// [`Why::Indent`]. It is never [`ScanFault::OutOfMemory`].
+#[inline(always)]
 pub fn gap_end(text: &str, at: usize, n: u64, context: FlowContext) -> Result<Gap, ScanFault>
+    requires { IsCharBoundary text.now at }
+    ensures found { IfOk result (IsGap n (context_of context) text.now at) }
+    ensures none { IfErr result (λ fault.
+        Refuses fault (NoGap n (context_of context) (rest text.now at))) }
+    ensures memory { IfErr result (λ fault. fault ≢ ScanFault.OutOfMemory) }
+{
+    if let Some(end) = short_gap_end(text, at) {
+        return Ok(Gap {
+            end,
+            is_over_lines: false,
+        });
+    }
+    long_gap(text, at, n, context)
+}
+
+/// Returns the end of a gap of nothing or of one space, if something solid follows it.
+#[inline(always)]
+pub(crate) fn short_gap_end(text: &str, at: usize) -> Option<usize>
+    requires { IsCharBoundary text.now at }
+    ensures taken { IfSome result (AreTaken white text.now at) }
+    ensures solid { IfSome result (λ end. first solid (rest text.now end) ≡ true) }
+{
+    if solid_at(text, at) {
+        return Some(at);
+    }
+    if stands_at(text, at, b' ') && solid_at(text, at + 1) {
+        return Some(at + 1);
+    }
+    None
+}
+
+/// Returns the gap at `at`, of any length, as [`gap_end`] does.
+#[inline(never)]
+fn long_gap(text: &str, at: usize, n: u64, context: FlowContext) -> Result<Gap, ScanFault>
     requires { IsCharBoundary text.now at }
     ensures found { IfOk result (IsGap n (context_of context) text.now at) }
     ensures none { IfErr result (λ fault.

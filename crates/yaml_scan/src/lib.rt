@@ -5,6 +5,7 @@
 //! that lead from bytes to those words are in `proofs/`. No call but [`push_line_feeds`] allocates.
 #![tactic(auto)]
 
+mod blocks;
 mod breaks;
 mod classes;
 mod feeds;

@@ -1,11 +1,12 @@
 // The ends of lines, and lines of comments.
-ghost use Rattle.std.specs.Prelude.{◌≡◌, ◌≤◌, true, false, [], None, IfSome, IfNone};
+ghost use Rattle.std.specs.Prelude.{◌≡◌, ◌<◌, ◌≤◌, true, false, [], None, IfSome, IfNone, IsTrue, length};
 ghost use Rattle.std.specs.Str.{IsCharBoundary};
 ghost use Rattle.yaml_chars.specs.Places.{rest};
 ghost use Rattle.yaml_recognizers.specs.Comments.{read_line_end, all_comments, closes_line};
 ghost use Rattle.yaml_scan.specs.Lines.{IsLineStart, IsCommentEnd, IsLineEnd, EndsLineAfter, NoLineEndAfter, IsSolidLine};
 
 use crate::breaks::stop_at;
+use crate::gap::short_gap_end;
 use crate::runs::{nb_end, spaces_end, white_end};
 use crate::signs::{solid_at, stands_at};
 
@@ -43,7 +44,21 @@ pub fn comment_line_end(text: &str, at: usize) -> Option<usize>
 /// Returns the end of the line of a part that ends at `at`, if nothing follows it on its line but whitespace and, after
 /// whitespace, a comment (6.6, `s-b-comment`): the place after its break, or the end of the text. Returns None if more
 /// follows, and at the end of the text.
+#[inline(always)]
 pub fn rest_of_line_end(text: &str, at: usize) -> Option<usize>
+    requires { IsCharBoundary text.now at }
+    ensures found { IfSome result (IsLineEnd false text.now at) }
+    ensures none { IfNone result (read_line_end false (rest text.now at) ≡ None) }
+{
+    if stands_at(text, at, b'\n') {
+        return after_content(text, at, at);
+    }
+    blank_line_end(text, at)
+}
+
+/// Returns the end of the line of a part that ends at `at`, with whitespace after the part or not, as
+/// [`rest_of_line_end`] does.
+fn blank_line_end(text: &str, at: usize) -> Option<usize>
     requires { IsCharBoundary text.now at }
     ensures found { IfSome result (IsLineEnd false text.now at) }
     ensures none { IfNone result (read_line_end false (rest text.now at) ≡ None) }
@@ -109,6 +124,9 @@ pub fn line_after(text: &str, at: usize) -> Option<Line>
     ensures no_comments { IfNone result (all_comments false (rest text.now at)
         ≡ ([], rest text.now at)) }
 {
+    if goes_on_at(text, at) {
+        return None;
+    }
     if let Some(next) = rest_of_line_end(text, at) {
         return Some(solid_line(text, next));
     }
@@ -119,4 +137,17 @@ pub fn line_after(text: &str, at: usize) -> Option<Line>
         start: at,
         first: at,
     })
+}
+
+/// Returns whether something solid is at `at`, or after one space there. Then the line goes on.
+#[inline(always)]
+fn goes_on_at(text: &str, at: usize) -> bool
+    requires { IsCharBoundary text.now at }
+    ensures no_end { IsTrue result → read_line_end false (rest text.now at) ≡ None }
+    ensures within { IsTrue result → at < length text.now }
+{
+    match short_gap_end(text, at) {
+        Some(_) => true,
+        None => false,
+    }
 }

@@ -1,11 +1,13 @@
 // Runs of characters from a place on.
-ghost use Rattle.std.specs.Prelude.{◌≡◌, false, IfSome, IfNone};
+ghost use Rattle.std.specs.Prelude.{◌≡◌, ◌<◌, ◌≤◌, false, IfSome, IfNone, length, slice_index};
 ghost use Rattle.std.specs.Str.{IsCharBoundary};
 ghost use Rattle.yaml_chars.specs.Classes.{nb, space, white};
 ghost use Rattle.yaml_chars.specs.Places.{rest, IsRun};
 ghost use Rattle.yaml_grammar.specs.Texts.{first};
+ghost use Rattle.yaml_scan.specs.Classes.{ArePassed};
 ghost use Rattle.yaml_scan.specs.ScanPlaces.{AreSpaces, AreTaken, IsNb};
 
+use crate::blocks::spaces_in_block;
 use crate::classes::{is_line_byte, line_run_end};
 
 /// Returns whether a byte is a space or a TAB (5.5, `s-white`).
@@ -41,6 +43,24 @@ pub fn spaces_end(text: &str, at: usize) -> usize
     ensures { AreSpaces text.now at result }
 {
     let bytes = text.as_bytes();
+    let mut end = at;
+    'sixteens: while bytes.len() - end >= 16 {
+        let count = spaces_in_block(bytes, end);
+        end += count;
+        if count < 16 {
+            return end;
+        }
+    }
+    last_spaces_end(bytes, end)
+}
+
+/// Returns the end of the spaces at `at`, byte by byte, as [`spaces_end`] does in blocks.
+#[inline(never)]
+fn last_spaces_end(bytes: &[u8], at: usize) -> usize
+    requires { at ≤ length bytes.now }
+    ensures passed { ArePassed space bytes.now at result }
+    ensures stop { result < length bytes.now → space (slice_index bytes.now result) ≡ false }
+{
     let mut end = at;
     while end < bytes.len() && is_space(bytes[end]) {
         end += 1;

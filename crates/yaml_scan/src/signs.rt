@@ -57,6 +57,27 @@ pub fn ns_at(text: &str, at: usize) -> bool
     requires { IsCharBoundary text.now at }
     ensures { result ≡ first ns (rest text.now at) }
 {
+    let bytes = text.as_bytes();
+    if at < bytes.len() && bytes[at] < 128 {
+        return is_ns_byte(bytes[at]);
+    }
+    decoded_ns_at(text, at)
+}
+
+/// Returns whether a byte is by itself an `ns-char`.
+fn is_ns_byte(byte: u8) -> bool
+    requires { byte < 128 }
+    ensures { result ≡ ns byte }
+{
+    matches!(byte, b'!'..=b'~')
+}
+
+/// Returns whether an `ns-char` is at `at`, by the character itself.
+#[inline(never)]
+fn decoded_ns_at(text: &str, at: usize) -> bool
+    requires { IsCharBoundary text.now at }
+    ensures { result ≡ first ns (rest text.now at) }
+{
     match next_char(text, at) {
         Some((character, _)) => yaml_chars::ns(character),
         None => false,
@@ -78,6 +99,7 @@ pub fn sign_at(text: &str, at: usize, character: u8) -> bool
 }
 
 /// Returns whether a character is at `at` that is safe in a plain scalar in this context (7.3.3, `ns-plain-safe`).
+#[inline(always)]
 pub fn safe_at(text: &str, at: usize, context: FlowContext) -> bool
     requires { IsCharBoundary text.now at }
     ensures { result ≡ first (safe (context_of context)) (rest text.now at) }
@@ -86,6 +108,15 @@ pub fn safe_at(text: &str, at: usize, context: FlowContext) -> bool
     if at < bytes.len() && bytes[at] <= b' ' {
         return false;
     }
+    decoded_safe_at(text, at, context)
+}
+
+/// Returns whether a safe character is at `at`, by the character itself.
+#[inline(never)]
+fn decoded_safe_at(text: &str, at: usize, context: FlowContext) -> bool
+    requires { IsCharBoundary text.now at }
+    ensures { result ≡ first (safe (context_of context)) (rest text.now at) }
+{
     match next_char(text, at) {
         Some((character, _)) => is_safe(character, context),
         None => false,

@@ -1,39 +1,18 @@
-use Rattle.std.proofs.lemmas.Result.{err_from_is_err_and}
-use Rattle.std.proofs.Common.{ap, ◌∙◌}
-use Rattle.std.specs.Prelude.{[], ◌∷◌, ◌++◌}
 use Rattle.yaml_events.specs.Meant.{context_of}
-use Rattle.yaml_grammar.specs.FlowNodes.{scalar}
-use Rattle.yaml_scan.proofs.Outcomes.{fault_passed}
-use Rattle.yaml_flow.specs.Scalars.{NoFlowScalar}
-use Rattle.yaml_flow.proofs.ScalarSteps.{scalar_appended, scalar_found, scalar_missing}
+use Rattle.yaml_scan.proofs.Outcomes.{ok_so}
+use Rattle.yaml_flow.specs.FlowNodes.{FlowNodeRead}
+use Rattle.yaml_flow.proofs.ScalarSteps.{scalar_node_read}
 use Rattle.yaml_flow.proofs.node.read_node.Goals as goal
 
-pub returns-in_err-found-clause-missing : goal.returns-in_err-found-clause-missing
-returns-in_err-found-clause-missing c =
-    let n = c.args.n in
-    let d = context_of c.args.c in
-    let text = c.args.text.now in
-    let at = c.args.at in
+pub returns-in-Some-plain_line_at-clause-reads : goal.returns-in-Some-plain_line_at-clause-reads
+returns-in-Some-plain_line_at-clause-reads c =
     let no = c.in_default.ensures.none in
-    fault_passed c.from_residual.result c.in_err-found.field-0.0 (NoFlowScalar n d text at) _ (scalar_missing n d text at no.0 no.1) c.in_err-found.ensures.none
-    (err_from_is_err_and c.from_residual.result c.from_residual.ensures.1)
+    ok_so c.put_scalar.result _ (λ end. FlowNodeRead c.args.n (context_of c.args.c) c.args.text.now c.args.at end c.args.events.now c.put_scalar.new.events)
+    (λ end put. scalar_node_read c.args.n (context_of c.args.c) c.args.text.now c.args.at end c.in-Some-plain_line_at.found c.args.events.now c.put_scalar.new.events c.utf8.text c.requires no.0 no.1
+    c.in-Some-plain_line_at.ensures put.0 put.1) c.put_scalar.ensures.written
 
-pub returns-clause-reads : goal.returns-clause-reads
-returns-clause-reads c =
-    let n = c.args.n in
-    let d = context_of c.args.c in
-    let text = c.args.text.now in
-    let at = c.args.at in
-    let events = c.args.events.now in
-    let no = c.in_default.ensures.none in
-    let read = c.in_ok-found.ensures.found in
-    record {
-      above = read.above;
-      boundary = read.boundary;
-      within = read.within;
-      inside_line = read.inside_line;
-      node = scalar read.scalar;
-      found = scalar_found n d text at c.in_ok-found.found.end read.scalar no.0 no.1 read.reads;
-      appended = scalar_appended n d text at c.in_ok-found.found events c.push.new.events c.utf8.text c.requires no.0 no.1 read
-          (c.in_ok-push.ensures.ok ∙ ap (λ e. events ++ e ∷ []) c.into_event.ensures);
-    }
+pub any_scalar-requires-clause-no_seq : goal.any_scalar-requires-clause-no_seq
+any_scalar-requires-clause-no_seq c = c.in_default.ensures.none.0
+
+pub any_scalar-requires-clause-no_map : goal.any_scalar-requires-clause-no_map
+any_scalar-requires-clause-no_map c = c.in_default.ensures.none.1

@@ -1,6 +1,10 @@
-use Rattle.std.proofs.Common.{◌≡◌, ℕ, ◌<◌, ◌≤◌, false, get_or}
-use Rattle.yaml_chars.specs.Classes.{line_break}
+use Rattle.std.proofs.Common.{◌-◌, length}
+use Rattle.yaml_chars.specs.Breaks.{no_break}
+use Rattle.yaml_scan.specs.Classes.{ArePassed}
 use Rattle.yaml_scan.proofs.breaks.has_break.Given as goal
 
-abbrev pub invariant-loop-at : goal.invariant-loop-at
-invariant-loop-at l = (k : ℕ) → l.from ≤ k → k < l.at → line_break (get_or l.bytes k 0) ≡ false
+abbrev pub invariant-sixteens : goal.invariant-sixteens
+invariant-sixteens l = ArePassed no_break l.bytes l.from l.at
+
+abbrev pub decreases-sixteens : goal.decreases-sixteens
+decreases-sixteens l = length l.bytes - l.at

@@ -27,3 +27,10 @@ returns-clause-starts c = inr (rest-end c.args.text.now c.args.at (omega arith))
 
 pub returns-clause-closes : goal.returns-clause-closes
 returns-clause-closes c = closes_at_end c.args.text.now c.args.at (omega arith) c.in_default.ensures.none
+
+pub returns-then-goes_on_at-clause-none : goal.returns-then-goes_on_at-clause-none
+returns-then-goes_on_at-clause-none c =
+    open_line c.args.text.now c.args.at c.utf8.text c.requires (c.goes_on_at.ensures.within c.if-goes_on_at.true) (c.goes_on_at.ensures.no_end c.if-goes_on_at.true)
+
+pub returns-then-goes_on_at-clause-no_comments : goal.returns-then-goes_on_at-clause-no_comments
+returns-then-goes_on_at-clause-no_comments c = no_comments_at false (rest c.args.text.now c.args.at) (c.goes_on_at.ensures.no_end c.if-goes_on_at.true)

@@ -1,27 +1,21 @@
-use Rattle.std.proofs.Common.{◌≡◌, Bool, false, None, subst, sym}
+use Rattle.std.proofs.Common.{◌≡◌, ◌∙◌, Bool, false, None, arith, sym}
 use Rattle.yaml_chars.specs.Places.{rest}
 use Rattle.yaml_recognizers.specs.Comments.{read_line_end}
 use Rattle.yaml_scan.specs.Lines.{IsContentEnd, IsLineEnd}
-use Rattle.yaml_scan.proofs.LineSteps.{content_bare, content_commented, white_filled}
+use Rattle.yaml_scan.proofs.LineSteps.{content_bare, line_feed_taken}
 use Rattle.yaml_scan.proofs.Outcomes.{none_so, some_so}
 use Rattle.yaml_scan.proofs.lines.rest_of_line_end.Goals as goal
-use Rattle.yaml_scan.proofs.lines.rest_of_line_end.Goals.{then-white-at, else-white-at}
 
-content : (c : goal.After-after_content) → IsContentEnd false c.args.text.now c.args.at c.if-white-at.content
-content c = elim c.if-white-at.branch [
-  | then-white-at w ↦ subst (IsContentEnd false c.args.text.now c.args.at) (sym w.content-is)
-      (content_commented false c.args.text.now c.args.at c.white_end-white.result w.comment_end-content.result c.utf8.text c.requires c.white_end-white.ensures.taken w.comment_end-content.ensures
-      (white_filled c.args.text.now c.args.at c.white_end-white.result c.utf8.text w.if-white-at.true c.requires c.white_end-white.ensures.taken.boundary))
-  | else-white-at w ↦ subst (IsContentEnd false c.args.text.now c.args.at) (sym w.content-is)
-      (content_bare c.args.text.now c.args.at c.white_end-white.result c.utf8.text c.requires w.if-white-at.false c.white_end-white.ensures.taken)
-]
+pub returns-then-stands_at-clause-found : goal.returns-then-stands_at-clause-found
+returns-then-stands_at-clause-found c =
+    let content : IsContentEnd false c.args.text.now c.args.at c.args.at =
+    content_bare c.args.text.now c.args.at c.args.at c.utf8.text c.requires (omega arith) (line_feed_taken c.args.text.now c.args.at c.requires (sym c.stands_at.ensures ∙ c.if-stands_at.true)) in
+    some_so c.after_content.result (λ end. (bol : Bool) → IsContentEnd bol c.args.text.now c.args.at c.args.at → IsLineEnd bol c.args.text.now c.args.at end)
+    (IsLineEnd false c.args.text.now c.args.at) (λ end f. f false content) c.after_content.ensures.found
 
-pub returns-clause-found : goal.returns-clause-found
-returns-clause-found c =
-    some_so c.after_content.result (λ end. (bol : Bool) → IsContentEnd bol c.args.text.now c.args.at c.if-white-at.content → IsLineEnd bol c.args.text.now c.args.at end)
-    (IsLineEnd false c.args.text.now c.args.at) (λ end f. f false (content c)) c.after_content.ensures.found
-
-pub returns-clause-none : goal.returns-clause-none
-returns-clause-none c =
-    none_so c.after_content.result ((bol : Bool) → IsContentEnd bol c.args.text.now c.args.at c.if-white-at.content → read_line_end bol (rest c.args.text.now c.args.at) ≡ None)
-    (read_line_end false (rest c.args.text.now c.args.at) ≡ None) (λ f. f false (content c)) c.after_content.ensures.none
+pub returns-then-stands_at-clause-none : goal.returns-then-stands_at-clause-none
+returns-then-stands_at-clause-none c =
+    let content : IsContentEnd false c.args.text.now c.args.at c.args.at =
+    content_bare c.args.text.now c.args.at c.args.at c.utf8.text c.requires (omega arith) (line_feed_taken c.args.text.now c.args.at c.requires (sym c.stands_at.ensures ∙ c.if-stands_at.true)) in
+    none_so c.after_content.result ((bol : Bool) → IsContentEnd bol c.args.text.now c.args.at c.args.at → read_line_end bol (rest c.args.text.now c.args.at) ≡ None)
+    (read_line_end false (rest c.args.text.now c.args.at) ≡ None) (λ f. f false content) c.after_content.ensures.none

@@ -1,15 +1,23 @@
-use Rattle.std.proofs.Common.{arith, ap, sym, ◌∙◌, get_or}
+use Rattle.std.proofs.Common.{◌≡◌, ◌+◌, ◌<◌, false, length, get_or, subst}
 use Rattle.yaml_chars.specs.Classes.{space}
-use Rattle.yaml_scan.proofs.ByteRuns.{spaces_are}
+use Rattle.yaml_scan.specs.Classes.{ArePassed}
+use Rattle.yaml_scan.proofs.ByteRuns.{spaces_passed_are}
+use Rattle.yaml_scan.proofs.ClassTable.{passed_joined}
 use Rattle.yaml_scan.proofs.runs.spaces_end.Goals as goal
 
-pub returns-else-is_space : goal.returns-else-is_space
-returns-else-is_space c =
-    let i = c.loop-end.invariant in
-    spaces_are c.args.text.now c.args.at c.loop-end.end c.utf8.text c.requires i.above i.below i.spaces
-    (λ _. ap (λ x. space (get_or x c.loop-end.end 0)) (sym c.as_bytes-bytes.ensures.value) ∙ sym c.is_space.ensures ∙ c.if-is_space.false)
+pub returns-then-count-lt16 : goal.returns-then-count-lt16
+returns-then-count-lt16 c =
+    let end = c.sixteens.end + c.spaces_in_block-count.result in
+    let same = c.as_bytes-bytes.ensures.value in
+    let run = c.spaces_in_block-count.ensures in
+    let passed = passed_joined space c.as_bytes-bytes.result.now c.args.at c.sixteens.end end c.sixteens.invariant run.passed in
+    spaces_passed_are c.args.text.now c.args.at end c.utf8.text c.requires (subst (λ t. ArePassed space t c.args.at end) same passed)
+    (λ _. subst (λ t. space (get_or t end 0) ≡ false) same (run.stop c.if-count-lt16.true))
 
-pub returns-after-loop-end : goal.returns-after-loop-end
-returns-after-loop-end c =
-    let i = c.loop-end.invariant in
-    spaces_are c.args.text.now c.args.at c.loop-end.end c.utf8.text c.requires i.above i.below i.spaces (λ l. absurd (omega arith))
+pub returns : goal.returns
+returns c =
+    let end = c.last_spaces_end.result in
+    let same = c.as_bytes-bytes.ensures.value in
+    let passed = passed_joined space c.as_bytes-bytes.result.now c.args.at c.sixteens.end end c.sixteens.invariant c.last_spaces_end.ensures.passed in
+    spaces_passed_are c.args.text.now c.args.at end c.utf8.text c.requires (subst (λ t. ArePassed space t c.args.at end) same passed)
+    (subst (λ t. end < length t → space (get_or t end 0) ≡ false) same c.last_spaces_end.ensures.stop)

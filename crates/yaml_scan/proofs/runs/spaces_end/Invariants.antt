@@ -1,13 +1,10 @@
-use Rattle.std.proofs.Common.{◌≡◌, ℕ, ◌<◌, ◌≤◌, ◌-◌, true, length, get_or}
+use Rattle.std.proofs.Common.{◌-◌, length}
 use Rattle.yaml_chars.specs.Classes.{space}
+use Rattle.yaml_scan.specs.Classes.{ArePassed}
 use Rattle.yaml_scan.proofs.runs.spaces_end.Given as goal
 
-abbrev pub invariant-loop-end : goal.invariant-loop-end
-invariant-loop-end l = record {
-  above : l.at ≤ l.end;
-  below : l.end ≤ length l.text;
-  spaces : (k : ℕ) → l.at ≤ k → k < l.end → space (get_or l.text k 0) ≡ true;
-}
+abbrev pub invariant-sixteens : goal.invariant-sixteens
+invariant-sixteens l = ArePassed space l.bytes l.at l.end
 
-abbrev pub decreases-loop-end : goal.decreases-loop-end
-decreases-loop-end l = length l.text - l.end
+abbrev pub decreases-sixteens : goal.decreases-sixteens
+decreases-sixteens l = length l.bytes - l.end

@@ -1,11 +1,11 @@
-use Rattle.std.proofs.Common.{◌≡◌, ◌<◌, ◌≤◌, ℕ, Bool, true, false, inl, inr, length, sym}
+use Rattle.std.proofs.Common.{◌<◌, ◌∙◌, ap, arith, get_or, length, sym}
 use Rattle.yaml_chars.specs.Classes.{ns}
-use Rattle.std.proofs.lemmas.Bool.{cases_lt, false≢true}
-use Rattle.yaml_scan.proofs.ByteRuns.{first_at_end}
+use Rattle.yaml_chars.proofs.Places.{rest-ascii}
+use Rattle.yaml_grammar.specs.Texts.{first}
 use Rattle.yaml_scan.proofs.signs.ns_at.Goals as goal
 
-ended : (at end : ℕ) → (at < end → ◌≡◌ {A = Bool} false true) → end ≤ at
-ended at end h = elim (cases_lt at end) [ inl l ↦ absurd (false≢true (h l)) | inr l ↦ l ]
-
-pub returns-in-None : goal.returns-in-None
-returns-in-None c = sym (first_at_end ns c.args.text.now c.args.at (ended c.args.at (length c.args.text.now) c.in-None.ensures.found.1))
+pub returns-then-bytes-at-lt128 : goal.returns-then-bytes-at-lt128
+returns-then-bytes-at-lt128 c =
+    let l : c.args.at < length c.args.text.now = omega (arith, c.as_bytes-bytes.ensures.len, c.if-at-bytes.true) in
+    let byte = ap (λ t. get_or t c.args.at 0) c.as_bytes-bytes.ensures.value in
+    c.is_ns_byte.ensures ∙ ap ns byte ∙ sym (ap (first ns) (rest-ascii c.args.text.now c.args.at c.utf8.text l (omega (arith, byte, c.if-bytes-at-lt128.true))))

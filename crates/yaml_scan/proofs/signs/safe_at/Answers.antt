@@ -1,18 +1,10 @@
-use Rattle.std.proofs.Common.{◌∙◌, ap, arith, get_or, ◌≡◌, ◌<◌, ◌≤◌, ℕ, Bool, true, false, inl, inr, length, sym}
+use Rattle.std.proofs.Common.{◌∙◌, ap, arith, get_or, ◌≡◌, ◌<◌, ◌≤◌, ℕ, false, length, sym}
 use Rattle.yaml_events.specs.Meant.{context_of}
 use Rattle.yaml_grammar.specs.FlowScalars.{FlowContext, outer, inner, block_key, flow_key, safe}
 use Rattle.yaml_grammar.specs.Texts.{first}
 use Rattle.std.proofs.lemmas.Bool.Decides.{nat_tests}
 use Rattle.yaml_chars.proofs.Places.{rest-ascii}
-use Rattle.std.proofs.lemmas.Bool.{cases_lt, false≢true}
-use Rattle.yaml_scan.proofs.ByteRuns.{first_at_end}
 use Rattle.yaml_scan.proofs.signs.safe_at.Goals as goal
-
-ended : (at end : ℕ) → (at < end → ◌≡◌ {A = Bool} false true) → end ≤ at
-ended at end h = elim (cases_lt at end) [ inl l ↦ absurd (false≢true (h l)) | inr l ↦ l ]
-
-pub returns-in-None : goal.returns-in-None
-returns-in-None c = sym (first_at_end (safe (context_of c.args.context)) c.args.text.now c.args.at (ended c.args.at (length c.args.text.now) c.in-None.ensures.found.1))
 
 no_control : (c : FlowContext) (x : ℕ) → x ≤ 32 → safe c x ≡ false
 no_control outer x h = grind (arith, nat_tests)

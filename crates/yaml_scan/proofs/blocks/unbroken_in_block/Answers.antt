@@ -1,0 +1,13 @@
+use Rattle.std.proofs.Common.{bit_or, refl}
+use Rattle.std.proofs.lemmas.Simd.{length-chunk, zip2_of_maps, zip2_splat}
+use lib.Lanes.{chunk}
+use Rattle.yaml_chars.specs.Breaks.{no_break}
+use Rattle.yaml_scan.proofs.BlockRuns.{run_of_lanes}
+use Rattle.yaml_scan.proofs.blocks.unbroken_in_block.Goals as goal
+
+pub returns : goal.returns
+returns c =
+    let block = chunk c.args.at 16 c.args.bytes.now in
+    let long = length-chunk c.args.at 16 c.args.bytes.now c.requires in
+    run_of_lanes no_break c.args.bytes.now c.args.at _ _ _ c.requires c.type_inv.bytes c.first_set.ensures
+    (zip2_of_maps bit_or _ _ block (zip2_splat _ block 16 10 long) (zip2_splat _ block 16 13 long)) refl

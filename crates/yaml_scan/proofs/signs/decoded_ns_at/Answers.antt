@@ -1,0 +1,11 @@
+use Rattle.std.proofs.Common.{◌≡◌, ◌<◌, ◌≤◌, ℕ, Bool, true, false, inl, inr, length, sym}
+use Rattle.yaml_chars.specs.Classes.{ns}
+use Rattle.std.proofs.lemmas.Bool.{cases_lt, false≢true}
+use Rattle.yaml_scan.proofs.ByteRuns.{first_at_end}
+use Rattle.yaml_scan.proofs.signs.decoded_ns_at.Goals as goal
+
+ended : (at end : ℕ) → (at < end → ◌≡◌ {A = Bool} false true) → end ≤ at
+ended at end h = elim (cases_lt at end) [ inl l ↦ absurd (false≢true (h l)) | inr l ↦ l ]
+
+pub returns-in-None : goal.returns-in-None
+returns-in-None c = sym (first_at_end ns c.args.text.now c.args.at (ended c.args.at (length c.args.text.now) c.in-None.ensures.found.1))
