@@ -297,9 +297,7 @@ set_part_lines indent name path value lines after_name after_path rest one two t
       is = record {
         are = (
           record { word = refl; short = refl; stands = one.stands },
-          record { word = refl; short = refl; stands = two.stands },
-          record { word = refl; short = refl; stands = three.stands },
-          tt,
+          (record { word = refl; short = refl; stands = two.stands }, (record { word = refl; short = refl; stands = three.stands }, tt)),
         );
         differ = refl;
       };
@@ -326,7 +324,7 @@ delete_part_lines indent name path lines after_name rest one two =
     let b : Line = record { key = codes "path"; spelling = two.spelling; value = path } in
     let entry : Entry = record { first = a; more = b ∷ [] } in
     let said : SaysPart entry (plain (delete_at name path)) = record {
-      is = record { are = (record { word = refl; short = refl; stands = one.stands }, record { word = refl; short = refl; stands = two.stands }, tt); differ = refl };
+      is = record { are = (record { word = refl; short = refl; stands = one.stands }, (record { word = refl; short = refl; stands = two.stands }, tt)); differ = refl };
       within = refl;
       alone = refl;
     } in
@@ -348,7 +346,7 @@ import_part_lines indent name source lines after_name rest one two =
     let b : Line = record { key = codes "text"; spelling = two.spelling; value = source } in
     let entry : Entry = record { first = a; more = b ∷ [] } in
     let said : SaysPart entry (import_text name source) = record {
-      is = record { are = (record { word = refl; short = refl; stands = one.stands }, record { word = refl; short = refl; stands = two.stands }, tt); differ = refl };
+      is = record { are = (record { word = refl; short = refl; stands = one.stands }, (record { word = refl; short = refl; stands = two.stands }, tt)); differ = refl };
       within = refl;
       alone = refl;
     } in
@@ -372,7 +370,7 @@ get_lines name path lines after_name one two =
     let b : Line = record { key = codes "path"; spelling = two.spelling; value = path } in
     record {
       layout = single (record { first = a; more = b ∷ [] });
-      are = record { are = (record { word = refl; short = refl; stands = one.stands }, record { word = refl; short = refl; stands = two.stands }, tt); differ = refl };
+      are = record { are = (record { word = refl; short = refl; stands = one.stands }, (record { word = refl; short = refl; stands = two.stands }, tt)); differ = refl };
       is = next_line 0 a b [] lines after_name (codes "...\n") (field_line (codes "get") name lines after_name one.spelling one.is)
           (field_line (codes "path") path after_name (codes "...\n") two.spelling two.is);
       says = refl;
