@@ -44,22 +44,22 @@ returns-in-Err-parse-clause-memory g c = subst OnlyMemory (sym c.refused-in-Err-
 pub answer-requires : goal.answer-requires
 answer-requires g c = value-shallow c.args.store.now.state (chars c.args.name.now) c.in-Ok.path (tree_of c.in-Ok-get.value.now) c.in_default.ensures.limits c.in-Ok-get.ensures.ok
 
-pub returns-in_ok-answer-in-Ok-get-clause-ok : goal.returns-in_ok-answer-in-Ok-get-clause-ok
-returns-in_ok-answer-in-Ok-get-clause-ok g c =
+pub returns-in-Ok-get-clause-ok : goal.returns-in-Ok-get-clause-ok
+returns-in-Ok-get-clause-ok g c =
     let parsed : path_of (chars c.args.path.now) ≡ Ok c.in-Ok.path = ⊎_elim (λ never. cc never) (λ is. sym is) c.in-Ok.ensures.met in
     get-value (stored_of c.args.store.now) (chars c.args.name.now) (chars c.args.path.now) c.in-Ok.path parsed
     (tree_of c.in-Ok-get.value.now) c.in_ok-answer-in-Ok-get.field-0 c.in-Ok-get.ensures.ok
     (c.in_ok-answer-in-Ok-get.ensures ∙ ap (λ k. framed_text_bytes (one k (tree_of c.in-Ok-get.value.now))) (ascii (codes "value") refl)) c.in_default.ensures.limits
 
-pub returns-in-Err-get-clause-ok : goal.returns-in-Err-get-clause-ok
-returns-in-Err-get-clause-ok g c =
+pub returns-clause-ok : goal.returns-clause-ok
+returns-clause-ok g c =
     let now = stored_of c.args.store.now in
     let request = getting (chars c.args.name.now) (chars c.args.path.now) in
     let parsed : path_of (chars c.args.path.now) ≡ Ok c.in-Ok.path = ⊎_elim (λ never. cc never) (λ is. sym is) c.in-Ok.ensures.met in
     subst (λ r. IfOk r (Replies now request)) (sym c.refused-in-Err-get.ensures)
     (get-refused now (chars c.args.name.now) (chars c.args.path.now) c.in-Ok.path parsed c.in-Err-get.fault c.in-Err-get.ensures.refused)
 
-pub returns-in-Err-get-clause-memory : goal.returns-in-Err-get-clause-memory
-returns-in-Err-get-clause-memory g c =
+pub returns-clause-memory : goal.returns-clause-memory
+returns-clause-memory g c =
     let f = c.in-Err-get.fault in
     subst OnlyMemory (sym c.refused-in-Err-get.ensures) (refused-memory (answered f) (placed-memory c.args.store.now.state (chars c.args.name.now) c.in-Ok.path f c.in-Err-get.ensures.refused))
