@@ -203,9 +203,8 @@ def missing_definitions():
 
 
 def wrong_words():
-    text = text_of("conf_words/src/*.rt")
-    words = {text_of_word for name, text_of_word in re.findall(r'pub const (\w+): &str = "([a-z]+)"', text)
-             if re.search(rf"Command::new\(alloc, {name}\)", text)}
+    text = text_of("conf_words/src/subcommand.rt")
+    words = set(re.findall(r'Subcommand::\w+ => "([a-z]+)"', text))
     for path in ("docs/GUIDE.md", "README.md"):
         named = set(re.findall(r"^    .*?\bconfstore ([a-z]+)\b", page(path), re.M))
         yield from (f"{path}: confstore {word}" for word in sorted(named - words - CLAP_WORDS))

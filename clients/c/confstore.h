@@ -84,7 +84,7 @@ void confstore_bytes_free(struct confstore_bytes *bytes);
 /* A session, or a connection to a server of one. */
 struct confstore;
 
-/* Starts `PROGRAM run --group FOLDER`, and awaits its first answer, so that a store that can't be opened is told here.
+/* Starts `PROGRAM run --group FOLDER`, and awaits its first answer, so that a store that can't be opened is reported here.
  * A NULL program is that of the environment's CONFSTORE, or else "confstore"; it is looked for on the PATH. `*store` is
  * NULL unless this returns CONFSTORE_OK. */
 enum confstore_status confstore_open(const char *program, const char *folder, int timeout, struct confstore **store);

@@ -29,7 +29,7 @@ quoted() {
     printf '"'
 }
 
-# The command: a list of edits. The text of the file stands behind six spaces, so nothing in it can close the command.
+# The command: a list of edits. The text of the file is indented by six spaces, so nothing in it can close the command.
 # A byte order mark at its start is left out, since none may stand inside a command.
 batch() {
     printf -- '---\nbatch:\n  - import: %s\n    text: |2+\n' "$(quoted "$name")"

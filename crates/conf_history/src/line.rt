@@ -1,5 +1,5 @@
 // The line of a command in a log.
-ghost use Rattle.std.specs.Prelude.{◌≡◌, ◌≤◌, ◌-◌, ◌++◌, [], codes, decimal, encode_utf8_all, length, map, slice_range, IfOk, OnOk};
+ghost use Rattle.std.specs.Prelude.{◌≡◌, ◌++◌, [], codes, decimal, encode_utf8_all, map, IfOk, OnOk};
 ghost use Rattle.std.specs.Str.{chars};
 ghost use Rattle.yaml_grammar.specs.Style.{in_double_quotes};
 ghost use Rattle.conf_state.specs.Commands.{command_of, edit_of};
@@ -8,7 +8,7 @@ ghost use Rattle.conf_history.specs.Logs.{command_line, command_words, edit_word
 use conf_state::{Command, Edit};
 use itoa::Buffer;
 use std::alloc::{AllocError, Global};
-use yaml_writer::{Sink, write_scalar};
+use yaml_writer::write_quoted;
 
 /// The line of a command with a number.
 pub(crate) fn record_line(
@@ -109,28 +109,14 @@ fn push_at(
     push_quoted(alloc, path, line)
 }
 
-/// Appends a text in double quotes. The one style writes any text that begins with a space so, on one line; of that
-/// line the first quote and the space are left out, and the line feed.
+/// Appends a text in double quotes, as the one style writes it there.
 fn push_quoted(alloc: Global, text: &str, line: &mut Vec<u8>) -> Result<(), AllocError>
     ensures { OnOk result (line.new.items
         ≡ line.old.items ++ encode_utf8_all (in_double_quotes (chars text.now))) }
 {
-    let mut spaced = String::with_capacity(alloc, text.len())?;
-    spaced.put_char(' ')?;
-    spaced.put_text(text)?;
-    let mut scalar = String::new(alloc);
-    write_scalar(&spaced, 0, &mut scalar)?;
-    push_text("\"", line)?;
-    line.extend_from_slice(after_space(scalar.as_bytes()))?;
-    Ok(())
-}
-
-/// The bytes without the first two and the last one.
-fn after_space(quoted: &[u8]) -> &[u8]
-    requires { 3 ≤ length quoted.now }
-    ensures { result.now ≡ slice_range quoted.now 2 (length quoted.now - 1) }
-{
-    &quoted[2..quoted.len() - 1]
+    let mut quoted = String::new(alloc);
+    write_quoted(text, &mut quoted)?;
+    push_text(&quoted, line)
 }
 
 /// Appends a text.

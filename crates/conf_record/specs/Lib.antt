@@ -4,3 +4,5 @@ pub mod SmallCommands
 pub mod Documents
 pub mod Reading
 pub mod Written
+pub mod Comparing
+pub mod ComparingLaws

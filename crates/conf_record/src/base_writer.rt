@@ -22,7 +22,7 @@ pub fn base_text(alloc: Global, state: &State) -> Result<String, AllocError>
 }
 
 /// Writes the base text of a state. It fails only if the sink does.
-fn write_base<S: Sink>(state: &State, sink: &mut S) -> Result<(), S::Fault>
+pub(crate) fn write_base<S: Sink>(state: &State, sink: &mut S) -> Result<(), S::Fault>
     ensures { OnOk result (S.Takes sink.old (base_text state.now) sink.new) }
 {
     sink.put_text("---\n")?;

@@ -13,6 +13,7 @@
 mod base_reader;
 mod base_writer;
 mod command_reader;
+mod comparison;
 mod documents;
 mod edit_lines;
 mod fields;
@@ -22,7 +23,9 @@ mod parts;
 mod read;
 mod record;
 mod record_sink;
+mod tree_lines;
 mod written;
+mod written_base;
 
 pub use base_writer::base_text;
 pub use conf_state::{Command, Edit, Names, State, good_name, step};

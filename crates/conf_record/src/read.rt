@@ -10,6 +10,7 @@ use crate::base_reader::base_from;
 use crate::command_reader::record_from;
 use crate::parts::configurations;
 use crate::written::written_record;
+use crate::written_base::written_base;
 use conf_state::{Command, State};
 use std::alloc::{AllocError, Global};
 use yaml_tree::{Limits, ReadFault, Tree, bytes_give_one, read_one, refused_bytes_give_none};
@@ -60,6 +61,17 @@ fn spelled_record(alloc: Global, bytes: &[u8]) -> Result<Option<(Command, u64)>,
 ///
 /// It fails only if memory runs out. It takes time linear in the bytes, and moves the names and trees that were read.
 pub fn read_base(alloc: Global, bytes: &[u8]) -> Result<Option<State>, AllocError>
+    ensures some { IfOk result (λ read. IfSome read (λ state. IsBase bytes.now state)) }
+    ensures none { IfOk result (λ read. IfNone read (IsNoBase bytes.now)) }
+{
+    if let Some(state) = written_base(alloc, bytes)? {
+        return Ok(Some(state));
+    }
+    spelled_base(alloc, bytes)
+}
+
+/// Reads a base in any spelling, as [`read_base`] does.
+fn spelled_base(alloc: Global, bytes: &[u8]) -> Result<Option<State>, AllocError>
     ensures some { IfOk result (λ read. IfSome read (λ state. IsBase bytes.now state)) }
     ensures none { IfOk result (λ read. IfNone read (IsNoBase bytes.now)) }
 {

@@ -1,5 +1,5 @@
 -- A copy of configurations, made one by one.
-use Rattle.std.proofs.Common.{◌≡◌, true, List, [], ◌∷◌, ◌++◌, String, Global, Option, Some, None, is_some, string_bytes, IsAscii, append_assoc, refl, sym, ap, subst, ◌∙◌}
+use Rattle.std.proofs.Common.{◌≡◌, true, List, [], ◌∷◌, ◌++◌, String, Global, None, string_bytes, IsAscii, append_assoc, sym, ap, subst, ◌∙◌}
 use Rattle.std.proofs.lemmas.Str.{IsUtf8-string_bytes}
 use Rattle.std.specs.Str.{chars}
 use Rattle.yaml_data.specs.Seen.{tree_of}
@@ -10,10 +10,7 @@ use Rattle.conf_state.specs.Kept.{entries_of, ArePlain}
 use Rattle.conf_state.specs.States.{Entry, config_named, put_config, names_of, names_differ}
 use Rattle.conf_state.proofs.EntryLemmas.{put_under-named, plain_put_under}
 use Rattle.conf_state.proofs.PartLemmas.{put_absent, twice}
-
-none_of : {A : Type 0} (o : Option A) → (is_some o ≡ true → ⊥) → o ≡ None
-none_of None not_some = refl
-none_of (Some a) not_some = absurd (not_some refl)
+use Rattle.conf_state.proofs.PlaceLemmas.{none_of}
 
 -- one more configuration is copied, under a name that is not among those before
 pub copied_more : (all : List Entry) (done : List (String Global × Tree)) (key name : String Global) (value config : Tree) (left new : List (String Global × Tree))

@@ -61,17 +61,17 @@ differ-insert keys name differ = by (list_any (is_name (string_bytes name)) keys
 -- ---- drafts
 
 -- a tree is put under a name
-pub put-made : (old : Draft) (touched : List (String Global × Tree)) (name : List ℕ) (t : grammar.Tree) → IsDraft old
+pub put-made : (old : Draft) (touched : List (String Global × Tree)) (length : ℕ) (name : List ℕ) (t : grammar.Tree) → IsDraft old
     → entries_of touched ≡ put_config (entries_of old.touched) name t
-    → (es : List Entry) → drafted es (record { removed = old.removed; touched = touched }) ≡ put_config (drafted es old) name t
-put-made old touched name t kept seen es =
+    → (es : List Entry) → drafted es (record { removed = old.removed; touched = touched; length = length }) ≡ put_config (drafted es old) name t
+put-made old touched length name t kept seen es =
     ap (put_all (cut_all es (texts_of old.removed.keys))) seen
     ∙ put_all-put (entries_of old.touched) (cut_all es (texts_of old.removed.keys)) name t kept.distinct
 
-pub put-kept : (old : Draft) (touched : List (String Global × Tree)) (name : List ℕ) (t : grammar.Tree) → IsDraft old
+pub put-kept : (old : Draft) (touched : List (String Global × Tree)) (length : ℕ) (name : List ℕ) (t : grammar.Tree) → IsDraft old
     → entries_of touched ≡ put_config (entries_of old.touched) name t → ArePlain touched → good_name name ≡ true → Good t config_limits
-    → IsDraft (record { removed = old.removed; touched = touched })
-put-kept old touched name t kept seen plain named good = record {
+    → IsDraft (record { removed = old.removed; touched = touched; length = length })
+put-kept old touched length name t kept seen plain named good = record {
   plain = plain;
   configs = subst AreConfigs (sym seen) (AreConfigs-put (entries_of old.touched) name t named good kept.configs);
   distinct = ap (λ es. names_differ (names_of es)) seen ∙ names_differ-put (entries_of old.touched) name t kept.distinct;

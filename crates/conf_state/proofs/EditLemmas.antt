@@ -35,7 +35,7 @@ use Rattle.yaml_config.specs.declared.edit.Edit.TheVariants.{Delete}
 use Rattle.conf_state.specs.declared.fault.StoreFault.{StoreFault}
 use Rattle.conf_state.specs.Steps.{and_then, by_path, found, configs_after, configs_after_delete}
 use Rattle.conf_state.specs.Commands.{delete_at}
-use Rattle.conf_state.specs.declared.fault.StoreFault.TheVariants.{NoConfig, TooDeep, ConfigLarge, OutOfMemory}
+use Rattle.conf_state.specs.declared.fault.StoreFault.TheVariants.{NoConfig, OutOfMemory}
 use Rattle.conf_state.proofs.EntryLemmas.{lookup-named}
 use Rattle.conf_state.proofs.LimitLemmas.{entries_length-found, entries_length-put}
 

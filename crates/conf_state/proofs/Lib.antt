@@ -2,7 +2,6 @@ pub mod BaseLemmas
 pub mod CopyLemmas
 pub mod CountLemmas
 pub mod DraftLemmas
-pub mod DraftLengths
 pub mod DraftSteps
 pub mod PlanningLemmas
 pub mod EditLemmas

@@ -141,6 +141,11 @@ pub on_some : {X : Type 0} {P : Type 0} (r : Option (MutBor X)) (place : Option 
 on_some None place is so = tt
 on_some (Some r) place is so = so r.now (sym is)
 
+-- so is one of which it can't be true
+pub none_of : {A : Type 0} (o : Option A) → (is_some o ≡ true → ⊥) → o ≡ None
+none_of None not_some = refl
+none_of (Some a) not_some = absurd (not_some refl)
+
 -- what is some has a value
 pub some_value : {A : Type 0} (o : Option A) → is_some o ≡ true → (a : A) × (o ≡ Some a)
 some_value None is = cc

@@ -1,5 +1,5 @@
 -- The limits of a state stay kept: at the start, and with each configuration put in or taken out.
-use Rattle.std.proofs.Common.{◌≡◌, ℕ, ◌+◌, ◌<◌, true, List, [], String, Global, IsUtf8, Ok, ap, sym, subst, ◌∙◌, refl, arith}
+use Rattle.std.proofs.Common.{◌≡◌, ℕ, ◌+◌, ◌<◌, ◌≤◌, true, List, [], String, Global, IsUtf8, Ok, ap, sym, subst, ◌∙◌, refl, arith}
 use Rattle.std.proofs.lemmas.Fmt.{length-decimal-le}
 use Rattle.std.specs.Str.{chars}
 use Rattle.yaml_grammar.specs.Reads.{Good}
@@ -19,18 +19,22 @@ use Rattle.conf_state.proofs.CountLemmas.{next_state-short}
 use Rattle.conf_state.proofs.EntryLemmas.{cut_from-named, plain_cut_from}
 use Rattle.conf_state.proofs.LimitLemmas.{names_differ-put, names_differ-cut, AreConfigs-put, AreConfigs-cut}
 
--- an empty state keeps its limits
-pub kept_empty : IsKept [] 0 0
-kept_empty = record {
+-- a state without configurations keeps its limits
+pub kept_nothing : (count : ℕ) → count ≤ count_limit → IsKept [] count 0
+kept_nothing count numbered = record {
   plain = tt;
   state = record {
     configs = tt;
     distinct = refl;
-    short = omega (arith, base_length-framed 0 [] (omega arith), length-decimal-le 20 0 (omega arith) (omega arith) (omega arith));
-    numbered = omega arith;
+    short = omega (arith, base_length-framed count [] (omega arith), length-decimal-le 20 count (omega arith) (omega arith) (omega arith));
+    numbered = numbered;
   };
   counted = refl;
 }
+
+-- so does an empty one
+pub kept_empty : IsKept [] 0 0
+kept_empty = kept_nothing 0 (omega arith)
 
 module _ (es : List (String Global × Tree)) (count bytes : ℕ) (kept : IsKept es count bytes) (below : count < count_limit) where
   -- with other configurations

@@ -1,14 +1,17 @@
 -- A draft that is taken into a state, in the code's lists and in those of the definitions.
-use Rattle.std.proofs.Common.{◌≡◌, ℕ, true, List, [], ◌∷◌, String, Global, string_bytes, refl, sym, ap, subst, ◌∙◌}
+use Rattle.std.proofs.Common.{◌≡◌, ℕ, true, List, [], ◌∷◌, ◌++◌, append-nil, append_assoc, String, Global, string_bytes, refl, sym, ap, subst, ◌∙◌}
 use Rattle.std.proofs.lemmas.Str.{IsUtf8-string_bytes}
 use Rattle.yaml_data.specs.declared.tree.Tree.{Tree}
 use Rattle.conf_state.specs.Configs.{put_under, put_each, cut_from, cut_each}
-use Rattle.conf_state.specs.Drafts.{cut_all, put_all, texts_of, drafted, IsDraft}
+use Rattle.conf_state.specs.Drafts.{cut_all, put_all, texts_of, drafted, IsCounted, IsDraft}
 use Rattle.conf_state.specs.declared.draft.Draft.{Draft}
-use Rattle.conf_state.specs.Kept.{entries_of, ArePlain}
+use Rattle.conf_state.specs.BaseTexts.{entries_length}
+use Rattle.conf_state.specs.Kept.{entries_of, ArePlain, IsKept}
 use Rattle.conf_state.specs.Limits.{AreConfigs}
-use Rattle.conf_state.specs.States.{Entry, names_of, names_differ, put_config, cut_config}
+use Rattle.conf_state.specs.States.{Entry, config_named, names_of, names_differ, put_config, cut_config}
 use Rattle.conf_state.proofs.EntryLemmas.{cut_from-named, plain_cut_from, put_under-named, plain_put_under}
+use Rattle.conf_state.proofs.PartLemmas.{put_absent, twice}
+use Rattle.conf_state.proofs.PlaceLemmas.{none_of}
 use Rattle.conf_state.proofs.LimitLemmas.{AreConfigs-put, AreConfigs-cut, names_differ-put, names_differ-cut}
 
 -- ---- the code's lists
@@ -55,6 +58,22 @@ pub names_differ-put_all : (ps es : List Entry) → names_differ (names_of es) �
 names_differ-put_all [] es differ = differ
 names_differ-put_all (p ∷ ps) es differ = names_differ-put_all ps (put_config es p.0 p.1) (names_differ-put es p.0 p.1 differ)
 
+-- ---- a draft of no configurations
+
+cut_all-nothing : (names : List (List ℕ)) → cut_all [] names ≡ []
+cut_all-nothing [] = refl
+cut_all-nothing (name ∷ names) = cut_all-nothing names
+
+-- configurations under new names come after the others
+put_all-new : (ts es : List Entry) → names_differ (names_of (es ++ ts)) ≡ true → put_all es ts ≡ es ++ ts
+put_all-new [] es differ = sym (append-nil es)
+put_all-new (p ∷ ts) es differ =
+    let absent = none_of (config_named es p.0) (λ there. twice es p.0 p.1 ts there differ) in
+    let put = put_absent es p.0 p.1 absent in
+    let whole = append_assoc es (p ∷ []) ts in
+    ap (λ xs. put_all xs ts) put
+    ∙ put_all-new ts (es ++ p ∷ []) (ap (λ xs. names_differ (names_of xs)) whole ∙ differ) ∙ whole
+
 -- ---- a draft
 
 module _ (draft : Draft) (good : IsDraft draft) where
@@ -66,6 +85,12 @@ module _ (draft : Draft) (good : IsDraft draft) where
   drafted-distinct es differ =
       names_differ-put_all (entries_of draft.touched) (cut_all es (texts_of draft.removed.keys)) (names_differ-cut_all (texts_of draft.removed.keys) es differ)
 
+  -- of no configurations it makes those that it holds
+  pub drafted-nothing : drafted [] draft ≡ entries_of draft.touched
+  drafted-nothing =
+      ap (λ xs. put_all xs (entries_of draft.touched)) (cut_all-nothing (texts_of draft.removed.keys))
+      ∙ put_all-new (entries_of draft.touched) [] good.distinct
+
   module _ (es new : List (String Global × Tree)) (plain : ArePlain es) (is : new ≡ put_each draft.touched (cut_each draft.removed.keys es)) where
     -- taking out what it removes and putting in what it holds makes the draft's configurations
     pub taken-named : entries_of new ≡ drafted (entries_of es) draft
@@ -75,3 +100,20 @@ module _ (draft : Draft) (good : IsDraft draft) where
 
     pub taken-plain : ArePlain new
     taken-plain = subst ArePlain (sym is) (plain_put_each draft.touched (cut_each draft.removed.keys es) good.plain (plain_cut_each draft.removed.keys es plain))
+
+-- a draft that holds the configurations of a state, and removes none
+module _ (es : List (String Global × Tree)) (count bytes : ℕ) (kept : IsKept es count bytes) (draft : Draft) (none : draft.removed.keys ≡ []) (holds : draft.touched ≡ es) where
+  pub whole-draft : IsDraft draft
+  whole-draft = record {
+    plain = subst ArePlain (sym holds) kept.plain;
+    configs = subst (λ xs. AreConfigs (entries_of xs)) (sym holds) kept.state.configs;
+    distinct = ap (λ xs. names_differ (names_of (entries_of xs))) holds ∙ kept.state.distinct;
+    removed = ap (λ ks. names_differ (texts_of ks)) none;
+  }
+
+  -- of no configurations it makes those of the state
+  pub whole-drafted : drafted [] draft ≡ entries_of es
+  whole-drafted = drafted-nothing draft whole-draft ∙ ap entries_of holds
+
+  pub whole-counted : draft.length ≡ bytes → IsCounted [] draft
+  whole-counted same = same ∙ kept.counted ∙ ap entries_length (sym whole-drafted)

@@ -1,10 +1,14 @@
 -- What a batch has made of a state's configurations so far.
-use Rattle.std.specs.Prelude.{◌≡◌, ℕ, true, List, [], ◌∷◌, String}
+use Rattle.std.specs.Prelude.{◌≡◌, ℕ, true, List, [], ◌∷◌, String, Some}
 use Rattle.std.specs.declared.alloc.Global.{Global}
+use Rattle.yaml_grammar.specs.Trees.{Tree}
+use Rattle.yaml_config.specs.Changes.{Changes}
+use Rattle.yaml_config.specs.declared.change.Change.{Change}
+use Rattle.conf_state.specs.BaseTexts.{entries_length}
 use Rattle.conf_state.specs.Commands.{text_of}
 use Rattle.conf_state.specs.Kept.{entries_of, ArePlain}
 use Rattle.conf_state.specs.Limits.{AreConfigs}
-use Rattle.conf_state.specs.States.{Entry, names_of, names_differ, put_config, cut_config}
+use Rattle.conf_state.specs.States.{Entry, names_of, names_differ, config_named, put_config, cut_config}
 use Rattle.conf_state.specs.declared.draft.Draft.{Draft}
 
 -- without the configurations under these names
@@ -32,3 +36,15 @@ pub record IsDraft (draft : Draft) : Type 0 where
   pub configs : AreConfigs (entries_of draft.touched)
   pub distinct : names_differ (names_of (entries_of draft.touched)) ≡ true
   pub removed : names_differ (texts_of draft.removed.keys) ≡ true
+
+-- the length of a draft is that of what it makes of these configurations
+abbrev pub IsCounted : List Entry → Draft → Type 0
+IsCounted es draft = draft.length ≡ entries_length (drafted es draft)
+
+-- the change leads from the configurations `old` to the configurations `new`, of which it changes the one under a name
+pub record ChangesOne (change : Change) (old : List Entry) (name : List ℕ) (new : List Entry) : Type 0 where
+  pub before : Tree
+  pub after : Tree
+  pub there : config_named old name ≡ Some before
+  pub changes : Changes change before after
+  pub made : new ≡ put_config old name after

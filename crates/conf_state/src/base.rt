@@ -8,6 +8,9 @@ use itoa::Buffer;
 use yaml_config::Config;
 use yaml_writer::{ByteCount, Sink, write_key, write_value};
 
+/// The indentation of a configuration in a base text: two more than that of its name.
+pub(crate) const ENTRY_INDENT: u64 = 4;
+
 /// The most bytes of a base text.
 pub(crate) const BASE_LIMIT: u64 = 67_108_864;
 

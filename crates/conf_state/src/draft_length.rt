@@ -1,54 +1,69 @@
-// How long a state would be with a draft of it.
-ghost use Rattle.std.specs.Prelude.{◌≡◌, ◌+◌, min};
+// How many bytes the configurations that a draft makes of a state's have in the base text.
+ghost use Rattle.std.specs.Prelude.{◌≡◌, ℕ, List, IfOk, option_map};
 ghost use Rattle.std.specs.Str.{chars};
+ghost use Rattle.yaml_data.specs.Seen.{tree_of};
 ghost use Rattle.conf_state.specs.BaseTexts.{entries_length};
-ghost use Rattle.conf_state.specs.Drafts.{cut_all, drafted, texts_of, IsDraft};
-ghost use Rattle.conf_state.specs.Limits.{IsState};
-ghost use Rattle.conf_state.specs.States.{cut_config};
+ghost use Rattle.conf_state.specs.Drafts.{drafted, ChangesOne, IsCounted, IsDraft};
+ghost use Rattle.conf_state.specs.States.{Entry, config_named, put_config, cut_config};
 
-use crate::base::entry_length;
+use crate::base::{ENTRY_INDENT, entry_length};
 use crate::draft::Draft;
 use crate::state::State;
+use std::alloc::AllocError;
+use yaml_config::{Change, Config};
 
-impl State {
-    /// How many bytes the configurations that a draft makes of this state's have in the base text; at most the greatest
-    /// `u64`. Only what the draft changes is counted.
-    pub(crate) fn length_after(&self, draft: &Draft) -> u64
-        requires { IsDraft draft.now }
-        ensures { result ≡ min (entries_length (drafted self.now.configs draft.now)) u64.MAX }
+// No memory holds configurations of 18,446,744,073,709,551,615 bytes or more, and so such a sum is returned as an
+// `AllocError`.
+
+impl Draft {
+    /// How many bytes the configurations would have with this one under its name.
+    pub(crate) fn length_with(
+        &self,
+        state: &State,
+        name: &str,
+        config: &Config,
+    ) -> Result<u64, AllocError>
+        requires draft { IsDraft self.now }
+        requires counted { IsCounted state.now.configs self.now }
+        ensures { IfOk result (λ length. length
+            ≡ entries_length (put_config (drafted state.now.configs self.now) (chars name.now)
+            (tree_of config.now))) }
     {
-        let mut kept = self.length_without_removed(draft);
-        let mut put = 0u64;
-        for (name, config) in draft.touched.iter() {
-            kept -= self.length_unless_removed(draft, name);
-            put = put.saturating_add(entry_length(name, config));
+        let length = self
+            .length_without(state, name)
+            .saturating_add(entry_length(name, config));
+        if length == u64::MAX {
+            return Err(AllocError);
         }
-        kept.saturating_add(put)
+        Ok(length)
     }
 
-    /// How many bytes the configurations that a draft doesn't remove have in the base text.
-    fn length_without_removed(&self, draft: &Draft) -> u64
-        requires { IsDraft draft.now }
-        ensures exact { result
-            ≡ entries_length (cut_all self.now.configs (texts_of draft.now.removed.keys)) }
-        ensures limits { IsState self.now }
+    /// How many bytes the configurations would have without the one under a name.
+    pub(crate) fn length_without(&self, state: &State, name: &str) -> u64
+        requires draft { IsDraft self.now }
+        requires counted { IsCounted state.now.configs self.now }
+        ensures { result
+            ≡ entries_length (cut_config (drafted state.now.configs self.now) (chars name.now)) }
     {
-        let mut kept = self.entries_length();
-        for name in draft.removed.iter() {
-            kept -= self.length_of(name);
+        let length = self.length;
+        match self.get(state, name) {
+            Some(config) => length - entry_length(name, config),
+            None => length,
         }
-        kept
     }
+}
 
-    /// How many bytes the configuration under a name has in the base text; 0 if there is none, or a draft removes it.
-    fn length_unless_removed(&self, draft: &Draft, name: &str) -> u64
-        requires { IsState self.now }
-        ensures { let kept = cut_all self.now.configs (texts_of draft.now.removed.keys) in
-            result + entries_length (cut_config kept (chars name.now)) ≡ entries_length kept }
-    {
-        if draft.removed.contains(name) {
-            return 0;
-        }
-        self.length_of(name)
+/// How many bytes configurations of `before` bytes have after a change of one of them.
+pub(crate) fn length_changed(before: u64, change: Change) -> Result<u64, AllocError>
+    requires { (old new : List Entry) × (name : List ℕ)
+        × (before ≡ entries_length old) × ChangesOne change old name new }
+    ensures { IfOk result (λ after. (old new : List Entry) (name : List ℕ)
+        → before ≡ entries_length old → ChangesOne change old name new
+        → after ≡ entries_length new) }
+{
+    let after = change.length_after(before, ENTRY_INDENT);
+    if after > u128::from(u64::MAX) {
+        return Err(AllocError);
     }
+    Ok(after as u64)
 }

@@ -1,8 +1,9 @@
 //! The state of a store: configurations by name, and what each command makes of them.
 //!
-//! [`step`] performs a [`Command`] on a [`State`], or returns a [`StoreFault`], which says why it is refused. A command
-//! is a single [`Edit`] or a batch of them. A [`Room`] says whether the journal has room for the command's record.
-//! [`good_name`] says which texts name a configuration. The texts of states and commands are those of `conf_record`.
+//! [`step`] performs a [`Command`] on a [`State`], or returns a [`StoreFault`], which says why it is refused.
+//! [`replay`] does so for a state that is dropped then. A command is a single [`Edit`] or a batch of them. A [`Room`]
+//! says whether the journal has room for the command's record. [`good_name`] says which texts name a configuration.
+//! The texts of states and commands are those of `conf_record`.
 #![tactic(auto)]
 
 mod base;
@@ -14,6 +15,7 @@ mod fault;
 mod laws;
 mod name;
 mod planning;
+mod replaying;
 mod room;
 mod state;
 mod steps;
@@ -22,6 +24,7 @@ pub use command::{Command, Edit};
 pub use fault::StoreFault;
 pub use laws::{accepted_commands_are_counted, runs_are_joined, steps_are_counted_or_refused};
 pub use name::good_name;
+pub use replaying::replay;
 pub use room::{RECORD_LIMIT, Room};
 pub use state::{Names, State};
 pub use steps::step;

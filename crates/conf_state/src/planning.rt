@@ -3,6 +3,7 @@ ghost use Rattle.std.specs.Prelude.{◌≡◌, ◌⊎◌, ◌<◌, Ok, Err, OnOk
 ghost use Rattle.std.specs.Str.{chars};
 ghost use Rattle.yaml_grammar.specs.Reads.{Good};
 ghost use Rattle.yaml_data.specs.Seen.{tree_of};
+ghost use Rattle.yaml_config.specs.Changes.{Changes};
 ghost use Rattle.yaml_config.specs.Limits.{config_limits};
 ghost use Rattle.conf_state.specs.Edits.{checked_edit, edited_at, IsPlan};
 
@@ -20,18 +21,20 @@ pub(crate) struct EditPlan {
     pub(crate) places: StepPlaces,
 }
 
-/// Makes an edit inside a configuration, in place, at a pointer that is not empty. The fault is that of the pointer or
-/// the path, `TooDeep` or `ConfigLarge`.
+/// Makes an edit inside a configuration, in place, at a pointer that is not empty. Returns what it changes in the
+/// configuration's length. The fault is that of the pointer or the path, `TooDeep` or `ConfigLarge`.
 pub(crate) fn edit_config(
     alloc: Global,
     config: &mut Config,
     pointer: &str,
     edit: PathEdit,
-) -> Result<(), StoreFault>
+) -> Result<Change, StoreFault>
     requires within { Good (tree_of config.old) config_limits }
     requires steps { 0 < length pointer.now }
     ensures ok { OnOk result (edited_at edit (tree_of config.old) (chars pointer.now)
         ≡ Ok (tree_of config.new)) }
+    ensures changes { IfOk result (λ change.
+        Changes change (tree_of config.old) (tree_of config.new)) }
     ensures within { OnOk result (Good (tree_of config.new) config_limits) }
     ensures refused { IfErr result (λ fault. (fault ≡ StoreFault.OutOfMemory)
         ⊎ (edited_at edit (tree_of config.old) (chars pointer.now) ≡ Err fault)) }
@@ -39,7 +42,7 @@ pub(crate) fn edit_config(
     let path = Path::parse(alloc, pointer)?;
     let plan = plan_edit(alloc, config, &path, &edit)?;
     edit.perform(alloc, config, &path, &plan.places, plan.bytes)?;
-    Ok(())
+    Ok(plan.change)
 }
 
 /// The plan of an edit of a configuration, if it then keeps its limits.

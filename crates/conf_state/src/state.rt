@@ -16,10 +16,10 @@ ghost use Rattle.yaml_grammar.specs.Trees.{Tree as Meant, mapping};
 ghost use Rattle.yaml_grammar.specs.Style.{style_text, value_at};
 ghost use Rattle.conf_state.specs.BaseTexts.{members, base_length, entry_length, entries_length};
 ghost use Rattle.conf_state.specs.Steps.{and_then, next_state};
-ghost use Rattle.conf_state.specs.Drafts.{drafted, IsDraft};
+ghost use Rattle.conf_state.specs.Drafts.{drafted, IsCounted, IsDraft};
 ghost use Rattle.conf_state.specs.Edits.{configs_after_edit};
 
-use crate::base::{BASE_LIMIT, base_length, entry_length, write_entry};
+use crate::base::{BASE_LIMIT, ENTRY_INDENT, base_length, entry_length, write_entry};
 use crate::configs::{Configs, Entries};
 use crate::draft::Draft;
 use crate::fault::StoreFault;
@@ -27,14 +27,13 @@ use crate::name::good_name;
 use crate::planning::plan_edit;
 use crate::room::Room;
 use crate::steps::check_limits;
+use indexmap::IndexSet;
 use std::alloc::{AllocError, Global};
 use std::marker::Model;
+use std::mem;
 use tree_path::Path;
 use yaml_config::{Change, Config, Edit as PathEdit};
 use yaml_writer::Sink;
-
-/// The indentation of a configuration in a base text: two more than that of its name.
-const ENTRY_INDENT: u64 = 4;
 
 /// The configurations of a store by name, in order, and how many commands were accepted. The number of bytes that the
 /// configurations have in the base text is kept with them. Contracts see the list of configurations, with each name as
@@ -234,18 +233,62 @@ impl State {
 
     /// Replaces the configurations by those that a draft makes of them. A refusal changes nothing.
     pub(crate) fn take(&mut self, draft: Draft, room: Room) -> Result<(), StoreFault>
-        requires { IsDraft draft }
+        requires draft { IsDraft draft }
+        requires counted { IsCounted self.old.configs draft }
         ensures ok { OnOk result (next_state self.old room (drafted self.old.configs draft)
             ≡ Ok self.new) }
         ensures refused { IfErr result (λ fault. (fault ≡ StoreFault.OutOfMemory)
             ⊎ (next_state self.old room (drafted self.old.configs draft) ≡ Err fault)) }
         ensures unchanged { OnErr result (self.new ≡ self.old) }
     {
-        let entries = self.length_after(&draft);
-        self.check_room(entries, room)?;
-        let Draft { removed, touched } = draft;
+        let Draft {
+            removed,
+            touched,
+            length,
+        } = draft;
+        self.check_room(length, room)?;
         self.configs.update(&removed, touched)?;
-        self.entries = entries;
+        self.entries = length;
+        self.count += 1;
+        Ok(())
+    }
+
+    /// Takes all configurations out, as a draft of the state that is left, which has none. It takes no memory.
+    pub(crate) fn take_configs(&mut self, alloc: Global) -> Draft
+        ensures nothing { self.new.configs ≡ [] }
+        ensures count { self.new.count ≡ self.old.count }
+        ensures draft { IsDraft result }
+        ensures counted { IsCounted self.new.configs result }
+        ensures same { drafted self.new.configs result ≡ self.old.configs }
+    {
+        let touched = mem::replace(&mut self.configs, Configs::new(alloc));
+        let length = mem::replace(&mut self.entries, 0);
+        Draft {
+            removed: IndexSet::new(alloc),
+            touched,
+            length,
+        }
+    }
+
+    /// Puts the configurations that a draft makes into a state that has none. A refusal changes nothing.
+    pub(crate) fn fill(&mut self, draft: Draft, room: Room) -> Result<(), StoreFault>
+        requires nothing { self.old.configs ≡ [] }
+        requires draft { IsDraft draft }
+        requires counted { IsCounted self.old.configs draft }
+        ensures ok { OnOk result (next_state self.old room (drafted self.old.configs draft)
+            ≡ Ok self.new) }
+        ensures refused { IfErr result (λ fault.
+            next_state self.old room (drafted self.old.configs draft) ≡ Err fault) }
+        ensures unchanged { OnErr result (self.new ≡ self.old) }
+    {
+        let Draft {
+            touched,
+            length,
+            ..
+        } = draft;
+        self.check_room(length, room)?;
+        self.configs = touched;
+        self.entries = length;
         self.count += 1;
         Ok(())
     }
@@ -307,7 +350,7 @@ impl State {
     }
 
     /// How many bytes the configuration under a name has in the base text; 0 if there is none.
-    pub(crate) fn length_of(&self, name: &str) -> u64
+    fn length_of(&self, name: &str) -> u64
         ensures { result + entries_length (cut_config self.now.configs (chars name.now))
             ≡ entries_length self.now.configs }
     {

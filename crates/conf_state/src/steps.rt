@@ -3,7 +3,7 @@ ghost use Rattle.std.specs.Prelude.{◌≡◌, ◌⊎◌, Ok, Err, IfOk, OnOk, O
 ghost use Rattle.std.specs.Str.{chars};
 ghost use Rattle.yaml_grammar.specs.Reads.{Good};
 ghost use Rattle.yaml_data.specs.Seen.{tree_of};
-ghost use Rattle.conf_state.specs.Drafts.{drafted, IsDraft};
+ghost use Rattle.conf_state.specs.Drafts.{drafted, IsCounted, IsDraft};
 ghost use Rattle.conf_state.specs.Names.{good_name};
 ghost use Rattle.conf_state.specs.Commands.{command_of, edit_of, single, batch, text_of, import_as, set_at, delete_at};
 ghost use Rattle.yaml_config.specs.Limits.{config_limits};
@@ -69,21 +69,30 @@ fn step_batch(
         0 => Err(StoreFault::EmptyBatch),
         1 => step_edit(alloc, state, edits.pop().unwrap(), room),
         _ => {
-            let draft = draft_edits(alloc, state, edits)?;
+            let draft = draft_edits(alloc, state, Draft::new(alloc, state), edits)?;
             state.take(draft, room)
         }
     }
 }
 
-/// What edits make of a state, one after the other.
-fn draft_edits(alloc: Global, state: &State, edits: Vec<Edit>) -> Result<Draft, StoreFault>
+/// What edits make of a draft of a state, one after the other.
+pub(crate) fn draft_edits(
+    alloc: Global,
+    state: &State,
+    mut draft: Draft,
+    edits: Vec<Edit>,
+) -> Result<Draft, StoreFault>
+    requires draft { IsDraft draft }
+    requires counted { IsCounted state.now.configs draft }
     ensures draft { IfOk result IsDraft }
-    ensures ok { IfOk result (λ draft. all_edited state.now.configs (map edit_of edits.items)
-        ≡ Ok (drafted state.now.configs draft)) }
+    ensures counted { IfOk result (λ new. IsCounted state.now.configs new) }
+    ensures ok { IfOk result (λ new.
+        all_edited (drafted state.now.configs draft) (map edit_of edits.items)
+        ≡ Ok (drafted state.now.configs new)) }
     ensures refused { IfErr result (λ fault. (fault ≡ StoreFault.OutOfMemory)
-        ⊎ (all_edited state.now.configs (map edit_of edits.items) ≡ Err fault)) }
+        ⊎ (all_edited (drafted state.now.configs draft) (map edit_of edits.items)
+        ≡ Err fault)) }
 {
-    let mut draft = Draft::new(alloc);
     for edit in edits {
         draft.perform(alloc, state, edit)?;
     }

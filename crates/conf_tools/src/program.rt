@@ -21,10 +21,7 @@ use conf_folder::{FolderDisk, FolderFault};
 use conf_session::{Checkpoints, SessionFault};
 use conf_state::StoreFault;
 use conf_store::OpenFault;
-use conf_words::{
-    CHECK, CHECKPOINT, CHECKPOINT_AFTER, DELETE, EXPORT, FOLDER, FORMAT, GET, GROUP, IMPORT, INIT,
-    LOG, NAME, NAMES, RUN, SALVAGE, SET, VERIFY, command,
-};
+use conf_words::{CHECKPOINT_AFTER, FOLDER, GROUP, NAME, Subcommand, command};
 use std::alloc::{AllocError, Global};
 use std::fs::File;
 use std::io;
@@ -79,7 +76,7 @@ pub fn perform<F: Files<File = File>, R: Read, W: Write, E: Write>(
     ensures { Performs (R.remaining reader.old.inner) (R.remaining reader.new.inner)
         (W.contents writer.old) (W.contents writer.new) result }
 {
-    let Ok(command) = command(alloc) else {
+    let Ok(command) = command(alloc, words) else {
         return write_fault(errors, ToolFault::from(AllocError)).code();
     };
     match command.try_get_matches_from(words) {
@@ -110,22 +107,27 @@ fn obey<F: Files<File = File>, R: Read, W: Write, E: Write>(
     ensures { Performs (R.remaining reader.old.inner) (R.remaining reader.new.inner)
         (W.contents writer.old) (W.contents writer.new) (code_of result) }
 {
-    match matches.subcommand() {
-        Some((RUN, words)) => run_folder(rt, alloc, words, reader, writer, errors),
-        Some((EXPORT, words)) => export_folder(rt, alloc, words, writer, errors),
-        Some((INIT, words)) => init_folder(rt, alloc, words, errors),
-        Some((IMPORT, words)) => import_into_folder(rt, alloc, words, reader, errors),
-        Some((SET, words)) => set_in_folder(rt, alloc, words, reader, errors),
-        Some((DELETE, words)) => delete_in_folder(rt, alloc, words, errors),
-        Some((CHECKPOINT, words)) => change_folder(rt, alloc, words, Change::Checkpoint, errors),
-        Some((NAMES, words)) => names_of_folder(rt, alloc, words, writer, errors),
-        Some((GET, words)) => get_from_folder(rt, alloc, words, writer, errors),
-        Some((LOG, words)) => log_of_folder(rt, alloc, words, writer, errors),
-        Some((VERIFY, words)) => verify_folder(rt, alloc, words, writer, errors),
-        Some((SALVAGE, words)) => salvage_folder(rt, alloc, words, writer, errors),
-        Some((FORMAT, words)) => format_words(rt, alloc, words, reader, writer, errors),
-        Some((CHECK, words)) => check_words(rt, alloc, words, reader, writer, errors),
-        _ => Status::WrongWords,
+    let Some((name, words)) = matches.subcommand() else {
+        return Status::WrongWords;
+    };
+    let Some(subcommand) = Subcommand::named(name) else {
+        return Status::WrongWords;
+    };
+    match subcommand {
+        Subcommand::Run => run_folder(rt, alloc, words, reader, writer, errors),
+        Subcommand::Export => export_folder(rt, alloc, words, writer, errors),
+        Subcommand::Init => init_folder(rt, alloc, words, errors),
+        Subcommand::Import => import_into_folder(rt, alloc, words, reader, errors),
+        Subcommand::Set => set_in_folder(rt, alloc, words, reader, errors),
+        Subcommand::Delete => delete_in_folder(rt, alloc, words, errors),
+        Subcommand::Checkpoint => change_folder(rt, alloc, words, Change::Checkpoint, errors),
+        Subcommand::Names => names_of_folder(rt, alloc, words, writer, errors),
+        Subcommand::Get => get_from_folder(rt, alloc, words, writer, errors),
+        Subcommand::Log => log_of_folder(rt, alloc, words, writer, errors),
+        Subcommand::Verify => verify_folder(rt, alloc, words, writer, errors),
+        Subcommand::Salvage => salvage_folder(rt, alloc, words, writer, errors),
+        Subcommand::Format => format_words(rt, alloc, words, reader, writer, errors),
+        Subcommand::Check => check_words(rt, alloc, words, reader, writer, errors),
     }
 }
 

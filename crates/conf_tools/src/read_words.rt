@@ -223,7 +223,7 @@ fn open_file<F: Files<File = File>>(
     }
 }
 
-/// Writes a fault of a word that reads a store in one line, and returns its status. A read that failed is told as the
+/// Writes a fault of a word that reads a store in one line, and returns its status. A read that failed is reported as the
 /// fault of the device.
 fn write_reading_fault<E: Write>(errors: &mut E, fault: ReadingFault) -> Status
     ensures { result ≡ status_of_reading fault }

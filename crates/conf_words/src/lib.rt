@@ -2,10 +2,12 @@
 #![tactic(auto)]
 
 mod reads;
+mod subcommand;
 mod words;
 
-pub use reads::{AT, GET, LOG, NAMES, NEW, RAW, SALVAGE, VERIFY};
+pub use reads::{AT, NEW, RAW};
+pub use subcommand::Subcommand;
 pub use words::{
-    CHECK, CHECKPOINT, CHECKPOINT_AFTER, DELETE, EXPORT, FILE, FOLDER, FORMAT, GROUP, IMPORT,
-    IN_PLACE, INIT, NAME, ONLY_CHECK, POINTER, RUN, SET, VALUE, YAML, command,
+    CHECKPOINT_AFTER, FILE, FOLDER, GROUP, IN_PLACE, NAME, ONLY_CHECK, POINTER, VALUE, YAML,
+    command,
 };

@@ -3,11 +3,6 @@ use crate::words::{POINTER, WHOLE_POINTER_HELP, YAML, folder_arg, name_arg};
 use clap::{Arg, ArgAction, Command, value_parser};
 use std::alloc::{AllocError, Global};
 
-/// The word of the subcommand that writes the names of the configurations.
-pub const NAMES: &str = "names";
-
-const NAMES_ABOUT: &str = "Writes the names of the configurations of a store";
-
 const NAMES_HELP: &str = "\
 Each name is one line, in order. No lock is taken and nothing is changed, so this runs beside a
 session that holds the store.
@@ -15,11 +10,6 @@ session that holds the store.
 Examples:
   confstore names store
   confstore names store --at 12";
-
-/// The word of the subcommand that writes a value of a configuration.
-pub const GET: &str = "get";
-
-const GET_ABOUT: &str = "Writes the value at a JSON Pointer of a configuration";
 
 const GET_HELP: &str = "\
 The value is written in the one style. With `--raw` a text is written as it is, with a line feed
@@ -36,11 +26,6 @@ pub const RAW: &str = "raw";
 
 const RAW_HELP: &str = "Writes a text as it is, with a line feed after it";
 
-/// The word of the subcommand that writes what each command was.
-pub const LOG: &str = "log";
-
-const LOG_ABOUT: &str = "Writes the commands that a store has accepted since its last checkpoint";
-
 const LOG_HELP: &str = "\
 Each command is one line, as `2 set web \"/port\"`: its number, what it did, and where. With `--yaml`
 the records are written as they stand in store.yaml, each a YAML document. No lock is taken and
@@ -52,11 +37,6 @@ Examples:
   confstore log store --at 12";
 
 const LOG_YAML_HELP: &str = "Writes the records as they stand in store.yaml";
-
-/// The word of the subcommand that looks whether a store can be opened.
-pub const VERIFY: &str = "verify";
-
-const VERIFY_ABOUT: &str = "Reads a whole store, and writes whether it can be opened";
 
 const VERIFY_HELP: &str = "\
 The answer is a YAML mapping, a line for each key. Of a store that can be opened:
@@ -74,12 +54,6 @@ Of one that can't:
 Then the fault is `Damaged`, and the status is 1.
 
 Example:  confstore verify store";
-
-/// The word of the subcommand that makes a store of what a damaged one still says.
-pub const SALVAGE: &str = "salvage";
-
-const SALVAGE_ABOUT: &str =
-    "Makes a new store of what a damaged one says before its first bad piece";
 
 const SALVAGE_HELP: &str = "\
 FOLDER is read and stays as it is. NEW is made if it is missing, and is refused if it has a
@@ -109,18 +83,21 @@ fn at_arg<'a>(alloc: Global) -> Arg<'a> {
         .help(AT_HELP)
 }
 
-pub(crate) fn names_command<'a>(alloc: Global) -> Result<Command<'a>, AllocError> {
-    Command::new(alloc, NAMES)
-        .about(NAMES_ABOUT)
+pub(crate) fn names_arguments<'a>(
+    alloc: Global,
+    names: Command<'a>,
+) -> Result<Command<'a>, AllocError> {
+    names
         .after_help(NAMES_HELP)
         .arg(at_arg(alloc))?
         .arg(folder_arg(alloc))
 }
 
-pub(crate) fn get_command<'a>(alloc: Global) -> Result<Command<'a>, AllocError> {
-    Command::new(alloc, GET)
-        .about(GET_ABOUT)
-        .after_help(GET_HELP)
+pub(crate) fn get_arguments<'a>(
+    alloc: Global,
+    get: Command<'a>,
+) -> Result<Command<'a>, AllocError> {
+    get.after_help(GET_HELP)
         .arg(
             Arg::new(alloc, RAW)
                 .long(RAW)
@@ -133,10 +110,11 @@ pub(crate) fn get_command<'a>(alloc: Global) -> Result<Command<'a>, AllocError> 
         .arg(Arg::new(alloc, POINTER).help(WHOLE_POINTER_HELP))
 }
 
-pub(crate) fn log_command<'a>(alloc: Global) -> Result<Command<'a>, AllocError> {
-    Command::new(alloc, LOG)
-        .about(LOG_ABOUT)
-        .after_help(LOG_HELP)
+pub(crate) fn log_arguments<'a>(
+    alloc: Global,
+    log: Command<'a>,
+) -> Result<Command<'a>, AllocError> {
+    log.after_help(LOG_HELP)
         .arg(
             Arg::new(alloc, YAML)
                 .long(YAML)
@@ -147,16 +125,18 @@ pub(crate) fn log_command<'a>(alloc: Global) -> Result<Command<'a>, AllocError> 
         .arg(folder_arg(alloc))
 }
 
-pub(crate) fn verify_command<'a>(alloc: Global) -> Result<Command<'a>, AllocError> {
-    Command::new(alloc, VERIFY)
-        .about(VERIFY_ABOUT)
-        .after_help(VERIFY_HELP)
-        .arg(folder_arg(alloc))
+pub(crate) fn verify_arguments<'a>(
+    alloc: Global,
+    verify: Command<'a>,
+) -> Result<Command<'a>, AllocError> {
+    verify.after_help(VERIFY_HELP).arg(folder_arg(alloc))
 }
 
-pub(crate) fn salvage_command<'a>(alloc: Global) -> Result<Command<'a>, AllocError> {
-    Command::new(alloc, SALVAGE)
-        .about(SALVAGE_ABOUT)
+pub(crate) fn salvage_arguments<'a>(
+    alloc: Global,
+    salvage: Command<'a>,
+) -> Result<Command<'a>, AllocError> {
+    salvage
         .after_help(SALVAGE_HELP)
         .arg(folder_arg(alloc))?
         .arg(Arg::new(alloc, NEW).required(true).help(NEW_HELP))

@@ -1,5 +1,8 @@
-// The words of the program, and what its help says of them.
-use crate::reads::{get_command, log_command, names_command, salvage_command, verify_command};
+// The arguments of the program's subcommands, and what its help says of them.
+use crate::reads::{
+    get_arguments, log_arguments, names_arguments, salvage_arguments, verify_arguments,
+};
+use crate::subcommand::Subcommand;
 use clap::{Arg, ArgAction, Command, value_parser};
 use std::alloc::{AllocError, Global};
 
@@ -23,11 +26,6 @@ Statuses:
 
 A fault is one line on standard error, as `confstore: KeyTwice`.
 `confstore help run` shows how commands and answers look.";
-
-/// The word of the subcommand that runs a session.
-pub const RUN: &str = "run";
-
-const RUN_ABOUT: &str = "Performs the commands on standard input on the store in a folder";
 
 const RUN_HELP: &str = "\
 Each command is a YAML document that a line of `...` closes. It is performed as soon as that line
@@ -75,11 +73,6 @@ const BYTES: &str = "BYTES";
 const CHECKPOINT_AFTER_HELP: &str =
     "Makes a checkpoint each time the store file has grown by so many bytes; needs --group";
 
-/// The word of the subcommand that writes a configuration.
-pub const EXPORT: &str = "export";
-
-const EXPORT_ABOUT: &str = "Writes a configuration of the store in a folder in the one style";
-
 const EXPORT_HELP: &str = "Example:  confstore export store web";
 
 /// The argument that names the folder of a store.
@@ -92,17 +85,12 @@ pub const NAME: &str = "NAME";
 
 const NAME_HELP: &str = "The name of the configuration; after `--` if it begins with `-`";
 
-/// The word of the subcommand that writes a text in the one style.
-pub const FORMAT: &str = "format";
-
-const FORMAT_ABOUT: &str = "Writes the tree of a YAML text in the one style";
-
 const FORMAT_HELP: &str = "\
 One FILE, or standard input, is written to standard output. More FILEs need -i or --check. Each FILE
 is tried, and the status is the worst. With -i a FILE that stands in the one style is not touched.
 Another is replaced whole: where the power fails, it is the old one or the new one. It keeps its mode,
-and its owner where the system allows it. A text that is refused is left as it is, and told on
-standard error, as `web.yaml:3:7: Syntax Flow`.
+and its owner where the system allows it. A text that is refused is left as it is, and reported
+on standard error, as `web.yaml:3:7: Syntax Flow`.
 
 With --check the status is 1 where a FILE would change.
 
@@ -123,11 +111,6 @@ const ONLY_CHECK_HELP: &str = "Changes nothing, and names each FILE that would c
 
 const FILES_HELP: &str = "The files of the texts; standard input if none is given, or for `-`";
 
-/// The word of the subcommand that looks where a text departs from the one style.
-pub const CHECK: &str = "check";
-
-const CHECK_ABOUT: &str = "Writes where YAML texts depart from the one style";
-
 const CHECK_HELP: &str = "\
 Each finding is one line: of a FILE as `web.yaml:3: S1 the line ends in a space or TAB`, and of
 standard input without a FILE as `S1 3`, the rule and the number of the line, from 1.
@@ -136,7 +119,7 @@ standard input without a FILE as `S1 3`, the rule and the number of the line, fr
   S3  the line has more than 120 characters
   S4  the text is not what `confstore format` writes for it, and first differs from that on this line
 
-A text that is refused is told on standard error, as `web.yaml:3:7: Syntax Flow`. Each FILE is tried.
+A refused text is reported on standard error, as `web.yaml:3:7: Syntax Flow`. Each FILE is tried.
 The status is 0 where nothing is found. It is 1 where something is, or a text is refused, and 3 where
 a FILE can't be read.
 
@@ -144,20 +127,10 @@ Examples:
   confstore check *.yaml
   confstore check < file";
 
-/// The word of the subcommand that makes a folder with an empty store.
-pub const INIT: &str = "init";
-
-const INIT_ABOUT: &str = "Makes a folder with an empty store";
-
 const INIT_HELP: &str = "\
 A folder that is there serves too. It is refused if it has a store.yaml (StoreExists).
 
 Example:  confstore init store";
-
-/// The word of the subcommand that puts a text's tree under a name.
-pub const IMPORT: &str = "import";
-
-const IMPORT_ABOUT: &str = "Reads a YAML text, and puts its tree under a name";
 
 const IMPORT_HELP: &str = "\
 A configuration that has the name is replaced. Nothing is printed where it is done.
@@ -170,11 +143,6 @@ Examples:
 pub const FILE: &str = "FILE";
 
 const TEXT_FILE_HELP: &str = "The file of the text; standard input if it is left out or `-`";
-
-/// The word of the subcommand that sets the value at a pointer.
-pub const SET: &str = "set";
-
-const SET_ABOUT: &str = "Sets the value at a JSON Pointer of a configuration";
 
 const SET_HELP: &str = "\
 VALUE is the text itself. With `--yaml` it is read as a YAML text, so that a list or a mapping can be
@@ -204,11 +172,6 @@ pub const YAML: &str = "yaml";
 
 const SET_YAML_HELP: &str = "Reads VALUE, or standard input if that is `-`, as a YAML text";
 
-/// The word of the subcommand that removes a value or a configuration.
-pub const DELETE: &str = "delete";
-
-const DELETE_ABOUT: &str = "Removes a configuration, or what is at a JSON Pointer of it";
-
 const DELETE_HELP: &str = "\
 Nothing is printed where it is done.
 
@@ -216,37 +179,62 @@ Examples:
   confstore delete store web /tags/0
   confstore delete store web";
 
-/// The word of the subcommand that makes the store file short.
-pub const CHECKPOINT: &str = "checkpoint";
-
-const CHECKPOINT_ABOUT: &str = "Makes the store file as short as its state";
-
 const CHECKPOINT_HELP: &str = "\
 What earlier commands were is gone then.
 
 Example:  confstore checkpoint store";
 
-/// Returns the words that the program takes, with their help and the version. It fails only if memory runs out.
-pub fn command<'a>(alloc: Global) -> Result<Command<'a>, AllocError> {
-    Command::new(alloc, "confstore")
+/// Returns the words that the program takes, with their help and the version. `words` are those that it is given, of
+/// which the first is its name. If the second is a subcommand, no other has its arguments, so that a start takes less
+/// time. It fails only if memory runs out.
+pub fn command<'a>(alloc: Global, words: &[String]) -> Result<Command<'a>, AllocError> {
+    let asked = asked_in(words);
+    let mut program = Command::new(alloc, "confstore")
         .version(VERSION)
         .about(ABOUT)
         .after_help(GROUPS_AND_STATUSES)
-        .subcommand_required(true)
-        .subcommand(init_command(alloc)?)?
-        .subcommand(import_command(alloc)?)?
-        .subcommand(set_command(alloc)?)?
-        .subcommand(delete_command(alloc)?)?
-        .subcommand(checkpoint_command(alloc)?)?
-        .subcommand(run_command(alloc)?)?
-        .subcommand(export_command(alloc)?)?
-        .subcommand(names_command(alloc)?)?
-        .subcommand(get_command(alloc)?)?
-        .subcommand(log_command(alloc)?)?
-        .subcommand(verify_command(alloc)?)?
-        .subcommand(salvage_command(alloc)?)?
-        .subcommand(format_command(alloc)?)?
-        .subcommand(check_command(alloc)?)
+        .subcommand_required(true);
+    for subcommand in Subcommand::ALL {
+        let listed = Command::new(alloc, subcommand.name()).about(subcommand.about());
+        let taken = match asked {
+            Some(asked) if asked != subcommand => listed,
+            _ => with_arguments(alloc, subcommand, listed)?,
+        };
+        program = program.subcommand(taken)?;
+    }
+    Ok(program)
+}
+
+/// The subcommand that the second word asks for.
+fn asked_in(words: &[String]) -> Option<Subcommand> {
+    match words {
+        [_, word, ..] => Subcommand::named(word),
+        _ => None,
+    }
+}
+
+/// A subcommand with its arguments and its help.
+fn with_arguments<'a>(
+    alloc: Global,
+    subcommand: Subcommand,
+    listed: Command<'a>,
+) -> Result<Command<'a>, AllocError> {
+    match subcommand {
+        Subcommand::Init => init_arguments(alloc, listed),
+        Subcommand::Import => import_arguments(alloc, listed),
+        Subcommand::Set => set_arguments(alloc, listed),
+        Subcommand::Delete => delete_arguments(alloc, listed),
+        Subcommand::Checkpoint => checkpoint_arguments(alloc, listed),
+        Subcommand::Run => run_arguments(alloc, listed),
+        Subcommand::Export => export_arguments(alloc, listed),
+        Subcommand::Names => names_arguments(alloc, listed),
+        Subcommand::Get => get_arguments(alloc, listed),
+        Subcommand::Log => log_arguments(alloc, listed),
+        Subcommand::Verify => verify_arguments(alloc, listed),
+        Subcommand::Salvage => salvage_arguments(alloc, listed),
+        Subcommand::Format => format_arguments(alloc, listed),
+        Subcommand::Check => check_arguments(alloc, listed),
+    }
 }
 
 /// The argument that names the folder of a store.
@@ -259,30 +247,24 @@ pub(crate) fn name_arg<'a>(alloc: Global) -> Arg<'a> {
     Arg::new(alloc, NAME).required(true).help(NAME_HELP)
 }
 
-fn init_command<'a>(alloc: Global) -> Result<Command<'a>, AllocError> {
-    Command::new(alloc, INIT)
-        .about(INIT_ABOUT)
-        .after_help(INIT_HELP)
-        .arg(folder_arg(alloc))
+fn init_arguments<'a>(alloc: Global, init: Command<'a>) -> Result<Command<'a>, AllocError> {
+    init.after_help(INIT_HELP).arg(folder_arg(alloc))
 }
 
-fn import_command<'a>(alloc: Global) -> Result<Command<'a>, AllocError> {
-    Command::new(alloc, IMPORT)
-        .about(IMPORT_ABOUT)
+fn import_arguments<'a>(alloc: Global, import: Command<'a>) -> Result<Command<'a>, AllocError> {
+    import
         .after_help(IMPORT_HELP)
         .arg(folder_arg(alloc))?
         .arg(name_arg(alloc))?
         .arg(Arg::new(alloc, FILE).help(TEXT_FILE_HELP))
 }
 
-fn set_command<'a>(alloc: Global) -> Result<Command<'a>, AllocError> {
+fn set_arguments<'a>(alloc: Global, set: Command<'a>) -> Result<Command<'a>, AllocError> {
     let value = Arg::new(alloc, VALUE)
         .required(true)
         .allow_negative_numbers(true)
         .help(VALUE_HELP);
-    Command::new(alloc, SET)
-        .about(SET_ABOUT)
-        .after_help(SET_HELP)
+    set.after_help(SET_HELP)
         .arg(
             Arg::new(alloc, YAML)
                 .long(YAML)
@@ -295,26 +277,25 @@ fn set_command<'a>(alloc: Global) -> Result<Command<'a>, AllocError> {
         .arg(value)
 }
 
-fn delete_command<'a>(alloc: Global) -> Result<Command<'a>, AllocError> {
-    Command::new(alloc, DELETE)
-        .about(DELETE_ABOUT)
+fn delete_arguments<'a>(alloc: Global, delete: Command<'a>) -> Result<Command<'a>, AllocError> {
+    delete
         .after_help(DELETE_HELP)
         .arg(folder_arg(alloc))?
         .arg(name_arg(alloc))?
         .arg(Arg::new(alloc, POINTER).help(WHOLE_POINTER_HELP))
 }
 
-fn checkpoint_command<'a>(alloc: Global) -> Result<Command<'a>, AllocError> {
-    Command::new(alloc, CHECKPOINT)
-        .about(CHECKPOINT_ABOUT)
+fn checkpoint_arguments<'a>(
+    alloc: Global,
+    checkpoint: Command<'a>,
+) -> Result<Command<'a>, AllocError> {
+    checkpoint
         .after_help(CHECKPOINT_HELP)
         .arg(folder_arg(alloc))
 }
 
-fn run_command<'a>(alloc: Global) -> Result<Command<'a>, AllocError> {
-    Command::new(alloc, RUN)
-        .about(RUN_ABOUT)
-        .after_help(RUN_HELP)
+fn run_arguments<'a>(alloc: Global, run: Command<'a>) -> Result<Command<'a>, AllocError> {
+    run.after_help(RUN_HELP)
         .arg(
             Arg::new(alloc, GROUP)
                 .long(GROUP)
@@ -334,9 +315,8 @@ fn checkpoint_after<'a>(alloc: Global) -> Result<Arg<'a>, AllocError> {
         .requires_arg(GROUP)
 }
 
-fn export_command<'a>(alloc: Global) -> Result<Command<'a>, AllocError> {
-    Command::new(alloc, EXPORT)
-        .about(EXPORT_ABOUT)
+fn export_arguments<'a>(alloc: Global, export: Command<'a>) -> Result<Command<'a>, AllocError> {
+    export
         .after_help(EXPORT_HELP)
         .arg(folder_arg(alloc))?
         .arg(name_arg(alloc))
@@ -347,9 +327,8 @@ fn files_arg<'a>(alloc: Global) -> Arg<'a> {
     Arg::new(alloc, FILE).num_args(1..).help(FILES_HELP)
 }
 
-fn format_command<'a>(alloc: Global) -> Result<Command<'a>, AllocError> {
-    Command::new(alloc, FORMAT)
-        .about(FORMAT_ABOUT)
+fn format_arguments<'a>(alloc: Global, format: Command<'a>) -> Result<Command<'a>, AllocError> {
+    format
         .after_help(FORMAT_HELP)
         .arg(
             Arg::new(alloc, IN_PLACE)
@@ -369,9 +348,6 @@ fn format_command<'a>(alloc: Global) -> Result<Command<'a>, AllocError> {
         .arg(files_arg(alloc))
 }
 
-fn check_command<'a>(alloc: Global) -> Result<Command<'a>, AllocError> {
-    Command::new(alloc, CHECK)
-        .about(CHECK_ABOUT)
-        .after_help(CHECK_HELP)
-        .arg(files_arg(alloc))
+fn check_arguments<'a>(alloc: Global, check: Command<'a>) -> Result<Command<'a>, AllocError> {
+    check.after_help(CHECK_HELP).arg(files_arg(alloc))
 }

@@ -4,15 +4,15 @@
 //! A standard stream that is closed at the start is a stream whose reads or writes fail. Else the first file that is
 //! opened would have its number: the answers, or the commands, would be those of a store's own file.
 //!
-//! Where whoever reads standard output closes its pipe, as `head` does, nothing is told of that on standard error. A
-//! session tells it: its answers were wanted.
+//! Where whoever reads standard output closes its pipe, as `head` does, nothing on standard error says so. A session
+//! reports it: its answers were wanted.
 #![tactic(auto)]
 
 mod pipe;
 
 use crate::pipe::{Errors, Output};
 use conf_tools::{TailReader, ToolFault, perform, refuse_words};
-use conf_words::RUN;
+use conf_words::Subcommand;
 use std::cell::Cell;
 use std::fs::{File, OpenOptions};
 use std::io::Write;
@@ -81,7 +81,7 @@ fn is_closed<S: AsFd>(stream: &S) -> bool {
 /// Whether the words, of which the first is the program's name, ask for a session.
 fn is_session(words: &[String]) -> bool {
     match words {
-        [_, word, ..] => word.as_str() == RUN,
+        [_, word, ..] => Subcommand::named(word) == Some(Subcommand::Run),
         _ => false,
     }
 }

@@ -136,7 +136,8 @@ members_distinct-cut_member (member k t ms) ns key d is =
 
 -- ---- one step
 
-child-distinct : (t u : Tree) (token : List ℕ) → distinct t ≡ true → child t token ≡ Ok u → distinct u ≡ true
+-- in what a step leads to, keys differ
+pub child-distinct : (t u : Tree) (token : List ℕ) → distinct t ≡ true → child t token ≡ Ok u → distinct u ≡ true
 unfolding child
 child-distinct (text value) u token d is = cc
 child-distinct (sequence ts) u token d is = in_sequence (index_of token) is

@@ -1,6 +1,7 @@
 pub mod Descents
 pub mod EditLaws
 pub mod Edits
+pub mod KeyLemmas
 pub mod Numbers
 pub mod Places
 pub mod StepLaws

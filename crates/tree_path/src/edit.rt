@@ -111,7 +111,7 @@ pub fn delete_planned(tree: &mut Tree, path: &Path, places: &StepPlaces) -> Resu
     delete_at(alloc, tree, path.tokens(), Known::Found(places))
 }
 
-fn value_at<'t>(tree: &'t Tree, tokens: &[CowStr<'_>]) -> Result<&'t Tree, PathFault>
+pub(crate) fn value_at<'t>(tree: &'t Tree, tokens: &[CowStr<'_>]) -> Result<&'t Tree, PathFault>
     ensures ok { IfOk result (λ value. at (tree_of tree.now) (texts tokens.now)
         ≡ Ok (tree_of value.now)) }
     ensures refused { IfErr result (λ fault. at (tree_of tree.now) (texts tokens.now) ≡ Err fault) }

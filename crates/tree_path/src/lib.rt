@@ -3,12 +3,14 @@
 #![tactic(auto)]
 
 mod edit;
+mod key_index;
 mod laws;
 mod place;
 mod step_places;
 
 pub use edit::{at, delete, delete_planned, set, set_planned};
 pub use json_pointer::{Path, PathFault, text_is_read_back};
+pub use key_index::KeyIndex;
 pub use laws::{keys_stay_distinct, set_is_found};
 pub use place::{Miss, child, child_at, child_in, key_in, step_place};
 pub use step_places::{Known, StepPlaces};

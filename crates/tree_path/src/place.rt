@@ -1,14 +1,18 @@
 // One step of a path: the value that it leads to.
-ghost use Rattle.std.specs.Prelude.{◌≡◌, ℕ, List, IfOk, IfErr, Ok, Err, option_map};
+ghost use Rattle.std.specs.Prelude.{◌≡◌, true, ℕ, List, IfOk, IfErr, Ok, Err, option_map};
 ghost use Rattle.std.specs.Str.{chars};
-ghost use Rattle.yaml_grammar.specs.Trees.{sequence, mapping};
+ghost use Rattle.yaml_grammar.specs.Trees.{sequence, mapping, distinct, members_distinct};
 ghost use Rattle.yaml_data.specs.Seen.{tree_of, elements_of, members_of};
 ghost use Rattle.tree_path.specs.Paths.{child, put, refusal, key_in};
 ghost use Rattle.tree_path.specs.Steps.{number_of, as_usize, index_below, step_place, key_place as place_of};
 
+use crate::key_index::KeyIndex;
 use json_pointer::PathFault;
 use std::mem;
 use yaml_data::{Text, Tree};
+
+/// The fewest pairs of a wide mapping, whose keys an index may know. In a smaller one they are compared one by one.
+const WIDE: usize = 64;
 
 /// Why a step leads to nothing.
 #[derive(Clone, Copy, Debug, PartialEq, Eq)]
@@ -74,6 +78,29 @@ pub fn key_place(pairs: &[(Text, Tree)], key: &str) -> Option<usize>
     None
 }
 
+/// The same as [`key_place`], by an index where there is one. A walk along a wide mapping is noted in `walked`, with the
+/// number of steps that lead to it.
+fn key_place_by(
+    index: Option<&KeyIndex>,
+    pairs: &[(Text, Tree)],
+    key: &str,
+    passed: usize,
+    walked: &mut Option<usize>,
+) -> Option<usize>
+    requires { members_distinct (members_of pairs.now) ≡ true }
+    ensures { result ≡ place_of (chars key.now) pairs.now }
+{
+    if pairs.len() >= WIDE {
+        if let Some(index) = index
+            && let Some(place) = index.find(pairs, key)
+        {
+            return Some(place);
+        }
+        *walked = Some(passed);
+    }
+    key_place(pairs, key)
+}
+
 /// The place, from 0, of a key in a mapping; `None` if it is missing, or the tree is no mapping.
 pub fn key_in(tree: &Tree, key: &str) -> Option<usize>
     ensures { result ≡ key_in (tree_of tree.now) (chars key.now) }
@@ -92,6 +119,43 @@ pub fn step_place(tree: &Tree, token: &str) -> Result<usize, Miss>
         Tree::Text(_) => Err(Miss::Absent),
         Tree::Seq(items) => element_index(token, items.len()),
         Tree::Map(pairs) => key_place(pairs, token).ok_or(Miss::Absent),
+    }
+}
+
+/// The same as [`key_in`], by an index where there is one. A walk along a wide mapping is noted in `walked`, with the
+/// number of steps that lead to it.
+pub(crate) fn key_in_by(
+    index: Option<&KeyIndex>,
+    tree: &Tree,
+    key: &str,
+    passed: usize,
+    walked: &mut Option<usize>,
+) -> Option<usize>
+    requires { distinct (tree_of tree.now) ≡ true }
+    ensures { result ≡ key_in (tree_of tree.now) (chars key.now) }
+{
+    match tree {
+        Tree::Map(pairs) => key_place_by(index, pairs, key, passed, walked),
+        _ => None,
+    }
+}
+
+/// The same as [`step_place`], by an index where there is one. A walk along a wide mapping is noted in `walked`, with
+/// the number of steps that lead to it.
+pub(crate) fn step_place_by(
+    index: Option<&KeyIndex>,
+    tree: &Tree,
+    token: &str,
+    passed: usize,
+    walked: &mut Option<usize>,
+) -> Result<usize, Miss>
+    requires { distinct (tree_of tree.now) ≡ true }
+    ensures { result ≡ step_place (tree_of tree.now) (chars token.now) }
+{
+    match tree {
+        Tree::Text(_) => Err(Miss::Absent),
+        Tree::Seq(items) => element_index(token, items.len()),
+        Tree::Map(pairs) => key_place_by(index, pairs, token, passed, walked).ok_or(Miss::Absent),
     }
 }
 

@@ -1,12 +1,13 @@
 // Where the steps of a path lead, kept so that an edit need not search for them again.
-ghost use Rattle.std.specs.Prelude.{◌≡◌, ◌⊎◌, Err, IfOk, IfErr};
+ghost use Rattle.std.specs.Prelude.{◌≡◌, ◌⊎◌, true, Err, IfOk, IfErr};
 ghost use Rattle.std.specs.Str.{chars};
-ghost use Rattle.yaml_grammar.specs.Trees.{Tree as Meant};
+ghost use Rattle.yaml_grammar.specs.Trees.{Tree as Meant, distinct};
 ghost use Rattle.yaml_data.specs.Seen.{tree_of};
 ghost use Rattle.tree_path.specs.Paths.{at, key_in};
 ghost use Rattle.tree_path.specs.Steps.{ArePlaces, KnowsLast, KnowsStep, parents_of, step_place};
 
-use crate::place::{self, Miss, key_in};
+use crate::key_index::KeyIndex;
+use crate::place::{self, Miss, key_in, key_in_by, step_place_by};
 use json_pointer::{Path, PathFault};
 use std::alloc::Global;
 use yaml_data::Tree;
@@ -18,16 +19,26 @@ pub struct StepPlaces {
     pub parents: Vec<usize>,
     /// The place of the last step's key in its mapping, from 0; `None` if it is missing, or leads into no mapping.
     pub last: Option<usize>,
+    /// How many steps lead to a wide mapping whose keys were compared one by one, the last such; `None` if there was
+    /// none.
+    pub walked: Option<usize>,
 }
 
 impl StepPlaces {
-    /// Finds the places of a path's steps. Each key is compared with those of its mapping once.
+    /// Finds the places of a path's steps in a tree in whose mappings no key comes twice. Each key is compared with
+    /// those of its mapping once, or looked up where the index knows its place.
     ///
     /// # Errors
     ///
     /// The fault of the first step before the last that leads nowhere, as [`at`](crate::at) says it;
     /// [`PathFault::OutOfMemory`] may come at any point.
-    pub fn find(alloc: Global, tree: &Tree, path: &Path) -> Result<StepPlaces, PathFault>
+    pub fn find(
+        alloc: Global,
+        tree: &Tree,
+        path: &Path,
+        index: Option<&KeyIndex>,
+    ) -> Result<StepPlaces, PathFault>
+        requires { distinct (tree_of tree.now) ≡ true }
         ensures ok { IfOk result (λ places. ArePlaces places (tree_of tree.now) path.now) }
         ensures refused { IfErr result (λ fault. (fault ≡ PathFault.OutOfMemory)
             ⊎ (at (tree_of tree.now) (parents_of path.now) ≡ Err fault)) }
@@ -36,20 +47,26 @@ impl StepPlaces {
             return Ok(StepPlaces {
                 parents: Vec::new(alloc),
                 last: None,
+                walked: None,
             });
         };
         let mut parents = Vec::with_capacity(alloc, tokens.len())?;
         let mut node = tree;
+        let mut walked = None;
         for (passed, token) in tokens.iter().enumerate() {
-            let place = match place::step_place(node, token.as_str()) {
+            let place = match step_place_by(index, node, token.as_str(), passed, &mut walked) {
                 Ok(place) => place,
                 Err(miss) => return Err(miss.at_step(passed + 1)),
             };
             parents.push(place)?;
             node = place::child_in(node, place);
         }
-        let last = key_in(node, last.as_str());
-        Ok(StepPlaces { parents, last })
+        let last = key_in_by(index, node, last.as_str(), tokens.len(), &mut walked);
+        Ok(StepPlaces {
+            parents,
+            last,
+            walked,
+        })
     }
 }
 

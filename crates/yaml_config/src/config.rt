@@ -13,6 +13,7 @@ use crate::change::Slot;
 use crate::limits::Limits;
 use std::alloc::{AllocError, Global};
 use std::marker::Model;
+use tree_path::KeyIndex;
 use yaml_data::{Text, Tree, has_distinct_keys};
 use yaml_events::ReadFault;
 use yaml_writer::{Size, style_len};
@@ -28,6 +29,8 @@ pub struct Config {
     tree: Tree,
     length: u64,
     lines: Option<u64>,
+    /// Where the keys of the wide mapping are in which keys were last searched for: a hint, of which nothing is known.
+    index: Option<Box<KeyIndex>>,
 }
 
 impl Model for Config {
@@ -136,6 +139,7 @@ impl Config {
             tree,
             length,
             lines: None,
+            index: None,
         }
     }
 
@@ -151,6 +155,7 @@ impl Config {
             tree,
             length,
             lines: Some(element.lines as u64),
+            index: None,
         }
     }
 
@@ -162,6 +167,7 @@ impl Config {
             tree: Tree::Text(Text::empty()),
             length: EMPTY_LENGTH,
             lines: Some(0),
+            index: None,
         }
     }
 
@@ -209,7 +215,7 @@ impl Config {
         self.tree.depth()
     }
 
-    /// A copy: the same texts in the same order. It fails only if memory runs out.
+    /// A copy: the same texts in the same order, with no index. It fails only if memory runs out.
     pub fn try_copy(&self, alloc: Global) -> Result<Config, AllocError>
         ensures { IfOk result (λ copy. tree_of copy ≡ tree_of self.now) }
     {
@@ -218,7 +224,30 @@ impl Config {
             tree,
             length: self.length,
             lines: self.lines,
+            index: None,
         })
+    }
+
+    /// The index of a wide mapping, if there is one.
+    pub(crate) fn index(&self) -> Option<&KeyIndex> {
+        match &self.index {
+            Some(index) => Some(index),
+            None => None,
+        }
+    }
+
+    /// The index of a wide mapping, taken out of the configuration.
+    pub(crate) fn take_index(&mut self) -> Option<Box<KeyIndex>>
+        ensures { self.new ≡ self.old }
+    {
+        self.index.take()
+    }
+
+    /// Puts an index of a wide mapping in.
+    pub(crate) fn put_index(&mut self, index: Option<Box<KeyIndex>>)
+        ensures { self.new ≡ self.old }
+    {
+        self.index = index;
     }
 }
 

@@ -17,7 +17,7 @@ use crate::limits::Limits;
 use crate::measure::{Plan, plan_delete, plan_set_sized};
 use std::alloc::Global;
 use std::mem;
-use tree_path::{Path, PathFault, StepPlaces, delete_planned, set_planned};
+use tree_path::{KeyIndex, Path, PathFault, StepPlaces, delete_planned, set_planned};
 use yaml_data::Tree;
 
 /// An edit of a configuration, at a path that is not empty (RFC 6901). It can be planned before anything changes, and
@@ -91,6 +91,50 @@ impl Edit {
         ensures refused { IfErr result (λ fault. fault ≡ PathFault.OutOfMemory) }
         ensures unchanged { OnErr result (tree_of config.new ≡ tree_of config.old) }
     {
+        let index = with_walk(config.take_index(), alloc, config.tree(), path, places);
+        let index = self.noted_in(index, path, places);
+        self.edit_config(alloc, config, path, places, bytes)?;
+        config.put_index(index);
+        Ok(())
+    }
+
+    /// The index of a wide mapping, as it is after the edit.
+    fn noted_in(
+        &self,
+        index: Option<Box<KeyIndex>>,
+        path: &Path,
+        places: &StepPlaces,
+    ) -> Option<Box<KeyIndex>> {
+        let mut index = index?;
+        match self {
+            Edit::Set(_) => index.note_set(path, places),
+            Edit::Delete => index.note_delete(path, places),
+        }
+        Some(index)
+    }
+
+    /// Makes the edit that was planned, as [`Edit::perform`] does, in a configuration that has no index.
+    fn edit_config(
+        self,
+        alloc: Global,
+        config: &mut Config,
+        path: &Path,
+        places: &StepPlaces,
+        bytes: u64,
+    ) -> Result<(), PathFault>
+        requires steps { 0 < length path.now }
+        requires places { ArePlaces places.now (tree_of config.old) path.now }
+        requires leaves { (new : Meant)
+            × (tree_after_edit self (tree_of config.old) path.now ≡ Ok new)
+            × (depth new ≤ config_limits.depth)
+            × (byte_len (style_text new) ≤ config_limits.style)
+            × (bytes ≡ byte_len (style_text new)) }
+        ensures ok { OnOk result (tree_after_edit self (tree_of config.old) path.now
+            ≡ Ok (tree_of config.new)) }
+        ensures within { OnOk result (Good (tree_of config.new) config_limits) }
+        ensures refused { IfErr result (λ fault. fault ≡ PathFault.OutOfMemory) }
+        ensures unchanged { OnErr result (tree_of config.new ≡ tree_of config.old) }
+    {
         let before = config.style_length();
         let mut tree = mem::replace(config, Config::empty()).into_tree();
         match self.edit_tree(alloc, &mut tree, path, places) {
@@ -137,4 +181,24 @@ impl Edit {
             }
         }
     }
+}
+
+/// The index, after a search for the steps of a path: it is made or replaced if there were some walks along wide
+/// mappings and there is memory.
+fn with_walk(
+    index: Option<Box<KeyIndex>>,
+    alloc: Global,
+    tree: &Tree,
+    path: &Path,
+    places: &StepPlaces,
+) -> Option<Box<KeyIndex>> {
+    if places.walked.is_none() {
+        return index;
+    }
+    let mut index = match index {
+        Some(index) => index,
+        None => Box::new(alloc, KeyIndex::new(alloc)).ok()?,
+    };
+    index.count_walk(alloc, tree, path, places);
+    Some(index)
 }

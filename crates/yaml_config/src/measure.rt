@@ -42,7 +42,8 @@ pub struct Plan {
 /// a configuration. The faults are those of `set`.
 ///
 /// Memory is taken for the places alone. Its time grows with the path, the value and what the value replaces, and not
-/// with the configuration, except that a key is compared with the keys of its mapping one by one.
+/// with the configuration, except that a key is compared with the keys of its mapping one by one where the
+/// configuration has no index of the mapping.
 pub fn plan_set(
     alloc: Global,
     config: &Config,
@@ -82,7 +83,7 @@ pub(crate) fn plan_set_sized(
         ⊎ (set (tree_of config.now) path.now (tree_of value.now) ≡ Err fault)) }
 {
     let tree = config.tree();
-    let places = StepPlaces::find(alloc, tree, path)?;
+    let places = StepPlaces::find(alloc, tree, path, config.index())?;
     let change = set_change(tree, path.tokens(), Known::Found(&places), value, element)?;
     Ok(Plan { change, places })
 }
@@ -92,7 +93,8 @@ pub(crate) fn plan_set_sized(
 /// those of `delete`, and [`PathFault::OutOfMemory`].
 ///
 /// Memory is taken for the places alone. Its time grows with the path and with what is deleted, and not with the
-/// configuration, except that a key is compared with the keys of its mapping one by one.
+/// configuration, except that a key is compared with the keys of its mapping one by one where the configuration has no
+/// index of the mapping.
 pub fn plan_delete(alloc: Global, config: &Config, path: &Path) -> Result<Plan, PathFault>
     requires { 0 < length path.now }
     ensures ok { IfOk result (λ plan. (new : Meant)
@@ -104,7 +106,7 @@ pub fn plan_delete(alloc: Global, config: &Config, path: &Path) -> Result<Plan, 
         ⊎ (delete (tree_of config.now) path.now ≡ Err fault)) }
 {
     let tree = config.tree();
-    let places = StepPlaces::find(alloc, tree, path)?;
+    let places = StepPlaces::find(alloc, tree, path, config.index())?;
     let change = delete_change(tree, path.tokens(), Known::Found(&places))?;
     Ok(Plan { change, places })
 }

@@ -5,6 +5,7 @@ pub mod SizeBounds
 pub mod SizeSums
 pub mod StyleLemmas
 pub mod WalkLemmas
+pub mod BlockLemmas
 pub mod BudgetLemmas
 pub mod ByteTable
 pub mod LineLemmas

@@ -21,6 +21,7 @@ mod text_sink;
 pub use count::{ByteCount, style_len};
 pub use laws::lengths_follow_indentation;
 pub use limited::LimitedText;
+pub use quoted::write_quoted;
 pub use scalar_style::{ScalarStyle, key_style, value_style};
 pub use sink::Sink;
 pub use size::Size;

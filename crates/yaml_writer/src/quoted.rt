@@ -7,17 +7,28 @@ ghost use Rattle.std.specs.List.{list_all};
 ghost use Rattle.yaml_grammar.specs.Style.{hex, letter_escape, quoted_char, quoted_chars, in_double_quotes};
 ghost use Rattle.yaml_writer.specs.Runs.{stands_alone, number_escape};
 
-use crate::bytes::{are_alone, is_alone};
+use crate::bytes::{ByteClass, LoneBytes, are_all};
 use crate::scalar_style::is_shown;
 use crate::sink::Sink;
 
-/// Writes a text in double quotes, on one line, without the line's end. It fails only if the sink does.
-pub(crate) fn write_quoted<S: Sink>(text: &str, sink: &mut S) -> Result<(), S::Fault>
+/// Writes a text in double quotes (YAML 1.2.2, 7.3.1), on one line, without the line's end. It fails only if the sink
+/// does.
+pub fn write_quoted<S: Sink>(text: &str, sink: &mut S) -> Result<(), S::Fault>
     ensures { OnOk result (S.Takes sink.old (in_double_quotes (chars text.now)) sink.new) }
 {
     sink.put_char('"')?;
-    write_quoted_chars(text, sink)?;
+    write_between_quotes(text, sink)?;
     sink.put_char('"')
+}
+
+/// Writes what is between the quotes: at once if it is ASCII that needs no escape.
+fn write_between_quotes<S: Sink>(text: &str, sink: &mut S) -> Result<(), S::Fault>
+    ensures { OnOk result (S.Takes sink.old (quoted_chars (chars text.now)) sink.new) }
+{
+    if are_all::<LoneBytes>(text.as_bytes()) {
+        return sink.put_text(text);
+    }
+    write_quoted_chars(text, sink)
 }
 
 /// Writes what is between the quotes: runs of ASCII that need no escape at once, other characters one by one.
@@ -45,7 +56,7 @@ fn run_len(text: &str) -> usize
 {
     let bytes = text.as_bytes();
     let mut len = sixteens_len(bytes);
-    while len < bytes.len() && is_alone(bytes[len]) {
+    while len < bytes.len() && LoneBytes::has(bytes[len]) {
         len += 1;
     }
     len
@@ -57,7 +68,7 @@ fn sixteens_len(bytes: &[u8]) -> usize
     ensures alone { list_all stands_alone (take result bytes.now) ≡ true }
 {
     let mut len = 0;
-    while bytes.len() - len >= 16 && are_alone(&bytes[len..len + 16]) {
+    while bytes.len() - len >= 16 && are_all::<LoneBytes>(&bytes[len..len + 16]) {
         len += 16;
     }
     len

@@ -8,7 +8,7 @@ ghost use Rattle.yaml_chars.specs.Classes.{is_in};
 ghost use Rattle.yaml_chars.specs.Signs.{line_feed};
 ghost use Rattle.yaml_writer.specs.ScalarStyles.{value_style, key_style, literal_style};
 
-use crate::bytes::{are_in_lines, is_word_byte};
+use crate::bytes::{LineBytes, WordBytes, are_all};
 use crate::lines::split_line;
 use yaml_chars::printable;
 
@@ -89,7 +89,7 @@ fn has_word_chars(text: &str) -> bool
     ensures word { result ≡ list_all word_char (chars text.now) }
     ensures ascii { IsTrue result → chars text.now ≡ text.now }
 {
-    text.bytes().all(is_word_byte)
+    are_all::<WordBytes>(text.as_bytes())
 }
 
 /// Whether a text of ASCII is, in any letter case, a word that other readers of YAML take for something else.
@@ -129,7 +129,7 @@ fn is_literal(text: &str) -> bool
 fn is_shown_in_lines(text: &str) -> bool
     ensures { result ≡ list_all shown_or_feed (chars text.now) }
 {
-    are_in_lines(text.as_bytes()) || text.chars().all(is_shown_or_feed)
+    are_all::<LineBytes>(text.as_bytes()) || text.chars().all(is_shown_or_feed)
 }
 
 fn has_feed(text: &str) -> bool

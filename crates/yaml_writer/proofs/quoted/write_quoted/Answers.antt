@@ -5,5 +5,5 @@ pub returns : goal.returns
 returns g c =
     let both = g.met.S.Sink.takes_both in
     on_ok_weaker c.put_char-2.result
-    (both _ _ _ _ _ (both _ _ _ _ _ c.in_ok-put_char.ensures c.in_ok-write_quoted_chars.ensures))
+    (both _ _ _ _ _ (both _ _ _ _ _ c.in_ok-put_char.ensures c.in_ok-write_between_quotes.ensures))
     c.put_char-2.ensures

@@ -28,4 +28,4 @@ returns-clause-ok c =
     let there : is_some (config_named es (text_of c.args.name)) ≡ true =
     ap (λ bs. is_some (config_named es (chars bs))) (sym c.deref.ensures) ∙ sym c.has.ensures.there ∙ c.if-not-has.false in
     delete-cut es (text_of c.args.name) (chars c.args.path.now) empty there
-    ∙ ap Ok (sym (c.in_ok-remove.ensures.ok c.args.state.now.configs c.has.ensures.distinct))
+    ∙ ap Ok (sym c.in_ok-remove.ensures.ok)

@@ -1,6 +1,8 @@
 use Rattle.std.proofs.Common.{◌≡◌, Ok, string_bytes, subst, sym, ap, ◌∙◌}
 use Rattle.std.proofs.lemmas.Str.{IsUtf8-string_bytes}
 use Rattle.yaml_data.specs.Seen.{tree_of}
+use Rattle.std.specs.Str.{chars}
+use Rattle.conf_state.specs.BaseTexts.{entries_length}
 use Rattle.conf_state.specs.Commands.{text_of}
 use Rattle.conf_state.specs.Drafts.{drafted}
 use Rattle.conf_state.specs.Kept.{entries_of, ArePlain}
@@ -20,11 +22,20 @@ seen c =
 pub returns-clause-ok : goal.returns-clause-ok
 returns-clause-ok c = λ es.
     ap (λ r. and_then r (λ u. Ok (put_config (drafted es c.args.self.now) (text_of c.args.name) u))) c.in_ok-check_limits.ensures.ok
-    ∙ ap Ok (sym (put-made c.args.self.now c.put.new.self (text_of c.args.name) (tree_of c.args.config) c.requires.draft (seen (goal.at.returns-clause-ok c).In_ok-put) es))
+    ∙ ap Ok (sym (put-made c.args.self.now c.put.new.self c.in_ok-length.length (text_of c.args.name) (tree_of c.args.config) c.requires.draft (seen (goal.at.returns-clause-ok c).In_ok-put) es))
 
 pub returns-clause-draft : goal.returns-clause-draft
 returns-clause-draft c =
     let ascii = good_name-ascii (string_bytes c.args.name) (IsUtf8-string_bytes c.args.name) c.requires.named in
-    put-kept c.args.self.now c.put.new.self (text_of c.args.name) (tree_of c.args.config) c.requires.draft (seen (goal.at.returns-clause-draft c).In_ok-put)
+    put-kept c.args.self.now c.put.new.self c.in_ok-length.length (text_of c.args.name) (tree_of c.args.config) c.requires.draft (seen (goal.at.returns-clause-draft c).In_ok-put)
     (subst ArePlain (sym c.in_ok-put.ensures.ok) (plain_put_under c.args.name c.args.config c.args.self.now.touched ascii c.requires.draft.plain))
     c.requires.named c.in_ok-check_limits.ensures.within
+
+pub returns-clause-counted : goal.returns-clause-counted
+returns-clause-counted c =
+    let es = c.args.state.now.configs in
+    let t = tree_of c.args.config in
+    c.in_ok-length.ensures
+    ∙ ap (λ bs. entries_length (put_config (drafted es c.args.self.now) (chars bs) t)) c.deref.ensures
+    ∙ ap entries_length (sym (put-made c.args.self.now c.put.new.self c.in_ok-length.length (text_of c.args.name) t c.requires.draft
+    (seen (goal.at.returns-clause-counted c).In_ok-put) es))

@@ -8,6 +8,7 @@ use Rattle.json_pointer.specs.Tokens.{texts}
 use Rattle.tree_path.specs.Paths.{at, key_in, last_key}
 use Rattle.tree_path.specs.Steps.{step_place, Leads}
 use Rattle.tree_path.proofs.Descents.{texts-append, texts-turn, at_from-turn, at_from-missed, last_key-parent}
+use Rattle.tree_path.proofs.EditLaws.{child-distinct}
 use Rattle.tree_path.proofs.Ways.{place-missed, Leads-push, parents-split}
 use Rattle.tree_path.proofs.step_places.StepPlaces.find.Goals as goal
 
@@ -48,6 +49,7 @@ loop-passed-preserved c =
           (Leads-push (texts (take l.passed tokens)) text 1 t node (tree_of c.child_in-node.result.now) l.parents.items c.in-Ok.place l.invariant.1
           (l.invariant.2 ∙ sym before) l.invariant.0 place found)),
       omega (arith, more, long, count),
+      child-distinct node (tree_of c.child_in-node.result.now) text l.invariant.3 found,
     )
 
 pub returns-clause-ok : goal.returns-clause-ok
@@ -65,6 +67,6 @@ returns-clause-ok c =
           subst (λ xs. Leads xs t l.parents.items) (sym (parents-split c.args.path.now (texts tokens) name split))
           (subst (λ xs. Leads (texts xs) t l.parents.items) all l.invariant.1);
       last =
-          c.key_in-last.ensures ∙ ap (λ b. key_in node (chars b)) c.as_str-2.ensures.value
+          c.key_in_by-last.ensures ∙ ap (λ b. key_in node (chars b)) c.as_str-2.ensures.value
           ∙ sym (ap (last_key t) split ∙ last_key-parent (texts tokens) name 1 t node there);
     }

@@ -1,4 +1,5 @@
-use Rattle.std.proofs.Common.{◌≡◌, Ok, length, take}
+use Rattle.std.proofs.Common.{◌≡◌, true, Ok, length, take}
+use Rattle.yaml_grammar.specs.Trees.{distinct}
 use Rattle.yaml_data.specs.Seen.{tree_of}
 use Rattle.tree_path.specs.Paths.{at}
 use Rattle.tree_path.specs.Steps.{Leads}
@@ -10,3 +11,4 @@ invariant-loop-passed l =
     (at (tree_of l.tree) (texts (take l.passed l.tokens)) ≡ Ok (tree_of l.node))
     × Leads (texts (take l.passed l.tokens)) (tree_of l.tree) l.parents.items
     × (length l.parents.items ≡ l.passed)
+    × (distinct (tree_of l.node) ≡ true)

@@ -1,0 +1,17 @@
+use Rattle.std.proofs.Common.{arith}
+use Rattle.std.specs.Str.{chars}
+use Rattle.yaml_data.specs.Seen.{tree_of}
+use Rattle.conf_state.specs.Drafts.{drafted}
+use Rattle.conf_state.proofs.LimitLemmas.{entries_length-put}
+use Rattle.conf_state.proofs.draft.Draft.length_with.Goals as goal
+
+pub returns : goal.returns
+returns c =
+    let es = drafted c.args.state.now.configs c.args.self.now in
+    omega (
+      arith,
+      c.length_without.ensures,
+      c.entry_length.ensures,
+      c.saturating_add-length.ensures,
+      entries_length-put es (chars c.args.name.now) (tree_of c.args.config.now),
+    )

@@ -1,0 +1,39 @@
+// One command on a state that is dropped if the command is refused.
+ghost use Rattle.std.specs.Prelude.{◌≡◌, ◌⊎◌, Ok, Err, OnOk, IfErr, map};
+ghost use Rattle.conf_state.specs.Commands.{command_of, edit_of, batch};
+ghost use Rattle.conf_state.specs.Steps.{step};
+
+use crate::command::{Command, Edit};
+use crate::fault::StoreFault;
+use crate::room::Room;
+use crate::state::State;
+use crate::steps::{draft_edits, step};
+use std::alloc::Global;
+
+/// Performs a command as [`step`] does, where there is room for its record. After a refusal the state has to be
+/// dropped. So a batch makes its edits in place, and copies no configuration.
+pub fn replay(alloc: Global, state: &mut State, command: Command) -> Result<(), StoreFault>
+    ensures ok { OnOk result (step state.old (command_of command) Room.Enough ≡ Ok state.new) }
+    ensures refused { IfErr result (λ fault. (fault ≡ StoreFault.OutOfMemory)
+        ⊎ (step state.old (command_of command) Room.Enough ≡ Err fault)) }
+{
+    match command {
+        Command::Batch { edits } => replay_batch(alloc, state, edits),
+        command => step(alloc, state, command, Room::Enough),
+    }
+}
+
+/// Performs a batch, on a draft that holds all configurations.
+fn replay_batch(alloc: Global, state: &mut State, edits: Vec<Edit>) -> Result<(), StoreFault>
+    ensures ok { OnOk result (step state.old (batch (map edit_of edits.items)) Room.Enough
+        ≡ Ok state.new) }
+    ensures refused { IfErr result (λ fault. (fault ≡ StoreFault.OutOfMemory)
+        ⊎ (step state.old (batch (map edit_of edits.items)) Room.Enough ≡ Err fault)) }
+{
+    if edits.is_empty() {
+        return Err(StoreFault::EmptyBatch);
+    }
+    let held = state.take_configs(alloc);
+    let draft = draft_edits(alloc, state, held, edits)?;
+    state.fill(draft, Room::Enough)
+}

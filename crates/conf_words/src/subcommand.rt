@@ -1,0 +1,104 @@
+// The subcommands of the program.
+
+/// A subcommand of the program.
+#[derive(Clone, Copy, Debug, PartialEq, Eq)]
+pub enum Subcommand {
+    /// Makes a folder with an empty store.
+    Init,
+    /// Reads a YAML text, and puts its tree under a name.
+    Import,
+    /// Sets the value at a JSON Pointer of a configuration.
+    Set,
+    /// Removes a configuration, or what is at a JSON Pointer of it.
+    Delete,
+    /// Makes the store file as short as its state.
+    Checkpoint,
+    /// Performs the commands on standard input on the store in a folder.
+    Run,
+    /// Writes a configuration of the store in a folder in the one style.
+    Export,
+    /// Writes the names of the configurations of a store.
+    Names,
+    /// Writes the value at a JSON Pointer of a configuration.
+    Get,
+    /// Writes the commands that a store has accepted since its last checkpoint.
+    Log,
+    /// Reads a whole store, and writes whether it can be opened.
+    Verify,
+    /// Makes a new store of what a damaged one says before its first bad piece.
+    Salvage,
+    /// Writes the tree of a YAML text in the one style.
+    Format,
+    /// Writes where YAML texts depart from the one style.
+    Check,
+}
+
+impl Subcommand {
+    /// All of them, in the order of the help.
+    pub const ALL: [Subcommand; 14] = [
+        Subcommand::Init,
+        Subcommand::Import,
+        Subcommand::Set,
+        Subcommand::Delete,
+        Subcommand::Checkpoint,
+        Subcommand::Run,
+        Subcommand::Export,
+        Subcommand::Names,
+        Subcommand::Get,
+        Subcommand::Log,
+        Subcommand::Verify,
+        Subcommand::Salvage,
+        Subcommand::Format,
+        Subcommand::Check,
+    ];
+
+    /// The subcommand of this name; `None` if there is none.
+    pub fn named(name: &str) -> Option<Subcommand> {
+        Subcommand::ALL
+            .into_iter()
+            .find(|subcommand| subcommand.name() == name)
+    }
+
+    /// The word that asks for it.
+    pub fn name(self) -> &'static str {
+        match self {
+            Subcommand::Init => "init",
+            Subcommand::Import => "import",
+            Subcommand::Set => "set",
+            Subcommand::Delete => "delete",
+            Subcommand::Checkpoint => "checkpoint",
+            Subcommand::Run => "run",
+            Subcommand::Export => "export",
+            Subcommand::Names => "names",
+            Subcommand::Get => "get",
+            Subcommand::Log => "log",
+            Subcommand::Verify => "verify",
+            Subcommand::Salvage => "salvage",
+            Subcommand::Format => "format",
+            Subcommand::Check => "check",
+        }
+    }
+
+    /// What the program's help says of it, in a line.
+    pub fn about(self) -> &'static str {
+        match self {
+            Subcommand::Init => "Makes a folder with an empty store",
+            Subcommand::Import => "Reads a YAML text, and puts its tree under a name",
+            Subcommand::Set => "Sets the value at a JSON Pointer of a configuration",
+            Subcommand::Delete => "Removes a configuration, or what is at a JSON Pointer of it",
+            Subcommand::Checkpoint => "Makes the store file as short as its state",
+            Subcommand::Run => "Performs the commands on standard input on the store in a folder",
+            Subcommand::Export =>
+                "Writes a configuration of the store in a folder in the one style",
+            Subcommand::Names => "Writes the names of the configurations of a store",
+            Subcommand::Get => "Writes the value at a JSON Pointer of a configuration",
+            Subcommand::Log =>
+                "Writes the commands that a store has accepted since its last checkpoint",
+            Subcommand::Verify => "Reads a whole store, and writes whether it can be opened",
+            Subcommand::Salvage =>
+                "Makes a new store of what a damaged one says before its first bad piece",
+            Subcommand::Format => "Writes the tree of a YAML text in the one style",
+            Subcommand::Check => "Writes where YAML texts depart from the one style",
+        }
+    }
+}

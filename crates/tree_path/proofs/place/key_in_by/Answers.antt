@@ -1,0 +1,22 @@
+use Rattle.std.proofs.Common.{◌≡◌, true, sym, ap, subst, ◌∙◌}
+use Rattle.std.specs.Str.{chars}
+use Rattle.yaml_grammar.specs.Trees.{distinct, members_distinct}
+use Rattle.yaml_data.specs.Seen.{tree_of, members_of}
+use Rattle.yaml_data.proofs.SeenLemmas.{tree_of-Map}
+use Rattle.tree_path.specs.Paths.{key_in}
+use Rattle.tree_path.specs.Steps.{key_place}
+use Rattle.tree_path.proofs.Places.{place_of-pairs}
+use Rattle.tree_path.proofs.place.key_in_by.Goals as goal
+
+pub returns-in-Map : goal.returns-in-Map
+returns-in-Map c =
+    let key = chars c.args.key.now in
+    let v = c.in-Map.pairs in
+    c.key_place_by.ensures ∙ ap (key_place key) c.deref.ensures.value ∙ sym (place_of-pairs v.items key)
+    ∙ sym (ap (λ t. key_in t key) (ap tree_of c.in-Map.is ∙ tree_of-Map v))
+
+pub key_place_by-requires : goal.key_place_by-requires
+key_place_by-requires c =
+    let v = c.in-Map.pairs in
+    subst (λ ps. members_distinct (members_of ps) ≡ true) (sym c.deref.ensures.value)
+    (ap distinct (sym (ap tree_of c.in-Map.is ∙ tree_of-Map v)) ∙ c.requires)

@@ -1,0 +1,35 @@
+use Rattle.std.proofs.Common.{◌≡◌, true, sym, ap, subst, ◌∙◌}
+use Rattle.std.specs.Str.{chars}
+use Rattle.yaml_grammar.specs.Trees.{distinct, members_distinct}
+use Rattle.yaml_data.specs.Seen.{tree_of, members_of}
+use Rattle.yaml_data.proofs.SeenLemmas.{tree_of-Text, tree_of-Seq, tree_of-Map}
+use Rattle.tree_path.specs.Paths.{present}
+use Rattle.tree_path.specs.Steps.{key_place, step_place}
+use Rattle.tree_path.proofs.Steps.{index-counted}
+use Rattle.tree_path.proofs.Ways.{ok_or-present, step_place-Text, step_place-Seq, step_place-Map}
+use Rattle.tree_path.proofs.place.step_place_by.Goals as goal
+
+pub returns-in-Text : goal.returns-in-Text
+returns-in-Text c =
+    let token = chars c.args.token.now in
+    sym (ap (λ t. step_place t token) (ap tree_of c.in-Text.is ∙ tree_of-Text _) ∙ step_place-Text _ token)
+
+pub returns-in-Seq : goal.returns-in-Seq
+returns-in-Seq c =
+    let token = chars c.args.token.now in
+    let v = c.in-Seq.items in
+    sym (ap (λ t. step_place t token) (ap tree_of c.in-Seq.is ∙ tree_of-Seq v) ∙ step_place-Seq v.items token
+    ∙ index-counted v token c.len.result _ c.len.ensures c.element_index.ensures)
+
+pub returns-in-Map : goal.returns-in-Map
+returns-in-Map c =
+    let token = chars c.args.token.now in
+    let v = c.in-Map.pairs in
+    c.ok_or.ensures.value ∙ ok_or-present c.key_place_by.result ∙ ap present (c.key_place_by.ensures ∙ ap (key_place token) c.deref.ensures.value)
+    ∙ sym (ap (λ t. step_place t token) (ap tree_of c.in-Map.is ∙ tree_of-Map v) ∙ step_place-Map v.items token)
+
+pub key_place_by-requires : goal.key_place_by-requires
+key_place_by-requires c =
+    let v = c.in-Map.pairs in
+    subst (λ ps. members_distinct (members_of ps) ≡ true) (sym c.deref.ensures.value)
+    (ap distinct (sym (ap tree_of c.in-Map.is ∙ tree_of-Map v)) ∙ c.requires)

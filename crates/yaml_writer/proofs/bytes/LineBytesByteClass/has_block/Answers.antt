@@ -1,0 +1,14 @@
+use Rattle.std.proofs.Common.{ℕ, leb, cond, bit_and, refl, arith}
+use Rattle.std.proofs.lemmas.Simd.{zip2_of_maps, zip2_splat, splat_is_map}
+use Rattle.yaml_writer.specs.Runs.{ascii_in_lines}
+use Rattle.yaml_writer.proofs.BlockLemmas.{lanes_pass}
+use Rattle.yaml_writer.proofs.bytes.LineBytesByteClass.has_block.Goals as goal
+
+pub returns : goal.returns
+returns c =
+    let v = c.args.block in
+    let long = c.fits-block.0 in
+    lanes_pass ascii_in_lines v _ (omega (arith, long)) c.fits-block.1 _
+    (zip2_of_maps bit_and _ _ v
+    (zip2_of_maps (λ a b. cond (leb a b) 255 0) _ _ v (splat_is_map v 16 95 long) (zip2_splat {Y = ℕ} _ v 16 32 long))
+    (zip2_splat {Y = ℕ} _ v 16 10 long)) refl

@@ -1,5 +1,0 @@
-use Rattle.yaml_writer.proofs.ByteTable.{marked_is}
-use Rattle.yaml_writer.proofs.bytes.is_word_byte.Goals as goal
-
-pub returns : goal.returns
-returns c = marked_is c.args.byte c.ranges.byte.fits
