@@ -1,15 +1,15 @@
 -- What commands that are spelled one key a line say.
-use Rattle.std.proofs.Common.{◌≡◌, refl, sym, ap, subst, ◌∙◌, inl, arith, ◌≤◌, append_assoc}
-use Rattle.std.specs.Prelude.{ℕ, ◌+◌, ◌*◌, Bool, true, false, nat_lt, List, [], ◌∷◌, ◌++◌, codes, length}
+use Rattle.std.proofs.Common.{◌≡◌, refl, sym, ap, subst, ◌∙◌, inl, arith, ◌≤◌, append_assoc, append-nil}
+use Rattle.std.specs.Prelude.{ℕ, zero, suc, ◌+◌, ◌*◌, ◌==◌, Bool, true, false, ◌&&◌, nat_lt, if◌then◌else◌, List, [], ◌∷◌, ◌++◌, codes, length, Some}
 use Rattle.std.specs.List.{list_all}
 use Rattle.std.specs.Str.{chars, IsUtf8, IsAscii}
 use Rattle.std.proofs.lemmas.Bool.{and_parts, and_from, ltb-true}
 use Rattle.std.proofs.lemmas.Bool.Decides.{nat_tests}
-use Rattle.std.proofs.lemmas.Str.{chars-IsAscii, IsUtf8-from_ascii}
-use Rattle.yaml_chars.specs.Classes.{code_point}
-use Rattle.yaml_grammar.specs.Texts.{IsText, byte_len}
-use Rattle.yaml_grammar.specs.Trees.{text, mapping, AreTextMembers, members_depth}
-use Rattle.yaml_grammar.specs.Style.{word_char, plain_in_style, long_key, key_lines, value_at, members_after}
+use Rattle.std.proofs.lemmas.Str.{chars-IsAscii}
+use Rattle.yaml_chars.specs.Classes.{code_point, is_in}
+use Rattle.yaml_grammar.specs.Texts.{IsText, byte_len, spaces}
+use Rattle.yaml_grammar.specs.Trees.{text, sequence, mapping, Elements, no_member, member, AreTextMembers, AreTextElements, members_depth, elements_depth, members_distinct, elements_distinct}
+use Rattle.yaml_grammar.specs.Style.{word_char, plain_in_style, literal_in_style, literal_mark, literal_lines, feeds_at_end, in_double_quotes, scalar_lines, long_key, key_lines, value_at, members_at, members_after, elements_after, style_text}
 use Rattle.yaml_grammar.specs.Reads.{Good, Gives}
 use Rattle.yaml_recognizers.proofs.OneStyle.Characters.{every_joined}
 use Rattle.yaml_data.proofs.CharacterLemmas.{every-IsAscii}
@@ -20,9 +20,9 @@ use Rattle.yaml_config.specs.Kept.{IsKept}
 use Rattle.yaml_config.proofs.TextTreeLemmas.{chars-IsText}
 use Rattle.conf_state.specs.Commands.{set_at, delete_at}
 use Rattle.conf_record.proofs.SizeLemmas.{scalar_most}
-use Rattle.conf_session.specs.Said.{Said, Says, command_limits, piece_limit, import_text, plain, single_part, get_at, said_by, part_from}
-use Rattle.conf_session.specs.CommandLines.{Spelling, bare, quoted, Line, spelled, bare_char, begins_bare, stands, IsField, AreTwoFields, line_text, lines_text, members_of_lines, IsLine, AreLines, IsCommandLines}
-use Rattle.conf_session.proofs.LinesPresented.{Unambiguous, KeysAreText, marker_text, document_of, lines_give}
+use Rattle.conf_session.specs.Said.{Part, Said, Says, command_limits, piece_limit, import_text, plain, single_part, batch_of_parts, get_at, said_by, part_from, parts_of, parts_said, first_and_rest}
+use Rattle.conf_session.specs.CommandLines.{Spelling, bare, quoted, Line, spelled, bare_char, begins_bare, stands, IsField, line_text, lines_text, members_of_lines, IsLine, AreLines, Entry, entry_text, entry_members, IsEntry, elements_text, elements_of_entries, AreEntries, SaysPart, SayParts, BeginsWithPart, IsElement, ArePartLines, Layout, single, batch_of, layout_text, layout_members, IsLayout, IsCommandLines}
+use Rattle.conf_session.proofs.LinesPresented.{Unambiguous, KeysAreText, AllKeysAreText, LayoutIsText, marker_text, document_of, lines_give}
 
 -- ---- all is ASCII
 
@@ -67,13 +67,27 @@ line_low l is =
     every_joined low l.key (codes ": " ++ (spelled l.spelling l.value ++ codes "\n")) (key_low l.key is.word)
     (every_joined low (spelled l.spelling l.value) (codes "\n") (spelled_low l.spelling l.value (value_low l.spelling l.value is.stands)) refl)
 
-lines_low : (ls : List Line) → AreLines ls → list_all low (lines_text ls) ≡ true
-lines_low [] are = refl
-lines_low (l ∷ ls) are = every_joined low (line_text l) (lines_text ls) (line_low l are.0) (lines_low ls are.1)
+spaces_low : (n : ℕ) → list_all low (spaces n) ≡ true
+spaces_low zero = refl
+spaces_low (suc n) = spaces_low n
 
-document_low : (marked : Bool) (ls : List Line) → AreLines ls → list_all low (document_of marked ls) ≡ true
-document_low true ls are = every_joined low (lines_text ls) (codes "...\n") (lines_low ls are) refl
-document_low false ls are = every_joined low (lines_text ls) (codes "...\n") (lines_low ls are) refl
+lines_low : (indent : ℕ) (l : Line) (ls : List Line) → AreLines (l ∷ ls) → list_all low (lines_text indent l ls) ≡ true
+lines_low indent l [] are = line_low l are.0
+lines_low indent l (m ∷ ms) are =
+    every_joined low (line_text l) (spaces indent ++ lines_text indent m ms) (line_low l are.0)
+    (every_joined low (spaces indent) (lines_text indent m ms) (spaces_low indent) (lines_low indent m ms are.1))
+
+elements_low : (es : List Entry) → AreEntries es → list_all low (elements_text es) ≡ true
+elements_low [] are = refl
+elements_low (e ∷ es) are = every_joined low (entry_text 4 e) (elements_text es) (lines_low 4 e.first e.more are.0.are) (elements_low es are.1)
+
+layout_low : (layout : Layout) → IsLayout layout → list_all low (layout_text layout) ≡ true
+layout_low (single e) is = lines_low 0 e.first e.more is.are
+layout_low (batch_of e es) is = elements_low (e ∷ es) is
+
+document_low : (marked : Bool) (layout : Layout) → IsLayout layout → list_all low (document_of marked layout) ≡ true
+document_low true layout is = every_joined low (layout_text layout) (codes "...\n") (layout_low layout is) refl
+document_low false layout is = every_joined low (layout_text layout) (codes "...\n") (layout_low layout is) refl
 
 -- the bytes of a text that is spelled so are its characters
 pub spelled_chars : (spelling : Spelling) (value : List ℕ) → stands spelling value ≡ true → chars value ≡ value
@@ -85,156 +99,357 @@ keys_are_text : (ls : List Line) → AreLines ls → KeysAreText ls
 keys_are_text [] are = tt
 keys_are_text (l ∷ ls) are = (low_is_text l.key (key_low l.key are.0.word), keys_are_text ls are.1)
 
+all_keys_are_text : (es : List Entry) → AreEntries es → AllKeysAreText es
+all_keys_are_text [] are = tt
+all_keys_are_text (e ∷ es) are = (keys_are_text (e.first ∷ e.more) are.0.are, all_keys_are_text es are.1)
+
+layout_is_text : (layout : Layout) → IsLayout layout → LayoutIsText layout
+layout_is_text (single e) is = keys_are_text (e.first ∷ e.more) is.are
+layout_is_text (batch_of e es) is = all_keys_are_text (e ∷ es) is
+
 members_are_text : (ls : List Line) → AreLines ls → AreTextMembers (members_of_lines ls)
 members_are_text [] are = tt
 members_are_text (l ∷ ls) are =
     (low_is_text l.key (key_low l.key are.0.word), low_is_text l.value (value_low l.spelling l.value are.0.stands), members_are_text ls are.1)
 
+elements_are_text : (es : List Entry) → AreEntries es → AreTextElements (elements_of_entries es)
+elements_are_text [] are = tt
+elements_are_text (e ∷ es) are = (members_are_text (e.first ∷ e.more) are.0.are, elements_are_text es are.1)
+
+layout_members_are_text : (layout : Layout) → IsLayout layout → AreTextMembers (layout_members layout)
+layout_members_are_text (single e) is = members_are_text (e.first ∷ e.more) is.are
+layout_members_are_text (batch_of e es) is = (refl, elements_are_text (e ∷ es) is, tt)
+
+elements_differ : (es : List Entry) → AreEntries es → elements_distinct (elements_of_entries es) ≡ true
+elements_differ [] are = refl
+elements_differ (e ∷ es) are = and_from (members_distinct (entry_members e)) (elements_distinct (elements_of_entries es)) are.0.differ (elements_differ es are.1)
+
+layout_differs : (layout : Layout) → IsLayout layout → members_distinct (layout_members layout) ≡ true
+layout_differs (single e) is = is.differ
+layout_differs (batch_of e es) is = and_from (elements_distinct (elements_of_entries (e ∷ es))) true (elements_differ (e ∷ es) is) refl
+
 members_flat : (ls : List Line) → members_depth (members_of_lines ls) ≤ 1
 members_flat [] = omega arith
 members_flat (l ∷ ls) = let rest = members_flat ls in omega (arith, rest)
 
-key_line : (key : List ℕ) → plain_in_style key ≡ true → long_key key ≡ false → key_lines 0 key ≡ key ++ codes ":"
-key_line key word short = rw (short, word) refl
+elements_flat : (es : List Entry) → elements_depth (elements_of_entries es) ≤ 2
+elements_flat [] = omega arith
+elements_flat (e ∷ es) = let own = members_flat (e.first ∷ e.more) in let rest = elements_flat es in omega (arith, own, rest)
+
+layout_flat : (layout : Layout) → members_depth (layout_members layout) ≤ 3
+layout_flat (single e) = let own = members_flat (e.first ∷ e.more) in omega (arith, own)
+layout_flat (batch_of e es) = let own = elements_flat (e ∷ es) in omega (arith, own)
+
+key_line : (indent : ℕ) (key : List ℕ) → plain_in_style key ≡ true → long_key key ≡ false → key_lines indent key ≡ key ++ codes ":"
+key_line indent key word short = rw (short, word) refl
 
 spelled_bytes : (spelling : Spelling) (value : List ℕ) → byte_len value ≤ byte_len (spelled spelling value)
 spelled_bytes bare value = omega arith
 spelled_bytes quoted value = let joined = byte_len-append value (codes "\"") in omega (arith, joined)
 
--- a line in the one style is at most four times as long
-members_bytes : (ls : List Line) → AreLines ls → byte_len (members_after (members_of_lines ls) 0) ≤ 4 * byte_len (lines_text ls)
-members_bytes [] are = omega arith
-members_bytes (l ∷ ls) are =
-    let rest = members_bytes ls are.1 in
+-- ---- a line in the one style is at most four times as long
+
+bare_no_feed : (c : ℕ) → bare_char c ≡ true → (10 == c) ≡ false
+bare_no_feed c e = grind (arith, nat_tests)
+
+alone_no_feed : (c : ℕ) → stands_alone c ≡ true → (10 == c) ≡ false
+alone_no_feed c e = grind (arith, nat_tests)
+
+none_in : (p : ℕ → Bool) → ((c : ℕ) → p c ≡ true → (10 == c) ≡ false) → (cs : List ℕ) → list_all p cs ≡ true → is_in 10 cs ≡ false
+none_in p f [] all = refl
+none_in p f (c ∷ cs) all =
+    let parts = and_parts (p c) (list_all p cs) all in
+    rw (f c parts.0) (none_in p f cs parts.1)
+
+value_no_feed : (spelling : Spelling) (value : List ℕ) → stands spelling value ≡ true → is_in 10 value ≡ false
+value_no_feed bare value h = none_in bare_char bare_no_feed value (and_parts (begins_bare value) (list_all bare_char value) h).1
+value_no_feed quoted value h = none_in stands_alone alone_no_feed value h
+
+-- it is written alike at every indentation
+flat_lines : (i j : ℕ) (value : List ℕ) → is_in 10 value ≡ false → scalar_lines i value ≡ scalar_lines j value
+flat_lines i j value none = by (plain_in_style value) (literal_in_style value) no_literal
+  where
+    no_literal : literal_in_style value ≡ false
+    no_literal = rw none refl
+
+    by : (plain literal : Bool) → literal ≡ false
+        → (if plain then value ++ codes "\n" else if literal then literal_mark (feeds_at_end value) ++ codes "\n" ++ literal_lines i true value else in_double_quotes value ++ codes "\n")
+        ≡ (if plain then value ++ codes "\n" else if literal then literal_mark (feeds_at_end value) ++ codes "\n" ++ literal_lines j true value else in_double_quotes value ++ codes "\n")
+    by true literal e = refl
+    by false false e = refl
+    by false true e = cc
+
+line_bytes : (indent : ℕ) (l : Line) → IsLine l → byte_len (key_lines indent l.key ++ value_at (text l.value) indent) ≤ 4 * byte_len (line_text l)
+line_bytes indent l is =
+    let flat = ap byte_len (flat_lines (indent + 2) 2 l.value (value_no_feed l.spelling l.value is.stands)) in
     let value = scalar_most l.value in
-    let key = ap byte_len (key_line l.key are.0.word are.0.short) ∙ byte_len-append l.key (codes ":") in
-    let more = members_after (members_of_lines ls) 0 in
-    let own = byte_len-append (key_lines 0 l.key ++ value_at (text l.value) 0) more in
-    let two = byte_len-append (key_lines 0 l.key) (value_at (text l.value) 0) in
-    let lines = byte_len-append (line_text l) (lines_text ls) in
+    let key = ap byte_len (key_line indent l.key is.word is.short) ∙ byte_len-append l.key (codes ":") in
+    let two = byte_len-append (key_lines indent l.key) (value_at (text l.value) indent) in
     let line = byte_len-append l.key (codes ": " ++ (spelled l.spelling l.value ++ codes "\n")) in
     let shown = byte_len-append (spelled l.spelling l.value) (codes "\n") in
     let least = spelled_bytes l.spelling l.value in
-    omega (arith, rest, value, key, own, two, lines, line, shown, least)
+    omega (arith, flat, value, key, two, line, shown, least)
 
-document_bytes : (marked : Bool) (ls : List Line) → byte_len (lines_text ls) + 4 ≤ byte_len (document_of marked ls)
-document_bytes true ls = let joined = byte_len-append (lines_text ls) (codes "...\n") in omega (arith, joined)
-document_bytes false ls = let joined = byte_len-append (lines_text ls) (codes "...\n") in omega (arith, joined)
+regrouped : (a b c d : List ℕ) → ((a ++ b) ++ c) ++ d ≡ a ++ ((b ++ c) ++ d)
+regrouped a b c d = ap (λ t. t ++ d) (append_assoc a b c) ∙ append_assoc a (b ++ c) d
+
+members_next : (indent : ℕ) (l : Line) (ls : List Line) → members_after (members_of_lines (l ∷ ls)) indent ≡ spaces indent ++ members_at (members_of_lines (l ∷ ls)) indent
+members_next indent l ls = regrouped (spaces indent) (key_lines indent l.key) (value_at (text l.value) indent) (members_after (members_of_lines ls) indent)
+
+members_bytes : (indent : ℕ) (l : Line) (ls : List Line) → AreLines (l ∷ ls) → byte_len (members_at (members_of_lines (l ∷ ls)) indent) ≤ 4 * byte_len (lines_text indent l ls)
+members_bytes indent l [] are =
+    let own = line_bytes indent l are.0 in
+    let whole = byte_len-append (key_lines indent l.key ++ value_at (text l.value) indent) [] in
+    omega (arith, own, whole)
+members_bytes indent l (m ∷ ms) are =
+    let own = line_bytes indent l are.0 in
+    let rest = members_bytes indent m ms are.1 in
+    let further = members_at (members_of_lines (m ∷ ms)) indent in
+    let next = members_next indent m ms in
+    let same = ap byte_len next in
+    let whole = byte_len-append (key_lines indent l.key ++ value_at (text l.value) indent) (members_after (members_of_lines (m ∷ ms)) indent) in
+    let spaced = byte_len-append (spaces indent) further in
+    let lines = byte_len-append (line_text l) (spaces indent ++ lines_text indent m ms) in
+    let apart = byte_len-append (spaces indent) (lines_text indent m ms) in
+    omega (arith, own, rest, same, whole, spaced, lines, apart)
+
+elements_bytes : (es : List Entry) → AreEntries es → byte_len (elements_after (elements_of_entries es) 2) ≤ 4 * byte_len (elements_text es)
+elements_bytes [] are = omega arith
+elements_bytes (e ∷ es) are =
+    let own = members_bytes 4 e.first e.more are.0.are in
+    let rest = elements_bytes es are.1 in
+    let style = byte_len-append (members_at (entry_members e) 4) (elements_after (elements_of_entries es) 2) in
+    let lines = byte_len-append (entry_text 4 e) (elements_text es) in
+    omega (arith, own, rest, style, lines)
+
+layout_bytes : (layout : Layout) → IsLayout layout → byte_len (style_text (mapping (layout_members layout))) ≤ 4 * byte_len (layout_text layout)
+layout_bytes (single e) is = members_bytes 0 e.first e.more is.are
+layout_bytes (batch_of e es) is =
+    let own = elements_bytes (e ∷ es) is in
+    let style = members_at (entry_members e) 4 ++ elements_after (elements_of_entries es) 2 in
+    let whole = byte_len-append style [] in
+    omega (arith, own, whole)
+
+document_bytes : (marked : Bool) (layout : Layout) → byte_len (layout_text layout) + 4 ≤ byte_len (document_of marked layout)
+document_bytes true layout = let joined = byte_len-append (layout_text layout) (codes "...\n") in omega (arith, joined)
+document_bytes false layout = let joined = byte_len-append (layout_text layout) (codes "...\n") in omega (arith, joined)
 
 -- a piece of such lines, after a line of `---` or without one, says what they say
 pub lines_say : Unambiguous → (marked : Bool) (piece lines : List ℕ) (said : Said) → piece ≡ marker_text marked ++ lines → IsUtf8 piece
     → length piece ≤ piece_limit → IsCommandLines lines said → Says piece said
 lines_say one marked piece lines said is utf8 short command =
-    let ls : List Line = command.first ∷ command.more in
-    let same : piece ≡ document_of marked ls = is ∙ ap (λ t. marker_text marked ++ t) command.is in
-    let itself : chars piece ≡ document_of marked ls =
-    ap chars same ∙ chars-IsAscii (document_of marked ls) (low_ascii (document_of marked ls) (document_low marked ls command.are)) in
-    let bytes : byte_len (document_of marked ls) ≡ length piece = ap byte_len (sym itself) ∙ byte_len-chars piece utf8 in
-    let flat = members_flat ls in
-    let style = members_bytes ls command.are in
-    let within = document_bytes marked ls in
-    let good : Good (mapping (members_of_lines ls)) command_limits = record {
-      texts = members_are_text ls command.are;
-      keys = command.differ;
+    let layout : Layout = command.layout in
+    let same : piece ≡ document_of marked layout = is ∙ ap (λ t. marker_text marked ++ t) command.is in
+    let itself : chars piece ≡ document_of marked layout =
+    ap chars same ∙ chars-IsAscii (document_of marked layout) (low_ascii (document_of marked layout) (document_low marked layout command.are)) in
+    let bytes : byte_len (document_of marked layout) ≡ length piece = ap byte_len (sym itself) ∙ byte_len-chars piece utf8 in
+    let flat = layout_flat layout in
+    let style = layout_bytes layout command.are in
+    let within = document_bytes marked layout in
+    let good : Good (mapping (layout_members layout)) command_limits = record {
+      texts = layout_members_are_text layout command.are;
+      keys = layout_differs layout command.are;
       deep = omega (arith, flat);
       long = omega (arith, style, within, bytes, short);
     } in
-    let gives = lines_give one marked command.first command.more command_limits command.are (keys_are_text ls command.are)
-    (low_is_text (document_of marked ls) (document_low marked ls command.are)) (omega (arith, bytes, short)) good in
-    inl (mapping (members_of_lines ls), record { utf8 = utf8; gives = subst (λ cs. Gives cs command_limits (mapping (members_of_lines ls))) (sym itself) gives }, command.says)
+    let gives = lines_give one marked layout command_limits command.are (layout_is_text layout command.are)
+    (low_is_text (document_of marked layout) (document_low marked layout command.are)) (omega (arith, bytes, short)) good in
+    inl (mapping (layout_members layout), record { utf8 = utf8; gives = subst (λ cs. Gives cs command_limits (mapping (layout_members layout))) (sym itself) gives }, command.says)
 
--- ---- lines of keys as commands
+-- ---- lines of keys as mappings
 
+-- a line, and what follows it
 field_line : (key value lines rest : List ℕ) (spelling : Spelling) → lines ≡ key ++ (codes ": " ++ (spelled spelling value ++ 10 ∷ rest))
     → lines ≡ line_text (record { key = key; spelling = spelling; value = value }) ++ rest
 field_line key value lines rest spelling is =
     is ∙ ap (λ t. key ++ (codes ": " ++ t)) (sym (append_assoc (spelled spelling value) (codes "\n") rest))
     ∙ sym (append_assoc key (codes ": " ++ (spelled spelling value ++ codes "\n")) rest)
 
-before_lines : (l : Line) (ls : List Line) (lines rest : List ℕ) → lines ≡ line_text l ++ rest → rest ≡ lines_text ls ++ codes "...\n"
-    → lines ≡ lines_text (l ∷ ls) ++ codes "...\n"
-before_lines l ls lines rest is follows = is ∙ ap (λ t. line_text l ++ t) follows ∙ sym (append_assoc (line_text l) (lines_text ls) (codes "...\n"))
+-- the same after spaces; the key has its `: `
+spaced_line : (indent : ℕ) (key opening value lines rest : List ℕ) (spelling : Spelling) → key ++ codes ": " ≡ opening → lines ≡ (spaces indent ++ opening) ++ (spelled spelling value ++ 10 ∷ rest)
+    → lines ≡ spaces indent ++ (line_text (record { key = key; spelling = spelling; value = value }) ++ rest)
+spaced_line indent key opening value lines rest spelling opens is =
+    let after = spelled spelling value ++ 10 ∷ rest in
+    is ∙ append_assoc (spaces indent) opening after
+    ∙ ap (λ t. spaces indent ++ t) (field_line key value (opening ++ after) rest spelling (ap (λ t. t ++ after) (sym opens) ∙ append_assoc key (codes ": ") after))
 
--- a line of a set
-pub set_lines : (name path value lines after_name after_path : List ℕ) → IsField lines (codes "set: ") name after_name
-    → IsField after_name (codes "path: ") path after_path → IsField after_path (codes "value: ") value (codes "...\n")
-    → IsCommandLines lines (single_part (plain (set_at name path (text value))))
+-- a line before others of its mapping
+next_line : (indent : ℕ) (l m : Line) (ms : List Line) (lines between rest : List ℕ) → lines ≡ line_text l ++ between → between ≡ spaces indent ++ (lines_text indent m ms ++ rest)
+    → lines ≡ lines_text indent l (m ∷ ms) ++ rest
+next_line indent l m ms lines between rest is follows =
+    is ∙ ap (λ t. line_text l ++ t) (follows ∙ sym (append_assoc (spaces indent) (lines_text indent m ms) rest))
+    ∙ sym (append_assoc (line_text l) (spaces indent ++ lines_text indent m ms) rest)
+
+-- ---- parts
+
+-- the lines of a set
+pub set_part_lines : (indent : ℕ) (name path value lines after_name after_path rest : List ℕ) → IsField lines (codes "set: ") name after_name
+    → IsField after_name (spaces indent ++ codes "path: ") path after_path → IsField after_path (spaces indent ++ codes "value: ") value rest
+    → BeginsWithPart lines indent (plain (set_at (chars name) (chars path) (text (chars value)))) rest
 unfolding said_by part_from
-set_lines name path value lines after_name after_path one two three =
+set_part_lines indent name path value lines after_name after_path rest one two three =
     let a : Line = record { key = codes "set"; spelling = one.spelling; value = name } in
     let b : Line = record { key = codes "path"; spelling = two.spelling; value = path } in
     let d : Line = record { key = codes "value"; spelling = three.spelling; value = value } in
+    let last = spaced_line indent (codes "value") (codes "value: ") value after_path rest three.spelling refl three.is in
+    let entry : Entry = record { first = a; more = b ∷ d ∷ [] } in
+    let said : SaysPart entry (plain (set_at name path (text value))) = record {
+      is = record {
+        are = (
+          record { word = refl; short = refl; stands = one.stands },
+          (record { word = refl; short = refl; stands = two.stands }, (record { word = refl; short = refl; stands = three.stands }, tt)),
+        );
+        differ = refl;
+      };
+      within = refl;
+      alone = refl;
+    } in
+    let name_is = sym (spelled_chars one.spelling name one.stands) in
+    let path_is = sym (spelled_chars two.spelling path two.stands) in
+    let value_is = sym (spelled_chars three.spelling value three.stands) in
     record {
-      first = a;
-      more = b ∷ d ∷ [];
-      are = (
-        record { word = refl; short = refl; stands = one.stands },
-        (record { word = refl; short = refl; stands = two.stands }, (record { word = refl; short = refl; stands = three.stands }, tt)),
-      );
-      differ = refl;
-      is =
-          before_lines a (b ∷ d ∷ []) lines after_name (field_line (codes "set") name lines after_name one.spelling one.is)
-          (before_lines b (d ∷ []) after_name after_path (field_line (codes "path") path after_name after_path two.spelling two.is)
-          (before_lines d [] after_path (codes "...\n") (field_line (codes "value") value after_path (codes "...\n") three.spelling three.is) refl));
-      says = refl;
+      entry = entry;
+      says = subst (SaysPart entry) (λ i. plain (set_at (name_is i) (path_is i) (text (value_is i)))) said;
+      is = next_line indent a b (d ∷ []) lines after_name rest (field_line (codes "set") name lines after_name one.spelling one.is)
+          (spaced_line indent (codes "path") (codes "path: ") path after_name after_path two.spelling refl two.is
+          ∙ ap (λ t. spaces indent ++ t) (next_line indent b d [] (line_text b ++ after_path) after_path rest refl last));
     }
-
--- two lines and the closing line
-two_lines : (key other value second lines between : List ℕ) (p q : Spelling) → lines ≡ key ++ (codes ": " ++ (spelled p value ++ 10 ∷ between))
-    → between ≡ other ++ (codes ": " ++ (spelled q second ++ 10 ∷ codes "...\n"))
-    → lines ≡ lines_text (record { key = key; spelling = p; value = value } ∷ record { key = other; spelling = q; value = second } ∷ []) ++ codes "...\n"
-two_lines key other value second lines between p q one two =
-    let b : Line = record { key = other; spelling = q; value = second } in
-    before_lines (record { key = key; spelling = p; value = value }) (b ∷ []) lines between (field_line key value lines between p one)
-    (before_lines b [] between (codes "...\n") (field_line other second between (codes "...\n") q two) refl)
 
 -- the lines of a delete
-pub delete_lines : (name path lines : List ℕ) → AreTwoFields lines (codes "delete: ") (codes "path: ") name path
-    → IsCommandLines lines (single_part (plain (delete_at name path)))
+pub delete_part_lines : (indent : ℕ) (name path lines after_name rest : List ℕ) → IsField lines (codes "delete: ") name after_name
+    → IsField after_name (spaces indent ++ codes "path: ") path rest → BeginsWithPart lines indent (plain (delete_at (chars name) (chars path))) rest
 unfolding said_by part_from
-delete_lines name path lines two =
+delete_part_lines indent name path lines after_name rest one two =
+    let a : Line = record { key = codes "delete"; spelling = one.spelling; value = name } in
+    let b : Line = record { key = codes "path"; spelling = two.spelling; value = path } in
+    let entry : Entry = record { first = a; more = b ∷ [] } in
+    let said : SaysPart entry (plain (delete_at name path)) = record {
+      is = record { are = (record { word = refl; short = refl; stands = one.stands }, (record { word = refl; short = refl; stands = two.stands }, tt)); differ = refl };
+      within = refl;
+      alone = refl;
+    } in
+    let name_is = sym (spelled_chars one.spelling name one.stands) in
+    let path_is = sym (spelled_chars two.spelling path two.stands) in
     record {
-      first = record { key = codes "delete"; spelling = two.one.spelling; value = name };
-      more = record { key = codes "path"; spelling = two.two.spelling; value = path } ∷ [];
-      are = (record { word = refl; short = refl; stands = two.one.stands }, (record { word = refl; short = refl; stands = two.two.stands }, tt));
-      differ = refl;
-      is = two_lines (codes "delete") (codes "path") name path lines two.between two.one.spelling two.two.spelling two.one.is two.two.is;
-      says = refl;
-    }
-
--- the lines of a get
-pub get_lines : (name path lines : List ℕ) → AreTwoFields lines (codes "get: ") (codes "path: ") name path → IsCommandLines lines (get_at name path)
-unfolding said_by part_from
-get_lines name path lines two =
-    record {
-      first = record { key = codes "get"; spelling = two.one.spelling; value = name };
-      more = record { key = codes "path"; spelling = two.two.spelling; value = path } ∷ [];
-      are = (record { word = refl; short = refl; stands = two.one.stands }, (record { word = refl; short = refl; stands = two.two.stands }, tt));
-      differ = refl;
-      is = two_lines (codes "get") (codes "path") name path lines two.between two.one.spelling two.two.spelling two.one.is two.two.is;
-      says = refl;
+      entry = entry;
+      says = subst (SaysPart entry) (λ i. plain (delete_at (name_is i) (path_is i))) said;
+      is = next_line indent a b [] lines after_name rest (field_line (codes "delete") name lines after_name one.spelling one.is)
+          (spaced_line indent (codes "path") (codes "path: ") path after_name rest two.spelling refl two.is);
     }
 
 -- the lines of an import
-pub import_lines : (name source lines : List ℕ) → AreTwoFields lines (codes "import: ") (codes "text: ") name source
-    → IsCommandLines lines (single_part (import_text name source))
+pub import_part_lines : (indent : ℕ) (name source lines after_name rest : List ℕ) → IsField lines (codes "import: ") name after_name
+    → IsField after_name (spaces indent ++ codes "text: ") source rest → BeginsWithPart lines indent (import_text (chars name) (chars source)) rest
 unfolding said_by part_from
-import_lines name source lines two =
+import_part_lines indent name source lines after_name rest one two =
+    let a : Line = record { key = codes "import"; spelling = one.spelling; value = name } in
+    let b : Line = record { key = codes "text"; spelling = two.spelling; value = source } in
+    let entry : Entry = record { first = a; more = b ∷ [] } in
+    let said : SaysPart entry (import_text name source) = record {
+      is = record { are = (record { word = refl; short = refl; stands = one.stands }, (record { word = refl; short = refl; stands = two.stands }, tt)); differ = refl };
+      within = refl;
+      alone = refl;
+    } in
+    let name_is = sym (spelled_chars one.spelling name one.stands) in
+    let source_is = sym (spelled_chars two.spelling source two.stands) in
     record {
-      first = record { key = codes "import"; spelling = two.one.spelling; value = name };
-      more = record { key = codes "text"; spelling = two.two.spelling; value = source } ∷ [];
-      are = (record { word = refl; short = refl; stands = two.one.stands }, (record { word = refl; short = refl; stands = two.two.stands }, tt));
-      differ = refl;
-      is = two_lines (codes "import") (codes "text") name source lines two.between two.one.spelling two.two.spelling two.one.is two.two.is;
+      entry = entry;
+      says = subst (SaysPart entry) (λ i. import_text (name_is i) (source_is i)) said;
+      is = next_line indent a b [] lines after_name rest (field_line (codes "import") name lines after_name one.spelling one.is)
+          (spaced_line indent (codes "text") (codes "text: ") source after_name rest two.spelling refl two.is);
+    }
+
+-- ---- commands
+
+-- the lines of a get
+pub get_lines : (name path lines after_name : List ℕ) → IsField lines (codes "get: ") name after_name → IsField after_name (codes "path: ") path (codes "...\n")
+    → IsCommandLines lines (get_at name path)
+unfolding said_by part_from
+get_lines name path lines after_name one two =
+    let a : Line = record { key = codes "get"; spelling = one.spelling; value = name } in
+    let b : Line = record { key = codes "path"; spelling = two.spelling; value = path } in
+    record {
+      layout = single (record { first = a; more = b ∷ [] });
+      are = record { are = (record { word = refl; short = refl; stands = one.stands }, (record { word = refl; short = refl; stands = two.stands }, tt)); differ = refl };
+      is = next_line 0 a b [] lines after_name (codes "...\n") (field_line (codes "get") name lines after_name one.spelling one.is)
+          (field_line (codes "path") path after_name (codes "...\n") two.spelling two.is);
       says = refl;
+    }
+
+-- a part alone
+pub single_lines : (lines end : List ℕ) (part : Part) → BeginsWithPart lines 0 part end → end ≡ codes "...\n" → IsCommandLines lines (single_part part)
+single_lines lines end part begins ends = record {
+  layout = single begins.entry;
+  are = begins.says.is;
+  is = begins.is ∙ ap (λ t. entry_text 0 begins.entry ++ t) ends;
+  says = sym begins.says.alone;
+}
+
+-- ---- batches
+
+-- no element yet
+pub no_part_lines : (lines : List ℕ) → ArePartLines lines [] lines
+no_part_lines lines = record { entries = []; say = tt; is = refl }
+
+elements_one : (es : List Entry) (e : Entry) → elements_text (es ++ e ∷ []) ≡ elements_text es ++ (codes "  - " ++ entry_text 4 e)
+elements_one [] e = append-nil (codes "  - " ++ entry_text 4 e)
+elements_one (d ∷ ds) e =
+    let first = codes "  - " ++ entry_text 4 d in
+    ap (λ t. first ++ t) (elements_one ds e) ∙ sym (append_assoc first (elements_text ds) (codes "  - " ++ entry_text 4 e))
+
+say_one : (es : List Entry) (parts : List Part) (e : Entry) (part : Part) → SayParts es parts → SaysPart e part → SayParts (es ++ e ∷ []) (parts ++ part ∷ [])
+say_one [] [] e part say one = (one, tt)
+say_one [] (p ∷ ps) e part say one = absurd say
+say_one (d ∷ ds) [] e part say one = absurd say
+say_one (d ∷ ds) (p ∷ ps) e part say one = (say.0, say_one ds ps e part say.1 one)
+
+-- one more element
+pub one_part_line : (lines left after : List ℕ) (parts : List Part) (part : Part) → ArePartLines lines parts left → IsElement left part after → ArePartLines lines (parts ++ part ∷ []) after
+one_part_line lines left after parts part so new =
+    let e = new.begins.entry in
+    let first = codes "  - " ++ entry_text 4 e in
+    record {
+      entries = so.entries ++ e ∷ [];
+      say = say_one so.entries parts e part so.say new.begins.says;
+      is =
+          so.is ∙ ap (λ t. elements_text so.entries ++ t) (new.is ∙ ap (λ t. codes "  - " ++ t) new.begins.is)
+          ∙ sym (append_assoc (elements_text so.entries) first after) ∙ ap (λ t. t ++ after) (sym (elements_one so.entries e));
+    }
+
+say_all : (es : List Entry) (parts : List Part) → SayParts es parts → parts_of (elements_of_entries es) ≡ Some parts
+say_all [] [] say = refl
+say_all [] (p ∷ ps) say = absurd say
+say_all (e ∷ es) [] say = absurd say
+say_all (e ∷ es) (p ∷ ps) say = λ i. first_and_rest (say.0.within i) (say_all es ps say.1 i)
+
+are_entries : (es : List Entry) (parts : List Part) → SayParts es parts → AreEntries es
+are_entries [] parts say = tt
+are_entries (e ∷ es) [] say = absurd say
+are_entries (e ∷ es) (p ∷ ps) say = (say.0.is, are_entries es ps say.1)
+
+batch_says : (ts : Elements) (parts : List Part) → parts_of ts ≡ Some parts → batch_of_parts parts ≡ said_by (mapping (member (codes "batch") (sequence ts) no_member))
+unfolding said_by
+batch_says ts parts is = ap parts_said (sym is)
+
+-- all elements of a batch, and the closing line
+pub batch_lines : (elements : List ℕ) (parts : List Part) → (parts ≡ [] → ⊥) → ArePartLines elements parts (codes "...\n") → IsCommandLines (codes "batch:\n" ++ elements) (batch_of_parts parts)
+batch_lines elements parts some so = by so.entries parts some so.say so.is
+  where
+    by : (es : List Entry) (ps : List Part) → (ps ≡ [] → ⊥) → SayParts es ps → elements ≡ elements_text es ++ codes "...\n" → IsCommandLines (codes "batch:\n" ++ elements) (batch_of_parts ps)
+    by [] [] some say is = absurd (some refl)
+    by [] (p ∷ ps) some say is = absurd say
+    by (e ∷ es) ps some say is = record {
+      layout = batch_of e es;
+      are = are_entries (e ∷ es) ps say;
+      is = ap (λ t. codes "batch:\n" ++ t) is;
+      says = batch_says (elements_of_entries (e ∷ es)) ps (say_all (e ∷ es) ps say);
     }
 
 -- ---- a short text is a configuration
 
 -- it is within the limits of its own
-pub short_kept : (spelling : Spelling) (value : List ℕ) → stands spelling value ≡ true → length value ≤ 4194304 → IsKept (text (chars value))
-short_kept spelling value h short =
-    let utf8 = IsUtf8-from_ascii value (low_ascii value (value_low spelling value h)) in
+pub short_kept : (value : List ℕ) → IsUtf8 value → length value ≤ 4194304 → IsKept (text (chars value))
+short_kept value utf8 short =
     let bytes = byte_len-chars value utf8 in
     let most = scalar_most (chars value) in
     record { texts = chars-IsText value utf8; keys = refl; deep = omega arith; long = omega (arith, bytes, most, short) }

@@ -8,7 +8,6 @@ use Rattle.std.proofs.lemmas.Bool.{false≢true}
 use Rattle.std.proofs.lemmas.List.{append-nil}
 use Rattle.std.proofs.lemmas.List.Folds.{concat-append}
 use Rattle.std.proofs.lemmas.List.Elements.{All-nil}
-use Rattle.yaml_recognizers.specs.Closings.{framed_text_bytes}
 use Rattle.yaml_grammar.specs.Closings.{ClosesOnce}
 use Rattle.conf_disk.specs.Folder.{Folder, bytes_under}
 use Rattle.conf_disk.specs.Image.{Image, IsImage}
@@ -26,7 +25,7 @@ use Rattle.conf_store.specs.View.{StoreView}
 use Rattle.conf_session.specs.Said.{piece_limit}
 use Rattle.conf_session.specs.Input.{ahead, piece_or_rest, AdvancesAhead, AdvancesWithin}
 use Rattle.conf_session.specs.Requests.{Request, Asks}
-use Rattle.conf_session.specs.Answers.{Stored, answer, output, stored_after_all, accepted_command, accepted_commands, refused_of, flushed_after, waiting_after}
+use Rattle.conf_session.specs.Answers.{Stored, answer_bytes, output, stored_after_all, accepted_command, accepted_commands, refused_of, flushed_after, waiting_after}
 use Rattle.conf_session.specs.Runs.{stored_of}
 use Rattle.conf_session.specs.Replies.{LeavesPrefixes, DidPiece, Performs, reply_bytes}
 use Rattle.conf_session.specs.declared.input.Input.{Input}
@@ -124,13 +123,13 @@ module _ {D : Type 0} (honest : Type 0) (folder : D → Folder) (moment : D → 
         let rs = s.requests in
         let r = one.request in
         let here = s.performs.stored in
-        let all : output start (rs ++ r ∷ []) ≡ output start rs ++ framed_text_bytes (answer (stored_of now) r) =
-        output-last start rs r ∙ ap (λ t. output start rs ++ framed_text_bytes (answer t r)) (sym here) in
+        let all : output start (rs ++ r ∷ []) ≡ output start rs ++ answer_bytes (stored_of now) r =
+        output-last start rs r ∙ ap (λ t. output start rs ++ answer_bytes t r) (sym here) in
         record {
-          bytes = one.keeps.bytes ∙ ap (λ l. unwritten_bytes mid ++ l) one.replies.bytes ∙ ap (λ l. l ++ framed_text_bytes (answer (stored_of now) r)) s.keeps.bytes
-              ∙ append_assoc (unwritten_bytes before) (output start rs) (framed_text_bytes (answer (stored_of now) r)) ∙ ap (λ l. unwritten_bytes before ++ l) (sym all);
+          bytes = one.keeps.bytes ∙ ap (λ l. unwritten_bytes mid ++ l) one.replies.bytes ∙ ap (λ l. l ++ answer_bytes (stored_of now) r) s.keeps.bytes
+              ∙ append_assoc (unwritten_bytes before) (output start rs) (answer_bytes (stored_of now) r) ∙ ap (λ l. unwritten_bytes before ++ l) (sym all);
           within = one.keeps.within;
-          short = (let long = ap length all in let sum = length-append (output start rs) (framed_text_bytes (answer (stored_of now) r)) in let count = length-append rs (r ∷ []) in
+          short = (let long = ap length all in let sum = length-append (output start rs) (answer_bytes (stored_of now) r) in let count = length-append rs (r ∷ []) in
               omega (arith, long, sum, count, s.keeps.short, one.replies.short));
           documents = (let count = length-append rs (r ∷ []) in omega (arith, one.keeps.documents, s.keeps.documents, count));
           accepted = (let same = ap (λ t. length (accepted_command t r)) here in let last = ap length (accepted_commands-last start rs r) in

@@ -8,7 +8,6 @@ use Rattle.std.proofs.lemmas.Bool.{cases_lt}
 use Rattle.std.proofs.lemmas.List.{append-nil, take-append-le, take_all}
 use Rattle.std.proofs.lemmas.List.Folds.{concat-append}
 use Rattle.std.proofs.lemmas.List.Elements.{All-nil, All-append}
-use Rattle.yaml_recognizers.specs.Closings.{framed_text_bytes}
 use Rattle.yaml_grammar.specs.Closings.{ClosesOnce}
 use Rattle.conf_disk.specs.Folder.{Folder}
 use Rattle.conf_disk.specs.Image.{Image, IsImage}
@@ -27,7 +26,7 @@ use Rattle.conf_session.specs.declared.groups.Checkpoints.{Checkpoints}
 use Rattle.conf_session.specs.declared.groups.Checkpoints.TheVariants.{Asked, After}
 use Rattle.conf_session.specs.declared.session.Tally.{Tally}
 use Rattle.conf_session.specs.Requests.{Request, AllAsk}
-use Rattle.conf_session.specs.Answers.{Stored, answer, answer_limit, output, stored_after, stored_after_all, accepted_commands, refusals}
+use Rattle.conf_session.specs.Answers.{Stored, answer_bytes, answer_limit, output, stored_after, stored_after_all, accepted_commands, refusals}
 use Rattle.conf_session.specs.Runs.{stored_of, AfterAtLeast, ArePieces, BeginsWith}
 use Rattle.conf_session.specs.Groups.{AreDue, Files, Turn, asked, all_asked, requests_of, files_of, stored_after_turns, files_after_turns, turns_output, turns_accepted, turns_refused, acknowledged_turns, GroupedEnds, RunsGrouped}
 use Rattle.conf_session.specs.Gathering.{TakesUp, PerformsTurns, BreaksOff, StopsShort, FlushesAll, Tends, PassesGroup, CutsGroup, PerformsGroup}
@@ -72,7 +71,7 @@ cut-at now (r ∷ rs) count short =
     (λ above. (let sum = length-append one (output (stored_after now r) rs) in cut-at (stored_after now r) rs (count - length one) (omega (arith, short, sum, above))))
   where
     one : List ℕ
-    one = framed_text_bytes (answer now r)
+    one = answer_bytes now r
 
     by : (count < length one) ⊎ (length one ≤ count) → (length one ≤ count → Cut (stored_after now r) rs (count - length one)) → Cut now (r ∷ rs) count
     by (inl below) later = record {

@@ -11,12 +11,9 @@ use Rattle.yaml_grammar.specs.Texts.{byte_len, spaces, first, same_text}
 use Rattle.yaml_grammar.specs.Trees.{Tree, text, sequence, mapping, no_element, element, no_member, member}
 use Rattle.yaml_grammar.specs.Style.{plain_in_style, literal_in_style, literal_mark, literal_lines, feeds_at_end, in_double_quotes, scalar_lines, key_text, long_key, key_lines, elements_after, value_at, style_text}
 use Rattle.yaml_recognizers.specs.Closings.{framed_text_bytes, framed_text}
-use Rattle.yaml_events.specs.declared.read_fault.ReadFault.{ReadFault}
-use Rattle.yaml_events.specs.declared.read_fault.ReadFault.TheVariants as read
 use Rattle.yaml_writer.specs.BudgetLaws.{byte_len-append}
 use Rattle.yaml_config.specs.Limits.{config_limits}
 use Rattle.json_pointer.specs.declared.fault.PathFault.{PathFault}
-use Rattle.json_pointer.specs.declared.fault.PathFault.TheVariants as path
 use Rattle.tree_path.specs.declared.place.Miss.{Miss}
 use Rattle.tree_path.specs.Paths.{at, at_from, at_step, child, refusal as step_refusal}
 use Rattle.json_pointer.specs.Pointers.{path_of}
@@ -37,8 +34,11 @@ use Rattle.conf_record.proofs.SizeLemmas.{size, scalar_most, value_size}
 use Rattle.yaml_writer.proofs.ByteLemmas.{byte_len-encoded}
 use Rattle.conf_store.specs.Calls.{outcome, room_for, tree_named}
 use Rattle.conf_session.specs.Requests.{Request, changing, unread, getting, exporting, naming, checkpointing, bad}
-use Rattle.conf_session.specs.Answers.{Stored, longest, one, text_elements, read_word, path_word, word, refusal, answer_or_refusal, value_at_path, change_answer, answer, answer_limit}
-use Rattle.conf_session.proofs.WordLemmas.{spelled-BadName, spelled-BadPath, spelled-ConfigLarge, spelled-CountFull, spelled-Documents, spelled-EmptyBatch, spelled-JournalLong, spelled-KeyNotText, spelled-KeyTwice, spelled-LargeInStyle, spelled-NoConfig, spelled-NoSuchPlace, spelled-NotIndex, spelled-NotUtf8, spelled-RecordLong, spelled-StoreFull, spelled-Syntax, spelled-TooDeep, spelled-TooLong, spelled-none, spelled-BadCommand}
+use Rattle.conf_session.specs.Answers.{Stored, longest, one, text_elements, answered, word, refusal, refused_answer, answer_or_refusal, value_at_path, change_answer, document_bytes, answer_bytes, answer_limit}
+use Rattle.conf_session.specs.declared.fault.SessionFault.{SessionFault}
+use Rattle.conf_session.specs.declared.words.Refusal.{Refusal}
+use Rattle.conf_session.specs.declared.words.Refusal.TheVariants as why
+use Rattle.conf_session.proofs.WordLemmas.{spelled-BadName, spelled-BadPath, spelled-ConfigLarge, spelled-CountFull, spelled-Documents, spelled-EmptyBatch, spelled-JournalLong, spelled-KeyNotText, spelled-KeyTwice, spelled-LargeInStyle, spelled-NoConfig, spelled-NoSuchPlace, spelled-NotIndex, spelled-NotUtf8, spelled-RecordLong, spelled-StoreFull, spelled-Syntax, spelled-TooDeep, spelled-TooLong, spelled-BadCommand}
 
 -- ---- a document of one key
 
@@ -213,39 +213,32 @@ step-few s new command room e = let done = and_then-Ok (performed s.configs comm
 refused : (word spelled : List ℕ) → framed_text_bytes (refusal word) ≡ spelled → length spelled ≤ answer_limit → length (framed_text_bytes (refusal word)) ≤ answer_limit
 refused word spelled is few = let bytes = ap length is in omega (arith, bytes, few)
 
-read_refused : (fault : ReadFault) → length (framed_text_bytes (refusal (read_word fault))) ≤ answer_limit
-read_refused read.TooLong = refused (codes "TooLong") _ spelled-TooLong (omega arith)
-read_refused (read.NotUtf8 at) = refused (codes "NotUtf8") _ spelled-NotUtf8 (omega arith)
-read_refused (read.Syntax line column why) = refused (codes "Syntax") _ spelled-Syntax (omega arith)
-read_refused (read.Documents count) = refused (codes "Documents") _ spelled-Documents (omega arith)
-read_refused read.KeyNotText = refused (codes "KeyNotText") _ spelled-KeyNotText (omega arith)
-read_refused read.KeyTwice = refused (codes "KeyTwice") _ spelled-KeyTwice (omega arith)
-read_refused read.TooDeep = refused (codes "TooDeep") _ spelled-TooDeep (omega arith)
-read_refused read.LargeInStyle = refused (codes "LargeInStyle") _ spelled-LargeInStyle (omega arith)
-read_refused read.OutOfMemory = refused [] _ spelled-none (omega arith)
+-- a refusal keeps the limit of an answer
+pub refusal-short : (reason : Refusal) → length (framed_text_bytes (refusal (word reason))) ≤ answer_limit
+refusal-short why.EmptyBatch = refused (codes "EmptyBatch") _ spelled-EmptyBatch (omega arith)
+refusal-short why.BadName = refused (codes "BadName") _ spelled-BadName (omega arith)
+refusal-short why.NoConfig = refused (codes "NoConfig") _ spelled-NoConfig (omega arith)
+refusal-short why.BadPath = refused (codes "BadPath") _ spelled-BadPath (omega arith)
+refusal-short why.NoSuchPlace = refused (codes "NoSuchPlace") _ spelled-NoSuchPlace (omega arith)
+refusal-short why.NotIndex = refused (codes "NotIndex") _ spelled-NotIndex (omega arith)
+refusal-short why.TooLong = refused (codes "TooLong") _ spelled-TooLong (omega arith)
+refusal-short why.NotUtf8 = refused (codes "NotUtf8") _ spelled-NotUtf8 (omega arith)
+refusal-short why.Syntax = refused (codes "Syntax") _ spelled-Syntax (omega arith)
+refusal-short why.Documents = refused (codes "Documents") _ spelled-Documents (omega arith)
+refusal-short why.KeyNotText = refused (codes "KeyNotText") _ spelled-KeyNotText (omega arith)
+refusal-short why.KeyTwice = refused (codes "KeyTwice") _ spelled-KeyTwice (omega arith)
+refusal-short why.TooDeep = refused (codes "TooDeep") _ spelled-TooDeep (omega arith)
+refusal-short why.LargeInStyle = refused (codes "LargeInStyle") _ spelled-LargeInStyle (omega arith)
+refusal-short why.ConfigLarge = refused (codes "ConfigLarge") _ spelled-ConfigLarge (omega arith)
+refusal-short why.StoreFull = refused (codes "StoreFull") _ spelled-StoreFull (omega arith)
+refusal-short why.RecordLong = refused (codes "RecordLong") _ spelled-RecordLong (omega arith)
+refusal-short why.JournalLong = refused (codes "JournalLong") _ spelled-JournalLong (omega arith)
+refusal-short why.CountFull = refused (codes "CountFull") _ spelled-CountFull (omega arith)
 
-path_refused : (fault : PathFault) → length (framed_text_bytes (refusal (path_word fault))) ≤ answer_limit
-path_refused (path.BadPath at) = refused (codes "BadPath") _ spelled-BadPath (omega arith)
-path_refused (path.NoSuchPlace step) = refused (codes "NoSuchPlace") _ spelled-NoSuchPlace (omega arith)
-path_refused (path.NotIndex step) = refused (codes "NotIndex") _ spelled-NotIndex (omega arith)
-path_refused path.OutOfMemory = refused [] _ spelled-none (omega arith)
-
--- a refusal of the store keeps the limit of an answer
-pub refusal-short : (fault : StoreFault) → length (framed_text_bytes (refusal (word fault))) ≤ answer_limit
-refusal-short (store.Path fault) = path_refused fault
-refusal-short (store.Read fault) = read_refused fault
-refusal-short store.EmptyBatch = refused (codes "EmptyBatch") _ spelled-EmptyBatch (omega arith)
-refusal-short store.BadName = refused (codes "BadName") _ spelled-BadName (omega arith)
-refusal-short store.NoConfig = refused (codes "NoConfig") _ spelled-NoConfig (omega arith)
-refusal-short store.TooDeep = refused (codes "TooDeep") _ spelled-TooDeep (omega arith)
-refusal-short store.ConfigLarge = refused (codes "ConfigLarge") _ spelled-ConfigLarge (omega arith)
-refusal-short store.StoreFull = refused (codes "StoreFull") _ spelled-StoreFull (omega arith)
-refusal-short store.RecordLong = refused (codes "RecordLong") _ spelled-RecordLong (omega arith)
-refusal-short store.JournalLong = refused (codes "JournalLong") _ spelled-JournalLong (omega arith)
-refusal-short store.CountFull = refused (codes "CountFull") _ spelled-CountFull (omega arith)
-refusal-short store.Reopen = refused [] _ spelled-none (omega arith)
-refusal-short store.Device = refused [] _ spelled-none (omega arith)
-refusal-short store.OutOfMemory = refused [] _ spelled-none (omega arith)
+-- so does the answer by one, where there is one
+pub refused-short : (r : Result Refusal SessionFault) → length (document_bytes (refused_answer r)) ≤ answer_limit
+refused-short (Ok reason) = refusal-short reason
+refused-short (Err end) = omega arith
 
 -- the refusal `BadCommand` keeps the limit of an answer
 pub bad-short : length (framed_text_bytes (refusal (codes "BadCommand"))) ≤ answer_limit
@@ -276,35 +269,35 @@ value-size s name p v kept is =
     omega (arith, inner, outer)
 
 value-answer-short : (s : Contents) → IsState s → (name p : List ℕ) (r : Result Tree StoreFault) → value_at_path s name p ≡ r
-    → length (framed_text_bytes (answer_or_refusal (one (codes "value")) r)) ≤ answer_limit
+    → length (document_bytes (answer_or_refusal (one (codes "value")) r)) ≤ answer_limit
 value-answer-short s kept name p (Ok v) is =
     let bytes = value-size s name p v kept is in
     let most = (value_size v).most in
     omega (arith, document-length (codes "value") v, bytes, most)
-value-answer-short s kept name p (Err fault) is = refusal-short fault
+value-answer-short s kept name p (Err fault) is = refused-short (answered fault)
 
 text-answer-short : (s : Contents) → IsState s → (name : List ℕ) (r : Result Tree StoreFault) → tree_named s name ≡ r
-    → length (framed_text_bytes (answer_or_refusal (λ t. one (codes "text") (text (style_text t))) r)) ≤ answer_limit
+    → length (document_bytes (answer_or_refusal (λ t. one (codes "text") (text (style_text t))) r)) ≤ answer_limit
 text-answer-short s kept name (Ok t) is =
     omega (arith, document-length (codes "text") (text (style_text t)), scalar_most (style_text t), text-value-length (style_text t), (tree_named-good s name t kept is).long)
-text-answer-short s kept name (Err fault) is = refusal-short fault
+text-answer-short s kept name (Err fault) is = refused-short (answered fault)
 
 count-answer-short : (n : ℕ) → n ≤ count_limit → length (framed_text_bytes (one (codes "ok") (text (decimal n)))) ≤ answer_limit
 count-answer-short n small = omega (arith, document-length (codes "ok") (text (decimal n)), count-value-length n small)
 
 change-answer-short : (now : Stored) (command : Command) (r : Result Contents StoreFault) → outcome (longest now) now.state command ≡ r
-    → length (framed_text_bytes (change_answer r)) ≤ answer_limit
+    → length (document_bytes (change_answer r)) ≤ answer_limit
 change-answer-short now command (Ok new) is =
     let room = room_for (longest now) now.state command in
     let few = step-few now.state new command room is in
     let counts = step-one now.state new command room is in
     count-answer-short new.count (omega (arith, few, counts))
-change-answer-short now command (Err fault) is = refusal-short fault
+change-answer-short now command (Err fault) is = refused-short (answered fault)
 
 -- each answer keeps the limit, where the state keeps its limits
-pub answer-short : (now : Stored) (request : Request) → IsState now.state → length (framed_text_bytes (answer now request)) ≤ answer_limit
+pub answer-short : (now : Stored) (request : Request) → IsState now.state → length (answer_bytes now request) ≤ answer_limit
 answer-short now (changing command) kept = change-answer-short now command (outcome (longest now) now.state command) refl
-answer-short now (unread fault) kept = refusal-short fault
+answer-short now (unread fault) kept = refused-short (answered fault)
 answer-short now (getting name p) kept = value-answer-short now.state kept name p (value_at_path now.state name p) refl
 answer-short now (exporting name) kept = text-answer-short now.state kept name (tree_named now.state name) refl
 answer-short now naming kept =

@@ -1,5 +1,7 @@
 pub mod WordLemmas
 pub mod LengthLemmas
+pub mod RefusalLemmas
+pub mod AnsweredLemmas
 pub mod RequestLemmas
 pub mod PassedLemmas
 pub mod SessionLemmas

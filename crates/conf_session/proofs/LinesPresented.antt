@@ -1,23 +1,25 @@
--- Lines of keys and texts are a document that reads as their mapping: a presentation of it, which fits and means it.
+-- Lines of keys and texts, and batches of such lines, are a document that reads as their mapping: a presentation of it,
+-- which fits and means it.
 use Rattle.std.proofs.Common.{◌≡◌, refl, sym, ◌∙◌, ap, arith, ◌<◌, ◌≤◌, append_assoc, append-nil, subst}
-use Rattle.std.specs.Prelude.{ℕ, ◌+◌, Bool, true, false, not, ◌&&◌, ◌||◌, List, [], ◌∷◌, ◌++◌, codes, map, flat_map, length, Some, None}
+use Rattle.std.specs.Prelude.{ℕ, suc, ◌+◌, ◌==◌, Bool, true, false, not, ◌&&◌, ◌||◌, List, [], ◌∷◌, ◌++◌, codes, map, flat_map, length, Some, None}
 use Rattle.std.specs.List.{list_all}
 use Rattle.std.proofs.lemmas.Bool.{and_parts, and_from, or_left, or_right, not-true, not_from_false, le-leb, ltb-false, leb-true, agree_below_at, false≢true}
 use Rattle.yaml_chars.specs.Classes.{is_in, ns, white, indicator, line_break}
-use Rattle.yaml_grammar.specs.Texts.{IsText, starts_line, byte_len}
+use Rattle.yaml_grammar.specs.Texts.{IsText, spaces, starts_line, byte_len}
+use Rattle.yaml_grammar.specs.Separation.{comments_text}
 use Rattle.yaml_grammar.specs.FlowScalars.{raw, quoted_char_text, quoted_char_fits, quoted_char_value, char_value, plain_text, values, Scalar, plain, double, scalar_text, scalar_value, scalar_fits, outer, block_key, plain_run}
 use Rattle.yaml_grammar.specs.FlowNodes.{scalar, flow_text, flow_fits, short_key}
-use Rattle.yaml_grammar.specs.BlockNodes.{Node, flow, pairs, Pairs, pair, pair_and, Pair, keyed, node_text, pair_text, pair_fits, pairs_text, pairs_fit, pairs_events}
+use Rattle.yaml_grammar.specs.BlockNodes.{Node, flow, items, pairs, Items, item, item_and, Pairs, pair, pair_and, Pair, keyed, compact_pairs, node_text, node_fits, indented_text, items_text, items_fit, items_events, pair_text, pair_fits, pairs_text, pairs_fit, pairs_events}
 use Rattle.yaml_grammar.specs.Streams.{Stream, Document, bare as bare_document, explicit, content, suffixes, stream_text, stream_events, fits}
-use Rattle.yaml_grammar.specs.Events.{Event, as_document, map_start, map_end, document_end}
-use Rattle.yaml_grammar.specs.Trees.{mapping, scalar_of, map_from, map_to, document_from, document_to, shape, shapes, members_shapes, IsTreeOf}
+use Rattle.yaml_grammar.specs.Events.{Event, as_document, as_seq, as_map, seq_end, map_start, map_end, document_end}
+use Rattle.yaml_grammar.specs.Trees.{sequence, mapping, Members, scalar_of, seq_from, seq_to, map_from, map_to, document_from, document_to, shape, shapes, tree_shapes, elements_shapes, members_shapes, IsTreeOf}
 use Rattle.yaml_grammar.specs.Style.{plain_in_style, key_text}
 use Rattle.yaml_grammar.specs.Reads.{Presents, CanRead, Limits, Good, Gives}
 use Rattle.yaml_recognizers.proofs.OneStyle.Presented.{feed, one_space, word_flow}
 use Rattle.yaml_recognizers.proofs.OneStyle.ScalarsFit.{word_flow_fits}
 use Rattle.yaml_recognizers.proofs.OneStyle.Spelled.{word_flow_spelled}
 use Rattle.yaml_writer.specs.Runs.{stands_alone}
-use Rattle.conf_session.specs.CommandLines.{Spelling, bare, quoted, Line, spelled, bare_char, begins_bare, stands, line_text, lines_text, members_of_lines, IsLine, AreLines}
+use Rattle.conf_session.specs.CommandLines.{Spelling, bare, quoted, Line, spelled, bare_char, begins_bare, stands, line_text, lines_text, members_of_lines, IsLine, AreLines, Entry, entry_text, entry_members, elements_text, elements_of_entries, AreEntries, Layout, single, batch_of, layout_text, layout_members, IsLayout}
 
 -- ---- presentations
 
@@ -33,22 +35,36 @@ abbrev pairs_on : Line → List Line → Pairs
 pairs_on l [] = pair (pair_on l)
 pairs_on l (m ∷ ms) = pair_and (pair_on l) (pairs_on m ms)
 
+abbrev entry_on : Entry → Pairs
+entry_on e = pairs_on e.first e.more
+
+abbrev items_on : Entry → List Entry → Items
+items_on e [] = item (compact_pairs 1 (entry_on e))
+items_on e (d ∷ ds) = item_and (compact_pairs 1 (entry_on e)) (items_on d ds)
+
+abbrev batch_word : List ℕ
+batch_word = codes "batch"
+
+abbrev layout_on : Layout → Pairs
+layout_on (single e) = entry_on e
+layout_on (batch_of e es) = pair (keyed (scalar (plain batch_word [])) [] (items (feed ∷ []) 2 (items_on e es)))
+
 -- a line of `---`, or none
 abbrev pub marker_text : Bool → List ℕ
 marker_text true = codes "---\n"
 marker_text false = []
 
 -- the lines, after a line of `---` or without one, and the closing line
-abbrev pub document_of : Bool → List Line → List ℕ
-document_of marked ls = marker_text marked ++ (lines_text ls ++ codes "...\n")
+abbrev pub document_of : Bool → Layout → List ℕ
+document_of marked layout = marker_text marked ++ (layout_text layout ++ codes "...\n")
 
 abbrev document_on : Bool → Pairs → Document
 document_on true ps = explicit (content (pairs (feed ∷ []) 0 ps))
 document_on false ps = bare_document (pairs [] 0 ps)
 
-abbrev stream_on : Bool → Line → List Line → Stream
-stream_on marked l ls =
-    record { mark = false; prefix = []; document = Some (document_on marked (pairs_on l ls)); parts = suffixes (feed ∷ []) [] [] None ∷ [] }
+abbrev stream_on : Bool → Layout → Stream
+stream_on marked layout =
+    record { mark = false; prefix = []; document = Some (document_on marked (layout_on layout)); parts = suffixes (feed ∷ []) [] [] None ∷ [] }
 
 -- ---- what they spell
 
@@ -64,22 +80,35 @@ scalar_spelled : (spelling : Spelling) (value : List ℕ) → scalar_text (scala
 scalar_spelled bare value = append-nil _ ∙ plain_spelled value
 scalar_spelled quoted value = ap (λ t. 34 ∷ (t ++ (34 ∷ []))) (append-nil _ ∙ raw_spelled value)
 
-pair_spelled : (l : Line) → pair_text (pair_on l) 0 ≡ line_text l
-pair_spelled l =
+pair_spelled : (l : Line) (indent : ℕ) → pair_text (pair_on l) indent ≡ line_text l
+pair_spelled l indent =
     ap (λ t. ((t ++ []) ++ codes ":") ++ ((codes " " ++ scalar_text (scalar_as l.spelling l.value)) ++ codes "\n")) (append-nil _ ∙ plain_spelled l.key)
     ∙ ap (λ t. (t ++ codes ":") ++ ((codes " " ++ scalar_text (scalar_as l.spelling l.value)) ++ codes "\n")) (append-nil l.key)
     ∙ ap (λ t. (l.key ++ codes ":") ++ ((codes " " ++ t) ++ codes "\n")) (scalar_spelled l.spelling l.value)
     ∙ append_assoc l.key (codes ":") ((codes " " ++ spelled l.spelling l.value) ++ codes "\n")
 
-pairs_spelled : (l : Line) (ls : List Line) → pairs_text (pairs_on l ls) 0 ≡ lines_text (l ∷ ls)
-pairs_spelled l [] = pair_spelled l ∙ sym (append-nil (line_text l))
-pairs_spelled l (m ∷ ms) =
-    ap (λ t. t ++ pairs_text (pairs_on m ms) 0) (append-nil (pair_text (pair_on l) 0) ∙ pair_spelled l)
-    ∙ ap (λ t. line_text l ++ t) (pairs_spelled m ms)
+pairs_spelled : (l : Line) (ls : List Line) (indent : ℕ) → pairs_text (pairs_on l ls) indent ≡ lines_text indent l ls
+pairs_spelled l [] indent = pair_spelled l indent
+pairs_spelled l (m ∷ ms) indent =
+    append_assoc (pair_text (pair_on l) indent) (spaces indent) (pairs_text (pairs_on m ms) indent)
+    ∙ ap (λ t. t ++ (spaces indent ++ pairs_text (pairs_on m ms) indent)) (pair_spelled l indent)
+    ∙ ap (λ t. line_text l ++ (spaces indent ++ t)) (pairs_spelled m ms indent)
 
-stream_spelled : (marked : Bool) (l : Line) (ls : List Line) → stream_text (stream_on marked l ls) ≡ document_of marked (l ∷ ls)
-stream_spelled true l ls = ap (λ t. codes "---\n" ++ (t ++ codes "...\n")) (pairs_spelled l ls)
-stream_spelled false l ls = ap (λ t. t ++ codes "...\n") (pairs_spelled l ls)
+items_spelled : (e : Entry) (es : List Entry) → spaces 2 ++ items_text (items_on e es) 2 ≡ elements_text (e ∷ es)
+items_spelled e [] = ap (λ t. codes "  - " ++ t) (pairs_spelled e.first e.more 4 ∙ sym (append-nil (entry_text 4 e)))
+items_spelled e (d ∷ ds) =
+    ap (λ t. codes "  - " ++ t)
+    (append_assoc (pairs_text (entry_on e) 4) (spaces 2) (items_text (items_on d ds) 2)
+    ∙ ap (λ t. t ++ (spaces 2 ++ items_text (items_on d ds) 2)) (pairs_spelled e.first e.more 4)
+    ∙ ap (λ t. entry_text 4 e ++ t) (items_spelled d ds))
+
+layout_spelled : (layout : Layout) → pairs_text (layout_on layout) 0 ≡ layout_text layout
+layout_spelled (single e) = pairs_spelled e.first e.more 0
+layout_spelled (batch_of e es) = ap (λ t. codes "batch:\n" ++ t) (items_spelled e es)
+
+stream_spelled : (marked : Bool) (layout : Layout) → stream_text (stream_on marked layout) ≡ document_of marked layout
+stream_spelled true layout = ap (λ t. codes "---\n" ++ (t ++ codes "...\n")) (layout_spelled layout)
+stream_spelled false layout = ap (λ t. t ++ codes "...\n") (layout_spelled layout)
 
 -- ---- what fits
 
@@ -117,9 +146,9 @@ run_fits prev (x ∷ xs) after p h =
     let r : (ns x && not (is_in x (codes ":#")) ≡ true) × (not (white x) ≡ true) = and_parts _ _ (bare_tells x q.0) in
     and_from _ _ (or_right (white x) _ (or_left _ _ (or_left _ _ r.0))) (run_fits x xs after (not-true _ r.1) q.1)
 
-plain_fits : (value after : List ℕ) → begins_bare value && list_all bare_char value ≡ true → scalar_fits 1 outer false (plain value []) after ≡ true
-plain_fits [] after h = absurd (false≢true h)
-plain_fits (x ∷ xs) after h =
+plain_fits : (n : ℕ) (value after : List ℕ) → begins_bare value && list_all bare_char value ≡ true → scalar_fits n outer false (plain value []) after ≡ true
+plain_fits n [] after h = absurd (false≢true h)
+plain_fits n (x ∷ xs) after h =
     let p : (not (indicator x) ≡ true) × (list_all bare_char (x ∷ xs) ≡ true) = and_parts _ _ h in
     let q : (bare_char x ≡ true) × (list_all bare_char xs ≡ true) = and_parts _ _ p.1 in
     let r : (ns x && not (is_in x (codes ":#")) ≡ true) × (not (white x) ≡ true) = and_parts _ _ (bare_tells x q.0) in
@@ -132,9 +161,9 @@ raws_fit (c ∷ cs) h =
     let p : (stands_alone c ≡ true) × (list_all stands_alone cs ≡ true) = and_parts _ _ h in
     and_from _ _ (alone_tells c p.0) (raws_fit cs p.1)
 
-scalar_as_fits : (spelling : Spelling) (value after : List ℕ) → stands spelling value ≡ true → scalar_fits 1 outer false (scalar_as spelling value) after ≡ true
-scalar_as_fits bare value after h = plain_fits value after h
-scalar_as_fits quoted value after h = and_from _ _ (and_from _ _ (raws_fit value h) refl) refl
+scalar_as_fits : (n : ℕ) (spelling : Spelling) (value after : List ℕ) → stands spelling value ≡ true → scalar_fits n outer false (scalar_as spelling value) after ≡ true
+scalar_as_fits n bare value after h = plain_fits n value after h
+scalar_as_fits n quoted value after h = and_from _ _ (and_from _ _ (raws_fit value h) refl) refl
 
 -- a word is its own key
 key_flow : (key : List ℕ) → plain_in_style key ≡ true → word_flow key ≡ scalar (plain key [])
@@ -143,27 +172,59 @@ key_flow key e = rw e refl
 key_itself : (key : List ℕ) → plain_in_style key ≡ true → key_text key ≡ key
 key_itself key e = rw e refl
 
-pair_on_fits : (l : Line) (bol : Bool) (after : List ℕ) → IsLine l → plain_in_style l.key ≡ true → IsText l.key → pair_fits (pair_on l) 0 bol after ≡ true
-pair_on_fits l bol after is word t =
+-- a key before its `:`
+key_on_fits : (key : List ℕ) (bol : Bool) (after : List ℕ) → plain_in_style key ≡ true → IsText key → flow_fits (scalar (plain key [])) 0 block_key bol (58 ∷ after) ≡ true
+key_on_fits key bol after word t = subst (λ f. flow_fits f 0 block_key bol (58 ∷ after) ≡ true) (key_flow key word) (word_flow_fits key 0 block_key bol (58 ∷ after) (λ x. refl) t)
+
+pair_on_fits : (l : Line) (indent : ℕ) (bol : Bool) (after : List ℕ) → IsLine l → IsText l.key → pair_fits (pair_on l) indent bol after ≡ true
+pair_on_fits l indent bol after is t =
     let value : Node = flow one_space (scalar (scalar_as l.spelling l.value)) (feed ∷ []) in
-    let key_fits = subst (λ f. flow_fits f 0 block_key bol (58 ∷ (node_text value ++ after)) ≡ true) (key_flow l.key word)
-    (word_flow_fits l.key 0 block_key bol (58 ∷ (node_text value ++ after)) (λ x. refl) t) in
+    let key_fits = key_on_fits l.key bol (node_text value ++ after) is.word t in
     let long : length (key_text l.key) ≤ 1000 = ltb-false 1000 (length (key_text l.key)) is.short in
     let same : flow_text (scalar (plain l.key [])) ++ [] ≡ key_text l.key =
-    append-nil _ ∙ ap flow_text (sym (key_flow l.key word)) ∙ word_flow_spelled l.key in
+    append-nil _ ∙ ap flow_text (sym (key_flow l.key is.word)) ∙ word_flow_spelled l.key in
     let short : short_key (scalar (plain l.key [])) [] ≡ true = rw same (le-leb (length (key_text l.key)) 1024 (omega (arith, long))) in
     and_from _ _ (and_from _ _ (and_from _ _ key_fits refl) short)
-    (and_from _ _ (and_from _ _ refl (scalar_as_fits l.spelling l.value (10 ∷ after) is.stands)) refl)
+    (and_from _ _ (and_from _ _ refl (scalar_as_fits (suc indent) l.spelling l.value (10 ∷ after) is.stands)) refl)
 
 -- the keys are made of Unicode scalar values
 abbrev pub KeysAreText : List Line → Type 0
 KeysAreText [] = Unit {0}
 KeysAreText (l ∷ ls) = IsText l.key × KeysAreText ls
 
-pairs_on_fit : (l : Line) (ls : List Line) (after : List ℕ) → AreLines (l ∷ ls) → KeysAreText (l ∷ ls) → pairs_fit (pairs_on l ls) 0 true after ≡ true
-pairs_on_fit l [] after are t = pair_on_fits l true after are.0 are.0.word t.0
-pairs_on_fit l (m ∷ ms) after are t =
-    and_from _ _ (pair_on_fits l true (pairs_text (pairs_on m ms) 0 ++ after) are.0 are.0.word t.0) (pairs_on_fit m ms after are.1 t.1)
+-- those of each entry
+abbrev pub AllKeysAreText : List Entry → Type 0
+AllKeysAreText [] = Unit {0}
+AllKeysAreText (e ∷ es) = KeysAreText (e.first ∷ e.more) × AllKeysAreText es
+
+-- those of a layout
+abbrev pub LayoutIsText : Layout → Type 0
+LayoutIsText (single e) = KeysAreText (e.first ∷ e.more)
+LayoutIsText (batch_of e es) = AllKeysAreText (e ∷ es)
+
+pairs_on_fit : (l : Line) (ls : List Line) (indent : ℕ) (bol : Bool) (after : List ℕ) → AreLines (l ∷ ls) → KeysAreText (l ∷ ls) → pairs_fit (pairs_on l ls) indent bol after ≡ true
+pairs_on_fit l [] indent bol after are t = pair_on_fits l indent bol after are.0 t.0
+pairs_on_fit l (m ∷ ms) indent bol after are t =
+    and_from _ _ (pair_on_fits l indent bol (spaces indent ++ (pairs_text (pairs_on m ms) indent ++ after)) are.0 t.0)
+    (pairs_on_fit m ms indent (indent == 0) after are.1 t.1)
+
+items_on_fit : (e : Entry) (es : List Entry) (after : List ℕ) → AreEntries (e ∷ es) → AllKeysAreText (e ∷ es) → items_fit (items_on e es) 2 after ≡ true
+items_on_fit e [] after are t = pairs_on_fit e.first e.more 4 false after are.0.are t.0
+items_on_fit e (d ∷ ds) after are t =
+    and_from _ _ (pairs_on_fit e.first e.more 4 false (spaces 2 ++ (items_text (items_on d ds) 2 ++ after)) are.0.are t.0) (items_on_fit d ds after are.1 t.1)
+
+batch_fits : (e : Entry) (es : List Entry) (after : List ℕ) → AreEntries (e ∷ es) → AllKeysAreText (e ∷ es) → pairs_fit (layout_on (batch_of e es)) 0 true after ≡ true
+batch_fits e es after are t =
+    let value : Node = items (feed ∷ []) 2 (items_on e es) in
+    let rest = node_text value ++ after in
+    let key = flow_fits (scalar (plain batch_word [])) 0 block_key true (58 ∷ rest) in
+    and_from (key && true && true) (node_fits value 1 true false after)
+    (and_from (key && true) true (and_from key true (key_on_fits batch_word true rest refl refl) refl) refl)
+    (items_on_fit e es after are t)
+
+layout_fits : (layout : Layout) (after : List ℕ) → IsLayout layout → LayoutIsText layout → pairs_fit (layout_on layout) 0 true after ≡ true
+layout_fits (single e) after is t = pairs_on_fit e.first e.more 0 true after is.are t
+layout_fits (batch_of e es) after is t = batch_fits e es after is t
 
 -- a line starts after a line feed
 starts_joined : (bol : Bool) (xs ys : List ℕ) → starts_line bol (xs ++ ys) ≡ starts_line (starts_line bol xs) ys
@@ -175,18 +236,30 @@ line_starts bol l =
     starts_joined bol l.key (codes ": " ++ (spelled l.spelling l.value ++ codes "\n"))
     ∙ starts_joined false (spelled l.spelling l.value) (codes "\n")
 
-lines_start : (bol : Bool) (l : Line) (ls : List Line) → starts_line bol (lines_text (l ∷ ls)) ≡ true
-lines_start bol l [] = ap (starts_line bol) (append-nil (line_text l)) ∙ line_starts bol l
-lines_start bol l (m ∷ ms) = starts_joined bol (line_text l) (lines_text (m ∷ ms)) ∙ lines_start (starts_line bol (line_text l)) m ms
+lines_start : (bol : Bool) (indent : ℕ) (l : Line) (ls : List Line) → starts_line bol (lines_text indent l ls) ≡ true
+lines_start bol indent l [] = line_starts bol l
+lines_start bol indent l (m ∷ ms) =
+    starts_joined bol (line_text l) (spaces indent ++ lines_text indent m ms)
+    ∙ starts_joined (starts_line bol (line_text l)) (spaces indent) (lines_text indent m ms)
+    ∙ lines_start (starts_line (starts_line bol (line_text l)) (spaces indent)) indent m ms
 
-pairs_start : (bol : Bool) (l : Line) (ls : List Line) → starts_line bol (pairs_text (pairs_on l ls) 0) ≡ true
-pairs_start bol l ls = ap (starts_line bol) (pairs_spelled l ls) ∙ lines_start bol l ls
+elements_start : (bol : Bool) (es : List Entry) → bol ≡ true → starts_line bol (elements_text es) ≡ true
+elements_start bol [] is = is
+elements_start bol (e ∷ es) is =
+    starts_joined false (entry_text 4 e) (elements_text es) ∙ elements_start (starts_line false (entry_text 4 e)) es (lines_start false 4 e.first e.more)
 
-stream_fits : (marked : Bool) (l : Line) (ls : List Line) → AreLines (l ∷ ls) → KeysAreText (l ∷ ls) → fits (stream_on marked l ls) ≡ true
-stream_fits true l ls are t =
-    and_from _ _ (and_from _ _ refl (and_from _ _ refl (and_from _ _ refl (pairs_on_fit l ls (codes "...\n") are t)))) (rw (pairs_start true l ls) refl)
-stream_fits false l ls are t =
-    and_from _ _ (and_from _ _ refl (and_from _ _ refl (pairs_on_fit l ls (codes "...\n") are t))) (rw (pairs_start true l ls) refl)
+layout_starts : (layout : Layout) → starts_line true (layout_text layout) ≡ true
+layout_starts (single e) = lines_start true 0 e.first e.more
+layout_starts (batch_of e es) = elements_start true (e ∷ es) refl
+
+pairs_start : (layout : Layout) → starts_line true (pairs_text (layout_on layout) 0) ≡ true
+pairs_start layout = ap (starts_line true) (layout_spelled layout) ∙ layout_starts layout
+
+stream_fits : (marked : Bool) (layout : Layout) → IsLayout layout → LayoutIsText layout → fits (stream_on marked layout) ≡ true
+stream_fits true layout is t =
+    and_from _ _ (and_from _ _ refl (and_from _ _ refl (and_from _ _ refl (layout_fits layout (codes "...\n") is t)))) (rw (pairs_start layout) refl)
+stream_fits false layout is t =
+    and_from _ _ (and_from _ _ refl (and_from _ _ refl (layout_fits layout (codes "...\n") is t))) (rw (pairs_start layout) refl)
 
 -- ---- what they mean
 
@@ -202,24 +275,50 @@ scalar_meant : (spelling : Spelling) (value : List ℕ) → scalar_value (scalar
 scalar_meant bare value = append-nil _ ∙ plain_meant value
 scalar_meant quoted value = append-nil _ ∙ raw_meant value
 
-pairs_meant : (l : Line) (ls : List Line) (at : ℕ) → shapes (pairs_events (pairs_on l ls) 0 at) ≡ members_shapes (members_of_lines (l ∷ ls))
-pairs_meant l [] at = λ i. scalar_of (scalar_meant bare l.key i) ∷ scalar_of (scalar_meant l.spelling l.value i) ∷ []
-pairs_meant l (m ∷ ms) at = λ i. scalar_of (scalar_meant bare l.key i) ∷ scalar_of (scalar_meant l.spelling l.value i) ∷ pairs_meant m ms (at + byte_len (pair_text (pair_on l) 0) + 0) i
+pairs_meant : (l : Line) (ls : List Line) (indent at : ℕ) → shapes (pairs_events (pairs_on l ls) indent at) ≡ members_shapes (members_of_lines (l ∷ ls))
+pairs_meant l [] indent at = λ i. scalar_of (scalar_meant bare l.key i) ∷ scalar_of (scalar_meant l.spelling l.value i) ∷ []
+pairs_meant l (m ∷ ms) indent at =
+    λ i. scalar_of (scalar_meant bare l.key i) ∷ scalar_of (scalar_meant l.spelling l.value i) ∷ pairs_meant m ms indent (at + byte_len (pair_text (pair_on l) indent) + indent) i
 
 shapes_joined : (one other : List Event) → shapes (one ++ other) ≡ shapes one ++ shapes other
 shapes_joined [] other = refl
 shapes_joined (e ∷ es) other = ap (λ t. shape e ∷ t) (shapes_joined es other)
 
-document_meant : (l : Line) (ls : List Line) (at : ℕ) (es : List Event) → es ≡ pairs_events (pairs_on l ls) 0 at
-    → IsTreeOf (as_document (map_start ∷ (es ++ map_end ∷ [])) ++ []) (mapping (members_of_lines (l ∷ ls)))
-document_meant l ls at es is =
+-- the events of a mapping, from those of its pairs
+mapping_meant : (es : List Event) (ms : Members) → shapes es ≡ members_shapes ms → shapes (as_map es) ≡ tree_shapes (mapping ms)
+mapping_meant es ms is = ap (λ t. map_from ∷ t) (shapes_joined es (map_end ∷ []) ∙ ap (λ t. t ++ map_to ∷ []) is)
+
+entry_meant : (e : Entry) (indent at : ℕ) → shapes (as_map (pairs_events (entry_on e) indent at)) ≡ tree_shapes (mapping (entry_members e))
+entry_meant e indent at = mapping_meant (pairs_events (entry_on e) indent at) (entry_members e) (pairs_meant e.first e.more indent at)
+
+items_meant : (e : Entry) (es : List Entry) (at : ℕ) → shapes (items_events (items_on e es) 2 at) ≡ elements_shapes (elements_of_entries (e ∷ es))
+items_meant e [] at = entry_meant e 4 (at + 1 + 1) ∙ sym (append-nil (tree_shapes (mapping (entry_members e))))
+items_meant e (d ∷ ds) at =
+    let next = at + 1 + byte_len (indented_text (compact_pairs 1 (entry_on e)) 2) + 2 in
+    shapes_joined (as_map (pairs_events (entry_on e) 4 (at + 1 + 1))) (items_events (items_on d ds) 2 next)
+    ∙ ap (λ t. t ++ shapes (items_events (items_on d ds) 2 next)) (entry_meant e 4 (at + 1 + 1))
+    ∙ ap (λ t. tree_shapes (mapping (entry_members e)) ++ t) (items_meant d ds next)
+
+batch_meant : (e : Entry) (es : List Entry) (at : ℕ) → shapes (as_seq (items_events (items_on e es) 2 at)) ≡ tree_shapes (sequence (elements_of_entries (e ∷ es)))
+batch_meant e es at =
+    ap (λ t. seq_from ∷ t) (shapes_joined (items_events (items_on e es) 2 at) (seq_end ∷ []) ∙ ap (λ t. t ++ seq_to ∷ []) (items_meant e es at))
+
+layout_meant : (layout : Layout) (at : ℕ) → shapes (pairs_events (layout_on layout) 0 at) ≡ members_shapes (layout_members layout)
+layout_meant (single e) at = pairs_meant e.first e.more 0 at
+layout_meant (batch_of e es) at =
+    let first = at + byte_len (flow_text (scalar (plain batch_word []))) + byte_len [] + 1 + byte_len (comments_text (feed ∷ [])) + 2 in
+    ap (λ t. scalar_of batch_word ∷ t) (batch_meant e es first ∙ sym (append-nil (tree_shapes (sequence (elements_of_entries (e ∷ es))))))
+
+document_meant : (layout : Layout) (at : ℕ) (es : List Event) → es ≡ pairs_events (layout_on layout) 0 at
+    → IsTreeOf (as_document (map_start ∷ (es ++ map_end ∷ [])) ++ []) (mapping (layout_members layout))
+document_meant layout at es is =
     ap shapes (append-nil (as_document (map_start ∷ (es ++ map_end ∷ []))))
     ∙ ap (λ x. document_from ∷ map_from ∷ x) (shapes_joined (es ++ map_end ∷ []) (document_end ∷ []) ∙ ap (λ x. x ++ document_to ∷ []) (shapes_joined es (map_end ∷ [])
-    ∙ ap (λ x. x ++ map_to ∷ []) (ap shapes is ∙ pairs_meant l ls at)))
+    ∙ ap (λ x. x ++ map_to ∷ []) (ap shapes is ∙ layout_meant layout at)))
 
-stream_meant : (marked : Bool) (l : Line) (ls : List Line) → IsTreeOf (stream_events (stream_on marked l ls)) (mapping (members_of_lines (l ∷ ls)))
-stream_meant true l ls = document_meant l ls _ _ refl
-stream_meant false l ls = document_meant l ls _ _ refl
+stream_meant : (marked : Bool) (layout : Layout) → IsTreeOf (stream_events (stream_on marked layout)) (mapping (layout_members layout))
+stream_meant true layout = document_meant layout _ _ refl
+stream_meant false layout = document_meant layout _ _ refl
 
 -- ---- what the document gives
 
@@ -228,16 +327,16 @@ abbrev pub Unambiguous : Type 0
 Unambiguous = (source : List ℕ) (p q : Stream) → Presents p source → Presents q source → stream_events p ≡ stream_events q
 
 -- lines of keys and texts give their mapping
-pub lines_give : Unambiguous → (marked : Bool) (l : Line) (ls : List Line) (limits : Limits) → AreLines (l ∷ ls) → KeysAreText (l ∷ ls)
-    → IsText (document_of marked (l ∷ ls)) → byte_len (document_of marked (l ∷ ls)) ≤ limits.bytes
-    → Good (mapping (members_of_lines (l ∷ ls))) limits → Gives (document_of marked (l ∷ ls)) limits (mapping (members_of_lines (l ∷ ls)))
-lines_give one marked l ls limits are keys source short good =
-    let presents : Presents (stream_on marked l ls) (document_of marked (l ∷ ls)) = record { fits = stream_fits marked l ls are keys; spells = stream_spelled marked l ls } in
-    let can : CanRead (document_of marked (l ∷ ls)) (stream_events (stream_on marked l ls)) = record { presentation = stream_on marked l ls; presents = presents; means = refl } in
+pub lines_give : Unambiguous → (marked : Bool) (layout : Layout) (limits : Limits) → IsLayout layout → LayoutIsText layout
+    → IsText (document_of marked layout) → byte_len (document_of marked layout) ≤ limits.bytes
+    → Good (mapping (layout_members layout)) limits → Gives (document_of marked layout) limits (mapping (layout_members layout))
+lines_give one marked layout limits are keys source short good =
+    let presents : Presents (stream_on marked layout) (document_of marked layout) = record { fits = stream_fits marked layout are keys; spells = stream_spelled marked layout } in
+    let can : CanRead (document_of marked layout) (stream_events (stream_on marked layout)) = record { presentation = stream_on marked layout; presents = presents; means = refl } in
     record {
       short = short;
-      events = stream_events (stream_on marked l ls);
-      reads = record { source = source; some = can; every = λ p q. one (document_of marked (l ∷ ls)) p (stream_on marked l ls) q presents };
-      tree = stream_meant marked l ls;
+      events = stream_events (stream_on marked layout);
+      reads = record { source = source; some = can; every = λ p q. one (document_of marked layout) p (stream_on marked layout) q presents };
+      tree = stream_meant marked layout;
       good = good;
     }

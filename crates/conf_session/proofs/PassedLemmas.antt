@@ -3,7 +3,6 @@ use Rattle.std.proofs.Common.{◌≡◌, refl, sym, ◌∙◌, ap, subst, arith,
 use Rattle.std.specs.Prelude.{ℕ, ◌+◌, ◌-◌, suc, Bool, true, false, if◌then◌else◌, List, [], ◌∷◌, ◌++◌, length, take, Option, Result, Ok, Err, is_ok}
 use Rattle.std.proofs.lemmas.List.{append-nil}
 use Rattle.std.proofs.lemmas.List.Elements.{All-push}
-use Rattle.yaml_recognizers.specs.Closings.{framed_text_bytes}
 use Rattle.yaml_grammar.specs.Closings.{ClosesOnce}
 use Rattle.conf_disk.specs.Image.{Image, IsImage}
 use Rattle.conf_disk.specs.Folder.{Folder, bytes_under}
@@ -23,7 +22,7 @@ use Rattle.conf_store.proofs.MeaningLemmas.{after-done, after-joined}
 use Rattle.conf_store.proofs.HeldLemmas.{prefix-longer}
 use Rattle.conf_session.specs.Said.{piece_limit}
 use Rattle.conf_session.specs.Requests.{Request, Asks, AllAsk, changing, unread, getting, exporting, naming, checkpointing, bad}
-use Rattle.conf_session.specs.Answers.{Stored, longest, syncs, flushed_after, waiting_after, acknowledged, AllAreAcknowledged, answer, output, stored_after, stored_after_all, file_after, file_after_all, staged_after, staged_after_all, accepted_commands, accepted_command, accepted_by, stored_after_change, refused_of, refusals, is_refused, value_at_path}
+use Rattle.conf_session.specs.Answers.{Stored, longest, syncs, flushed_after, waiting_after, acknowledged, AllAreAcknowledged, answer_bytes, output, stored_after, stored_after_all, file_after, file_after_all, staged_after, staged_after_all, accepted_commands, accepted_command, accepted_by, stored_after_change, refused_of, refusals, is_refused, value_at_path}
 use Rattle.conf_session.specs.Runs.{stored_of, ArePieces, AfterAtLeast}
 use Rattle.conf_session.specs.Replies.{LeavesPrefixes, Performs}
 use Rattle.conf_session.specs.Progress.{PerformsAll}
@@ -56,11 +55,11 @@ accepted_commands-last now (x ∷ rs) r =
 
 -- the output with one more request
 pub output-last : (now : Stored) (rs : List Request) (r : Request)
-    → output now (rs ++ r ∷ []) ≡ output now rs ++ framed_text_bytes (answer (stored_after_all now rs) r)
-output-last now [] r = append-nil (framed_text_bytes (answer now r))
+    → output now (rs ++ r ∷ []) ≡ output now rs ++ answer_bytes (stored_after_all now rs) r
+output-last now [] r = append-nil (answer_bytes now r)
 output-last now (x ∷ rs) r =
-    ap (λ l. framed_text_bytes (answer now x) ++ l) (output-last (stored_after now x) rs r)
-    ∙ sym (append_assoc (framed_text_bytes (answer now x)) (output (stored_after now x) rs) (framed_text_bytes (answer (stored_after_all (stored_after now x) rs) r)))
+    ap (λ l. answer_bytes now x ++ l) (output-last (stored_after now x) rs r)
+    ∙ sym (append_assoc (answer_bytes now x) (output (stored_after now x) rs) (answer_bytes (stored_after_all (stored_after now x) rs) r))
 
 -- the number of refusals with one more request
 pub refusals-last : (now : Stored) (rs : List Request) (r : Request) → refusals now (rs ++ r ∷ []) ≡ refusals now rs + refused_of (stored_after_all now rs) r

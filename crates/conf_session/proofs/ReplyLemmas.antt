@@ -1,6 +1,6 @@
 -- What is answered to requests that change nothing.
 use Rattle.std.proofs.Common.{◌≡◌, refl, sym, ◌∙◌, ap, subst, ◌≤◌}
-use Rattle.std.specs.Prelude.{ℕ, List, codes, length, String, string_bytes, Ok, Err}
+use Rattle.std.specs.Prelude.{ℕ, List, codes, length, String, string_bytes, Ok, Err, IfOk}
 use Rattle.std.specs.declared.alloc.Global.{Global}
 use Rattle.yaml_grammar.specs.Trees.{Tree, text, sequence}
 use Rattle.yaml_grammar.specs.Style.{style_text}
@@ -15,38 +15,40 @@ use Rattle.conf_state.specs.declared.fault.StoreFault.{StoreFault}
 use Rattle.conf_state.specs.declared.fault.StoreFault.TheVariants.{Path}
 use Rattle.conf_store.specs.Calls.{tree_named, tree_at}
 use Rattle.conf_session.specs.Requests.{getting, exporting, naming}
-use Rattle.conf_session.specs.Answers.{Stored, one, text_elements, answer_or_refusal, answer_limit, value_at_path, is_refused}
-use Rattle.conf_session.specs.Replies.{Replies}
-use Rattle.conf_session.proofs.LengthLemmas.{refusal-short, answer-short}
+use Rattle.conf_session.specs.Answers.{Stored, one, text_elements, answered, path_answered, refused_answer, answer_or_refusal, document_bytes, answer_limit, value_at_path, is_refused}
+use Rattle.conf_session.specs.Replies.{Replies, refused_as}
+use Rattle.conf_session.specs.declared.words.Refusal.{Refusal}
+use Rattle.conf_session.proofs.LengthLemmas.{refused-short, answer-short}
+use Rattle.conf_session.proofs.RefusalLemmas.{refused-ok}
 use Rattle.conf_session.specs.declared.reply.Reply.TheVariants.{Done, Refused}
 
 module _ (now : Stored) (name : List ℕ) where
   value-reply : (p : List ℕ) (v : Tree) (written : String Global) → value_at_path now.state name p ≡ Ok v → string_bytes written ≡ framed_text_bytes (one (codes "value") v)
       → IsState now.state → Replies now (getting name p) (Done written)
   value-reply p v written e bytes kept = record {
-    bytes = bytes ∙ ap (λ r. framed_text_bytes (answer_or_refusal (one (codes "value")) r)) (sym e);
+    bytes = bytes ∙ ap (λ r. document_bytes (answer_or_refusal (one (codes "value")) r)) (sym e);
     accepted = refl;
     refused = ap is_refused (sym e);
     short = answer-short now (getting name p) kept;
   }
 
-  value-refused : (p : List ℕ) (f : StoreFault) → value_at_path now.state name p ≡ Err f → Replies now (getting name p) (Refused f)
-  value-refused p f e = record {
-    bytes = ap (λ r. framed_text_bytes (answer_or_refusal (one (codes "value")) r)) (sym e);
+  value-refused : (p : List ℕ) (f : StoreFault) (reason : Refusal) → value_at_path now.state name p ≡ Err f → answered f ≡ Ok reason → Replies now (getting name p) (Refused reason)
+  value-refused p f reason e is = record {
+    bytes = ap (λ a. document_bytes (refused_answer a)) (sym is) ∙ ap (λ r. document_bytes (answer_or_refusal (one (codes "value")) r)) (sym e);
     accepted = refl;
     refused = ap is_refused (sym e);
-    short = subst (λ r. length (framed_text_bytes (answer_or_refusal (one (codes "value")) r)) ≤ answer_limit) (sym e) (refusal-short f);
+    short = subst (λ r. length (document_bytes (answer_or_refusal (one (codes "value")) r)) ≤ answer_limit) (sym e) (refused-short (answered f));
   }
 
   -- a `get` of a name without a configuration is refused so
-  pub get-no_config : (p : List ℕ) (f : StoreFault) → tree_named now.state name ≡ Err f → Replies now (getting name p) (Refused f)
-  get-no_config p f e = value-refused p f (ap (λ r. and_then r (λ t. and_then (by_path (path_of p)) (λ tokens. by_path (at t tokens)))) e)
+  pub get-no_config : (p : List ℕ) (f : StoreFault) → tree_named now.state name ≡ Err f → IfOk (refused_as (answered f)) (Replies now (getting name p))
+  get-no_config p f e = refused-ok _ (answered f) (λ reason. value-refused p f reason (ap (λ r. and_then r (λ t. and_then (by_path (path_of p)) (λ tokens. by_path (at t tokens)))) e))
 
   -- a `get` at a bad path is refused so
-  pub get-no_path : (p : List ℕ) (t : Tree) (f : PathFault) → tree_named now.state name ≡ Ok t → path_of p ≡ Err f → Replies now (getting name p) (Refused (Path f))
+  pub get-no_path : (p : List ℕ) (t : Tree) (f : PathFault) → tree_named now.state name ≡ Ok t → path_of p ≡ Err f → IfOk (refused_as (path_answered f)) (Replies now (getting name p))
   get-no_path p t f e wrong =
-      value-refused p (Path f) (ap (λ r. and_then r (λ u. and_then (by_path (path_of p)) (λ tokens. by_path (at u tokens)))) e
-      ∙ ap (λ r. and_then (by_path r) (λ tokens. by_path (at t tokens))) wrong)
+      refused-ok _ (path_answered f) (λ reason. value-refused p (Path f) reason (ap (λ r. and_then r (λ u. and_then (by_path (path_of p)) (λ tokens. by_path (at u tokens)))) e
+      ∙ ap (λ r. and_then (by_path r) (λ tokens. by_path (at t tokens))) wrong))
 
   module _ (p : List ℕ) (tokens : List (List ℕ)) (path : path_of p ≡ Ok tokens) where
     leads : value_at_path now.state name p ≡ tree_at now.state name tokens
@@ -56,27 +58,30 @@ module _ (now : Stored) (name : List ℕ) where
         → IsState now.state → Replies now (getting name p) (Done written)
     get-value v written there = value-reply p v written (leads ∙ there)
 
-    pub get-refused : (f : StoreFault) → tree_at now.state name tokens ≡ Err f → Replies now (getting name p) (Refused f)
-    get-refused f there = value-refused p f (leads ∙ there)
+    pub get-refused : (f : StoreFault) → tree_at now.state name tokens ≡ Err f → IfOk (refused_as (answered f)) (Replies now (getting name p))
+    get-refused f there = refused-ok _ (answered f) (λ reason. value-refused p f reason (leads ∙ there))
 
   -- the answer to an `export` is the text of the configuration
   pub export-text : (t : Tree) (written : String Global) → tree_named now.state name ≡ Ok t → string_bytes written ≡ framed_text_bytes (one (codes "text") (text (style_text t)))
       → IsState now.state → Replies now (exporting name) (Done written)
   export-text t written e bytes kept = record {
-    bytes = bytes ∙ ap (λ r. framed_text_bytes (answer_or_refusal (λ u. one (codes "text") (text (style_text u))) r)) (sym e);
+    bytes = bytes ∙ ap (λ r. document_bytes (answer_or_refusal (λ u. one (codes "text") (text (style_text u))) r)) (sym e);
     accepted = refl;
     refused = ap is_refused (sym e);
     short = answer-short now (exporting name) kept;
   }
 
-  -- an `export` of a name without a configuration is refused so
-  pub export-refused : (f : StoreFault) → tree_named now.state name ≡ Err f → Replies now (exporting name) (Refused f)
-  export-refused f e = record {
-    bytes = ap (λ r. framed_text_bytes (answer_or_refusal (λ u. one (codes "text") (text (style_text u))) r)) (sym e);
+  export-no_config : (f : StoreFault) (reason : Refusal) → tree_named now.state name ≡ Err f → answered f ≡ Ok reason → Replies now (exporting name) (Refused reason)
+  export-no_config f reason e is = record {
+    bytes = ap (λ a. document_bytes (refused_answer a)) (sym is) ∙ ap (λ r. document_bytes (answer_or_refusal (λ u. one (codes "text") (text (style_text u))) r)) (sym e);
     accepted = refl;
     refused = ap is_refused (sym e);
-    short = subst (λ r. length (framed_text_bytes (answer_or_refusal (λ t. one (codes "text") (text (style_text t))) r)) ≤ answer_limit) (sym e) (refusal-short f);
+    short = subst (λ r. length (document_bytes (answer_or_refusal (λ t. one (codes "text") (text (style_text t))) r)) ≤ answer_limit) (sym e) (refused-short (answered f));
   }
+
+  -- an `export` of a name without a configuration is refused so
+  pub export-refused : (f : StoreFault) → tree_named now.state name ≡ Err f → IfOk (refused_as (answered f)) (Replies now (exporting name))
+  export-refused f e = refused-ok _ (answered f) (λ reason. export-no_config f reason e)
 
 -- the answer to `names` is the list of all names
 pub names-listed : (now : Stored) → IsState now.state → (written : String Global) → string_bytes written ≡ framed_text_bytes (one (codes "names") (sequence (text_elements (names_of now.state.configs))))

@@ -1,6 +1,6 @@
 -- What one request does.
 use Rattle.std.proofs.Common.{◌≡◌, ◌≢◌, ◌⊎◌, inl, inr, ⊎_elim, refl, sym, ◌∙◌, ap, subst, arith, length-append}
-use Rattle.std.specs.Prelude.{ℕ, ◌+◌, min, max, Bool, true, false, List, [], ◌∷◌, ◌++◌, length, decimal, codes, Option, Some, None, option_map, unwrap_or, ◌&&◌, if◌then◌else◌, Result, Ok, Err, is_ok, String, string_bytes}
+use Rattle.std.specs.Prelude.{ℕ, ◌+◌, min, max, Bool, true, false, List, [], ◌∷◌, ◌++◌, length, decimal, codes, Option, Some, None, option_map, unwrap_or, ◌&&◌, if◌then◌else◌, Result, Ok, Err, is_ok, IfOk, String, string_bytes}
 use Rattle.std.specs.Str.{chars, IsUtf8}
 use Rattle.std.specs.declared.alloc.Global.{Global}
 use Rattle.std.proofs.lemmas.Str.{encodes-chars}
@@ -21,7 +21,7 @@ use Rattle.conf_state.specs.Steps.{step, after}
 use Rattle.conf_state.specs.declared.fault.StoreFault.{StoreFault}
 use Rattle.conf_state.specs.declared.room.Room.{Room}
 use Rattle.conf_state.specs.declared.fault.StoreFault.TheVariants as state
-use Rattle.conf_store.specs.Calls.{outcome, room_for, next_record, journal_length, Accepts}
+use Rattle.conf_store.specs.Calls.{outcome, room_for, next_record, journal_length, Accepts, RefusesCommand}
 use Rattle.conf_store.specs.Imports.{IsImportOf, RefusesText}
 use Rattle.conf_store.specs.Staged.{Staged, staged_length, with_more}
 use Rattle.conf_store.specs.Meaning.{FileMeans}
@@ -35,10 +35,12 @@ use Rattle.conf_session.specs.Said.{Said, import_text, single_part, Says}
 use Rattle.conf_session.specs.declared.fault.SessionFault.{SessionFault}
 use Rattle.conf_session.specs.declared.fault.SessionFault.TheVariants as fault
 use Rattle.conf_session.specs.Requests.{MeansRequest, Request, changing, unread, getting, exporting, naming, checkpointing, bad}
-use Rattle.conf_session.specs.Answers.{Stored, longest, one, change_answer, stored_after_change, stored_after, file_after_change, accepted_by, accepted_command, is_refused}
+use Rattle.conf_session.specs.Answers.{Stored, longest, one, change_answer, stored_after_change, stored_after, file_after_change, accepted_by, accepted_command, is_refused, answered, refused_answer, document_bytes}
 use Rattle.conf_session.specs.Runs.{stored_of}
-use Rattle.conf_session.specs.Replies.{OnlyReads, LeavesPrefixes, Performs, Replies, Did, DidSaid, DidPiece}
-use Rattle.conf_session.proofs.LengthLemmas.{step-few, answer-short}
+use Rattle.conf_session.specs.Replies.{OnlyReads, LeavesPrefixes, Performs, Replies, Did, DidSaid, DidPiece, refused_as}
+use Rattle.conf_session.specs.declared.words.Refusal.{Refusal}
+use Rattle.conf_session.proofs.LengthLemmas.{step-few, answer-short, refused-short}
+use Rattle.conf_session.proofs.RefusalLemmas.{OnlyMemory, answered-memory, is-device}
 use Rattle.conf_session.specs.declared.reply.Reply.{Reply}
 use Rattle.conf_session.specs.declared.reply.Reply.TheVariants.{Accepted, Refused}
 
@@ -264,17 +266,77 @@ count-after s new command room count e one is = let few = step-few s new command
 pub accepted-reply : (now : Stored) → IsState now.state → (new : Contents) (command : Command) (written : String Global) (count : ℕ) → outcome (longest now) now.state command ≡ Ok new → count ≡ new.count
     → string_bytes written ≡ framed_text_bytes (one (codes "ok") (text (decimal count))) → Replies now (changing command) (Accepted written)
 accepted-reply now kept new command written count done is bytes = record {
-  bytes = bytes ∙ ap (λ n. framed_text_bytes (one (codes "ok") (text (decimal n)))) is ∙ ap (λ r. framed_text_bytes (change_answer r)) (sym done);
+  bytes = bytes ∙ ap (λ n. framed_text_bytes (one (codes "ok") (text (decimal n)))) is ∙ ap (λ r. document_bytes (change_answer r)) (sym done);
   accepted = ap (λ r. length (accepted_by r command)) (sym done);
   refused = ap is_refused (sym done);
   short = answer-short now (changing command) kept;
 }
 
 -- the answer to a command that is refused is its refusal
-pub refused-reply : (now : Stored) → IsState now.state → (command : Command) (f : StoreFault) → outcome (longest now) now.state command ≡ Err f → Replies now (changing command) (Refused f)
-refused-reply now kept command f refused = record {
-  bytes = ap (λ r. framed_text_bytes (change_answer r)) (sym refused);
+pub refused-reply : (now : Stored) → IsState now.state → (command : Command) (f : StoreFault) (reason : Refusal) → outcome (longest now) now.state command ≡ Err f → answered f ≡ Ok reason
+    → Replies now (changing command) (Refused reason)
+refused-reply now kept command f reason refused is = record {
+  bytes = ap (λ a. document_bytes (refused_answer a)) (sym is) ∙ ap (λ r. document_bytes (change_answer r)) (sym refused);
   accepted = ap (λ r. length (accepted_by r command)) (sym refused);
   refused = ap is_refused (sym refused);
   short = answer-short now (changing command) kept;
 }
+
+-- ---- requests that are refused, or end the session
+
+module _ (at_once : Bool) {D : Type 0} (honest : Type 0) (folder : D → Folder) (moment : D → ℕ) (since : D → ℕ → Image → Type 0) where
+  settled : (old new : StoreView D) (request : Request) (r : Result Refusal SessionFault) → OnlyMemory r → new ≡ old
+      → ((reason : Refusal) → r ≡ Ok reason → Did at_once honest folder moment since old new request (Ok (Refused reason)))
+      → Did at_once honest folder moment since old new request (refused_as r)
+  settled old new request (Ok reason) memory same reply = reply reason refl
+  settled old new request (Err end) memory same reply = subst (λ (e : SessionFault). Did at_once honest folder moment since old new request (Err e)) (sym memory) same
+
+  -- a command that is refused is answered by its refusal; the device may have failed
+  pub did-refused : (old new : StoreView D) (request : Request) (f : StoreFault) → (f ≡ state.Reopen → ⊥)
+      → (f ≡ state.Device → Did at_once honest folder moment since old new request (Err fault.Device)) → (f ≢ state.Device → new ≡ old)
+      → ((reason : Refusal) → f ≢ state.Device → answered f ≡ Ok reason → Did at_once honest folder moment since old new request (Ok (Refused reason)))
+      → Did at_once honest folder moment since old new request (refused_as (answered f))
+  did-refused old new request f shut device same reply =
+      ⊎_elim (λ is. subst (λ (x : StoreFault). Did at_once honest folder moment since old new request (refused_as (answered x))) (sym is) (device is))
+      (λ other. settled old new request (answered f) (answered-memory f shut other) (same other) (λ reason. reply reason other)) (is-device f)
+
+  -- what is said asks for no command, and is answered by that refusal
+  pub said-unread : (store : StoreView D) → store.reopen ≡ false → ((image : Image) → honest → since store.disk (moment store.disk) image → IsImage (folder store.disk) image)
+      → (honest → store.reopen ≡ false → LeavesPrefixes (folder store.disk) store.state)
+      → (said : Said) (f : StoreFault) → ((reason : Refusal) → answered f ≡ Ok reason → MeansRequest said (unread f)) → OnlyMemory (answered f)
+      → DidSaid at_once honest folder moment since store store said (refused_as (answered f))
+  said-unread store off only means said f asks memory = by (answered f) refl memory
+    where
+      by : (r : Result Refusal SessionFault) → answered f ≡ r → OnlyMemory r → DidSaid at_once honest folder moment since store store said (refused_as r)
+      by (Ok reason) is memory =
+          said-read at_once honest folder moment since store off only means said (unread f) (asks reason is) tt (Refused reason)
+          (record { bytes = ap (λ a. document_bytes (refused_answer a)) (sym is); accepted = refl; refused = refl; short = refused-short (answered f) })
+      by (Err end) is memory = subst (λ (e : SessionFault). DidSaid at_once honest folder moment since store store said (Err e)) (sym memory) refl
+
+  -- what is said asks to read
+  pub said-reads : (store : StoreView D) → store.reopen ≡ false → ((image : Image) → honest → since store.disk (moment store.disk) image → IsImage (folder store.disk) image)
+      → (honest → store.reopen ≡ false → LeavesPrefixes (folder store.disk) store.state)
+      → (said : Said) (request : Request) → MeansRequest said request → OnlyReads request → (r : Result Reply SessionFault)
+      → IfOk r (Replies (stored_of store) request) → OnlyMemory r → DidSaid at_once honest folder moment since store store said r
+  said-reads store off only means said request asks is (Ok reply) replies memory =
+      said-read at_once honest folder moment since store off only means said request asks is reply replies
+  said-reads store off only means said request asks is (Err end) replies memory =
+      subst (λ (e : SessionFault). DidSaid at_once honest folder moment since store store said (Err e)) (sym memory) refl
+
+-- why a command was refused that is answered by a refusal
+pub refused-outcome : {D : Type 0} (old new : StoreView D) (command : Command) (f : StoreFault) (reason : Refusal) → answered f ≡ Ok reason → RefusesCommand old command new f
+    → outcome (journal_length old) old.state command ≡ Err f
+refused-outcome old new command state.EmptyBatch reason is refuses = refuses
+refused-outcome old new command state.BadName reason is refuses = refuses
+refused-outcome old new command state.NoConfig reason is refuses = refuses
+refused-outcome old new command (state.Path why) reason is refuses = refuses
+refused-outcome old new command (state.Read why) reason is refuses = refuses
+refused-outcome old new command state.TooDeep reason is refuses = refuses
+refused-outcome old new command state.ConfigLarge reason is refuses = refuses
+refused-outcome old new command state.StoreFull reason is refuses = refuses
+refused-outcome old new command state.RecordLong reason is refuses = refuses
+refused-outcome old new command state.JournalLong reason is refuses = refuses
+refused-outcome old new command state.CountFull reason is refuses = refuses
+refused-outcome old new command state.Reopen reason is refuses = absurd (cc is)
+refused-outcome old new command state.Device reason is refuses = absurd (cc is)
+refused-outcome old new command state.OutOfMemory reason is refuses = absurd (cc is)

@@ -4,7 +4,6 @@ use Rattle.std.specs.Prelude.{ℕ, ◌+◌, false, List, [], ◌∷◌, ◌++◌
 use Rattle.std.specs.declared.vec.Vec.{Vec}
 use Rattle.std.specs.declared.alloc.Global.{Global}
 use Rattle.std.proofs.lemmas.List.{length-take-le, length-map, take_more, get_or-map}
-use Rattle.yaml_recognizers.specs.Closings.{framed_text_bytes}
 use Rattle.yaml_grammar.specs.Closings.{ClosesAt, ClosesOnce}
 use Rattle.yaml_docs.specs.NextClosing.{IsNextClosing, NoClosingAfter}
 use Rattle.conf_disk.specs.Folder.{Folder, bytes_under}
@@ -19,7 +18,7 @@ use Rattle.conf_store.specs.Slices.{StaysTheSame}
 use Rattle.conf_store.specs.Staged.{Staged}
 use Rattle.conf_store.specs.View.{StoreView}
 use Rattle.conf_session.specs.Requests.{Request}
-use Rattle.conf_session.specs.Answers.{Stored, answer, answers, stored_after, stored_after_all, accepted_commands, flushed_after, waiting_after}
+use Rattle.conf_session.specs.Answers.{Stored, answer_bytes as answer_to, answers, stored_after, stored_after_all, accepted_commands, flushed_after, waiting_after}
 use Rattle.conf_session.specs.Runs.{stored_of}
 use Rattle.conf_session.specs.Replies.{LeavesPrefixes, Performs, DidPiece, reply_bytes}
 use Rattle.conf_session.specs.declared.reply.Reply.{Reply}
@@ -115,9 +114,9 @@ module _ {D : Type 0} (honest : Type 0) (folder : D → Folder) (moment : D → 
 -- ---- one piece more
 
 -- the answers with one request more
-answers-last : (now : Stored) (rs : List Request) (r : Request) → answers now (rs ++ r ∷ []) ≡ answers now rs ++ framed_text_bytes (answer (stored_after_all now rs) r) ∷ []
+answers-last : (now : Stored) (rs : List Request) (r : Request) → answers now (rs ++ r ∷ []) ≡ answers now rs ++ answer_to (stored_after_all now rs) r ∷ []
 answers-last now [] r = refl
-answers-last now (x ∷ rs) r = ap (λ l. framed_text_bytes (answer now x) ∷ l) (answers-last (stored_after now x) rs r)
+answers-last now (x ∷ rs) r = ap (λ l. answer_to now x ∷ l) (answers-last (stored_after now x) rs r)
 
 ask-last : (pieces : List (List ℕ)) (rs : List Request) (piece : List ℕ) (r : Request) → AllRoundAsk pieces rs → RoundAsks piece r → AllRoundAsk (pieces ++ piece ∷ []) (rs ++ r ∷ [])
 ask-last [] [] piece r all one = (one, tt)
@@ -150,12 +149,12 @@ module _ {D : Type 0} (honest : Type 0) (folder : D → Folder) (moment : D → 
     -- ---- one piece more
 
     module _ (new : StoreView D) (piece : List ℕ) (r : Request) (asks : RoundAsks piece r) (does : Performs false honest folder moment since now new r) where
-      pub round-more : new.reopen ≡ false → RoundSoFar honest folder moment since old new (pieces ++ piece ∷ []) (written ++ framed_text_bytes (answer (stored_of now) r) ∷ [])
+      pub round-more : new.reopen ≡ false → RoundSoFar honest folder moment since old new (pieces ++ piece ∷ []) (written ++ answer_to (stored_of now) r ∷ [])
       round-more off = record {
         requests = s.requests ++ r ∷ [];
         ask = ask-last pieces s.requests piece r s.ask asks;
-        answers = ap (λ l. l ++ framed_text_bytes (answer (stored_of now) r) ∷ []) s.answers
-            ∙ ap (λ t. answers (stored_of old) s.requests ++ framed_text_bytes (answer t r) ∷ []) s.performs.stored
+        answers = ap (λ l. l ++ answer_to (stored_of now) r ∷ []) s.answers
+            ∙ ap (λ t. answers (stored_of old) s.requests ++ answer_to t r ∷ []) s.performs.stored
             ∙ sym (answers-last (stored_of old) s.requests r);
         performs = performs-more false honest folder moment since old now new s.requests r s.performs does off;
       }

@@ -7,7 +7,6 @@ use Rattle.std.proofs.KnownBytes.{Appends-nil, Appends-trans, Appends-kept, Cons
 use Rattle.std.proofs.lemmas.List.{append-nil, take-append-le, take_all}
 use Rattle.std.proofs.lemmas.List.Folds.{concat-append}
 use Rattle.std.proofs.lemmas.List.Elements.{All-nil}
-use Rattle.yaml_recognizers.specs.Closings.{framed_text_bytes}
 use Rattle.yaml_grammar.specs.Closings.{ClosesOnce}
 use Rattle.conf_disk.specs.Image.{Image, IsImage}
 use Rattle.conf_disk.specs.Folder.{Folder}
@@ -18,7 +17,7 @@ use Rattle.conf_session.specs.declared.fault.SessionFault.{SessionFault}
 use Rattle.conf_session.specs.declared.fault.SessionFault.TheVariants as fault
 use Rattle.conf_session.specs.declared.input.Input.{Input}
 use Rattle.conf_session.specs.Requests.{Request, Asks}
-use Rattle.conf_session.specs.Answers.{Stored, acknowledged, answer, answer_limit, output, stored_after_all, accepted_commands, accepted_command, refused_of}
+use Rattle.conf_session.specs.Answers.{Stored, acknowledged, answer_bytes, answer_limit, output, stored_after_all, accepted_commands, accepted_command, refused_of}
 use Rattle.conf_session.specs.Runs.{stored_of, ArePieces, Ends, Runs, BeginsWith}
 use Rattle.conf_session.specs.Replies.{LeavesPrefixes, Performs}
 use Rattle.conf_session.specs.Progress.{AreCounted, Passed, Answered, Fails}
@@ -211,8 +210,8 @@ module _ {D : Type 0} (honest : Type 0) (folder : D → Folder) (moment : D → 
             taken = all-taken;
             are = pieces-last s.pieces rs (piece_of then) r s.are advances.piece advances.short one.asks;
             passed = record {
-              out = subst (Appends held written) (ap (λ t. output start rs ++ framed_text_bytes (answer t r)) here ∙ sym (output-last start rs r))
-                  (Appends-trans held between written (output start rs) (framed_text_bytes (answer (stored_of now) r)) s.passed.out one.out);
+              out = subst (Appends held written) (ap (λ t. output start rs ++ answer_bytes t r) here ∙ sym (output-last start rs r))
+                  (Appends-trans held between written (output start rs) (answer_bytes (stored_of now) r) s.passed.out one.out);
               performs = performs-more true honest folder moment since old now new rs r s.passed.performs one.performs one.sound;
             };
             counted = record {
@@ -221,8 +220,8 @@ module _ {D : Type 0} (honest : Type 0) (folder : D → Folder) (moment : D → 
                   let sum = length-append (accepted_commands start rs) (accepted_command (stored_after_all start rs) r) in
                   omega (arith, one.accepted, s.counted.accepted, same, last, sum));
               refused = (let same = ap (λ t. refused_of t r) here in omega (arith, one.refused, s.counted.refused, same, refusals-last start rs r));
-              written = (let same = ap (λ t. length (framed_text_bytes (answer t r))) here in let last = ap length (output-last start rs r) in
-                  let sum = length-append (output start rs) (framed_text_bytes (answer (stored_after_all start rs) r)) in
+              written = (let same = ap (λ t. length (answer_bytes t r)) here in let last = ap length (output-last start rs r) in
+                  let sum = length-append (output start rs) (answer_bytes (stored_after_all start rs) r) in
                   omega (arith, one.sent, s.counted.written, same, last, sum));
             };
             read = (let all = ap length joined-more in let before = s.read in let grown = advances.total in
@@ -281,16 +280,16 @@ module _ {D : Type 0} (honest : Type 0) (folder : D → Folder) (moment : D → 
       }
 
       ends-write : (written : Option (List ℕ)) (new : StoreView D) (r : Request) (count total : ℕ) → Asks (piece_of then) r → new.reopen ≡ false → Performs true honest folder moment since now new r
-          → total ≡ counts.written + count → count < length (framed_text_bytes (answer (stored_of now) r)) → Appends between written (take count (framed_text_bytes (answer (stored_of now) r)))
-          → length (framed_text_bytes (answer (stored_of now) r)) ≤ answer_limit → counts.written ≤ counts.tally.documents * answer_limit
+          → total ≡ counts.written + count → count < length (answer_bytes (stored_of now) r) → Appends between written (take count (answer_bytes (stored_of now) r))
+          → length (answer_bytes (stored_of now) r) ≤ answer_limit → counts.written ≤ counts.tally.documents * answer_limit
           → (honest → new.reopen ≡ false → LeavesPrefixes (folder new.disk) new.state)
           → Runs honest folder moment since given left held written old new (Err (fault.Write total))
       ends-write written new r count total asks off does is short out small room means =
           let start = stored_of old in
           let rs = s.requests in
           let before = output start rs in
-          let one = framed_text_bytes (answer (stored_of now) r) in
-          let all : output start (rs ++ r ∷ []) ≡ before ++ one = output-last start rs r ∙ ap (λ t. before ++ framed_text_bytes (answer t r)) (sym s.passed.performs.stored) in
+          let one = answer_bytes (stored_of now) r in
+          let all : output start (rs ++ r ∷ []) ≡ before ++ one = output-last start rs r ∙ ap (λ t. before ++ answer_bytes t r) (sym s.passed.performs.stored) in
           let long = ap length all ∙ length-append before one in
           let sum = s.counted.written in
           let prefix : take total (output start (rs ++ r ∷ [])) ≡ before ++ take count one =

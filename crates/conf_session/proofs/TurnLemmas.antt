@@ -2,7 +2,6 @@
 use Rattle.std.proofs.Common.{◌≡◌, refl, sym, ◌∙◌, ap, subst, arith, ◌≤◌, append_assoc, length-append}
 use Rattle.std.specs.Prelude.{ℕ, ◌+◌, List, [], ◌∷◌, ◌++◌, length, Option, Ok}
 use Rattle.std.proofs.lemmas.List.{append-nil, take_all}
-use Rattle.yaml_recognizers.specs.Closings.{framed_text_bytes}
 use Rattle.conf_disk.specs.Folder.{Folder}
 use Rattle.conf_disk.specs.Image.{Image, IsImage}
 use Rattle.conf_disk.specs.Moments.{LeavesOnly}
@@ -15,7 +14,7 @@ use Rattle.conf_store.specs.View.{StoreView}
 use Rattle.conf_store.proofs.MeaningLemmas.{after-joined}
 use Rattle.conf_store.proofs.HeldLemmas.{after-nothing, prefix-longer}
 use Rattle.conf_session.specs.Requests.{Request}
-use Rattle.conf_session.specs.Answers.{Stored, answer, output, stored_after, stored_after_all, file_after, file_after_all, staged_after, staged_after_all, accepted_command, accepted_commands, refusals}
+use Rattle.conf_session.specs.Answers.{Stored, answer_bytes, output, stored_after, stored_after_all, file_after, file_after_all, staged_after, staged_after_all, accepted_command, accepted_commands, refusals}
 use Rattle.conf_session.specs.Runs.{AfterAtLeast, stored_of}
 use Rattle.conf_session.specs.Groups.{AreDue, Turn, asked, begun, finished, Files, all_asked, requests_of, files_of, stored_after_turn, stored_after_turns, files_after_turn, files_after_turns, turn_output, turns_output, turn_accepted, turns_accepted, turns_refused, acknowledged_turns}
 use Rattle.conf_session.specs.Gathering.{PerformsTurns}
@@ -75,7 +74,7 @@ asked-files store staged now (r ∷ rs) = asked-files (file_after store now r) (
 
 pub asked-output : (now : Stored) (rs : List Request) → turns_output now (all_asked rs) ≡ output now rs
 asked-output now [] = refl
-asked-output now (r ∷ rs) = ap (λ l. framed_text_bytes (answer now r) ++ l) (asked-output (stored_after now r) rs)
+asked-output now (r ∷ rs) = ap (λ l. answer_bytes now r ++ l) (asked-output (stored_after now r) rs)
 
 pub asked-accepted : (now : Stored) (rs : List Request) → turns_accepted now (all_asked rs) ≡ accepted_commands now rs
 asked-accepted now [] = refl

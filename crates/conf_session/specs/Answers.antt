@@ -1,5 +1,5 @@
 -- What a session answers, and what is stored then. All of it is computed from the requests.
-use Rattle.std.specs.Prelude.{◌≡◌, ◌≤◌, ℕ, ◌+◌, ◌-◌, max, Bool, true, false, ◌&&◌, if◌then◌else◌, List, [], ◌∷◌, ◌++◌, length, codes, decimal, Option, Some, None, option_map, unwrap_or, Result, Ok, Err, is_ok}
+use Rattle.std.specs.Prelude.{◌≡◌, ◌≤◌, ℕ, ◌+◌, ◌-◌, max, Bool, true, false, ◌&&◌, if◌then◌else◌, List, [], ◌∷◌, ◌++◌, length, codes, decimal, Option, Some, None, option_map, unwrap_or, Result, Ok, Err, is_ok, is_some}
 use Rattle.std.specs.List.{concat}
 use Rattle.yaml_grammar.specs.Trees.{Tree, text, sequence, mapping, Elements, no_element, element, no_member, member}
 use Rattle.yaml_grammar.specs.Style.{style_text}
@@ -19,42 +19,70 @@ use Rattle.conf_state.specs.declared.fault.StoreFault.{StoreFault}
 use Rattle.conf_state.specs.declared.fault.StoreFault.TheVariants as store
 use Rattle.conf_state.specs.BaseTexts.{base_bytes}
 use Rattle.conf_store.specs.Calls.{outcome, next_record, tree_named}
-use Rattle.conf_session.specs.Requests.{Request, changing, unread, getting, exporting, naming, checkpointing, bad}
+use Rattle.conf_session.specs.declared.fault.SessionFault.{SessionFault}
+use Rattle.conf_session.specs.declared.fault.SessionFault.TheVariants as fault
+use Rattle.conf_session.specs.declared.words.Refusal.{Refusal}
+use Rattle.conf_session.specs.declared.words.Refusal.TheVariants as refused
+use Rattle.conf_session.specs.Requests.{Request, changing, unread, getting, exporting, naming, checkpointing, bad, Asks}
 
--- ---- the words of refusals: the innermost fault's own name. The others are never answered.
+-- ---- refusals: which one answers a fault, and its word, which is the innermost fault's own name
 
-abbrev pub read_word : ReadFault → List ℕ
-read_word read.TooLong = codes "TooLong"
-read_word (read.NotUtf8 at) = codes "NotUtf8"
-read_word (read.Syntax line column why) = codes "Syntax"
-read_word (read.Documents count) = codes "Documents"
-read_word read.KeyNotText = codes "KeyNotText"
-read_word read.KeyTwice = codes "KeyTwice"
-read_word read.TooDeep = codes "TooDeep"
-read_word read.LargeInStyle = codes "LargeInStyle"
-read_word read.OutOfMemory = []
+-- an import whose text is refused; OutOfMemory ends a session
+abbrev pub read_answered : ReadFault → Result Refusal SessionFault
+read_answered read.TooLong = Ok refused.TooLong
+read_answered (read.NotUtf8 at) = Ok refused.NotUtf8
+read_answered (read.Syntax line column why) = Ok refused.Syntax
+read_answered (read.Documents count) = Ok refused.Documents
+read_answered read.KeyNotText = Ok refused.KeyNotText
+read_answered read.KeyTwice = Ok refused.KeyTwice
+read_answered read.TooDeep = Ok refused.TooDeep
+read_answered read.LargeInStyle = Ok refused.LargeInStyle
+read_answered read.OutOfMemory = Err fault.OutOfMemory
 
-abbrev pub path_word : PathFault → List ℕ
-path_word (path.BadPath at) = codes "BadPath"
-path_word (path.NoSuchPlace step) = codes "NoSuchPlace"
-path_word (path.NotIndex step) = codes "NotIndex"
-path_word path.OutOfMemory = []
+-- a request whose path is refused
+abbrev pub path_answered : PathFault → Result Refusal SessionFault
+path_answered (path.BadPath at) = Ok refused.BadPath
+path_answered (path.NoSuchPlace step) = Ok refused.NoSuchPlace
+path_answered (path.NotIndex step) = Ok refused.NotIndex
+path_answered path.OutOfMemory = Err fault.OutOfMemory
 
-abbrev pub word : StoreFault → List ℕ
-word store.EmptyBatch = codes "EmptyBatch"
-word store.BadName = codes "BadName"
-word store.NoConfig = codes "NoConfig"
-word (store.Path fault) = path_word fault
-word (store.Read fault) = read_word fault
-word store.TooDeep = codes "TooDeep"
-word store.ConfigLarge = codes "ConfigLarge"
-word store.StoreFull = codes "StoreFull"
-word store.RecordLong = codes "RecordLong"
-word store.JournalLong = codes "JournalLong"
-word store.CountFull = codes "CountFull"
-word store.Reopen = []
-word store.Device = []
-word store.OutOfMemory = []
+-- a request; the other faults end a session
+abbrev pub answered : StoreFault → Result Refusal SessionFault
+answered store.EmptyBatch = Ok refused.EmptyBatch
+answered store.BadName = Ok refused.BadName
+answered store.NoConfig = Ok refused.NoConfig
+answered (store.Path why) = path_answered why
+answered (store.Read why) = read_answered why
+answered store.TooDeep = Ok refused.TooDeep
+answered store.ConfigLarge = Ok refused.ConfigLarge
+answered store.StoreFull = Ok refused.StoreFull
+answered store.RecordLong = Ok refused.RecordLong
+answered store.JournalLong = Ok refused.JournalLong
+answered store.CountFull = Ok refused.CountFull
+answered store.Reopen = Err fault.Reopen
+answered store.Device = Err fault.Device
+answered store.OutOfMemory = Err fault.OutOfMemory
+
+abbrev pub word : Refusal → List ℕ
+word refused.EmptyBatch = codes "EmptyBatch"
+word refused.BadName = codes "BadName"
+word refused.NoConfig = codes "NoConfig"
+word refused.BadPath = codes "BadPath"
+word refused.NoSuchPlace = codes "NoSuchPlace"
+word refused.NotIndex = codes "NotIndex"
+word refused.TooLong = codes "TooLong"
+word refused.NotUtf8 = codes "NotUtf8"
+word refused.Syntax = codes "Syntax"
+word refused.Documents = codes "Documents"
+word refused.KeyNotText = codes "KeyNotText"
+word refused.KeyTwice = codes "KeyTwice"
+word refused.TooDeep = codes "TooDeep"
+word refused.LargeInStyle = codes "LargeInStyle"
+word refused.ConfigLarge = codes "ConfigLarge"
+word refused.StoreFull = codes "StoreFull"
+word refused.RecordLong = codes "RecordLong"
+word refused.JournalLong = codes "JournalLong"
+word refused.CountFull = codes "CountFull"
 
 -- ---- one answer: a mapping of one key
 
@@ -69,9 +97,14 @@ abbrev pub text_elements : List (List ℕ) → Elements
 text_elements [] = no_element
 text_elements (t ∷ ts) = element (text t) (text_elements ts)
 
-abbrev pub answer_or_refusal : {A : Type 0} → (A → Tree) → Result A StoreFault → Tree
-answer_or_refusal answer (Ok x) = answer x
-answer_or_refusal answer (Err fault) = refusal (word fault)
+-- the answer by a refusal, where there is one
+abbrev pub refused_answer : Result Refusal SessionFault → Option Tree
+refused_answer (Ok reason) = Some (refusal (word reason))
+refused_answer (Err end) = None
+
+abbrev pub answer_or_refusal : {A : Type 0} → (A → Tree) → Result A StoreFault → Option Tree
+answer_or_refusal answer (Ok x) = Some (answer x)
+answer_or_refusal answer (Err why) = refused_answer (answered why)
 
 -- the tree at the path that a text means, if it means one
 abbrev pub value_at_path : Contents → List ℕ → List ℕ → Result Tree StoreFault
@@ -88,19 +121,28 @@ pub record Stored : Type 0 where
 abbrev pub longest : Stored → ℕ
 longest now = max now.size (unwrap_or now.staged 0)
 
-abbrev pub change_answer : Result Contents StoreFault → Tree
+abbrev pub change_answer : Result Contents StoreFault → Option Tree
 change_answer r = answer_or_refusal (λ (new : Contents). one (codes "ok") (text (decimal new.count))) r
 
--- the answer to a request, as the tree that is written in the one style
-abbrev pub answer : Stored → Request → Tree
+-- The answer to a request, as the tree that is written in the one style. Only a fault that ends a session has none.
+abbrev pub answer : Stored → Request → Option Tree
 answer now (changing command) = change_answer (outcome (longest now) now.state command)
-answer now (unread fault) = refusal (word fault)
+answer now (unread why) = refused_answer (answered why)
 answer now (getting name p) = answer_or_refusal (one (codes "value")) (value_at_path now.state name p)
 answer now (exporting name) =
     answer_or_refusal (λ t. one (codes "text") (text (style_text t))) (tree_named now.state name)
-answer now naming = one (codes "names") (sequence (text_elements (names_of now.state.configs)))
-answer now checkpointing = one (codes "ok") (text (decimal now.state.count))
-answer now bad = refusal (codes "BadCommand")
+answer now naming = Some (one (codes "names") (sequence (text_elements (names_of now.state.configs))))
+answer now checkpointing = Some (one (codes "ok") (text (decimal now.state.count)))
+answer now bad = Some (refusal (codes "BadCommand"))
+
+-- the document of an answer, in bytes
+abbrev pub document_bytes : Option Tree → List ℕ
+document_bytes (Some t) = framed_text_bytes t
+document_bytes None = []
+
+-- the bytes of the answer to a request
+abbrev pub answer_bytes : Stored → Request → List ℕ
+answer_bytes now request = document_bytes (answer now request)
 
 -- the most bytes of an answer: as many as of a base
 abbrev pub answer_limit : ℕ
@@ -109,7 +151,12 @@ answer_limit = base_limit
 -- no answer on a state that keeps its limits is longer
 abbrev pub AnswersAreShort : Type 0
 AnswersAreShort = (now : Stored) (request : Request) → IsState now.state
-    → length (framed_text_bytes (answer now request)) ≤ answer_limit
+    → length (answer_bytes now request) ≤ answer_limit
+
+-- each request that a piece asks for has an answer
+abbrev pub EachIsAnswered : Type 0
+EachIsAnswered = (now : Stored) (piece : List ℕ) (request : Request) → Asks piece request
+    → is_some (answer now request) ≡ true
 
 -- ---- what is stored after a request
 
@@ -153,7 +200,7 @@ staged_after file now request = file
 -- the bytes of each answer
 abbrev pub answers : Stored → List Request → List (List ℕ)
 answers now [] = []
-answers now (request ∷ requests) = framed_text_bytes (answer now request) ∷ answers (stored_after now request) requests
+answers now (request ∷ requests) = answer_bytes now request ∷ answers (stored_after now request) requests
 
 -- the bytes of all answers
 abbrev pub output : Stored → List Request → List ℕ

@@ -1,13 +1,13 @@
 -- Commands that are spelled one key a line. Each text is ASCII, and so its bytes are its characters.
-use Rattle.std.specs.Prelude.{◌≡◌, ℕ, Bool, true, false, not, ◌&&◌, List, [], ◌∷◌, ◌++◌, codes}
+use Rattle.std.specs.Prelude.{◌≡◌, ℕ, Bool, true, false, not, ◌&&◌, List, [], ◌∷◌, ◌++◌, codes, Some}
 use Rattle.std.specs.List.{list_all}
 use Rattle.yaml_chars.specs.Signs.{double_quote, line_feed}
 use Rattle.yaml_chars.specs.Classes.{in_range, is_in, indicator}
-use Rattle.yaml_grammar.specs.Texts.{first}
+use Rattle.yaml_grammar.specs.Texts.{first, spaces}
 use Rattle.yaml_grammar.specs.Style.{plain_in_style, long_key}
-use Rattle.yaml_grammar.specs.Trees.{text, mapping, Members, no_member, member, members_distinct}
+use Rattle.yaml_grammar.specs.Trees.{text, sequence, mapping, Elements, no_element, element, Members, no_member, member, members_distinct}
 use Rattle.yaml_writer.specs.Runs.{stands_alone}
-use Rattle.conf_session.specs.Said.{Said, said_by}
+use Rattle.conf_session.specs.Said.{Part, part_from, Said, single_part, said_by}
 
 -- how a text is spelled after its key: as it is, or between double quotes
 pub data Spelling : Type 0 where
@@ -43,28 +43,22 @@ pub record IsSpelled (line value : List ℕ) : Type 0 where
   pub stands : stands spelling value ≡ true
   pub is : line ≡ spelled spelling value
 
--- the lines begin with a line of the key, which has its `: `, and a text, and the rest follows
+-- the lines begin with a line of the key, which has its `: ` and the spaces before it, and a text, and the rest follows
 pub record IsField (lines key value rest : List ℕ) : Type 0 where
   pub spelling : Spelling
   pub stands : stands spelling value ≡ true
   pub is : lines ≡ key ++ (spelled spelling value ++ line_feed ∷ rest)
 
--- the lines are those of two keys, which have their `: `, with their texts, and the closing line
-pub record AreTwoFields (lines key other value second : List ℕ) : Type 0 where
-  pub between : List ℕ
-  pub one : IsField lines key value between
-  pub two : IsField between other second (codes "...\n")
-
--- ---- commands
+-- ---- mappings of such lines
 
 -- a line, with its line feed
 abbrev pub line_text : Line → List ℕ
 line_text l = l.key ++ (codes ": " ++ (spelled l.spelling l.value ++ codes "\n"))
 
--- lines, one after another
-abbrev pub lines_text : List Line → List ℕ
-lines_text [] = []
-lines_text (l ∷ ls) = line_text l ++ lines_text ls
+-- lines at an indentation, one after another; the first is without its spaces
+abbrev pub lines_text : ℕ → Line → List Line → List ℕ
+lines_text indent l [] = line_text l
+lines_text indent l (m ∷ ms) = line_text l ++ (spaces indent ++ lines_text indent m ms)
 
 -- the members that the lines hold
 abbrev pub members_of_lines : List Line → Members
@@ -82,11 +76,91 @@ abbrev pub AreLines : List Line → Type 0
 AreLines [] = Unit {0}
 AreLines (l ∷ ls) = IsLine l × AreLines ls
 
--- the lines of a command and the closing line, of which no two keys are the same, and what their mapping says
-pub record IsCommandLines (lines : List ℕ) (said : Said) : Type 0 where
+-- a mapping by its lines, of which there is one at least
+pub record Entry : Type 0 where
   pub first : Line
   pub more : List Line
-  pub are : AreLines (first ∷ more)
-  pub differ : members_distinct (members_of_lines (first ∷ more)) ≡ true
-  pub is : lines ≡ lines_text (first ∷ more) ++ codes "...\n"
-  pub says : said ≡ said_by (mapping (members_of_lines (first ∷ more)))
+
+-- its lines at an indentation; the first is without its spaces
+abbrev pub entry_text : ℕ → Entry → List ℕ
+entry_text indent e = lines_text indent e.first e.more
+
+abbrev pub entry_members : Entry → Members
+entry_members e = members_of_lines (e.first ∷ e.more)
+
+-- no two keys are the same
+pub record IsEntry (e : Entry) : Type 0 where
+  pub are : AreLines (e.first ∷ e.more)
+  pub differ : members_distinct (entry_members e) ≡ true
+
+-- ---- the elements of a batch, as the one style has them: after `  - `, and further keys after four spaces
+
+abbrev pub elements_text : List Entry → List ℕ
+elements_text [] = []
+elements_text (e ∷ es) = codes "  - " ++ (entry_text 4 e ++ elements_text es)
+
+abbrev pub elements_of_entries : List Entry → Elements
+elements_of_entries [] = no_element
+elements_of_entries (e ∷ es) = element (mapping (entry_members e)) (elements_of_entries es)
+
+abbrev pub AreEntries : List Entry → Type 0
+AreEntries [] = Unit {0}
+AreEntries (e ∷ es) = IsEntry e × AreEntries es
+
+-- ---- parts
+
+-- the mapping says this part, also as a whole command
+pub record SaysPart (e : Entry) (part : Part) : Type 0 where
+  pub is : IsEntry e
+  pub within : part_from (entry_members e) ≡ Some part
+  pub alone : said_by (mapping (entry_members e)) ≡ single_part part
+
+abbrev pub SayParts : List Entry → List Part → Type 0
+SayParts [] [] = Unit {0}
+SayParts [] (part ∷ parts) = ⊥
+SayParts (e ∷ es) [] = ⊥
+SayParts (e ∷ es) (part ∷ parts) = SaysPart e part × SayParts es parts
+
+-- the lines begin with those of the part, at an indentation, and the rest follows
+pub record BeginsWithPart (lines : List ℕ) (indent : ℕ) (part : Part) (rest : List ℕ) : Type 0 where
+  pub entry : Entry
+  pub says : SaysPart entry part
+  pub is : lines ≡ entry_text indent entry ++ rest
+
+-- the lines begin with the part as an element of a batch
+pub record IsElement (lines : List ℕ) (part : Part) (rest : List ℕ) : Type 0 where
+  pub members : List ℕ
+  pub begins : BeginsWithPart members 4 part rest
+  pub is : lines ≡ codes "  - " ++ members
+
+-- the lines begin with the parts as elements of a batch, in order
+pub record ArePartLines (lines : List ℕ) (parts : List Part) (rest : List ℕ) : Type 0 where
+  pub entries : List Entry
+  pub say : SayParts entries parts
+  pub is : lines ≡ elements_text entries ++ rest
+
+-- ---- commands
+
+-- a mapping at the margin, or a batch with its elements, of which there is one at least
+pub data Layout : Type 0 where
+  single : Entry → Layout
+  batch_of : Entry → List Entry → Layout
+
+abbrev pub layout_text : Layout → List ℕ
+layout_text (single e) = entry_text 0 e
+layout_text (batch_of e es) = codes "batch:\n" ++ elements_text (e ∷ es)
+
+abbrev pub layout_members : Layout → Members
+layout_members (single e) = entry_members e
+layout_members (batch_of e es) = member (codes "batch") (sequence (elements_of_entries (e ∷ es))) no_member
+
+abbrev pub IsLayout : Layout → Type 0
+IsLayout (single e) = IsEntry e
+IsLayout (batch_of e es) = AreEntries (e ∷ es)
+
+-- the lines of a command and the closing line, and what their mapping says
+pub record IsCommandLines (lines : List ℕ) (said : Said) : Type 0 where
+  pub layout : Layout
+  pub are : IsLayout layout
+  pub is : lines ≡ layout_text layout ++ codes "...\n"
+  pub says : said ≡ said_by (mapping (layout_members layout))

@@ -1,7 +1,6 @@
 -- What a grouped session has read, answered and stored, for each of its results.
 use Rattle.std.specs.Prelude.{◌≡◌, ℕ, ◌+◌, ◌*◌, ◌<◌, ◌≤◌, false, List, [], ◌∷◌, ◌++◌, length, take, map, Option, Some, None, unwrap_or, Result, Ok, Err}
 use Rattle.std.specs.Io.KnownBytes.{Consumes, Keeps, Appends}
-use Rattle.yaml_recognizers.specs.Closings.{framed_text_bytes}
 use Rattle.conf_disk.specs.Folder.{Folder, bytes_under}
 use Rattle.conf_disk.specs.Image.{Image, IsImage}
 use Rattle.conf_disk.specs.Moments.{LeavesOnly}
@@ -13,7 +12,7 @@ use Rattle.conf_store.specs.Durable.{AfterPrefix, AllImagesMean, HasFlushed, sta
 use Rattle.conf_store.specs.Grown.{HasGrown}
 use Rattle.conf_store.specs.View.{StoreView}
 use Rattle.conf_session.specs.Requests.{Request}
-use Rattle.conf_session.specs.Answers.{Stored, answer, answer_limit, stored_after, file_after, staged_after, accepted_command, refused_of}
+use Rattle.conf_session.specs.Answers.{Stored, answer_bytes, answer_limit, stored_after, file_after, staged_after, accepted_command, refused_of}
 use Rattle.conf_session.specs.Runs.{AfterAtLeast, AsksAll, BeginsWith, EndsEarly, EndsInInput, EndsWell, ShowsSessionLong, ShowsTooLong, stored_of}
 use Rattle.conf_session.specs.declared.fault.SessionFault.{SessionFault}
 use Rattle.conf_session.specs.declared.fault.SessionFault.TheVariants as fault
@@ -78,7 +77,7 @@ files_after_turns files now (turn ∷ turns) =
 
 -- the bytes of the answer to a turn: none, if no request asked for it
 abbrev pub turn_output : Stored → Turn → List ℕ
-turn_output now (asked request) = framed_text_bytes (answer now request)
+turn_output now (asked request) = answer_bytes now request
 turn_output now turn = []
 
 -- the bytes of all answers

@@ -5,6 +5,7 @@ pub mod Replies
 pub mod Progress
 pub mod Said
 pub mod CommandLines
+pub mod PartLines
 pub mod Input
 pub mod Rounds
 pub mod Groups

@@ -1,7 +1,6 @@
 -- Pieces that were performed and answered, one after the other.
 use Rattle.std.specs.Prelude.{◌≡◌, ◌≤◌, ◌<◌, ℕ, ◌+◌, ◌*◌, Bool, true, false, List, ◌++◌, length, take, Option}
 use Rattle.std.specs.Io.KnownBytes.{Appends, Keeps}
-use Rattle.yaml_recognizers.specs.Closings.{framed_text_bytes}
 use Rattle.conf_disk.specs.Folder.{Folder, bytes_under}
 use Rattle.conf_disk.specs.Image.{Image}
 use Rattle.conf_disk.specs.Moments.{LeavesOnly}
@@ -14,7 +13,7 @@ use Rattle.conf_session.specs.Input.{session_limit}
 use Rattle.conf_session.specs.declared.fault.SessionFault.{SessionFault}
 use Rattle.conf_session.specs.declared.fault.SessionFault.TheVariants as fault
 use Rattle.conf_session.specs.Requests.{Request, Asks}
-use Rattle.conf_session.specs.Answers.{Stored, answer, answer_limit, output, stored_after_all, file_after_all, staged_after_all, accepted_commands, accepted_command, refusals, refused_of, flushed_after, waiting_after}
+use Rattle.conf_session.specs.Answers.{Stored, answer_bytes, answer_limit, output, stored_after_all, file_after_all, staged_after_all, accepted_commands, accepted_command, refusals, refused_of, flushed_after, waiting_after}
 use Rattle.conf_session.specs.Runs.{stored_of}
 use Rattle.conf_session.specs.Replies.{Performs}
 use Rattle.conf_session.specs.declared.pieces.Counts.{Counts}
@@ -56,14 +55,14 @@ pub record Answered {D : Type 0} (honest : Type 0) (folder : D → Folder) (mome
     (held written : Option (List ℕ)) (old new : StoreView D) (piece : List ℕ) (before after : Counts) : Type 0 where
   pub request : Request
   pub asks : Asks piece request
-  pub out : Appends held written (framed_text_bytes (answer (stored_of old) request))
+  pub out : Appends held written (answer_bytes (stored_of old) request)
   pub sound : new.reopen ≡ false
   pub performs : Performs true honest folder moment since old new request
   pub documents : after.tally.documents ≡ before.tally.documents + 1
   pub accepted : after.tally.accepted ≡ before.tally.accepted + length (accepted_command (stored_of old) request)
   pub refused : after.tally.refused ≡ before.tally.refused + refused_of (stored_of old) request
-  pub sent : after.written ≡ before.written + length (framed_text_bytes (answer (stored_of old) request))
-  pub short : length (framed_text_bytes (answer (stored_of old) request)) ≤ answer_limit
+  pub sent : after.written ≡ before.written + length (answer_bytes (stored_of old) request)
+  pub short : length (answer_bytes (stored_of old) request) ≤ answer_limit
 
 -- what became of a piece whose answer is not written whole
 abbrev pub Fails : {D : Type 0} → Type 0 → (D → Folder) → (D → ℕ) → (D → ℕ → Image → Type 0) → Option (List ℕ)
@@ -75,9 +74,9 @@ Fails honest folder moment since held written old new piece sent fault.Device =
 Fails honest folder moment since held written old new piece sent (fault.Write total) =
     (request : Request) × Asks piece request × (new.reopen ≡ false)
     × Performs true honest folder moment since old new request
-    × (count : ℕ) × (total ≡ sent + count) × (count < length (framed_text_bytes (answer (stored_of old) request)))
-    × Appends held written (take count (framed_text_bytes (answer (stored_of old) request)))
-    × (length (framed_text_bytes (answer (stored_of old) request)) ≤ answer_limit)
+    × (count : ℕ) × (total ≡ sent + count) × (count < length (answer_bytes (stored_of old) request))
+    × Appends held written (take count (answer_bytes (stored_of old) request))
+    × (length (answer_bytes (stored_of old) request) ≤ answer_limit)
 Fails honest folder moment since held written old new piece sent fault = ⊥
 
 -- What keeps the counts within their types: there are no more pieces than bytes of the input, and no answer is longer

@@ -13,10 +13,11 @@ use Rattle.conf_session.specs.Said.{Said}
 use Rattle.conf_session.specs.declared.fault.SessionFault.{SessionFault}
 use Rattle.conf_session.specs.declared.fault.SessionFault.TheVariants.{OutOfMemory, Device}
 use Rattle.conf_session.specs.Requests.{Request, changing, checkpointing, MeansRequest, Asks}
-use Rattle.conf_session.specs.Answers.{Stored, answer, answer_limit, refusal, word, stored_after, file_after, staged_after, accepted_command, refused_of, flushed_after, waiting_after}
+use Rattle.conf_session.specs.Answers.{Stored, answer_bytes, answer_limit, refusal, word, stored_after, file_after, staged_after, accepted_command, refused_of, flushed_after, waiting_after}
 use Rattle.conf_session.specs.Runs.{stored_of}
 use Rattle.conf_session.specs.declared.reply.Way.{Way}
 use Rattle.conf_session.specs.declared.reply.Way.TheVariants.{AtOnce, Submitted}
+use Rattle.conf_session.specs.declared.words.Refusal.{Refusal}
 use Rattle.conf_session.specs.declared.reply.Reply.{Reply}
 use Rattle.conf_session.specs.declared.reply.Reply.TheVariants.{Accepted, Done, Refused, NoCommand}
 
@@ -30,8 +31,13 @@ OnlyReads request = Unit {0}
 abbrev pub reply_bytes : Reply → List ℕ
 reply_bytes (Accepted text) = string_bytes text
 reply_bytes (Done text) = string_bytes text
-reply_bytes (Refused fault) = framed_text_bytes (refusal (word fault))
+reply_bytes (Refused reason) = framed_text_bytes (refusal (word reason))
 reply_bytes NoCommand = framed_text_bytes (refusal (codes "BadCommand"))
+
+-- the reply to a request that is refused, or the fault that ends the session
+abbrev pub refused_as : Result Refusal SessionFault → Result Reply SessionFault
+refused_as (Ok reason) = Ok (Refused reason)
+refused_as (Err fault) = Err fault
 
 -- how many commands that change the state a reply accepts: 1 or 0
 abbrev pub accepts : Reply → ℕ
@@ -40,7 +46,7 @@ accepts reply = 0
 
 -- how many requests a reply refuses: 1 or 0
 abbrev pub refuses : Reply → ℕ
-refuses (Refused fault) = 1
+refuses (Refused reason) = 1
 refuses NoCommand = 1
 refuses reply = 0
 
@@ -77,10 +83,10 @@ pub record Performs (at_once : Bool) {D : Type 0} (honest : Type 0) (folder : D 
 
 -- the answer to the request
 pub record Replies (now : Stored) (request : Request) (reply : Reply) : Type 0 where
-  pub bytes : reply_bytes reply ≡ framed_text_bytes (answer now request)
+  pub bytes : reply_bytes reply ≡ answer_bytes now request
   pub accepted : accepts reply ≡ length (accepted_command now request)
   pub refused : refuses reply ≡ refused_of now request
-  pub short : length (framed_text_bytes (answer now request)) ≤ answer_limit
+  pub short : length (answer_bytes now request) ≤ answer_limit
 
 -- What became of a request. If memory ran out, nothing was changed.
 abbrev pub Did : Bool → {D : Type 0} → Type 0 → (D → Folder) → (D → ℕ) → (D → ℕ → Image → Type 0) → StoreView D

@@ -2,7 +2,6 @@
 use Rattle.std.specs.Prelude.{◌≡◌, ◌⊎◌, ℕ, ◌+◌, false, true, List, [], ◌∷◌, ◌++◌, length, take, map, Result, Ok, Err}
 use Rattle.std.specs.declared.vec.Vec.{Vec}
 use Rattle.std.specs.declared.alloc.Global.{Global}
-use Rattle.yaml_recognizers.specs.Closings.{framed_text_bytes}
 use Rattle.yaml_grammar.specs.Closings.{ClosesOnce}
 use Rattle.conf_disk.specs.Folder.{Folder, bytes_under}
 use Rattle.conf_disk.specs.Image.{Image}
@@ -13,7 +12,7 @@ use Rattle.conf_state.specs.States.{Contents}
 use Rattle.conf_store.specs.Durable.{AfterPrefix, AllImagesMean, HasFlushed, staged_text}
 use Rattle.conf_store.specs.View.{StoreView}
 use Rattle.conf_session.specs.Requests.{Request, bad, Asks}
-use Rattle.conf_session.specs.Answers.{answer, answers, stored_after_all, file_after_all, staged_after_all, accepted_commands, flushed_after, waiting_after}
+use Rattle.conf_session.specs.Answers.{answer_bytes as answer_to, answers, stored_after_all, file_after_all, staged_after_all, accepted_commands, flushed_after, waiting_after}
 use Rattle.conf_session.specs.Runs.{stored_of}
 use Rattle.conf_session.specs.Replies.{Did, Performs}
 use Rattle.conf_session.specs.declared.reply.Reply.{Reply}
@@ -128,7 +127,7 @@ pub record AnswersPiece {D : Type 0} (honest : Type 0) (folder : D → Folder) (
     (before after : List (List ℕ)) : Type 0 where
   pub takes : TakesPiece honest folder moment since old new piece
   pub sound : new.reopen ≡ false
-  pub answered : after ≡ before ++ framed_text_bytes (answer (stored_of old) takes.request) ∷ []
+  pub answered : after ≡ before ++ answer_to (stored_of old) takes.request ∷ []
 
 -- What became of a piece that has no answer, after so many others. Where memory ran out, it may be performed.
 abbrev pub FailsPiece : {D : Type 0} → Type 0 → (D → Folder) → (D → ℕ) → (D → ℕ → Image → Type 0) → StoreView D

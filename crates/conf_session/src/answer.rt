@@ -1,5 +1,5 @@
 // The texts of answers.
-ghost use Rattle.std.specs.Prelude.{◌≡◌, ◌≤◌, ◌++◌, [], ◌∷◌, IfOk, OnOk, string_bytes, decimal, codes};
+ghost use Rattle.std.specs.Prelude.{◌≡◌, ◌≤◌, ◌++◌, [], ◌∷◌, IfOk, IfErr, OnOk, string_bytes, decimal, codes};
 ghost use Rattle.std.specs.Str.{chars};
 ghost use Rattle.yaml_grammar.specs.Trees.{depth, text};
 ghost use Rattle.yaml_recognizers.specs.Closings.{framed_text_bytes, framed_text};
@@ -14,13 +14,14 @@ ghost use Rattle.conf_session.specs.Answers.{one, text_elements};
 ghost use Rattle.conf_session.specs.Runs.{stored_of};
 ghost use Rattle.conf_session.specs.Replies.{Replies};
 
-use crate::reply::Reply;
+use crate::fault::SessionFault;
+use crate::reply::{Reply, refused};
 use conf_disk::Disk;
 use conf_state::StoreFault;
 use conf_store::Store;
 use itoa::Buffer;
 use std::alloc::{AllocError, Global};
-use tree_path::{Path, PathFault};
+use tree_path::Path;
 use yaml_tree::{Sink, Text, Tree, write_key, write_value};
 
 /// The document of a mapping with one key: a line of `---`, the mapping in the one style, and a line
@@ -71,45 +72,45 @@ fn write_count<S: Sink>(count: u64, sink: &mut S) -> Result<(), S::Fault>
     sink.put_text("\"\n...\n")
 }
 
-/// The answer to a `get`: the value at a path of a configuration.
+/// The answer to a `get`: the value at a path of a configuration. It fails only if memory runs out.
 pub fn get_answer<D: Disk>(
     alloc: Global,
     store: &Store<D>,
     name: &str,
     path: &str,
-) -> Result<Reply, AllocError>
-    ensures { IfOk result
+) -> Result<Reply, SessionFault>
+    ensures ok { IfOk result
         (Replies (stored_of store.now) (getting (chars name.now) (chars path.now))) }
+    ensures memory { IfErr result (λ fault. fault ≡ SessionFault.OutOfMemory) }
 {
     if let Err(fault) = store.config(name) {
-        return Ok(Reply::Refused(fault));
+        return refused(fault);
     }
     let path = match Path::parse(alloc, path) {
         Ok(path) => path,
-        Err(PathFault::OutOfMemory) => return Err(AllocError),
-        Err(fault) => return Ok(Reply::Refused(StoreFault::Path(fault))),
+        Err(fault) => return refused(StoreFault::Path(fault)),
     };
     match store.get(name, &path) {
         Ok(value) => Ok(Reply::Done(answer(alloc, "value", value)?)),
-        Err(fault) => Ok(Reply::Refused(fault)),
+        Err(fault) => refused(fault),
     }
 }
 
-/// The answer to an `export`: the text of a configuration.
+/// The answer to an `export`: the text of a configuration. It fails only if memory runs out.
 pub fn export_answer<D: Disk>(
     alloc: Global,
     store: &Store<D>,
     name: &str,
-) -> Result<Reply, AllocError>
-    ensures { IfOk result (Replies (stored_of store.now) (exporting (chars name.now))) }
+) -> Result<Reply, SessionFault>
+    ensures ok { IfOk result (Replies (stored_of store.now) (exporting (chars name.now))) }
+    ensures memory { IfErr result (λ fault. fault ≡ SessionFault.OutOfMemory) }
 {
     match store.export(name) {
         Ok(text) => {
             let text = Tree::Text(Text::from_string(text));
             Ok(Reply::Done(answer(alloc, "text", &text)?))
         }
-        Err(StoreFault::OutOfMemory) => Err(AllocError),
-        Err(fault) => Ok(Reply::Refused(fault)),
+        Err(fault) => refused(fault),
     }
 }
 

@@ -1,5 +1,5 @@
 // Laws of the definitions.
-ghost use Rattle.conf_session.specs.Answers.{AllAreAcknowledged, AnswersAreShort};
+ghost use Rattle.conf_session.specs.Answers.{AllAreAcknowledged, AnswersAreShort, EachIsAnswered};
 
 /// No answer is longer than the longest base: 67,108,864 bytes, with its first line and its closing line.
 ///
@@ -7,6 +7,13 @@ ghost use Rattle.conf_session.specs.Answers.{AllAreAcknowledged, AnswersAreShort
 /// configuration, which has at most 1,048,576 bytes; all other answers have a few bytes.
 pub fn answers_are_short()
     ensures { AnswersAreShort }
+{}
+
+/// Each request that a piece asks for has an answer, whatever is stored.
+///
+/// What a piece asks for has none of the faults that end a session: the device and memory are no part of its meaning.
+pub fn requests_are_answered()
+    ensures { EachIsAnswered }
 {}
 
 /// Where no command waits at the start of a session, no crash after it takes away a command that was answered.

@@ -13,10 +13,12 @@
 mod answer;
 mod command_lines;
 mod fault;
+mod field_lines;
 mod groups;
 mod input;
 mod laws;
 mod output;
+mod part_lines;
 mod parts;
 mod pieces;
 mod reply;
@@ -28,6 +30,6 @@ mod words;
 
 pub use fault::SessionFault;
 pub use groups::{Checkpoints, run_grouped};
-pub use laws::{answers_acknowledge, answers_are_short};
+pub use laws::{answers_acknowledge, answers_are_short, requests_are_answered};
 pub use rounds::{Piece, RoundFault, round};
 pub use session::{Tally, run};

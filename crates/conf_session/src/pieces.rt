@@ -68,7 +68,7 @@ pub fn bytes_of(reply: &Reply) -> &[u8]
     match reply {
         Reply::Accepted(text) => text.as_bytes(),
         Reply::Done(text) => text.as_bytes(),
-        Reply::Refused(fault) => refusal_bytes(*fault),
+        Reply::Refused(reason) => refusal_bytes(*reason),
         Reply::NoCommand => b"---\nrefused: BadCommand\n...\n",
     }
 }

@@ -12,17 +12,18 @@ ghost use Rattle.conf_store.specs.Meaning.{FileMeans};
 ghost use Rattle.conf_session.specs.Said.{import_text, single_part, batch_of_parts, part_seen, parts_seen};
 ghost use Rattle.conf_session.specs.Requests.{changing, checkpointing};
 ghost use Rattle.conf_session.specs.Said.{said_of};
-ghost use Rattle.conf_session.specs.Replies.{Did, DidPiece, DidSaid, LeavesPrefixes, is_at_once};
+ghost use Rattle.conf_session.specs.Answers.{answered};
+ghost use Rattle.conf_session.specs.Replies.{Did, DidPiece, DidSaid, LeavesPrefixes, is_at_once, refused_as};
 
 use crate::answer::{count_answer, export_answer, get_answer, names_answer};
 use crate::fault::SessionFault;
 use crate::parts::{Part, read_parts};
 use crate::said::{Said, read_said};
+use crate::words::{Refusal, answered};
 use conf_disk::{Disk, Name};
 use conf_state::{Command, StoreFault};
 use conf_store::{Store, import_command};
 use std::alloc::Global;
-use yaml_tree::ReadFault;
 
 /// What is answered to a piece.
 #[derive(Drop)]
@@ -32,7 +33,7 @@ pub enum Reply {
     /// A request was answered that changes no configuration.
     Done(String),
     /// The request is refused.
-    Refused(StoreFault),
+    Refused(Refusal),
     /// The piece is no command.
     NoCommand,
 }
@@ -44,6 +45,17 @@ pub enum Way {
     AtOnce,
     /// By a later flush. The client's number changes nothing.
     Submitted { client: u64 },
+}
+
+/// The reply to a request that is refused.
+///
+/// # Errors
+/// `Reopen`, `Device` and `OutOfMemory` are not answered: they end a session.
+pub fn refused(fault: StoreFault) -> Result<Reply, SessionFault>
+    ensures { result ≡ refused_as (answered fault) }
+{
+    let reason = answered(fault)?;
+    Ok(Reply::Refused(reason))
 }
 
 /// Performs a command that changes the state.
@@ -111,10 +123,7 @@ fn change<D: Disk>(
     let answer = count_answer(alloc, next)?;
     match perform(store, command, way) {
         Ok(_) => Ok(Reply::Accepted(answer)),
-        Err(StoreFault::OutOfMemory) => Err(SessionFault::OutOfMemory),
-        Err(StoreFault::Device) => Err(SessionFault::Device),
-        Err(StoreFault::Reopen) => Err(SessionFault::Reopen),
-        Err(fault) => Ok(Reply::Refused(fault)),
+        Err(fault) => refused(fault),
     }
 }
 
@@ -160,8 +169,7 @@ fn import<D: Disk>(
 {
     match import_command(alloc, name, source.as_bytes()) {
         Ok(command) => change(alloc, store, command, way),
-        Err(StoreFault::OutOfMemory) => Err(SessionFault::OutOfMemory),
-        Err(fault) => Ok(Reply::Refused(fault)),
+        Err(fault) => refused(fault),
     }
 }
 
@@ -209,8 +217,7 @@ fn change_batch<D: Disk>(
 {
     match read_parts(alloc, parts) {
         Ok(edits) => change(alloc, store, Command::Batch { edits }, way),
-        Err(ReadFault::OutOfMemory) => Err(SessionFault::OutOfMemory),
-        Err(fault) => Ok(Reply::Refused(StoreFault::Read(fault))),
+        Err(fault) => refused(StoreFault::Read(fault)),
     }
 }
 
@@ -235,8 +242,8 @@ fn answer_said<D: Disk>(
         Said::Single(part) => change_single(alloc, store, part, way),
         Said::Batch(parts) => change_batch(alloc, store, parts, way),
         Said::Checkpoint => checkpoint(alloc, store),
-        Said::Get { name, path } => Ok(get_answer(alloc, store, &name, &path)?),
-        Said::Export(name) => Ok(export_answer(alloc, store, &name)?),
+        Said::Get { name, path } => get_answer(alloc, store, &name, &path),
+        Said::Export(name) => export_answer(alloc, store, &name),
         Said::Names => Ok(names_answer(alloc, store)?),
         Said::Nothing => Ok(Reply::NoCommand),
     }

@@ -1,39 +1,65 @@
 -- The name is looked at first, then the path's text, then the places on the path.
-use Rattle.std.proofs.Common.{rules, ◌≡◌, ◌≢◌, ⊎_elim, ap, sym, ◌∙◌, refl}
-use Rattle.std.specs.Prelude.{Ok, Err, codes}
+use Rattle.std.proofs.Common.{◌≡◌, ⊎_elim, ap, sym, subst, ◌∙◌, refl}
+use Rattle.std.specs.Prelude.{Ok, IfOk, codes}
 use Rattle.std.specs.Str.{chars}
 use Rattle.yaml_recognizers.specs.Closings.{framed_text_bytes}
 use Rattle.yaml_data.specs.Seen.{tree_of}
 use Rattle.json_pointer.specs.Pointers.{path_of}
 use Rattle.json_pointer.specs.declared.fault.PathFault.TheVariants.{OutOfMemory}
 use Rattle.conf_state.proofs.LineLemmas.{ascii}
-use Rattle.conf_session.specs.Answers.{one}
+use Rattle.conf_session.specs.Requests.{getting}
+use Rattle.conf_session.specs.Answers.{one, answered, path_answered}
+use Rattle.conf_session.specs.Replies.{Replies, refused_as}
 use Rattle.conf_session.specs.Runs.{stored_of}
 use Rattle.conf_session.proofs.AnswerLemmas.{value-shallow}
+use Rattle.conf_session.proofs.RefusalLemmas.{OnlyMemory, named-memory, path-memory, placed-memory, refused-memory}
 use Rattle.conf_session.proofs.ReplyLemmas.{get-no_config, get-no_path, get-refused, get-value}
 use Rattle.conf_session.proofs.answer.get_answer.Goals as goal
 
-pub returns-in-Err : goal.returns-in-Err
-returns-in-Err g c = get-no_config (stored_of c.args.store.now) (chars c.args.name.now) (chars c.args.path.now) c.in-Err.fault c.in-Err.ensures.refused
+pub returns-in-Err-clause-ok : goal.returns-in-Err-clause-ok
+returns-in-Err-clause-ok g c =
+    let now = stored_of c.args.store.now in
+    let request = getting (chars c.args.name.now) (chars c.args.path.now) in
+    subst (λ r. IfOk r (Replies now request)) (sym c.refused.ensures) (get-no_config now (chars c.args.name.now) (chars c.args.path.now) c.in-Err.fault c.in-Err.ensures.refused)
 
-pub returns-in-Err-parse : goal.returns-in-Err-parse
-returns-in-Err-parse g c =
-    let some : c.in-Err-parse.fault ≢ OutOfMemory = search rules in
-    let no : path_of (chars c.args.path.now) ≡ Err c.in-Err-parse.fault =
-    ⊎_elim (λ memory. absurd (some (let same : c.in-Err-parse.fault ≡ OutOfMemory = cc memory in same))) (λ is. sym is) c.in-Err-parse.ensures.met in
-    get-no_path (stored_of c.args.store.now) (chars c.args.name.now) (chars c.args.path.now) (tree_of c.in_default.field-0.now) c.in-Err-parse.fault c.in_default.ensures.ok no
+pub returns-in-Err-clause-memory : goal.returns-in-Err-clause-memory
+returns-in-Err-clause-memory g c =
+    let f = c.in-Err.fault in
+    subst OnlyMemory (sym c.refused.ensures) (refused-memory (answered f) (named-memory c.args.store.now.state (chars c.args.name.now) f c.in-Err.ensures.refused))
+
+pub returns-in-Err-parse-clause-ok : goal.returns-in-Err-parse-clause-ok
+returns-in-Err-parse-clause-ok g c =
+    let now = stored_of c.args.store.now in
+    let f = c.in-Err-parse.fault in
+    let name = chars c.args.name.now in
+    let path = chars c.args.path.now in
+    let request = getting name path in
+    subst (λ r. IfOk r (Replies now request)) (sym c.refused-in-Err-parse.ensures)
+    (⊎_elim (λ memory. let same : f ≡ OutOfMemory = cc memory in subst (λ k. IfOk (refused_as (path_answered k)) (Replies now request)) (sym same) tt)
+    (λ is. get-no_path now name path (tree_of c.in_default.field-0.now) f c.in_default.ensures.ok (sym is)) c.in-Err-parse.ensures.met)
+
+pub returns-in-Err-parse-clause-memory : goal.returns-in-Err-parse-clause-memory
+returns-in-Err-parse-clause-memory g c = subst OnlyMemory (sym c.refused-in-Err-parse.ensures) (refused-memory (path_answered c.in-Err-parse.fault) (path-memory c.in-Err-parse.fault))
 
 pub answer-requires : goal.answer-requires
 answer-requires g c = value-shallow c.args.store.now.state (chars c.args.name.now) c.in-Ok.path (tree_of c.in-Ok-get.value.now) c.in_default.ensures.limits c.in-Ok-get.ensures.ok
 
-pub returns-in-Ok-get : goal.returns-in-Ok-get
-returns-in-Ok-get g c =
+pub returns-in-Ok-get-clause-ok : goal.returns-in-Ok-get-clause-ok
+returns-in-Ok-get-clause-ok g c =
     let parsed : path_of (chars c.args.path.now) ≡ Ok c.in-Ok.path = ⊎_elim (λ never. cc never) (λ is. sym is) c.in-Ok.ensures.met in
     get-value (stored_of c.args.store.now) (chars c.args.name.now) (chars c.args.path.now) c.in-Ok.path parsed
     (tree_of c.in-Ok-get.value.now) c.in_ok-answer-in-Ok-get.field-0 c.in-Ok-get.ensures.ok
     (c.in_ok-answer-in-Ok-get.ensures ∙ ap (λ k. framed_text_bytes (one k (tree_of c.in-Ok-get.value.now))) (ascii (codes "value") refl)) c.in_default.ensures.limits
 
-pub returns : goal.returns
-returns g c =
+pub returns-clause-ok : goal.returns-clause-ok
+returns-clause-ok g c =
+    let now = stored_of c.args.store.now in
+    let request = getting (chars c.args.name.now) (chars c.args.path.now) in
     let parsed : path_of (chars c.args.path.now) ≡ Ok c.in-Ok.path = ⊎_elim (λ never. cc never) (λ is. sym is) c.in-Ok.ensures.met in
-    get-refused (stored_of c.args.store.now) (chars c.args.name.now) (chars c.args.path.now) c.in-Ok.path parsed c.in-Err-get.fault c.in-Err-get.ensures.refused
+    subst (λ r. IfOk r (Replies now request)) (sym c.refused-in-Err-get.ensures)
+    (get-refused now (chars c.args.name.now) (chars c.args.path.now) c.in-Ok.path parsed c.in-Err-get.fault c.in-Err-get.ensures.refused)
+
+pub returns-clause-memory : goal.returns-clause-memory
+returns-clause-memory g c =
+    let f = c.in-Err-get.fault in
+    subst OnlyMemory (sym c.refused-in-Err-get.ensures) (refused-memory (answered f) (placed-memory c.args.store.now.state (chars c.args.name.now) c.in-Ok.path f c.in-Err-get.ensures.refused))

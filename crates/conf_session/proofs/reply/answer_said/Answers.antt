@@ -8,7 +8,8 @@ use Rattle.conf_session.specs.Said.{said_of}
 use Rattle.conf_session.specs.Replies.{DidSaid, is_at_once}
 use Rattle.conf_session.specs.declared.reply.Reply.TheVariants.{NoCommand}
 use Rattle.conf_session.proofs.LengthLemmas.{bad-short}
-use Rattle.conf_session.proofs.RequestLemmas.{did-said, did-checkpoint, said-read}
+use Rattle.conf_session.proofs.RefusalLemmas.{no-device}
+use Rattle.conf_session.proofs.RequestLemmas.{did-said, did-checkpoint, said-read, said-reads}
 use Rattle.conf_session.proofs.reply.answer_said.Goals as goal
 
 pub returns-in-Single-clause-did : goal.returns-in-Single-clause-did
@@ -55,23 +56,29 @@ returns-in-Checkpoint-clause-risen g c = c.checkpoint.ensures.risen
 pub returns-in-Checkpoint-clause-now : goal.returns-in-Checkpoint-clause-now
 returns-in-Checkpoint-clause-now g c at = c.checkpoint.ensures.now
 
-pub returns-in_ok-get_answer-in-Get-clause-did : goal.returns-in_ok-get_answer-in-Get-clause-did
-returns-in_ok-get_answer-in-Get-clause-did g c off =
+pub returns-in-Get-clause-did : goal.returns-in-Get-clause-did
+returns-in-Get-clause-did g c off =
     let d = g.D.Disk in
     let name = chars c.deref.result.now in
     let path = chars c.deref-in-Get.result.now in
     let same : get_at name path ≡ said_of c.args.said =
     ap (λ b. get_at (chars b) path) c.deref.ensures ∙ ap (λ b. get_at (chars (text_bytes c.in-Get.name)) (chars b)) c.deref-in-Get.ensures ∙ sym (ap said_of c.in-Get.is) in
-    said-read (is_at_once c.args.way) d.honest d.folder d.moment d.left c.args.store.now off (λ image h is. g.met.D.Disk.only_now c.args.store.now.disk image h is) c.requires.means
-    (said_of c.args.said) (getting name path) (subst (λ s. MeansRequest s (getting name path)) same refl) tt c.in_ok-get_answer-in-Get.field-0 c.in_ok-get_answer-in-Get.ensures
+    said-reads (is_at_once c.args.way) d.honest d.folder d.moment d.left c.args.store.now off (λ image h is. g.met.D.Disk.only_now c.args.store.now.disk image h is) c.requires.means
+    (said_of c.args.said) (getting name path) (subst (λ s. MeansRequest s (getting name path)) same refl) tt c.get_answer.result c.get_answer.ensures.ok c.get_answer.ensures.memory
 
-pub returns-in_ok-export_answer-in-Export-clause-did : goal.returns-in_ok-export_answer-in-Export-clause-did
-returns-in_ok-export_answer-in-Export-clause-did g c off =
+pub returns-in-Get-clause-cause : goal.returns-in-Get-clause-cause
+returns-in-Get-clause-cause g c e = absurd (no-device c.get_answer.result c.get_answer.ensures.memory e)
+
+pub returns-in-Export-clause-did : goal.returns-in-Export-clause-did
+returns-in-Export-clause-did g c off =
     let d = g.D.Disk in
     let name = chars c.deref-in-Export.result.now in
     let same : export_of name ≡ said_of c.args.said = ap (λ b. export_of (chars b)) c.deref-in-Export.ensures ∙ sym (ap said_of c.in-Export.is) in
-    said-read (is_at_once c.args.way) d.honest d.folder d.moment d.left c.args.store.now off (λ image h is. g.met.D.Disk.only_now c.args.store.now.disk image h is) c.requires.means
-    (said_of c.args.said) (exporting name) (subst (λ s. MeansRequest s (exporting name)) same refl) tt c.in_ok-export_answer-in-Export.field-0 c.in_ok-export_answer-in-Export.ensures
+    said-reads (is_at_once c.args.way) d.honest d.folder d.moment d.left c.args.store.now off (λ image h is. g.met.D.Disk.only_now c.args.store.now.disk image h is) c.requires.means
+    (said_of c.args.said) (exporting name) (subst (λ s. MeansRequest s (exporting name)) same refl) tt c.export_answer.result c.export_answer.ensures.ok c.export_answer.ensures.memory
+
+pub returns-in-Export-clause-cause : goal.returns-in-Export-clause-cause
+returns-in-Export-clause-cause g c e = absurd (no-device c.export_answer.result c.export_answer.ensures.memory e)
 
 pub returns-in-Nothing-clause-did : goal.returns-in-Nothing-clause-did
 returns-in-Nothing-clause-did g c off =

@@ -1,5 +1,5 @@
 -- What the store did with the command.
-use Rattle.std.proofs.Common.{rules, ◌≡◌, refl, ap, sym, ◌∙◌, subst, true, ◌+◌}
+use Rattle.std.proofs.Common.{◌≡◌, refl, ap, sym, ◌∙◌, subst, true, ◌+◌, ⊎_elim}
 use Rattle.std.proofs.lemmas.Bool.{false≢true}
 use Rattle.std.proofs.lemmas.Result.{err_from_is_err_and}
 use Rattle.std.specs.Prelude.{min, Ok, Err}
@@ -9,9 +9,10 @@ use Rattle.conf_store.specs.Calls.{RefusesCommand, outcome, room_for, journal_le
 use Rattle.conf_store.specs.View.{StoreView}
 use Rattle.conf_session.specs.Requests.{changing}
 use Rattle.conf_session.specs.Answers.{longest}
-use Rattle.conf_session.specs.Replies.{Performs, is_at_once}
+use Rattle.conf_session.specs.Replies.{Did, Performs, is_at_once}
 use Rattle.conf_session.specs.Runs.{stored_of}
-use Rattle.conf_session.proofs.RequestLemmas.{longest-of, count-after, accepted-reply, refused-reply, command-performed, command-refused, synced-leaves, leaves-same}
+use Rattle.conf_session.proofs.RequestLemmas.{longest-of, count-after, accepted-reply, refused-reply, refused-outcome, did-refused, command-performed, command-refused, synced-leaves, leaves-same}
+use Rattle.conf_session.proofs.RefusalLemmas.{ended-by-device, is-device}
 use Rattle.conf_session.proofs.reply.change.Goals as goal
 
 -- ---- what the store did
@@ -32,33 +33,33 @@ returns-in-Ok-clause-did g c off =
           (λ h on. c.in-Ok.ensures.waits h off),
     )
 
-pub returns-in-Err-Device-clause-did : goal.returns-in-Err-Device-clause-did
-returns-in-Err-Device-clause-did g c off =
+pub returns-in-Err-clause-did : goal.returns-in-Err-clause-did
+returns-in-Err-clause-did g c off =
     let d = g.D.Disk in
+    let at_once = is_at_once c.args.way in
     let old = c.args.store.now in
     let new = c.perform.new.store in
     let command = command_of c.args.command in
-    let broken : new.reopen ≡ true = c.in-Err-Device.ensures.device (ap Err c.in-Err-Device.field-0-is) in
-    let done : outcome (journal_length old) old.state command ≡ Ok new.state = subst (RefusesCommand old command new) c.in-Err-Device.field-0-is c.in-Err-Device.ensures.refused in (
+    let f = c.in-Err.fault in
+    subst (Did at_once d.honest d.folder d.moment d.left old new (changing command)) (sym c.refused.ensures)
+    (did-refused at_once d.honest d.folder d.moment d.left old new (changing command) f (λ e. false≢true (sym off ∙ c.perform.ensures.reopen.0 (c.in-Err.is ∙ ap Err e)))
+    (λ e.
+    let broken : new.reopen ≡ true = c.in-Err.ensures.device (ap Err e) in
+    let done : outcome (journal_length old) old.state command ≡ Ok new.state = subst (RefusesCommand old command new) e c.in-Err.ensures.refused in (
       broken,
-      command-performed (is_at_once c.args.way) d.honest d.folder d.moment d.left old new command done (λ on. absurd (cc (on, broken))) (λ h on. absurd (cc (on, broken))) (λ h on. absurd (cc (on, broken))) (λ h. c.in-Err-Device.ensures.any_moment h off)
+      command-performed at_once d.honest d.folder d.moment d.left old new command done (λ on. absurd (cc (on, broken))) (λ h on. absurd (cc (on, broken))) (λ h on. absurd (cc (on, broken))) (λ h. c.in-Err.ensures.any_moment h off)
           (λ h on. absurd (cc (on, broken))),
-    )
-
-pub returns-clause-did : goal.returns-clause-did
-returns-clause-did g c off =
-    let d = g.D.Disk in
-    let old = c.args.store.now in
-    let new = c.perform.new.store in
-    let command = command_of c.args.command in
-    let refused : outcome (journal_length old) old.state command ≡ Err c.in-Err.fault = search rules in
-    let here : outcome (longest (stored_of old)) old.state command ≡ Err c.in-Err.fault = ap (λ n. outcome n old.state command) (longest-of old) ∙ refused in
-    let same : new ≡ old = search rules in (
-      refused-reply (stored_of old) c.count.ensures.limits command c.in-Err.fault here,
+    ))
+    c.in-Err.ensures.unchanged
+    (λ reason other is.
+    let refused = refused-outcome old new command f reason is c.in-Err.ensures.refused in
+    let here : outcome (longest (stored_of old)) old.state command ≡ Err f = ap (λ n. outcome n old.state command) (longest-of old) ∙ refused in
+    let same = c.in-Err.ensures.unchanged other in (
+      refused-reply (stored_of old) c.count.ensures.limits command f reason here is,
       ap (λ (s : StoreView g.row.D.Denot). s.reopen) same ∙ off,
-      subst (λ s. Performs (is_at_once c.args.way) d.honest d.folder d.moment d.left old s (changing command)) (sym same)
-          (command-refused (is_at_once c.args.way) d.honest d.folder d.moment d.left old off command c.in-Err.fault refused (λ image h is. g.met.D.Disk.only_now old.disk image h is) c.requires.means),
-    )
+      subst (λ s. Performs at_once d.honest d.folder d.moment d.left old s (changing command)) (sym same)
+          (command-refused at_once d.honest d.folder d.moment d.left old off command f refused (λ image h is. g.met.D.Disk.only_now old.disk image h is) c.requires.means),
+    )))
 
 -- ---- failures of the device, and what a crash leaves
 
@@ -80,48 +81,14 @@ returns-in-Ok-clause-risen g c = c.perform.ensures.risen
 pub returns-in-Ok-clause-now : goal.returns-in-Ok-clause-now
 returns-in-Ok-clause-now g c at h on = synced-leaves (g.D.Disk.folder c.perform.new.store.disk) c.perform.new.store.state (c.in-Ok.ensures.now at h)
 
-pub returns-in-Err-OutOfMemory-clause-did : goal.returns-in-Err-OutOfMemory-clause-did
-returns-in-Err-OutOfMemory-clause-did g c off = c.in-Err-OutOfMemory.ensures.unchanged (λ e. cc (e, c.in-Err-OutOfMemory.field-0-is))
+pub returns-in-Err-clause-cause : goal.returns-in-Err-clause-cause
+returns-in-Err-clause-cause g c e = c.perform.ensures.cause (c.in-Err.is ∙ ap Err (ended-by-device c.in-Err.fault (sym c.refused.ensures ∙ e)))
 
-pub returns-in-Err-OutOfMemory-clause-cause : goal.returns-in-Err-OutOfMemory-clause-cause
-returns-in-Err-OutOfMemory-clause-cause g c e = absurd (cc e)
+pub returns-in-Err-clause-risen : goal.returns-in-Err-clause-risen
+returns-in-Err-clause-risen g c = c.perform.ensures.risen
 
-pub returns-in-Err-OutOfMemory-clause-risen : goal.returns-in-Err-OutOfMemory-clause-risen
-returns-in-Err-OutOfMemory-clause-risen g c = c.perform.ensures.risen
-
-pub returns-in-Err-OutOfMemory-clause-now : goal.returns-in-Err-OutOfMemory-clause-now
-returns-in-Err-OutOfMemory-clause-now g c at =
-    leaves-same g.D.Disk.honest g.D.Disk.folder c.args.store.now c.perform.new.store (c.in-Err-OutOfMemory.ensures.unchanged (λ e. cc (e, c.in-Err-OutOfMemory.field-0-is))) c.requires.means
-
-pub returns-in-Err-Device-clause-cause : goal.returns-in-Err-Device-clause-cause
-returns-in-Err-Device-clause-cause g c e = c.perform.ensures.cause (c.in-Err-Device.is ∙ ap Err c.in-Err-Device.field-0-is)
-
-pub returns-in-Err-Device-clause-risen : goal.returns-in-Err-Device-clause-risen
-returns-in-Err-Device-clause-risen g c = c.perform.ensures.risen
-
-pub returns-in-Err-Device-clause-now : goal.returns-in-Err-Device-clause-now
-returns-in-Err-Device-clause-now g c at h on = absurd (false≢true (sym on ∙ c.in-Err-Device.ensures.device (ap Err c.in-Err-Device.field-0-is)))
-
-pub returns-in-Err-Reopen-clause-did : goal.returns-in-Err-Reopen-clause-did
-returns-in-Err-Reopen-clause-did g c off = absurd (false≢true (sym off ∙ c.perform.ensures.reopen.0 (c.in-Err-Reopen.is ∙ ap Err c.in-Err-Reopen.field-0-is)))
-
-pub returns-in-Err-Reopen-clause-cause : goal.returns-in-Err-Reopen-clause-cause
-returns-in-Err-Reopen-clause-cause g c e = absurd (cc e)
-
-pub returns-in-Err-Reopen-clause-risen : goal.returns-in-Err-Reopen-clause-risen
-returns-in-Err-Reopen-clause-risen g c = c.perform.ensures.risen
-
-pub returns-in-Err-Reopen-clause-now : goal.returns-in-Err-Reopen-clause-now
-returns-in-Err-Reopen-clause-now g c at =
-    leaves-same g.D.Disk.honest g.D.Disk.folder c.args.store.now c.perform.new.store (c.in-Err-Reopen.ensures.unchanged (λ e. cc (e, c.in-Err-Reopen.field-0-is))) c.requires.means
-
-pub returns-clause-cause : goal.returns-clause-cause
-returns-clause-cause g c e = absurd (cc e)
-
-pub returns-clause-risen : goal.returns-clause-risen
-returns-clause-risen g c = c.perform.ensures.risen
-
-pub returns-clause-now : goal.returns-clause-now
-returns-clause-now g c at =
-    let same : c.perform.new.store ≡ c.args.store.now = search rules in
-    leaves-same g.D.Disk.honest g.D.Disk.folder c.args.store.now c.perform.new.store same c.requires.means
+pub returns-in-Err-clause-now : goal.returns-in-Err-clause-now
+returns-in-Err-clause-now g c at h on =
+    ⊎_elim (λ is. absurd (false≢true (sym on ∙ c.in-Err.ensures.device (ap Err is))))
+    (λ other. leaves-same g.D.Disk.honest g.D.Disk.folder c.args.store.now c.perform.new.store (c.in-Err.ensures.unchanged other) c.requires.means h on)
+    (is-device c.in-Err.fault)

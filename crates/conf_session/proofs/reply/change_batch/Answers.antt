@@ -1,13 +1,13 @@
 -- The batch of all edits is performed, or there is none.
-use Rattle.std.proofs.Common.{rules, ◌≢◌, inl, inr, refl, map}
-use Rattle.yaml_events.specs.declared.read_fault.ReadFault.TheVariants.{OutOfMemory}
+use Rattle.std.proofs.Common.{inl, inr, refl, map, sym, ◌∙◌, subst}
 use Rattle.conf_state.specs.Commands.{edit_of, batch}
 use Rattle.conf_state.specs.declared.fault.StoreFault.TheVariants.{Read}
 use Rattle.conf_session.specs.Said.{batch_of_parts, parts_seen}
-use Rattle.conf_session.specs.Requests.{changing, unread}
-use Rattle.conf_session.specs.Replies.{is_at_once}
-use Rattle.conf_session.proofs.LengthLemmas.{refusal-short}
-use Rattle.conf_session.proofs.RequestLemmas.{did-said, said-read}
+use Rattle.conf_session.specs.Requests.{changing}
+use Rattle.conf_session.specs.Answers.{read_answered}
+use Rattle.conf_session.specs.Replies.{DidSaid, is_at_once, refused_as}
+use Rattle.conf_session.proofs.RefusalLemmas.{no-device, read-memory, read-some, refused-memory}
+use Rattle.conf_session.proofs.RequestLemmas.{did-said, said-unread}
 use Rattle.conf_session.proofs.reply.change_batch.Goals as goal
 
 pub returns-in-Ok-clause-did : goal.returns-in-Ok-clause-did
@@ -22,7 +22,11 @@ pub returns-in-Err-clause-did : goal.returns-in-Err-clause-did
 returns-in-Err-clause-did g c off =
     let d = g.D.Disk in
     let f = c.in-Err.fault in
-    let some : f ≢ OutOfMemory = search rules in
-    said-read (is_at_once c.args.way) d.honest d.folder d.moment d.left c.args.store.now off (λ image h is. g.met.D.Disk.only_now c.args.store.now.disk image h is) c.requires.means
-    (batch_of_parts (parts_seen c.args.parts.items)) (unread (Read f)) (inr (f, c.in-Err.ensures.refused some, refl))
-    tt _ (record { bytes = refl; accepted = refl; refused = refl; short = refusal-short (Read f) })
+    let said = batch_of_parts (parts_seen c.args.parts.items) in
+    subst (DidSaid (is_at_once c.args.way) d.honest d.folder d.moment d.left c.args.store.now c.args.store.now said) (sym c.refused.ensures)
+    (said-unread (is_at_once c.args.way) d.honest d.folder d.moment d.left c.args.store.now off (λ image h is. g.met.D.Disk.only_now c.args.store.now.disk image h is) c.requires.means said (Read f)
+    (λ reason is. inr (f, c.in-Err.ensures.refused (read-some f reason is), refl)) (read-memory f))
+
+pub returns-in-Err-clause-cause : goal.returns-in-Err-clause-cause
+returns-in-Err-clause-cause g c e =
+    absurd (no-device (refused_as (read_answered c.in-Err.fault)) (refused-memory (read_answered c.in-Err.fault) (read-memory c.in-Err.fault)) (sym c.refused.ensures ∙ e))

@@ -2,8 +2,7 @@
 use Rattle.std.proofs.Common.{◌≡◌, ◌≤◌, ◌+◌, false, refl, sym, ◌∙◌, ap, subst, arith, length}
 use Rattle.std.specs.Prelude.{ℕ, List, [], ◌∷◌, ◌++◌, take}
 use Rattle.std.proofs.lemmas.Result.{err_from_is_err_and}
-use Rattle.yaml_recognizers.specs.Closings.{framed_text_bytes}
-use Rattle.conf_session.specs.Answers.{answer}
+use Rattle.conf_session.specs.Answers.{answer_bytes as answer_to}
 use Rattle.conf_session.specs.Runs.{stored_of}
 use Rattle.conf_session.specs.Rounds.{answer_bytes, piece_bytes}
 use Rattle.conf_session.proofs.RoundLemmas.{RoundSoFar, round-none, round-more, next-piece, all-pieces, one-more, ends-failing, ends-flushed, ends-unflushed}
@@ -56,7 +55,7 @@ turns-preserved g c =
           (subst (λ (l : List (List ℕ)). RoundSoFar d.honest d.folder d.moment d.left old new (take i all ++ piece ∷ []) l) (sym one.answered)
           (round-more d.honest d.folder d.moment d.left old now (take i all) (answer_bytes c.turns.answers.items) inv.so_far new piece r one.takes.asks one.takes.performs one.sound));
       risen = omega (arith, inv.risen, c.take_piece.ensures.risen);
-      few = one-more c.turns.answers.items c.take_piece.new.answers.items (framed_text_bytes (answer (stored_of now) r)) one.answered ∙ ap (λ n. n + 1) inv.few;
+      few = one-more c.turns.answers.items c.take_piece.new.answers.items (answer_to (stored_of now) r) one.answered ∙ ap (λ n. n + 1) inv.few;
     }
 
 pub returns-in-Ok-clause-rounds : goal.returns-in-Ok-clause-rounds

@@ -1,7 +1,7 @@
 use Rattle.std.proofs.Common.{◌≡◌, take}
 use Rattle.std.specs.List.{list_all}
 use Rattle.conf_session.specs.CommandLines.{bare_char}
-use Rattle.conf_session.proofs.command_lines.are_bare.Given as goal
+use Rattle.conf_session.proofs.field_lines.are_bare.Given as goal
 
 abbrev pub invariant-loop-byte : goal.invariant-loop-byte
 invariant-loop-byte l = l.all ≡ list_all bare_char (take l.byte-index l.bytes)
