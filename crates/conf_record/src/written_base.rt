@@ -110,7 +110,8 @@ fn guessed_pairs(alloc: Global, lines: &str) -> Result<Vec<(Text, Tree)>, Miss> 
     reader.finish()
 }
 
-/// The configuration of a tree, with its size; `None` if it is over the limits of one. It fails only if memory runs out.
+/// The configuration of a tree, with its size; `None` if it is over the limits of one. It fails only if memory runs
+/// out.
 fn checked(alloc: Global, tree: Tree) -> Result<Option<Config>, AllocError> {
     match Config::new(alloc, tree) {
         Ok(config) => Ok(Some(part(config.into_tree()))),

@@ -4,7 +4,7 @@ ghost use Rattle.conf_session.specs.Answers.{AllAreAcknowledged, AnswersAreShort
 /// No answer is longer than the longest base: 67,108,864 bytes, with its first line and its closing line.
 ///
 /// The longest are lists of names, since each name is in the base too. A `value` or a `text` comes from one
-/// configuration, which has at most 1,048,576 bytes; all other answers have a few bytes.
+/// configuration, which has at most 4,194,304 bytes in the one style; all other answers have a few bytes.
 pub fn answers_are_short()
     ensures { AnswersAreShort }
 {}
@@ -18,7 +18,7 @@ pub fn requests_are_answered()
 
 /// Where no command waits at the start of a session, no crash after it takes away a command that was answered.
 ///
-/// A session that is told of commands that wait, submitted and not flushed before it, acknowledges them with its first
+/// A session over a store in which commands wait, submitted and not flushed before it, acknowledges them with its first
 /// command that is accepted, or with its first checkpoint. Until then nothing is acknowledged, and where nothing waits
 /// nothing was accepted.
 pub fn answers_acknowledge()
