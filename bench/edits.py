@@ -7,18 +7,12 @@ what a run of many rounds takes more than a run of one round, which builds the s
 instructions instead, as valgrind does (`apt-get install valgrind`). They are the same in each run, however busy the
 machine is. After each shape it prints how many times as much an edit takes by a command as in the tree; it may be 3.
 
-Instructions of an edit, counted on 2026-11-23:
+Then it counts, whatever the words, the instructions of a command of a session that sets a key which a mapping of so many
+keys already has, and of opening a store after such commands.
 
-    shape           in the tree     by a command    times
-    100 pairs             1,376            3,303     2.40
-    1,000 pairs          11,276           13,204     1.17
-    10,000 pairs        110,276          112,203     1.02
-    8 deep                1,999            4,888     2.45
-    64 deep              17,903           29,911     1.67
+`./confstore --version`, and `rt run -- edits tree wide 1 1` in crates/bench_driver, build the programs:
 
-`rt run -- edits tree wide 1 1`, in crates/bench_driver, builds the program:
-
-    (cd crates/bench_driver && rt run -- edits tree wide 1 1) && python3 bench/edits.py [-i]
+    ./confstore --version && (cd crates/bench_driver && rt run -- edits tree wide 1 1) && python3 bench/edits.py [-i]
 """
 
 import os
@@ -26,9 +20,11 @@ import re
 import shutil
 import subprocess
 import sys
+import tempfile
 
 TOP = os.path.dirname(os.path.dirname(os.path.abspath(__file__)))
 PROGRAM = os.path.join(TOP, "crates", "bench_driver", "out", "bench_driver")
+CONFSTORE = os.environ.get("CONFSTORE") or os.path.join(TOP, "crates", "confstore", "out", "confstore")
 # Shapes with their size. The rounds, in a tree and by commands, are so many that a run takes some tenths of a second.
 SHAPES = [
     ("wide", 100, 100_000, 50_000),
@@ -39,6 +35,9 @@ SHAPES = [
 ]
 # How many rounds are counted: valgrind makes a run some fifty times slower.
 COUNTED = 100
+# Of how many keys a mapping has one set, and how often.
+WIDTHS = (32, 100, 1_000, 10_000, 100_000)
+SETS = 1_000
 # How many times an edit in the tree an edit by a command may take.
 GOAL = 3
 
@@ -89,6 +88,34 @@ def cost(target, shape, size, rounds, counts):
     return number
 
 
+def session(folder, commands):
+    """How many instructions a session takes that performs these commands."""
+    tool = ["valgrind", "--tool=callgrind", "--callgrind-out-file=/dev/null"]
+    done = subprocess.run([*tool, CONFSTORE, "run", "--group", folder], input=commands.encode(), capture_output=True, check=True)
+    if b"refused" in done.stdout:
+        sys.exit(f"a command was refused: {done.stdout[:200]!r}")
+    return int(re.search(rb"Collected : (\d+)", done.stderr)[1])
+
+
+def sets(width, count):
+    """Commands that set keys which are there, all over the mapping."""
+    return "".join(f"---\nset: wide\npath: /k{number * 7919 % width}\nvalue: v{number:05}\n...\n" for number in range(count))
+
+
+def old_keys(width):
+    """What a set of an old key costs in a session and at opening, in instructions."""
+    pairs = "".join(f"  k{number}: v00000\n" for number in range(width))
+    with tempfile.TemporaryDirectory() as folder:
+        session(folder, f"---\nimport: wide\ntext: |\n{pairs}...\n---\ncheckpoint:\n...\n")
+        empty = session(folder, "")
+        few = session(folder, sets(width, SETS // 2)) - empty
+        opened = session(folder, "")
+        many = session(folder, sets(width, 3 * SETS // 2)) - opened
+        opening = session(folder, "") - opened
+    print(f"a set of an old key of {width:6}: {(many - few) / SETS:9.0f} instructions in a session,"
+          f" {opening / (3 * SETS // 2):9.0f} at opening", flush=True)
+
+
 def main():
     if not os.access(PROGRAM, os.X_OK):
         sys.exit("the program is not built: `rt run -- edits tree wide 1 1`, in crates/bench_driver, builds it")
@@ -102,6 +129,9 @@ def main():
         print(f"  by a command {ratios[-1]:.2f} times an edit in the tree", flush=True)
     within = "within" if max(ratios) <= GOAL else "MORE THAN"
     print(f"an edit by a command takes at most {max(ratios):.2f} times one in the tree: {within} {GOAL} times")
+    if shutil.which("valgrind") is not None and os.access(CONFSTORE, os.X_OK):
+        for width in WIDTHS:
+            old_keys(width)
     return 0
 
 
