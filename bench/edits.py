@@ -7,8 +7,8 @@ what a run of many rounds takes more than a run of one round, which builds the s
 instructions instead, as valgrind does (`apt-get install valgrind`). They are the same in each run, however busy the
 machine is. After each shape it prints how many times as much an edit takes by a command as in the tree; it may be 3.
 
-Then it counts, whatever the words, the instructions of a command of a session that sets a key which a mapping of so many
-keys already has, and of opening a store after such commands.
+Then it counts instructions, with `-i` or without, of a command of a session that sets a key which a mapping of so many
+keys has, and of opening a store after such commands.
 
 `./confstore --version`, and `rt run -- edits tree wide 1 1` in crates/bench_driver, build the programs:
 
@@ -91,7 +91,8 @@ def cost(target, shape, size, rounds, counts):
 def session(folder, commands):
     """How many instructions a session takes that performs these commands."""
     tool = ["valgrind", "--tool=callgrind", "--callgrind-out-file=/dev/null"]
-    done = subprocess.run([*tool, CONFSTORE, "run", "--group", folder], input=commands.encode(), capture_output=True, check=True)
+    words = [*tool, CONFSTORE, "run", "--group", folder]
+    done = subprocess.run(words, input=commands.encode(), capture_output=True, check=True)
     if b"refused" in done.stdout:
         sys.exit(f"a command was refused: {done.stdout[:200]!r}")
     return int(re.search(rb"Collected : (\d+)", done.stderr)[1])
@@ -99,7 +100,8 @@ def session(folder, commands):
 
 def sets(width, count):
     """Commands that set keys which are there, all over the mapping."""
-    return "".join(f"---\nset: wide\npath: /k{number * 7919 % width}\nvalue: v{number:05}\n...\n" for number in range(count))
+    keys = [number * 7919 % width for number in range(count)]
+    return "".join(f"---\nset: wide\npath: /k{key}\nvalue: v{number:05}\n...\n" for number, key in enumerate(keys))
 
 
 def old_keys(width):
