@@ -9,7 +9,7 @@ pub returns : goal.returns
 returns c =
     let quoted = string_bytes c.write_quoted.new.sink in
     let wanted = in_double_quotes (chars c.args.text.now) in
-    let none : string_bytes c.new.result ≡ [] = search rules in
+    let none : string_bytes c.new-quoted.result ≡ [] = search rules in
     let bytes : quoted ≡ encode_utf8_all wanted = c.in_ok-write_quoted.ensures ∙ ap (λ l. l ++ encode_utf8_all wanted) none in
     let seen : chars quoted ≡ wanted = sym (chars_from_encodes wanted quoted (IsUtf8-string_bytes c.write_quoted.new.sink) (sym bytes)) in
     let text : chars c.deref.result.now ≡ wanted = ap chars c.deref.ensures ∙ seen in
