@@ -107,15 +107,16 @@ def sets(width, count):
 def old_keys(width):
     """What a set of an old key costs in a session and at opening, in instructions."""
     pairs = "".join(f"  k{number}: v00000\n" for number in range(width))
-    with tempfile.TemporaryDirectory() as folder:
-        session(folder, f"---\nimport: wide\ntext: |\n{pairs}...\n---\ncheckpoint:\n...\n")
-        empty = session(folder, "")
-        few = session(folder, sets(width, SETS // 2)) - empty
-        opened = session(folder, "")
-        many = session(folder, sets(width, 3 * SETS // 2)) - opened
-        opening = session(folder, "") - opened
-    print(f"a set of an old key of {width:6}: {(many - few) / SETS:9.0f} instructions in a session,"
-          f" {opening / (3 * SETS // 2):9.0f} at opening", flush=True)
+
+    def costs(count):
+        with tempfile.TemporaryDirectory() as folder:
+            session(folder, f"---\nimport: wide\ntext: |\n{pairs}...\n---\ncheckpoint:\n...\n")
+            return session(folder, sets(width, count)), session(folder, "")
+
+    many, few = costs(3 * SETS // 2), costs(SETS // 2)
+    in_session, opening = ((one - other) / SETS for one, other in zip(many, few))
+    print(f"a set of an old key of {width:6}: {in_session:9.0f} instructions in a session,"
+          f" {opening:9.0f} at opening", flush=True)
 
 
 def main():
