@@ -20,7 +20,6 @@ use Rattle.yaml_events.specs.declared.event.Event.{Event}
 use Rattle.yaml_events.specs.declared.event.Event.TheVariants.{Scalar}
 use Rattle.yaml_events.specs.declared.event.Span.{Span}
 use Rattle.yaml_events.specs.declared.event.Style.{Style}
-use Rattle.yaml_scan.specs.declared.lines.Line.{Line}
 use Rattle.yaml_block_scalars.specs.Found.{IsBodyAt, IsHeaderAt}
 use Rattle.yaml_block_scalars.specs.Meant.{chomping_of}
 use Rattle.yaml_block_scalars.specs.declared.parts.Header.{Header}

@@ -225,8 +225,9 @@ module _ (text : List ℕ) (u : IsUtf8 text) where
       let len : at + byte_len (flow_text f.node) ≡ end =
       (flow_to text at end f.node leaf.least outer (line_starts text at) u b f.boundary f.found).0 in
       let read : AtLine W text from fs (evs ++ flow_events f.node at) line.start end =
-      leaf_read W text from fs evs leaf.least leaf.pairs at f.node end colon line.start here f.found len t.leaves c
-      close l.leaves (comments_to text end line.start false u f.boundary l.boundary l.leaves).0 in
+      leaf_read W text from fs evs leaf.least leaf.pairs at f.node end line.start here f.found len
+      (ap (sign 58) t.leaves ∙ c) close l.leaves
+      (comments_to text end line.start false u f.boundary l.boundary l.leaves).0 in
       record {
         fs = fs;
         evs = evs ++ flow_events f.node at;

@@ -145,15 +145,15 @@ module _ (W : Read Indented) (text : List ℕ) (from : ℕ) where
 
   -- a leaf is read, and a line follows
   pub leaf_read : (fs : List BlockFrame) (evs : List Event) (m : ℕ) (pairs : Option ℕ) (at : ℕ) (f : Flow)
-      (end colon start : ℕ) → AtLeaf W text from fs evs m pairs at
+      (end start : ℕ) → AtLeaf W text from fs evs m pairs at
       → flow_leaf_at m (line_starts text at) (rest text at) ≡ Some (f, rest text end)
       → at + byte_len (flow_text f) ≡ end
-      → drop_while white (rest text end) ≡ rest text colon → sign 58 (rest text colon) ≡ false
+      → sign 58 (drop_while white (rest text end)) ≡ false
       → closes_line (all_comments false (rest text end)) ≡ true
       → (all_comments false (rest text end)).1 ≡ rest text start
       → end + byte_len (comments_text (all_comments false (rest text end)).0) ≡ start
       → AtLine W text from fs (evs ++ flow_events f at) start end
-  leaf_read fs evs m pairs at f end colon start h e len d c close t p =
+  leaf_read fs evs m pairs at f end start h e len c close t p =
       let comments : List LineEnd = (all_comments false (rest text end)).0 in
       let there : place_in fs from + byte_len (sep_text h.sep) + byte_len (flow_text f) ≡ end =
       ap (λ x. x + byte_len (flow_text f)) h.place ∙ len in
@@ -164,8 +164,8 @@ module _ (W : Read Indented) (text : List ℕ) (from : ℕ) where
       record {
         part = node (flow h.sep f comments);
         reads = h.reads ∙ ap (unwind fs)
-            (leaf_closes h.mapping m (line_starts text at) h.sep (rest text at) f (rest text end) e (ap (sign 58) d
-            ∙ c) close ∙ ap (λ v. Some (node (flow h.sep f comments), v)) t);
+            (leaf_closes h.mapping m (line_starts text at) h.sep (rest text at) f (rest text end) e c close
+            ∙ ap (λ v. Some (node (flow h.sep f comments), v)) t);
         nested = h.nested;
         fits = node_fits_frames fs (flow h.sep f comments);
         place = omega (arith, there, spelled, p);

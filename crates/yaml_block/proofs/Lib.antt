@@ -17,3 +17,5 @@ pub mod EachNode
 pub mod BlockScalarSteps
 pub mod PairTests
 pub mod ScalarLines
+pub mod LineValueSteps
+pub mod PairLoop

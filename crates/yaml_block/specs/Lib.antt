@@ -6,3 +6,4 @@ pub mod Found
 pub mod Lines
 pub mod Signs
 pub mod Bodies
+pub mod LineValues

@@ -15,6 +15,7 @@ use Rattle.yaml_flow.specs.FlowNodes.{Appended}
 use Rattle.yaml_block.specs.Lines.{is_shallow, IsNextLine}
 use Rattle.yaml_block.specs.Frames.{waits_of, indent_of, AfterSign, AtPair, AtLine, AtNode, AtNodeLine, AtLeaf}
 use Rattle.yaml_block.specs.declared.frame.Waits.{Waits}
+use Rattle.yaml_block.specs.declared.frame.Waits.TheVariants.{Value}
 use Rattle.yaml_block.specs.declared.line_sign.Sign.{Sign}
 use Rattle.yaml_block.specs.declared.frame.Collection.{Collection}
 use Rattle.yaml_block.specs.declared.indentation.Indentation.{Indentation}
@@ -121,6 +122,11 @@ BeforePart text sign k at W from fs evs = AfterSign W text from fs evs sign k at
 -- before a pair
 abbrev pub BeforePair : List ℕ → ℕ → ℕ → Before
 BeforePair text k at W from fs evs = AtPair W text from fs evs k at
+
+-- before the value of a pair, on the line of its key, whose frame is not on the reader's stack
+abbrev pub BeforeLineValue : List ℕ → ℕ → ℕ → Before
+BeforeLineValue text k at W from fs evs =
+    (f : BlockFrame) × (waits_of f ≡ Value) × (indent_of f ≡ k) × AtLeaf W text from (f ∷ fs) evs (k + 1) None at
 
 -- before a node
 abbrev pub BeforeNode : List ℕ → ℕ → Bool → ℕ → Before

@@ -11,6 +11,7 @@ mod indentation;
 mod leaf;
 mod line;
 mod line_sign;
+mod line_value;
 mod next_line;
 mod node;
 mod pair;

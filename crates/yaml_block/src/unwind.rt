@@ -76,7 +76,7 @@ impl<'a> Reader<'a> {
 
     /// Returns the next pair of a mapping. If it has none, closes it and returns None.
     #[inline(always)]
-    fn after_pair(
+    pub(crate) fn after_pair(
         &mut self,
         text: &str,
         after: NextLine,

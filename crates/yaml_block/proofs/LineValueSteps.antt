@@ -1,0 +1,193 @@
+-- The steps of the reader at a value that is the rest of its line.
+use Rattle.std.proofs.Common.{ap, arith, inl, length, refl, subst, sym, ◌<◌, ◌∙◌, ◌≡◌}
+use Rattle.std.specs.Prelude.{Bool, List, None, Option, Some, [], false, nat_le, true, ℕ, ◌*◌, ◌++◌, ◌+◌, ◌-◌, ◌∷◌}
+use Rattle.std.specs.Str.{IsCharBoundary, IsUtf8}
+use Rattle.std.proofs.lemmas.Bool.{false≢true}
+use Rattle.yaml_chars.specs.Classes.{white}
+use Rattle.yaml_chars.specs.Places.{between, rest}
+use Rattle.yaml_grammar.specs.BlockNodes.{Indented}
+use Rattle.yaml_grammar.specs.Events as grammar
+use Rattle.yaml_grammar.specs.FlowNodes.{flow_events, flow_text, short_key}
+use Rattle.yaml_grammar.specs.FlowScalars.{block_key, outer}
+use Rattle.yaml_grammar.specs.Texts.{byte_len, first}
+use Rattle.yaml_recognizers.specs.BlockFrames.{BlockFrame, waits_value}
+use Rattle.yaml_recognizers.specs.Comments.{all_comments, closes_line, read_line_end}
+use Rattle.yaml_recognizers.specs.Ends.{solid}
+use Rattle.yaml_recognizers.specs.Prefixes.{drop_while, sign, take_while}
+use Rattle.yaml_recognizers.specs.Reading.{Read}
+use Rattle.yaml_recognizers.proofs.Basics.Prefixes.{take_while_every, take_while_split}
+use Rattle.yaml_recognizers.proofs.Basics.Solid.{sign_solid}
+use Rattle.yaml_recognizers.proofs.Separation.CommentsComplete.{solid_no_line}
+use Rattle.yaml_events.specs.EventPlaces.{line_starts}
+use Rattle.yaml_events.specs.declared.event.Event.{Event}
+use Rattle.yaml_scan.specs.ScanPlaces.{AreTaken}
+use Rattle.yaml_scan.specs.declared.lines.Line.{Line}
+use Rattle.yaml_scan.proofs.GapSteps.{solid_no_end, solid_within}
+use Rattle.yaml_scan.proofs.LineSteps.{no_comments_at, open_line}
+use Rattle.yaml_flow.specs.FlowNodes.{FlowNodeRead}
+use Rattle.yaml_block.specs.Frames.{AfterPair, AfterSign, AtLeaf, AtLine}
+use Rattle.yaml_block.specs.LineValues.{IsLeadIn, IsLineValue}
+use Rattle.yaml_block.specs.Lines.{IsNextLine}
+use Rattle.yaml_block.specs.States.{BeforeLineValue, BeforePair, Holds, IsAfterSign, Leads, Onward, Stack}
+use Rattle.yaml_block.specs.declared.frame.Collection.{Collection}
+use Rattle.yaml_block.specs.Turns.{IsPart, MayGoOn, PairRead, Turns}
+use Rattle.yaml_block.specs.declared.frame.Next.{Next}
+use Rattle.yaml_block.specs.declared.frame.Next.TheVariants as next
+use Rattle.yaml_block.specs.declared.frame.Waits.TheVariants.{Value}
+use Rattle.yaml_block.specs.declared.line_sign.Sign.TheVariants.{Colon}
+use Rattle.yaml_block.specs.declared.line_value.LineValue.{LineValue}
+use Rattle.yaml_block.specs.declared.next_line.NextLine.{NextLine}
+use Rattle.yaml_block.specs.declared.reader.Reader.{Reader}
+use Rattle.yaml_block.proofs.LeafSteps.{leaf_read, next_key}
+use Rattle.yaml_block.proofs.PlaceSteps.{WhiteTo, comments_to, flow_to, short_is, white_to}
+use Rattle.yaml_block.proofs.SignsAndLines.{leaf_there, onward_from}
+use Rattle.yaml_block.proofs.Stacks.{appended_more}
+use Rattle.yaml_block.proofs.TextPlaces.{IsPastSign, past_sign}
+use Rattle.yaml_block.proofs.UnwindSteps.{pair_of}
+
+-- where a line ends after whitespace and a comment, no `:` follows the whitespace
+no_colon : (t : List ℕ) → closes_line (all_comments false t) ≡ true → sign 58 (drop_while white t) ≡ false
+no_colon [] c = refl
+no_colon (x ∷ xs) c = by_cases (sign 58 (drop_while white (x ∷ xs))) refl
+  where
+    by_cases : (b : Bool) → sign 58 (drop_while white (x ∷ xs)) ≡ b → sign 58 (drop_while white (x ∷ xs)) ≡ false
+    by_cases false e = e
+    by_cases true e =
+        let none : read_line_end false (x ∷ xs) ≡ None =
+        ap (read_line_end false) (take_while_split white (x ∷ xs))
+        ∙ solid_no_line false (take_while white (x ∷ xs)) (drop_while white (x ∷ xs))
+        (take_while_every white (x ∷ xs)) (sign_solid 58 (drop_while white (x ∷ xs)) refl e) in
+        absurd (false≢true (sym (ap closes_line (no_comments_at false (x ∷ xs) none)) ∙ c))
+
+module _ (text : List ℕ) (u : IsUtf8 text) where
+  -- after whitespace something solid goes on with the line
+  pub lead_in : (at start : ℕ) → IsCharBoundary text at → AreTaken white text at start → at < start
+      → first solid (rest text start) ≡ true → IsLeadIn text at start
+  lead_in at start b w l s = record {
+    above = l;
+    white = w;
+    goes_on = open_line text at u b (solid_within text at start w s) (solid_no_end text at start u b w s);
+  }
+
+  -- a further pair starts with a key on one line, and its value is the rest of that line
+  pub pair_value : (at k end colon start : ℕ) (old mid new : Reader) (to : Next) → IsCharBoundary text at
+      → FlowNodeRead 0 block_key text at end old.events mid.events → AreTaken white text end colon
+      → sign 58 (rest text colon) ≡ true → nat_le (length (between text at colon)) 1024 ≡ true
+      → mid.collections ≡ old.collections → IsAfterSign text k (colon + 1) → IsLeadIn text (colon + 1) start
+      → Leads text (BeforeLineValue text k start) mid new to → Leads text (BeforePair text k at) old new to
+  pair_value at k end colon start old mid new to b f t c short i placed lead l = λ W from base fs evs held pair.
+      let w : WhiteTo text end colon = white_to text end colon u f.boundary t in
+      let s : IsPastSign text colon = past_sign text colon 58 u t.boundary (omega arith) refl c in
+      let len : at + byte_len (flow_text f.node) ≡ end =
+      (flow_to text at end f.node 0 block_key (line_starts text at) u b f.boundary f.found).0 in
+      let is_short : short_key f.node (take_while white (rest text end)) ≡ true =
+      sym (short_is text at end colon f.node 0 block_key (line_starts text at) u b f.boundary f.found t)
+      ∙ short in
+      let p = next_key W text from fs evs k at f.node end colon pair f.found len w.drops w.place c s.past_is
+      is_short in
+      let key : BlockFrame = waits_value p.0 k p.1 p.2 in
+      let after : AfterSign W text from (key ∷ fs) (evs ++ flow_events f.node at) Colon k (colon + 1) = p.4 in
+      let leaf : AtLeaf W text from (key ∷ fs) (evs ++ flow_events f.node at) (k + 1) None start =
+      leaf_there text Colon k (colon + 1) u placed lead.goes_on start lead.white lead.above (inl refl) W from
+      (key ∷ fs) (evs ++ flow_events f.node at) after in
+      l W from base fs (evs ++ flow_events f.node at)
+      (record {
+        stack = subst (λ (v : List Collection). Stack fs v) (sym (ap (λ v. v.items) i)) held.stack;
+        appended = appended_more text base old.events mid.events evs (flow_events f.node at) held.appended f.appended;
+      })
+      (key, refl, refl, leaf)
+
+  -- the value is read, and so is the pair
+  pub value_read : (k : ℕ) (value : LineValue) (old mid : Reader) → IsLineValue text k value
+      → FlowNodeRead (k + 1) outer text value.start value.end old.events mid.events
+      → mid.collections ≡ old.collections → mid.end ≡ value.end
+      → (W : Read Indented) (from : ℕ) (base : List Event) (fs : List BlockFrame) (evs : List grammar.Event)
+      → Holds text base fs evs old → BeforeLineValue text k value.start W from fs evs
+      → (es : List grammar.Event) × Holds text base fs es mid × AfterPair W text from fs es k value.after.start mid.end
+  value_read k value old mid v f i d W from base fs evs held b =
+      let start : ℕ = value.start in
+      let es : List grammar.Event = evs ++ flow_events f.node start in
+      let key : BlockFrame = b.0 in
+      let len : start + byte_len (flow_text f.node) ≡ value.end =
+      (flow_to text start value.end f.node (k + 1) outer (line_starts text start) u v.boundary f.boundary f.found).0 in
+      let read : AtLine W text from (key ∷ fs) es value.after.start value.end =
+      leaf_read W text from (key ∷ fs) evs (k + 1) None start f.node value.end value.after.start b.3 f.found len
+      (no_colon (rest text value.end) v.closes) v.closes (v.line).leaves
+      (comments_to text value.end value.after.start false u f.boundary (v.line).boundary (v.line).leaves).0 in
+      let pair : AfterPair W text from fs es k value.after.start value.end =
+      pair_of W text from fs es (record { waits = Value; indent = k }) value.after.start value.end refl
+      (key, record { waits = b.1; indent = b.2 }, read) in (
+        es,
+        record {
+          stack = subst (λ (v : List Collection). Stack fs v) (sym (ap (λ v. v.items) i)) held.stack;
+          appended = appended_more text base old.events mid.events evs (flow_events f.node start) held.appended
+              f.appended;
+        },
+        subst (λ j. AfterPair W text from fs es k value.after.start j) (sym d) pair,
+      )
+
+  -- a further pair follows on a later line
+  pub value_goes_on : (k : ℕ) (value : LineValue) (after : NextLine) (old mid new : Reader) (found : Option Next)
+      (to : Next) → after.line ≡ value.after → IsLineValue text k value
+      → FlowNodeRead (k + 1) outer text value.start value.end old.events mid.events
+      → mid.collections ≡ old.collections → mid.end ≡ value.end
+      → Turns (PairRead k) text after mid new found → found ≡ Some to
+      → Leads text (BeforeLineValue text k value.start) old new to
+  value_goes_on k value after old mid new found to a v f i d t n = λ W from base fs evs held b.
+      let p = value_read k value old mid v f i d W from base fs evs held b in
+      let all : Turns (PairRead k) text after mid new (Some to) =
+      subst (λ x. Turns (PairRead k) text after mid new x) n t in
+      all W from base fs p.0 p.1
+      (subst (λ (l : Line). AfterPair W text from fs p.0 k l.start mid.end) (sym a) p.2)
+
+  -- no further pair follows
+  pub value_ends : (k : ℕ) (value : LineValue) (after : NextLine) (old mid new : Reader) (found : Option Next)
+      → after.line ≡ value.after → IsLineValue text k value
+      → FlowNodeRead (k + 1) outer text value.start value.end old.events mid.events
+      → mid.collections ≡ old.collections → mid.end ≡ value.end
+      → Turns (PairRead k) text after mid new found → found ≡ None
+      → Leads text (BeforeLineValue text k value.start) old new (next.Line after)
+  value_ends k value after old mid new found a v f i d t n = λ W from base fs evs held b.
+      let p = value_read k value old mid v f i d W from base fs evs held b in
+      let all : Turns (PairRead k) text after mid new None =
+      subst (λ x. Turns (PairRead k) text after mid new x) n t in
+      let part : IsPart W text from base fs new after.line.start = all W from base fs p.0 p.1
+      (subst (λ (l : Line). AfterPair W text from fs p.0 k l.start mid.end) (sym a) p.2) in
+      record { fs = fs; evs = part.evs; holds = part.holds; stands = part.stands }
+
+-- ---- places
+
+-- the line after the value is a next line
+line_placed : (text : List ℕ) (k : ℕ) (value : LineValue) → IsLineValue text k value
+    → IsNextLine text (record { line = value.after; is_solid = true })
+line_placed text k value v = record {
+  line = record { boundary = (v.line).boundary; spaces = (v.line).spaces; starts = v.starts };
+  solid = (v.line).solid;
+}
+
+-- the line after the value is further on
+pub line_onward : (text : List ℕ) (value : LineValue) (k : ℕ) → IsLineValue text k value
+    → Onward text value.start (3 * (length text - value.start))
+    (next.Line (record { line = value.after; is_solid = true }))
+line_onward text value k v =
+    let long = ((v.plain).scalar).above in
+    let after = (v.line).above in
+    let within = (v.line).boundary.0 in
+    record {
+      above = omega (arith, long, after);
+      less = omega (arith, long, after, within);
+      placed = line_placed text k value v;
+    }
+
+-- and so is a pair on it
+pub further : (text : List ℕ) (value : LineValue) (after : NextLine) (k : ℕ) (found : Option Next) (to : Next)
+    → IsLineValue text k value → after.line ≡ value.after → MayGoOn text after.line.start found → found ≡ Some to
+    → Onward text value.start (3 * (length text - value.start)) to
+further text value after k found to v a m n =
+    let long = ((v.plain).scalar).above in
+    let next_line = (v.line).above in
+    let within = (v.line).boundary.0 in
+    onward_from text value.start value.after.start (3 * (length text - value.after.start) + 1)
+    (3 * (length text - value.start)) to (omega (arith, long, next_line)) (omega (arith, long, next_line, within))
+    (subst (λ (l : Line). Onward text l.start (3 * (length text - l.start) + 1) to) a
+    (subst (λ (x : Option Next). MayGoOn text after.line.start x) n m))

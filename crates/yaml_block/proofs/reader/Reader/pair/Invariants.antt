@@ -1,0 +1,15 @@
+use Rattle.std.proofs.Common.{◌≤◌, ◌-◌, length}
+use Rattle.yaml_block.specs.States.{BeforePair, Grown, IsPairPlace, Leads}
+use Rattle.yaml_block.specs.declared.frame.Next.TheVariants as next
+use Rattle.yaml_block.proofs.reader.Reader.pair.Given as goal
+
+abbrev pub invariant-pairs : goal.invariant-pairs
+invariant-pairs l = record {
+  leads : Leads l.text (BeforePair l.text l.fn.indent l.fn.at) l.fn.self l.self (next.Pair l.at l.indent);
+  placed : IsPairPlace l.text l.indent l.at;
+  above : l.fn.at ≤ l.at;
+  grown : Grown l.fn.self.events l.self.events;
+}
+
+abbrev pub decreases-pairs : goal.decreases-pairs
+decreases-pairs l = length l.text - l.at

@@ -1,0 +1,38 @@
+-- The value of a pair where it is the rest of its line (YAML 1.2.2, 8.2.2).
+use Rattle.std.specs.Prelude.{◌≡◌, ℕ, ◌+◌, ◌<◌, ◌==◌, true, false, List}
+use Rattle.std.specs.Str.{IsCharBoundary}
+use Rattle.yaml_chars.specs.Classes.{white}
+use Rattle.yaml_chars.specs.Places.{rest, between}
+use Rattle.yaml_chars.specs.Signs.{open_brace, open_bracket}
+use Rattle.yaml_grammar.specs.Events.{plain_style}
+use Rattle.yaml_grammar.specs.FlowScalars.{FlowContext, outer}
+use Rattle.yaml_grammar.specs.Texts.{first}
+use Rattle.yaml_recognizers.specs.Comments.{all_comments, closes_line}
+use Rattle.yaml_events.specs.EventPlaces.{line_starts}
+use Rattle.yaml_scan.specs.ScanPlaces.{AreTaken, unbroken_between}
+use Rattle.yaml_scan.specs.Lines.{IsLineStart, IsSolidLine}
+use Rattle.yaml_flow_scalars.specs.Standing.{ScalarAt}
+use Rattle.yaml_block.specs.declared.line_value.LineValue.{LineValue}
+
+-- A plain scalar on one line is between the two places, and no further line of it follows.
+pub record IsPlainLine (n : ℕ) (c : FlowContext) (text : List ℕ) (start end : ℕ) : Type 0 where
+  pub scalar : ScalarAt plain_style n c text start (between text start end) end
+  pub unbroken : unbroken_between text start end ≡ true
+  pub inside_line : line_starts text end ≡ false
+  pub no_seq : first (λ x. x == open_bracket) (rest text start) ≡ false
+  pub no_map : first (λ x. x == open_brace) (rest text start) ≡ false
+
+-- The value of a pair of a mapping at k is a plain scalar on one line, and nothing but whitespace and a comment follows
+-- it there.
+pub record IsLineValue (text : List ℕ) (k : ℕ) (value : LineValue) : Type 0 where
+  pub boundary : IsCharBoundary text value.start
+  pub plain : IsPlainLine (k + 1) outer text value.start value.end
+  pub line : IsSolidLine false text value.end value.after
+  pub starts : IsLineStart text value.after.start
+  pub closes : closes_line (all_comments false (rest text value.end)) ≡ true
+
+-- Whitespace is between the two places, and the line goes on after it.
+pub record IsLeadIn (text : List ℕ) (at start : ℕ) : Type 0 where
+  pub above : at < start
+  pub white : AreTaken white text at start
+  pub goes_on : closes_line (all_comments false (rest text at)) ≡ false

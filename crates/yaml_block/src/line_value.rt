@@ -1,0 +1,112 @@
+// The value of a pair where it is the rest of its line (YAML 1.2.2, 8.2.2).
+ghost use Rattle.std.specs.Prelude.{◌≡◌, ℕ, ◌*◌, ◌-◌, ◌≤◌, IfOk, IfErr, IfSome, OnOk, length};
+ghost use Rattle.std.specs.Str.{IsCharBoundary};
+ghost use Rattle.yaml_grammar.specs.FlowScalars as flow;
+ghost use Rattle.yaml_events.specs.EventPlaces.{Refuses};
+ghost use Rattle.yaml_flow.specs.FlowNodes.{FlowNodeRead};
+ghost use Rattle.yaml_block.specs.LineValues.{IsLeadIn, IsLineValue, IsPlainLine};
+ghost use Rattle.yaml_block.specs.States.{Grown, IsAfterSign, Onward, Leads, BeforeLineValue};
+
+use crate::frame::Next;
+use crate::next_line::NextLine;
+use crate::reader::Reader;
+use std::borrow::CowStr;
+use yaml_events::{FlowContext, ScanFault, Style};
+use yaml_flow::FlowScalar;
+use yaml_flow_scalars::plain_line_end;
+use yaml_scan::{Line, line_after, solid_at, stands_at, white_end};
+
+/// A value that is the rest of its line: a plain scalar on one line.
+#[derive(Clone, Copy)]
+pub(crate) struct LineValue {
+    /// Where it starts.
+    pub start: usize,
+    /// The place after it.
+    pub end: usize,
+    /// The line after it.
+    pub after: Line,
+}
+
+/// Returns the value of a pair whose `:` ends at `at`, in a mapping at `indent`, if it begins with an ASCII letter or
+/// digit and is the rest of the line. Most values are such. Returns None at any other.
+#[inline(always)]
+pub(crate) fn line_value(text: &str, at: usize, indent: usize) -> Option<LineValue>
+    requires placed { IsAfterSign text.now indent at }
+    ensures value { IfSome result (IsLineValue text.now indent) }
+    ensures lead { IfSome result (λ value. IsLeadIn text.now at value.start) }
+{
+    let start = white_end(text, at);
+    if start == at {
+        return None;
+    }
+    let Some(end) = plain_line_end(text, start, indent as u64 + 1, FlowContext::Outer) else {
+        return None;
+    };
+    if !solid_at(text, start) {
+        return None;
+    }
+    if stands_at(text, start, b'[') {
+        return None;
+    }
+    if stands_at(text, start, b'{') {
+        return None;
+    }
+    let Some(after) = line_after(text, end) else {
+        return None;
+    };
+    Some(LineValue { start, end, after })
+}
+
+impl<'a> Reader<'a> {
+    /// Appends the event of the plain scalar between two places of one line, where the last part ends.
+    #[inline(always)]
+    fn put_plain(&mut self, text: &'a str, start: usize, end: usize) -> Result<(), ScanFault>
+        requires start { IsCharBoundary text.now start }
+        requires end { IsCharBoundary text.now end }
+        requires order { start ≤ end }
+        ensures read { OnOk result ((n : ℕ) (c : flow.FlowContext)
+            → IsPlainLine n c text.now start end
+            → FlowNodeRead n c text.now start end self.old.events self.new.events) }
+        ensures collections { self.new.collections ≡ self.old.collections }
+        ensures end { OnOk result (self.new.end ≡ end) }
+        ensures grown { Grown self.old.events self.new.events }
+        ensures none { IfErr result (λ fault. Refuses fault ⊥) }
+    {
+        let scalar = FlowScalar {
+            style: Style::Plain,
+            value: CowStr::Borrowed(&text[start..end]),
+            end,
+        };
+        self.put(scalar.into_event(start))?;
+        self.end = end;
+        Ok(())
+    }
+
+    /// Reads the value of a pair that is the rest of its line, and the end of the mapping where no further pair
+    /// follows. Returns what is read next.
+    #[inline(always)]
+    pub(crate) fn line_pair(
+        &mut self,
+        text: &'a str,
+        value: LineValue,
+        indent: usize,
+    ) -> Result<Next, ScanFault>
+        requires value { IsLineValue text.now indent value }
+        ensures onward { IfOk result (Onward text.now value.start
+            (3 * (length text.now - value.start))) }
+        ensures leads { IfOk result (Leads text.now
+            (BeforeLineValue text.now indent value.start) self.old self.new) }
+        ensures grown { Grown self.old.events self.new.events }
+        ensures none { IfErr result (λ fault. Refuses fault ⊥) }
+    {
+        self.put_plain(text, value.start, value.end)?;
+        let after = NextLine {
+            line: value.after,
+            is_solid: true,
+        };
+        match self.after_pair(text, after, indent)? {
+            Some(next) => Ok(next),
+            None => Ok(Next::Line(after)),
+        }
+    }
+}
