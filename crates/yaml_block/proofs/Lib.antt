@@ -17,5 +17,6 @@ pub mod EachNode
 pub mod BlockScalarSteps
 pub mod PairTests
 pub mod ScalarLines
+pub mod PlainStarts
 pub mod LineValueSteps
 pub mod PairLoop

@@ -1,12 +1,10 @@
 -- The value of a pair where it is the rest of its line (YAML 1.2.2, 8.2.2).
-use Rattle.std.specs.Prelude.{◌≡◌, ℕ, ◌+◌, ◌<◌, ◌==◌, true, false, List}
+use Rattle.std.specs.Prelude.{◌≡◌, ℕ, ◌+◌, ◌<◌, true, false, List}
 use Rattle.std.specs.Str.{IsCharBoundary}
 use Rattle.yaml_chars.specs.Classes.{white}
 use Rattle.yaml_chars.specs.Places.{rest, between}
-use Rattle.yaml_chars.specs.Signs.{open_brace, open_bracket}
 use Rattle.yaml_grammar.specs.Events.{plain_style}
 use Rattle.yaml_grammar.specs.FlowScalars.{FlowContext, outer}
-use Rattle.yaml_grammar.specs.Texts.{first}
 use Rattle.yaml_recognizers.specs.Comments.{all_comments, closes_line}
 use Rattle.yaml_events.specs.EventPlaces.{line_starts}
 use Rattle.yaml_scan.specs.ScanPlaces.{AreTaken, unbroken_between}
@@ -19,8 +17,6 @@ pub record IsPlainLine (n : ℕ) (c : FlowContext) (text : List ℕ) (start end 
   pub scalar : ScalarAt plain_style n c text start (between text start end) end
   pub unbroken : unbroken_between text start end ≡ true
   pub inside_line : line_starts text end ≡ false
-  pub no_seq : first (λ x. x == open_bracket) (rest text start) ≡ false
-  pub no_map : first (λ x. x == open_brace) (rest text start) ≡ false
 
 -- The value of a pair of a mapping at k is a plain scalar on one line, and nothing but whitespace and a comment follows
 -- it there.

@@ -14,7 +14,7 @@ use std::borrow::CowStr;
 use yaml_events::{FlowContext, ScanFault, Style};
 use yaml_flow::FlowScalar;
 use yaml_flow_scalars::plain_line_end;
-use yaml_scan::{Line, line_after, solid_at, stands_at, white_end};
+use yaml_scan::{Line, line_after, white_end};
 
 /// A value that is the rest of its line: a plain scalar on one line.
 #[derive(Clone, Copy)]
@@ -42,15 +42,6 @@ pub(crate) fn line_value(text: &str, at: usize, indent: usize) -> Option<LineVal
     let Some(end) = plain_line_end(text, start, indent as u64 + 1, FlowContext::Outer) else {
         return None;
     };
-    if !solid_at(text, start) {
-        return None;
-    }
-    if stands_at(text, start, b'[') {
-        return None;
-    }
-    if stands_at(text, start, b'{') {
-        return None;
-    }
     let Some(after) = line_after(text, end) else {
         return None;
     };

@@ -12,8 +12,8 @@ use yaml_flow::{KEY_LIMIT, flow_node};
 use yaml_scan::{at_most_chars, sign_at, white_end};
 
 impl<'a> Reader<'a> {
-    /// Reads the further pairs of a mapping that are whole lines, up to the first that is not, and the start of this one.
-    /// Returns what is read next.
+    /// Reads the further pairs of a mapping that are whole lines, and the start of the first that is not. Returns what
+    /// is read next.
     pub(crate) fn pair(
         &mut self,
         text: &'a str,
