@@ -18,5 +18,6 @@ pub mod BlockScalarSteps
 pub mod PairTests
 pub mod ScalarLines
 pub mod PlainStarts
+pub mod FurtherLines
 pub mod LineValueSteps
 pub mod PairLoop

@@ -13,8 +13,8 @@ use crate::reader::Reader;
 use std::borrow::CowStr;
 use yaml_events::{FlowContext, ScanFault, Style};
 use yaml_flow::FlowScalar;
-use yaml_flow_scalars::plain_line_end;
-use yaml_scan::{Line, line_after, white_end};
+use yaml_flow_scalars::plain_first_line_end;
+use yaml_scan::{Line, rest_of_line_end, solid_line, white_end};
 
 /// A value that is the rest of its line: a plain scalar on one line.
 #[derive(Clone, Copy)]
@@ -28,7 +28,8 @@ pub(crate) struct LineValue {
 }
 
 /// Returns the value of a pair whose `:` ends at `at`, in a mapping at `indent`, if it begins with an ASCII letter or
-/// digit and is the rest of the line. Most values are such. Returns None at any other.
+/// digit, is the rest of the line, and the next line is not deeper than the mapping. Most values are such. Returns None
+/// at any other, and where the text ends without a break.
 #[inline(always)]
 pub(crate) fn line_value(text: &str, at: usize, indent: usize) -> Option<LineValue>
     requires placed { IsAfterSign text.now indent at }
@@ -39,12 +40,16 @@ pub(crate) fn line_value(text: &str, at: usize, indent: usize) -> Option<LineVal
     if start == at {
         return None;
     }
-    let Some(end) = plain_line_end(text, start, indent as u64 + 1, FlowContext::Outer) else {
+    let Some(end) = plain_first_line_end(text, start, FlowContext::Outer) else {
         return None;
     };
-    let Some(after) = line_after(text, end) else {
+    let Some(next) = rest_of_line_end(text, end) else {
         return None;
     };
+    let after = solid_line(text, next);
+    if after.first - after.start > indent {
+        return None;
+    }
     Some(LineValue { start, end, after })
 }
 

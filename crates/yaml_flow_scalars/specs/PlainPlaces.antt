@@ -2,15 +2,19 @@
 -- Here black says whether the character before a place is neither whitespace nor a break.
 use Rattle.std.specs.Prelude.{◌≡◌, ℕ, ◌<◌, ◌≤◌, Bool, true, false, ◌&&◌, ◌||◌, List, [], ◌∷◌, ◌++◌, flat_map, slice_index}
 use Rattle.std.specs.Str.{IsCharBoundary, chars}
+use Rattle.std.specs.List.{list_all}
+use Rattle.yaml_chars.specs.Breaks.{no_break}
 use Rattle.yaml_chars.specs.Classes.{line_break, ns}
 use Rattle.yaml_chars.specs.Classes.{in_range}
 use Rattle.yaml_chars.specs.Places.{rest, between}
+use Rattle.yaml_grammar.specs.Events.{plain_style}
 use Rattle.yaml_grammar.specs.Texts.{no_marker}
 use Rattle.yaml_grammar.specs.FlowScalars.{FlowContext, Line, plain_first, plain_next, line_value, char_value, folded_break}
 use Rattle.yaml_events.specs.EventPlaces.{line_starts}
 use Rattle.yaml_flow_scalars.specs.declared.plain_scalar.Before.{Before}
 use Rattle.yaml_flow_scalars.specs.declared.plain_scalar.Before.TheVariants.{Content, Blank}
 use Rattle.yaml_recognizers.specs.PlainScalars.{read_run, plain_lines_at}
+use Rattle.yaml_flow_scalars.specs.Standing.{ScalarAt}
 
 -- ---- characters
 
@@ -85,6 +89,13 @@ pub record IsNextLine (n : ℕ) (c : FlowContext) (text : List ℕ) (at empties 
 -- no further line starts at the place
 abbrev pub NoNextLine : ℕ → FlowContext → List ℕ → ℕ → Type 0
 NoNextLine n c text at = plain_lines_at n c (rest text at) ≡ ([], rest text at)
+
+-- The first line of a plain scalar is between the two places: it is the whole scalar if no further line follows.
+pub record IsFirstLine (c : FlowContext) (text : List ℕ) (at end : ℕ) : Type 0 where
+  pub above : at < end
+  pub boundary : IsCharBoundary text end
+  pub unbroken : list_all no_break (between text at end) ≡ true
+  pub whole : (n : ℕ) → NoNextLine n c text end → ScalarAt plain_style n c text at (between text at end) end
 
 -- what the further lines after a place mean
 abbrev pub lines_value : ℕ → FlowContext → List ℕ → ℕ → List ℕ

@@ -12,5 +12,5 @@ mod single_quoted;
 mod unclosed;
 
 pub use double_quoted::double;
-pub use plain_scalar::{plain, plain_line_end};
+pub use plain_scalar::{plain, plain_first_line_end, plain_line_end};
 pub use single_quoted::single;

@@ -16,7 +16,7 @@ ghost use Rattle.yaml_events.specs.Meant.{context_of};
 ghost use Rattle.yaml_events.specs.EventPlaces.{line_starts, Refuses};
 ghost use Rattle.yaml_scan.specs.Classes.{test_of, word};
 ghost use Rattle.yaml_flow_scalars.specs.Standing.{ScalarAt, NoScalarAt, IsUnbroken};
-ghost use Rattle.yaml_flow_scalars.specs.PlainPlaces.{is_content, letter_or_digit, BeginsPlain, NoPlainBegins, IsPlainPiece, NoPlainPiece, IsPlainRun, IsNextLine, NoNextLine, PushesLines};
+ghost use Rattle.yaml_flow_scalars.specs.PlainPlaces.{is_content, letter_or_digit, BeginsPlain, NoPlainBegins, IsPlainPiece, NoPlainPiece, IsPlainRun, IsFirstLine, IsNextLine, NoNextLine, PushesLines};
 
 use crate::fold::{fold_at, push_fold, white_start};
 use std::alloc::{AllocError, Global};
@@ -83,14 +83,26 @@ pub fn plain_line_end(text: &str, at: usize, n: u64, context: FlowContext) -> Op
     ensures unbroken { IfSome result (λ end. list_all no_break (between text.now at end) ≡ true) }
     ensures ends_inside_line { IfSome result (λ end. line_starts text.now end ≡ false) }
 {
-    if !letter_or_digit_at(text, at) {
+    let Some(end) = plain_first_line_end(text, at, context) else {
         return None;
-    }
-    let end = plain_run_end(text, at + 1, Before::Content, context);
+    };
     if !is_last_line(text, end, n, context) {
         return None;
     }
     Some(end)
+}
+
+/// Returns the end of the first line of the plain scalar at `at`, if it begins with an ASCII letter or digit. The caller
+/// finds whether a further line follows. Returns None at any other, and where none is at `at`.
+#[inline(always)]
+pub fn plain_first_line_end(text: &str, at: usize, context: FlowContext) -> Option<usize>
+    requires { IsCharBoundary text.now at }
+    ensures { IfSome result (IsFirstLine (context_of context) text.now at) }
+{
+    if !letter_or_digit_at(text, at) {
+        return None;
+    }
+    Some(plain_run_end(text, at + 1, Before::Content, context))
 }
 
 /// Returns whether a line of a plain scalar that ends at `at` is seen to be its last one. Where no plain character is
