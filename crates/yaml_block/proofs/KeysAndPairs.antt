@@ -27,10 +27,11 @@ use Rattle.yaml_scan.specs.Lines.{IsSolidLine}
 use Rattle.yaml_scan.specs.ScanPlaces.{AreTaken}
 use Rattle.yaml_scan.specs.declared.lines.Line.{Line}
 use Rattle.yaml_flow.specs.FlowNodes.{Appended, FlowNodeRead}
-use Rattle.yaml_block.specs.Frames.{AtLeaf, AtLine}
-use Rattle.yaml_block.specs.States.{BeforeLeaf, BeforePair, Fails, Leads, Onward, Stack}
+use Rattle.yaml_block.specs.Frames.{AfterSign, AtLeaf, AtLine, indent_of, waits_of}
+use Rattle.yaml_block.specs.States.{BeforeColon, BeforeLeaf, BeforePair, Fails, Holds, Leads, Onward, Stack}
 use Rattle.yaml_block.specs.declared.frame.Collection.{Collection}
 use Rattle.yaml_block.specs.declared.frame.Leaf.{Leaf}
+use Rattle.yaml_block.specs.declared.frame.Next.{Next}
 use Rattle.yaml_block.specs.declared.frame.Next.TheVariants as next
 use Rattle.yaml_block.specs.declared.line_sign.Sign.{Sign}
 use Rattle.yaml_block.specs.declared.line_sign.Sign.TheVariants.{Asked, Colon}
@@ -76,44 +77,85 @@ module _ (text : List ℕ) (u : IsUtf8 text) where
         stands = p.2;
       }
 
-  -- a further pair starts with a key on one line
-  pub pair_key : (at k end colon : ℕ) (old new : Reader) (mid : List Event) → IsCharBoundary text at
-      → FlowNodeRead 0 block_key text at end old.events mid → AreTaken white text end colon
-      → sign 58 (rest text colon) ≡ true → nat_le (length (between text at colon)) 1024 ≡ true
-      → new.collections.items ≡ old.collections.items ++ (record { waits = Value; indent = k }) ∷ []
-      → new.events ≡ mid → Leads text (BeforePair text k at) old new (next.After (colon + 1) k Colon)
-  pair_key at k end colon old new mid b f t c short i e = λ W from base fs evs held pair.
-      let w : WhiteTo text end colon = white_to text end colon u f.boundary t in
-      let s : IsPastSign text colon = past_sign text colon 58 u t.boundary (omega arith) refl c in
-      let len : at + byte_len (flow_text f.node) ≡ end =
-      (flow_to text at end f.node 0 block_key (line_starts text at) u b f.boundary f.found).0 in
-      let is_short : short_key f.node (take_while white (rest text end)) ≡ true =
-      sym (short_is text at end colon f.node 0 block_key (line_starts text at) u b f.boundary f.found t)
-      ∙ short in
-      let p = next_key W text from fs evs k at f.node end colon pair f.found len w.drops w.place c s.past_is
-      is_short in
-      let key : BlockFrame = waits_value p.0 k p.1 p.2 in
-      record {
-        fs = key ∷ fs;
-        evs = evs ++ flow_events f.node at;
-        holds = opened text base fs evs (evs ++ flow_events f.node at) old new key
-            (record { waits = Value; indent = k }) held i (record { waits = refl; indent = refl })
-            (kept text base mid new.events (evs ++ flow_events f.node at)
-            (appended_more text base old.events mid evs (flow_events f.node at) held.appended f.appended) e);
-        stands = p.4;
-      }
+  -- the key of a further pair is read
+  pub key_read : (k at end : ℕ) (old mid : Reader) → FlowNodeRead 0 block_key text at end old.events mid.events
+      → mid.collections ≡ old.collections
+      → (W : Read Indented) (from : ℕ) (base : List Event) (fs : List BlockFrame) (evs : List grammar.Event)
+      → Holds text base fs evs old → BeforePair text k at W from fs evs
+      → (es : List grammar.Event) × Holds text base fs es mid × BeforeColon text k at end W from fs es
+  key_read k at end old mid f i W from base fs evs held pair = (
+    evs ++ flow_events f.node at,
+    record {
+      stack = subst (λ (v : List Collection). Stack fs v) (sym (ap (λ v. v.items) i)) held.stack;
+      appended = appended_more text base old.events mid.events evs (flow_events f.node at) held.appended f.appended;
+    },
+    record { key = f.node; found = f.found; before = evs; pair = pair; wrote = refl },
+  )
 
-  -- a flow node that is no key is refused
-  pub pair_unkeyed : (at k end colon : ℕ) (old : Reader) (mid : List Event) → IsCharBoundary text at
-      → FlowNodeRead 0 block_key text at end old.events mid → AreTaken white text end colon
-      → (sign 58 (rest text colon) ≡ false) ⊎ (nat_le (length (between text at colon)) 1024 ≡ false)
-      → Fails text (BeforePair text k at) old
-  pair_unkeyed at k end colon old mid b f t n = λ W from base fs evs held pair.
-      let w : WhiteTo text end colon = white_to text end colon u f.boundary t in
-      no_next_key W text from fs evs k at f.node end colon pair f.found w.drops
-      (ap (λ x. sign 58 (rest text colon) && x) (sym
-      (short_is text at end colon f.node 0 block_key (line_starts text at) u b f.boundary f.found t))
-      ∙ either (sign 58 (rest text colon)) (nat_le (length (between text at colon)) 1024) n)
+  -- a step from its `:` is one from the key
+  pub key_leads : (k at end : ℕ) (old mid new : Reader) (to : Next)
+      → FlowNodeRead 0 block_key text at end old.events mid.events → mid.collections ≡ old.collections
+      → Leads text (BeforeColon text k at end) mid new to → Leads text (BeforePair text k at) old new to
+  key_leads k at end old mid new to f i l = λ W from base fs evs held pair.
+      let p = key_read k at end old mid f i W from base fs evs held pair in l W from base fs p.0 p.1 p.2
+
+  -- and so is one that fails
+  pub key_fails : (k at end : ℕ) (old mid : Reader) → FlowNodeRead 0 block_key text at end old.events mid.events
+      → mid.collections ≡ old.collections
+      → Fails text (BeforeColon text k at end) mid → Fails text (BeforePair text k at) old
+  key_fails k at end old mid f i l = λ W from base fs evs held pair.
+      let p = key_read k at end old mid f i W from base fs evs held pair in l W from base fs p.0 p.1 p.2
+
+  module _ (at k end colon : ℕ) (b : IsCharBoundary text at) (d : IsCharBoundary text end)
+      (t : AreTaken white text end colon) where
+    -- a key before its `:` waits for its value
+    pub key_waits : sign 58 (rest text colon) ≡ true → nat_le (length (between text at colon)) 1024 ≡ true
+        → (W : Read Indented) (from : ℕ) (fs : List BlockFrame) (evs : List grammar.Event)
+        → BeforeColon text k at end W from fs evs
+        → (f : BlockFrame) × (waits_of f ≡ Value) × (indent_of f ≡ k)
+        × AfterSign W text from (f ∷ fs) evs Colon k (colon + 1)
+    key_waits c short W from fs evs h =
+        let w : WhiteTo text end colon = white_to text end colon u d t in
+        let s : IsPastSign text colon = past_sign text colon 58 u t.boundary (omega arith) refl c in
+        let len : at + byte_len (flow_text h.key) ≡ end =
+        (flow_to text at end h.key 0 block_key (line_starts text at) u b d h.found).0 in
+        let is_short : short_key h.key (take_while white (rest text end)) ≡ true =
+        sym (short_is text at end colon h.key 0 block_key (line_starts text at) u b d h.found t) ∙ short in
+        let p = next_key W text from fs h.before k at h.key end colon h.pair h.found len w.drops w.place c s.past_is
+        is_short in
+        let key : BlockFrame = waits_value p.0 k p.1 p.2 in (
+          key,
+          refl,
+          refl,
+          subst (λ (es : List grammar.Event). AfterSign W text from (key ∷ fs) es Colon k (colon + 1)) (sym h.wrote)
+              p.4,
+        )
+
+    -- the part after the `:` is read next
+    pub pair_key : (old new : Reader) → sign 58 (rest text colon) ≡ true
+        → nat_le (length (between text at colon)) 1024 ≡ true
+        → new.collections.items ≡ old.collections.items ++ (record { waits = Value; indent = k }) ∷ []
+        → new.events ≡ old.events → Leads text (BeforeColon text k at end) old new (next.After (colon + 1) k Colon)
+    pair_key old new c short i e = λ W from base fs evs held h.
+        let p = key_waits c short W from fs evs h in
+        record {
+          fs = p.0 ∷ fs;
+          evs = evs;
+          holds = opened text base fs evs evs old new p.0 (record { waits = Value; indent = k }) held i
+              (record { waits = p.1; indent = p.2 }) (kept text base old.events new.events evs held.appended e);
+          stands = p.3;
+        }
+
+    -- a flow node that is no key is refused
+    pub pair_unkeyed : (old : Reader)
+        → (sign 58 (rest text colon) ≡ false) ⊎ (nat_le (length (between text at colon)) 1024 ≡ false)
+        → Fails text (BeforeColon text k at end) old
+    pair_unkeyed old n = λ W from base fs evs held h.
+        let w : WhiteTo text end colon = white_to text end colon u d t in
+        no_next_key W text from fs h.before k at h.key end colon h.pair h.found w.drops
+        (ap (λ x. sign 58 (rest text colon) && x) (sym
+        (short_is text at end colon h.key 0 block_key (line_starts text at) u b d h.found t))
+        ∙ either (sign 58 (rest text colon)) (nat_le (length (between text at colon)) 1024) n)
 
   -- without a flow node the pair is refused
   pub pair_missing : (at k : ℕ) (old : Reader) → sign 63 (rest text at) ≡ false
@@ -142,15 +184,16 @@ module _ (text : List ℕ) (u : IsUtf8 text) where
         stands = p.1;
       }
 
-  -- the first pair of a mapping starts with a key on one line
-  pub leaf_key : (leaf : Leaf) (k end colon : ℕ) (old new : Reader) (mid : List Event) → leaf.pairs ≡ Some k
-      → IsCharBoundary text leaf.at → FlowNodeRead leaf.least outer text leaf.at end old.events mid
+  -- the first key of a mapping waits for its value
+  pub leaf_waits : (leaf : Leaf) (k end colon : ℕ) (old mid : List Event) → leaf.pairs ≡ Some k
+      → IsCharBoundary text leaf.at → (f : FlowNodeRead leaf.least outer text leaf.at end old mid)
       → AreTaken white text end colon → sign 58 (rest text colon) ≡ true
       → list_all no_break (between text leaf.at end) && nat_le (length (between text leaf.at colon)) 1024 ≡ true
-      → new.collections.items ≡ old.collections.items ++ (record { waits = Value; indent = k }) ∷ []
-      → new.events ≡ insert mid (length old.events) MapStart
-      → Leads text (BeforeLeaf text leaf) old new (next.After (colon + 1) k Colon)
-  leaf_key leaf k end colon old new mid n b f t c fits i e = λ W from base fs evs held here.
+      → (W : Read Indented) (from : ℕ) (fs : List BlockFrame) (evs : List grammar.Event)
+      → BeforeLeaf text leaf W from fs evs
+      → (g : BlockFrame) × (waits_of g ≡ Value) × (indent_of g ≡ k)
+      × AfterSign W text from (g ∷ fs) (evs ++ grammar.map_start ∷ flow_events f.node leaf.at) Colon k (colon + 1)
+  leaf_waits leaf k end colon old mid n b f t c fits W from fs evs here =
       let at : ℕ = leaf.at in
       let w : WhiteTo text end colon = white_to text end colon u f.boundary t in
       let s : IsPastSign text colon = past_sign text colon 58 u t.boundary (omega arith) refl c in
@@ -167,15 +210,27 @@ module _ (text : List ℕ) (u : IsUtf8 text) where
       subst (λ (x : Option ℕ). AtLeaf W text from fs evs leaf.least x at) n here in
       let p = first_key W text from fs evs leaf.least k at f.node end colon at_leaf f.found len w.drops w.place c
       s.past_is one is_short in
-      let key : BlockFrame = waits_value p.0 k [] (key_on_line f.node (take_while white (rest text end))) in
+      (waits_value p.0 k [] (key_on_line f.node (take_while white (rest text end))), refl, refl, p.1)
+
+  -- the first pair of a mapping starts with a key on one line
+  pub leaf_key : (leaf : Leaf) (k end colon : ℕ) (old new : Reader) (mid : List Event) → leaf.pairs ≡ Some k
+      → IsCharBoundary text leaf.at → FlowNodeRead leaf.least outer text leaf.at end old.events mid
+      → AreTaken white text end colon → sign 58 (rest text colon) ≡ true
+      → list_all no_break (between text leaf.at end) && nat_le (length (between text leaf.at colon)) 1024 ≡ true
+      → new.collections.items ≡ old.collections.items ++ (record { waits = Value; indent = k }) ∷ []
+      → new.events ≡ insert mid (length old.events) MapStart
+      → Leads text (BeforeLeaf text leaf) old new (next.After (colon + 1) k Colon)
+  leaf_key leaf k end colon old new mid n b f t c fits i e = λ W from base fs evs held here.
+      let p = leaf_waits leaf k end colon old.events mid n b f t c fits W from fs evs here in
+      let es : List grammar.Event = evs ++ grammar.map_start ∷ flow_events f.node leaf.at in
       record {
-        fs = key ∷ fs;
-        evs = evs ++ grammar.map_start ∷ flow_events f.node at;
-        holds = opened text base fs evs (evs ++ grammar.map_start ∷ flow_events f.node at) old new key
-            (record { waits = Value; indent = k }) held i (record { waits = refl; indent = refl })
-            (appended_before text base old.events mid new.events evs (flow_events f.node at) held.appended f.appended
-            e);
-        stands = p.1;
+        fs = p.0 ∷ fs;
+        evs = es;
+        holds = opened text base fs evs es old new p.0 (record { waits = Value; indent = k }) held i
+            (record { waits = p.1; indent = p.2 })
+            (appended_before text base old.events mid new.events evs (flow_events f.node leaf.at) held.appended
+            f.appended e);
+        stands = p.3;
       }
 
   -- a flow node before a `:` that is no key is refused

@@ -1,16 +1,18 @@
 -- The steps of the reader at a value that is the rest of its line.
-use Rattle.std.proofs.Common.{ap, arith, inl, length, refl, subst, sym, ◌<◌, ◌∙◌, ◌≡◌}
-use Rattle.std.specs.Prelude.{Bool, List, None, Option, Some, [], false, nat_le, true, ℕ, ◌*◌, ◌++◌, ◌+◌, ◌-◌, ◌∷◌}
+use Rattle.std.proofs.Common.{ap, arith, inl, length, refl, subst, sym, ◌<◌, ◌∙◌, ◌≡◌, ◌≤◌}
+use Rattle.std.specs.Prelude.{Bool, List, None, Option, Some, [], false, nat_le, true, ℕ, ◌*◌, ◌++◌, ◌+◌, ◌-◌, ◌∷◌, ◌&&◌, insert}
 use Rattle.std.specs.Str.{IsCharBoundary, IsUtf8}
 use Rattle.std.proofs.lemmas.Bool.{false≢true}
+use Rattle.std.specs.List.{list_all}
+use Rattle.yaml_chars.specs.Breaks.{no_break}
 use Rattle.yaml_chars.specs.Classes.{white}
 use Rattle.yaml_chars.specs.Places.{between, rest}
 use Rattle.yaml_grammar.specs.BlockNodes.{Indented}
 use Rattle.yaml_grammar.specs.Events as grammar
-use Rattle.yaml_grammar.specs.FlowNodes.{flow_events, flow_text, short_key}
-use Rattle.yaml_grammar.specs.FlowScalars.{block_key, outer}
+use Rattle.yaml_grammar.specs.FlowNodes.{flow_events, flow_text}
+use Rattle.yaml_grammar.specs.FlowScalars.{outer}
 use Rattle.yaml_grammar.specs.Texts.{byte_len, first}
-use Rattle.yaml_recognizers.specs.BlockFrames.{BlockFrame, waits_value}
+use Rattle.yaml_recognizers.specs.BlockFrames.{BlockFrame}
 use Rattle.yaml_recognizers.specs.Comments.{all_comments, closes_line, read_line_end}
 use Rattle.yaml_recognizers.specs.Ends.{solid}
 use Rattle.yaml_recognizers.specs.Prefixes.{drop_while, sign, take_while}
@@ -20,17 +22,20 @@ use Rattle.yaml_recognizers.proofs.Basics.Solid.{sign_solid}
 use Rattle.yaml_recognizers.proofs.Separation.CommentsComplete.{solid_no_line}
 use Rattle.yaml_events.specs.EventPlaces.{line_starts}
 use Rattle.yaml_events.specs.declared.event.Event.{Event}
-use Rattle.yaml_scan.specs.ScanPlaces.{AreTaken}
+use Rattle.yaml_events.specs.declared.event.Event.TheVariants.{MapStart}
+use Rattle.yaml_scan.specs.ScanPlaces.{AreTaken, is_sign}
 use Rattle.yaml_scan.specs.declared.lines.Line.{Line}
-use Rattle.yaml_scan.proofs.GapSteps.{solid_no_end, solid_within}
+use Rattle.yaml_scan.proofs.ByteSigns.{IsSign, sign_there}
+use Rattle.yaml_scan.proofs.GapSteps.{no_white_taken, solid_no_end, space_taken}
 use Rattle.yaml_scan.proofs.LineSteps.{no_comments_at, open_line}
 use Rattle.yaml_flow.specs.FlowNodes.{FlowNodeRead}
-use Rattle.yaml_block.specs.Frames.{AfterPair, AfterSign, AtLeaf, AtLine}
+use Rattle.yaml_block.specs.Frames.{AfterPair, AtLeaf, AtLine}
 use Rattle.yaml_block.specs.LineValues.{IsLeadIn, IsLineValue}
 use Rattle.yaml_block.specs.Lines.{IsNextLine}
-use Rattle.yaml_block.specs.States.{BeforeLineValue, BeforePair, Holds, IsAfterSign, Leads, Onward, Stack}
+use Rattle.yaml_block.specs.States.{BeforeColon, BeforeLeaf, BeforeLineValue, Holds, IsAfterSign, Leads, Onward, Stack}
 use Rattle.yaml_block.specs.declared.frame.Collection.{Collection}
 use Rattle.yaml_block.specs.Turns.{IsPart, MayGoOn, PairRead, Turns}
+use Rattle.yaml_block.specs.declared.frame.Leaf.{Leaf}
 use Rattle.yaml_block.specs.declared.frame.Next.{Next}
 use Rattle.yaml_block.specs.declared.frame.Next.TheVariants as next
 use Rattle.yaml_block.specs.declared.frame.Waits.TheVariants.{Value}
@@ -38,10 +43,11 @@ use Rattle.yaml_block.specs.declared.line_sign.Sign.TheVariants.{Colon}
 use Rattle.yaml_block.specs.declared.line_value.LineValue.{LineValue}
 use Rattle.yaml_block.specs.declared.next_line.NextLine.{NextLine}
 use Rattle.yaml_block.specs.declared.reader.Reader.{Reader}
-use Rattle.yaml_block.proofs.LeafSteps.{leaf_read, next_key}
-use Rattle.yaml_block.proofs.PlaceSteps.{WhiteTo, comments_to, flow_to, short_is, white_to}
+use Rattle.yaml_block.proofs.KeysAndPairs.{key_waits, leaf_waits}
+use Rattle.yaml_block.proofs.LeafSteps.{leaf_read}
+use Rattle.yaml_block.proofs.PlaceSteps.{comments_to, flow_to}
 use Rattle.yaml_block.proofs.SignsAndLines.{leaf_there, onward_from}
-use Rattle.yaml_block.proofs.Stacks.{appended_more}
+use Rattle.yaml_block.proofs.Stacks.{appended_before, appended_more}
 use Rattle.yaml_block.proofs.TextPlaces.{IsPastSign, past_sign}
 use Rattle.yaml_block.proofs.UnwindSteps.{pair_of}
 
@@ -60,42 +66,79 @@ no_colon (x ∷ xs) c = by_cases (sign 58 (drop_while white (x ∷ xs))) refl
         absurd (false≢true (sym (ap closes_line (no_comments_at false (x ∷ xs) none)) ∙ c))
 
 module _ (text : List ℕ) (u : IsUtf8 text) where
-  -- after whitespace something solid goes on with the line
-  pub lead_in : (at start : ℕ) → IsCharBoundary text at → AreTaken white text at start → at < start
-      → first solid (rest text start) ≡ true → IsLeadIn text at start
-  lead_in at start b w l s = record {
-    above = l;
-    white = w;
-    goes_on = open_line text at u b (solid_within text at start w s) (solid_no_end text at start u b w s);
-  }
+  -- after one space something solid goes on with the line
+  pub lead_in : (at : ℕ) → IsCharBoundary text at → first (is_sign 32) (rest text at) ≡ true
+      → first solid (rest text (at + 1)) ≡ true → IsLeadIn text at (at + 1)
+  lead_in at b space s =
+      let there : IsSign text at 32 = sign_there text at 32 u b (omega arith) space in
+      let taken : AreTaken white text at (at + 1) = space_taken text at u b there.boundary there.splits s in
+      record {
+        above = omega arith;
+        white = taken;
+        goes_on = open_line text at u b there.below (solid_no_end text at (at + 1) u b taken s);
+      }
 
-  -- a further pair starts with a key on one line, and its value is the rest of that line
-  pub pair_value : (at k end colon start : ℕ) (old mid new : Reader) (to : Next) → IsCharBoundary text at
-      → FlowNodeRead 0 block_key text at end old.events mid.events → AreTaken white text end colon
-      → sign 58 (rest text colon) ≡ true → nat_le (length (between text at colon)) 1024 ≡ true
-      → mid.collections ≡ old.collections → IsAfterSign text k (colon + 1) → IsLeadIn text (colon + 1) start
-      → Leads text (BeforeLineValue text k start) mid new to → Leads text (BeforePair text k at) old new to
-  pair_value at k end colon start old mid new to b f t c short i placed lead l = λ W from base fs evs held pair.
-      let w : WhiteTo text end colon = white_to text end colon u f.boundary t in
-      let s : IsPastSign text colon = past_sign text colon 58 u t.boundary (omega arith) refl c in
-      let len : at + byte_len (flow_text f.node) ≡ end =
-      (flow_to text at end f.node 0 block_key (line_starts text at) u b f.boundary f.found).0 in
-      let is_short : short_key f.node (take_while white (rest text end)) ≡ true =
-      sym (short_is text at end colon f.node 0 block_key (line_starts text at) u b f.boundary f.found t)
-      ∙ short in
-      let p = next_key W text from fs evs k at f.node end colon pair f.found len w.drops w.place c s.past_is
-      is_short in
-      let key : BlockFrame = waits_value p.0 k p.1 p.2 in
-      let after : AfterSign W text from (key ∷ fs) (evs ++ flow_events f.node at) Colon k (colon + 1) = p.4 in
-      let leaf : AtLeaf W text from (key ∷ fs) (evs ++ flow_events f.node at) (k + 1) None start =
+  -- the place after the `:` and the space
+  pub past_space : (at : ℕ) → IsCharBoundary text at → first (is_sign 58) (rest text at) ≡ true
+      → first (is_sign 32) (rest text (at + 1)) ≡ true → IsCharBoundary text (at + 1 + 1)
+  past_space at b c space =
+      let there : IsSign text at 58 = sign_there text at 58 u b (omega arith) c in
+      (sign_there text (at + 1) 32 u there.boundary (omega arith) space).boundary
+
+  -- a `:` before a space is a sign
+  pub spaced_colon : (at : ℕ) → IsCharBoundary text at → first (is_sign 58) (rest text at) ≡ true
+      → first (is_sign 32) (rest text (at + 1)) ≡ true → sign 58 (rest text at) ≡ true
+  spaced_colon at b c space =
+      let there : IsSign text at 58 = sign_there text at 58 u b (omega arith) c in
+      let next : IsSign text (at + 1) 32 = sign_there text (at + 1) 32 u there.boundary (omega arith) space in
+      ap (sign 58) (there.splits ∙ ap (λ r. 58 ∷ r) next.splits)
+
+  -- the place after the `:`
+  pub after_colon : (at colon k : ℕ) → IsCharBoundary text colon → sign 58 (rest text colon) ≡ true → k ≤ at
+      → at ≤ colon → IsAfterSign text k (colon + 1)
+  after_colon at colon k b c deep below =
+      let s : IsPastSign text colon = past_sign text colon 58 u b (omega arith) refl c in
+      record { boundary = s.boundary; deeper = omega (arith, deep, below); inside_line = s.inside_line }
+
+  -- after the key of a further pair its value is the rest of the line
+  pub pair_value : (at k end start : ℕ) (old new : Reader) (to : Next) → IsCharBoundary text at
+      → IsCharBoundary text end → k ≤ at → at < end → sign 58 (rest text end) ≡ true
+      → nat_le (length (between text at end)) 1024 ≡ true → IsLeadIn text (end + 1) start
+      → Leads text (BeforeLineValue text k start) old new to → Leads text (BeforeColon text k at end) old new to
+  pair_value at k end start old new to b d deep far c short lead l = λ W from base fs evs held h.
+      let taken : AreTaken white text end end = no_white_taken text end d (sign_solid 58 (rest text end) refl c) in
+      let placed : IsAfterSign text k (end + 1) = after_colon at end k d c deep (omega (arith, far)) in
+      let p = key_waits text u at k end end b d taken c short W from fs evs h in
+      let leaf : AtLeaf W text from (p.0 ∷ fs) evs (k + 1) None start =
+      leaf_there text Colon k (end + 1) u placed lead.goes_on start lead.white lead.above (inl refl) W from
+      (p.0 ∷ fs) evs p.3 in
+      l W from base fs evs held (p.0, p.1, p.2, leaf)
+
+  -- after the first key of a mapping its value is the rest of the line
+  pub leaf_value : (leaf : Leaf) (k end colon start : ℕ) (old mid new : Reader) (keys : List Event) (to : Next)
+      → leaf.pairs ≡ Some k → k ≤ leaf.at → IsCharBoundary text leaf.at
+      → FlowNodeRead leaf.least outer text leaf.at end old.events keys → AreTaken white text end colon
+      → sign 58 (rest text colon) ≡ true
+      → list_all no_break (between text leaf.at end) && nat_le (length (between text leaf.at colon)) 1024 ≡ true
+      → mid.collections ≡ old.collections → mid.events ≡ insert keys (length old.events) MapStart
+      → IsLeadIn text (colon + 1) start
+      → Leads text (BeforeLineValue text k start) mid new to → Leads text (BeforeLeaf text leaf) old new to
+  leaf_value leaf k end colon start old mid new keys to n deep b f t c fits i e lead l =
+      λ W from base fs evs held here.
+      let p = leaf_waits text u leaf k end colon old.events keys n b f t c fits W from fs evs here in
+      let es : List grammar.Event = evs ++ grammar.map_start ∷ flow_events f.node leaf.at in
+      let placed : IsAfterSign text k (colon + 1) = after_colon leaf.at colon k t.boundary c deep
+      (omega (arith, f.above, t.above)) in
+      let value : AtLeaf W text from (p.0 ∷ fs) es (k + 1) None start =
       leaf_there text Colon k (colon + 1) u placed lead.goes_on start lead.white lead.above (inl refl) W from
-      (key ∷ fs) (evs ++ flow_events f.node at) after in
-      l W from base fs (evs ++ flow_events f.node at)
+      (p.0 ∷ fs) es p.3 in
+      l W from base fs es
       (record {
         stack = subst (λ (v : List Collection). Stack fs v) (sym (ap (λ v. v.items) i)) held.stack;
-        appended = appended_more text base old.events mid.events evs (flow_events f.node at) held.appended f.appended;
+        appended = appended_before text base old.events keys mid.events evs (flow_events f.node leaf.at) held.appended
+            f.appended e;
       })
-      (key, refl, refl, leaf)
+      (p.0, p.1, p.2, value)
 
   -- the value is read, and so is the pair
   pub value_read : (k : ℕ) (value : LineValue) (old mid : Reader) → IsLineValue text k value

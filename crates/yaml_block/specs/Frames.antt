@@ -4,13 +4,14 @@ use Rattle.std.specs.Prelude.{◌≡◌, ℕ, ◌+◌, Bool, true, false, not, �
 use Rattle.yaml_chars.specs.Places.{rest}
 use Rattle.yaml_grammar.specs.Texts.{is_empty, starts_line, byte_len}
 use Rattle.yaml_grammar.specs.Separation.{LineEnd, comments_text, Sep, sep_text}
-use Rattle.yaml_grammar.specs.FlowNodes.{flow_text, flow_events}
+use Rattle.yaml_grammar.specs.FlowNodes.{Flow, flow_text, flow_events}
+use Rattle.yaml_grammar.specs.FlowScalars.{block_key}
 use Rattle.yaml_grammar.specs.BlockNodes.{Pair, Indented, compact_items, compact_pairs, node, omitted, is_omitted, indented_text, indented_end, indented_events, pair_text, pair_end, pair_events}
 use Rattle.yaml_grammar.specs.Events.{Event, seq_start, map_start}
 use Rattle.yaml_recognizers.specs.Reading.{Read}
 use Rattle.yaml_recognizers.specs.BlockNodes.{node_below}
 use Rattle.yaml_recognizers.specs.BlockScalars.{read_block}
-use Rattle.yaml_recognizers.specs.Recognizers.{block_key_in, flow_leaf_at, block_node_at, block_items_at, block_pairs_at, block_indented_at}
+use Rattle.yaml_recognizers.specs.Recognizers.{block_key_in, flow_leaf_at, flow_node_at, block_node_at, block_items_at, block_pairs_at, block_indented_at}
 use Rattle.yaml_recognizers.specs.BlockFrames.{Sits, on_sign_line, on_lines, PairKey, key_asked, key_on_line, BlockFrame, waits_item, waits_key, waits_value, close_pairs, pairs_after, keyed_part, unwind}
 use Rattle.yaml_recognizers.proofs.Meanings.EventPrefixes.{done_items_end, done_items_events, done_pairs_end, done_pairs_events}
 use Rattle.yaml_events.specs.EventPlaces.{line_starts}
@@ -228,3 +229,12 @@ module _ (W : Read Indented) (text : List ℕ) (from : ℕ) (fs : List BlockFram
     pub may_sit : MaySit fs from at mapping
     pub place : place_in fs from + byte_len (sep_text sep) ≡ at
     pub wrote : evs ≡ events_in fs from
+
+-- The key of a pair of a mapping at k is read, which is on one line between the two places; no frame is made of it yet.
+pub record AtColon (W : Read Indented) (text : List ℕ) (from : ℕ) (fs : List BlockFrame) (evs : List Event)
+    (k at end : ℕ) : Type 0 where
+  pub key : Flow
+  pub found : flow_node_at 0 block_key (line_starts text at) (rest text at) ≡ Some (key, rest text end)
+  pub before : List Event
+  pub pair : AtPair W text from fs before k at
+  pub wrote : evs ≡ before ++ flow_events key at

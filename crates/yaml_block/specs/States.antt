@@ -4,16 +4,16 @@ use Rattle.std.specs.Str.{IsCharBoundary}
 use Rattle.yaml_chars.specs.Places.{between}
 use Rattle.yaml_grammar.specs.Events as grammar
 use Rattle.yaml_grammar.specs.BlockNodes.{Indented}
+use Rattle.yaml_grammar.specs.FlowNodes.{key_limit}
 use Rattle.yaml_recognizers.specs.Reading.{Read}
 use Rattle.yaml_recognizers.specs.BlockFrames.{BlockFrame}
 use Rattle.yaml_events.specs.EventPlaces.{line_starts, Refuses}
 use Rattle.yaml_events.specs.declared.fault.ScanFault.{ScanFault}
 use Rattle.yaml_events.specs.declared.event.Event.{Event}
 use Rattle.yaml_scan.specs.ScanPlaces.{unbroken_between}
-use Rattle.yaml_grammar.specs.FlowNodes.{key_limit}
 use Rattle.yaml_flow.specs.FlowNodes.{Appended}
 use Rattle.yaml_block.specs.Lines.{is_shallow, IsNextLine}
-use Rattle.yaml_block.specs.Frames.{waits_of, indent_of, AfterSign, AtPair, AtLine, AtNode, AtNodeLine, AtLeaf}
+use Rattle.yaml_block.specs.Frames.{waits_of, indent_of, AfterSign, AtColon, AtPair, AtLine, AtNode, AtNodeLine, AtLeaf}
 use Rattle.yaml_block.specs.declared.frame.Waits.{Waits}
 use Rattle.yaml_block.specs.declared.frame.Waits.TheVariants.{Value}
 use Rattle.yaml_block.specs.declared.line_sign.Sign.{Sign}
@@ -122,6 +122,10 @@ BeforePart text sign k at W from fs evs = AfterSign W text from fs evs sign k at
 -- before a pair
 abbrev pub BeforePair : List ℕ → ℕ → ℕ → Before
 BeforePair text k at W from fs evs = AtPair W text from fs evs k at
+
+-- before the `:` after the key of a pair
+abbrev pub BeforeColon : List ℕ → ℕ → ℕ → ℕ → Before
+BeforeColon text k at end W from fs evs = AtColon W text from fs evs k at end
 
 -- before the value of a pair, on the line of its key, whose frame is not on the reader's stack
 abbrev pub BeforeLineValue : List ℕ → ℕ → ℕ → Before

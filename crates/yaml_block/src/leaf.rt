@@ -11,6 +11,7 @@ ghost use Rattle.yaml_block.specs.States.{fits_as_key, IsOpened, Grown, Onward, 
 
 use crate::frame::{Leaf, Next, Waits};
 use crate::line_sign::Sign;
+use crate::line_value::line_value;
 use crate::next_line::NextLine;
 use crate::reader::Reader;
 use crate::refusals::{line_goes_on, no_node, refusal};
@@ -62,7 +63,8 @@ impl<'a> Reader<'a> {
         })
     }
 
-    /// Reads a flow node, which may be the first key of a mapping.
+    /// Reads a flow node, which may be the first key of a mapping. Where the value of the key is the rest of the line, it
+    /// reads this too.
     fn flow_leaf(&mut self, text: &'a str, leaf: Leaf) -> Result<Next, ScanFault>
         requires at { IsCharBoundary text.now leaf.at }
         requires pairs { IfSome leaf.pairs (λ indent. indent ≤ leaf.at) }
@@ -90,6 +92,9 @@ impl<'a> Reader<'a> {
         if sign_at(text, colon, b':') {
             let indent = key_indent(text, leaf, end, colon)?;
             self.start_map_before(before)?;
+            if let Some(value) = line_value(text, colon, indent) {
+                return self.line_pair(text, value, indent);
+            }
             self.wait(Waits::Value, indent)?;
             return Ok(Next::After {
                 at: colon + 1,

@@ -1,11 +1,14 @@
 // The value of a pair where it is the rest of its line (YAML 1.2.2, 8.2.2).
-ghost use Rattle.std.specs.Prelude.{◌≡◌, ℕ, ◌*◌, ◌-◌, ◌≤◌, IfOk, IfErr, IfSome, OnOk, length};
+ghost use Rattle.std.specs.Prelude.{◌≡◌, ℕ, ◌*◌, ◌+◌, ◌-◌, ◌≤◌, true, IfOk, IfErr, IfSome, OnOk, length};
 ghost use Rattle.std.specs.Str.{IsCharBoundary};
+ghost use Rattle.yaml_chars.specs.Places.{rest};
+ghost use Rattle.yaml_chars.specs.Signs as signs;
 ghost use Rattle.yaml_grammar.specs.FlowScalars as flow;
+ghost use Rattle.yaml_recognizers.specs.Prefixes as prefixes;
 ghost use Rattle.yaml_events.specs.EventPlaces.{Refuses};
 ghost use Rattle.yaml_flow.specs.FlowNodes.{FlowNodeRead};
 ghost use Rattle.yaml_block.specs.LineValues.{IsLeadIn, IsLineValue, IsPlainLine};
-ghost use Rattle.yaml_block.specs.States.{Grown, IsAfterSign, Onward, Leads, BeforeLineValue};
+ghost use Rattle.yaml_block.specs.States.{Grown, Onward, Leads, BeforeLineValue};
 
 use crate::frame::Next;
 use crate::next_line::NextLine;
@@ -14,7 +17,7 @@ use std::borrow::CowStr;
 use yaml_events::{FlowContext, ScanFault, Style};
 use yaml_flow::FlowScalar;
 use yaml_flow_scalars::plain_first_line_end;
-use yaml_scan::{Line, rest_of_line_end, solid_line, white_end};
+use yaml_scan::{Line, rest_of_line_end, solid_line, stands_at};
 
 /// A value that is the rest of its line: a plain scalar on one line.
 #[derive(Clone, Copy)]
@@ -27,19 +30,25 @@ pub(crate) struct LineValue {
     pub after: Line,
 }
 
-/// Returns the value of a pair whose `:` ends at `at`, in a mapping at `indent`, if it begins with an ASCII letter or
-/// digit, is the rest of the line, and the next line is not deeper than the mapping. Most values are such. Returns None
-/// at any other, and where the text ends without a break.
+/// Returns the value of a pair in a mapping at `indent`, if its `:` is at `colon` and one space is before the value, which
+/// begins with an ASCII letter or digit and is the rest of the line, and if the next line is not deeper than the mapping.
+/// Most values are such. Returns None at any other, and where the text ends without a break.
 #[inline(always)]
-pub(crate) fn line_value(text: &str, at: usize, indent: usize) -> Option<LineValue>
-    requires placed { IsAfterSign text.now indent at }
+pub(crate) fn line_value(text: &str, colon: usize, indent: usize) -> Option<LineValue>
+    requires at { IsCharBoundary text.now colon }
+    requires deep { indent ≤ colon }
+    ensures colon { IfSome result (λ _. prefixes.sign signs.colon (rest text.now colon) ≡ true) }
     ensures value { IfSome result (IsLineValue text.now indent) }
-    ensures lead { IfSome result (λ value. IsLeadIn text.now at value.start) }
+    ensures lead { IfSome result (λ value. IsLeadIn text.now (colon + 1) value.start) }
 {
-    let start = white_end(text, at);
-    if start == at {
+    if !stands_at(text, colon, b':') {
         return None;
     }
+    let space = colon + 1;
+    if !stands_at(text, space, b' ') {
+        return None;
+    }
+    let start = space + 1;
     let Some(end) = plain_first_line_end(text, start, FlowContext::Outer) else {
         return None;
     };
@@ -56,7 +65,12 @@ pub(crate) fn line_value(text: &str, at: usize, indent: usize) -> Option<LineVal
 impl<'a> Reader<'a> {
     /// Appends the event of the plain scalar between two places of one line, where the last part ends.
     #[inline(always)]
-    fn put_plain(&mut self, text: &'a str, start: usize, end: usize) -> Result<(), ScanFault>
+    pub(crate) fn put_plain(
+        &mut self,
+        text: &'a str,
+        start: usize,
+        end: usize,
+    ) -> Result<(), ScanFault>
         requires start { IsCharBoundary text.now start }
         requires end { IsCharBoundary text.now end }
         requires order { start ≤ end }

@@ -1,6 +1,10 @@
 // A further pair of a mapping (YAML 1.2.2, 8.2.2).
-ghost use Rattle.std.specs.Prelude.{◌*◌, ◌-◌, IfOk, IfErr, length};
-ghost use Rattle.yaml_block.specs.States.{Grown, IsPairPlace, Onward, Leads, FailsBy, BeforePair};
+ghost use Rattle.std.specs.Prelude.{◌≡◌, ◌*◌, ◌-◌, ◌<◌, false, IfOk, IfErr, length};
+ghost use Rattle.std.specs.Str.{IsCharBoundary};
+ghost use Rattle.yaml_chars.specs.Places.{rest};
+ghost use Rattle.yaml_chars.specs.Signs.{question};
+ghost use Rattle.yaml_recognizers.specs.Prefixes.{sign};
+ghost use Rattle.yaml_block.specs.States.{Grown, IsPairPlace, Onward, Leads, FailsBy, BeforePair, BeforeColon};
 
 use crate::frame::{Next, Waits};
 use crate::line_sign::Sign;
@@ -9,6 +13,7 @@ use crate::reader::Reader;
 use crate::refusals::{no_node, refusal};
 use yaml_events::{FlowContext, ScanFault, Why};
 use yaml_flow::{KEY_LIMIT, flow_node};
+use yaml_flow_scalars::plain_first_line_end;
 use yaml_scan::{at_most_chars, sign_at, white_end};
 
 impl<'a> Reader<'a> {
@@ -54,6 +59,10 @@ impl<'a> Reader<'a> {
         ensures grown { Grown self.old.events self.new.events }
         ensures none { IfErr result (FailsBy text.now (BeforePair text.now indent at) self.old) }
     {
+        if let Some(end) = plain_first_line_end(text, at, FlowContext::BlockKey) {
+            self.put_plain(text, at, end)?;
+            return self.after_key(text, at, end, indent);
+        }
         if sign_at(text, at, b'?') {
             self.wait(Waits::Key, indent)?;
             return Ok(Next::After {
@@ -62,7 +71,21 @@ impl<'a> Reader<'a> {
                 sign: Sign::Asked,
             });
         }
-        let end = match flow_node(
+        self.any_pair(text, at, indent)
+    }
+
+    /// Reads the start of a further pair of a mapping without a `?`, as [`one_pair`](Self::one_pair) does.
+    #[inline(never)]
+    fn any_pair(&mut self, text: &'a str, at: usize, indent: usize) -> Result<Next, ScanFault>
+        requires placed { IsPairPlace text.now indent at }
+        requires not_asked { sign question (rest text.now at) ≡ false }
+        ensures onward { IfOk result (Onward text.now at (3 * (length text.now - at))) }
+        ensures leads { IfOk result (Leads text.now
+            (BeforePair text.now indent at) self.old self.new) }
+        ensures grown { Grown self.old.events self.new.events }
+        ensures none { IfErr result (FailsBy text.now (BeforePair text.now indent at) self.old) }
+    {
+        match flow_node(
             self.alloc,
             &mut self.events,
             text,
@@ -70,18 +93,42 @@ impl<'a> Reader<'a> {
             0,
             FlowContext::BlockKey,
         ) {
-            Ok(end) => end,
-            Err(fault) => return Err(no_node(text, at, fault)),
-        };
+            Ok(end) => self.after_key(text, at, end, indent),
+            Err(fault) => Err(no_node(text, at, fault)),
+        }
+    }
+
+    /// Reads the `:` after the key between two places, and the value where it is the rest of the line. Returns what is
+    /// read next.
+    #[inline(always)]
+    fn after_key(
+        &mut self,
+        text: &'a str,
+        at: usize,
+        end: usize,
+        indent: usize,
+    ) -> Result<Next, ScanFault>
+        requires placed { IsPairPlace text.now indent at }
+        requires above { at < end }
+        requires end { IsCharBoundary text.now end }
+        ensures onward { IfOk result (Onward text.now at (3 * (length text.now - at))) }
+        ensures leads { IfOk result (Leads text.now
+            (BeforeColon text.now indent at end) self.old self.new) }
+        ensures grown { Grown self.old.events self.new.events }
+        ensures none { IfErr result (FailsBy text.now
+            (BeforeColon text.now indent at end) self.old) }
+    {
+        if at_most_chars(text, at, end, KEY_LIMIT) {
+            if let Some(value) = line_value(text, end, indent) {
+                return self.line_pair(text, value, indent);
+            }
+        }
         let colon = white_end(text, end);
         if !sign_at(text, colon, b':') {
             return Err(refusal(at, Why::Key));
         }
         if !at_most_chars(text, at, colon, KEY_LIMIT) {
             return Err(refusal(at, Why::Key));
-        }
-        if let Some(value) = line_value(text, colon + 1, indent) {
-            return self.line_pair(text, value, indent);
         }
         self.wait(Waits::Value, indent)?;
         Ok(Next::After {

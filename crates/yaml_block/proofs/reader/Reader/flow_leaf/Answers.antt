@@ -1,14 +1,16 @@
-use Rattle.std.proofs.Common.{arith, refl, sym, ◌∙◌, ap, subst, ◌≤◌}
+use Rattle.std.proofs.Common.{arith, length, refl, sym, ◌*◌, ◌-◌, ◌∙◌, ap, subst, ◌≤◌}
 use Rattle.std.specs.Prelude.{ℕ, [], ◌∷◌, ◌++◌, Option, IfSome, insert}
 use Rattle.std.proofs.lemmas.Result.{err_from_is_err_and}
 use Rattle.yaml_grammar.specs.FlowScalars.{outer}
 use Rattle.yaml_events.specs.declared.event.Event.TheVariants.{MapStart}
-use Rattle.yaml_scan.proofs.Outcomes.{fault_kept, fault_passed, refuses}
+use Rattle.yaml_scan.proofs.Outcomes.{fault_kept, fault_passed, faults_so, ok_so, refuses}
 use Rattle.yaml_flow.specs.FlowNodes.{NoFlowNodeFound}
 use Rattle.yaml_block.specs.States.{BeforeLeaf, Fails}
 use Rattle.yaml_block.specs.declared.line_sign.Sign.TheVariants.{Colon}
 use Rattle.yaml_block.specs.declared.frame.Waits.TheVariants.{Value}
 use Rattle.yaml_block.proofs.KeysAndPairs.{after_onward, leaf_key, leaf_line, leaf_nothing, leaf_unclosed, leaf_unkeyed}
+use Rattle.yaml_block.proofs.LineValueSteps.{leaf_value}
+use Rattle.yaml_block.proofs.SignsAndLines.{onward_so}
 use Rattle.yaml_block.proofs.Stacks.{grown_appended, grown_before, grown_grown, grown_same}
 use Rattle.yaml_block.proofs.TextPlaces.{past_sign}
 use Rattle.yaml_block.proofs.reader.Reader.flow_leaf.Goals as goal
@@ -60,12 +62,12 @@ returns-then-sign_at-clause-leads c =
     ((c.in_ok-wait.ensures).events ∙ ((c.in_ok-start_map_before.ensures).events
     ∙ ap (λ n. insert c.flow_node.new.events n MapStart) c.len-before.ensures))
 
-pub returns-in-Some-clause-leads : goal.returns-in-Some-clause-leads
-returns-in-Some-clause-leads c =
-    leaf_line c.args.text.now c.utf8.text c.args.leaf c.in-Ok.end c.white_end-colon.result c.in-Some.line
+pub returns-in-Some-line_after-clause-leads : goal.returns-in-Some-line_after-clause-leads
+returns-in-Some-line_after-clause-leads c =
+    leaf_line c.args.text.now c.utf8.text c.args.leaf c.in-Ok.end c.white_end-colon.result c.in-Some-line_after.line
     c.args.self.now _ c.flow_node.new.events c.requires.at (c.in-Ok.ensures).reads
-    (c.white_end-colon.ensures).taken (sym c.sign_at.ensures ∙ c.if-sign_at.false) (c.in-Some.ensures).found
-    (c.in-Some.ensures).closes refl refl refl
+    (c.white_end-colon.ensures).taken (sym c.sign_at.ensures ∙ c.if-sign_at.false) (c.in-Some-line_after.ensures).found
+    (c.in-Some-line_after.ensures).closes refl refl refl
 
 pub returns-in-None-clause-none : goal.returns-in-None-clause-none
 returns-in-None-clause-none c =
@@ -76,10 +78,10 @@ returns-in-None-clause-none c =
     (c.in-Ok.ensures).reads (c.white_end-colon.ensures).taken
     (sym c.sign_at.ensures ∙ c.if-sign_at.false) (c.in-None.ensures).none)
 
-pub returns-in-Some-clause-onward : goal.returns-in-Some-clause-onward
-returns-in-Some-clause-onward c =
+pub returns-in-Some-line_after-clause-onward : goal.returns-in-Some-line_after-clause-onward
+returns-in-Some-line_after-clause-onward c =
     let read = (c.in-Ok.ensures).reads in
-    let found = (c.in-Some.ensures).found in
+    let found = (c.in-Some-line_after.ensures).found in
     let above = read.above in
     let within = read.within in
     let further = found.above in
@@ -87,7 +89,7 @@ returns-in-Some-clause-onward c =
       above = omega (arith, above, further);
       less = omega (arith, above, within, further);
       placed = record {
-        line = record { boundary = found.boundary; spaces = found.spaces; starts = (c.in-Some.ensures).starts };
+        line = record { boundary = found.boundary; spaces = found.spaces; starts = (c.in-Some-line_after.ensures).starts };
         solid = found.solid;
       };
     }
@@ -136,10 +138,55 @@ returns-then-sign_at-clause-grown c =
     ((c.in_ok-wait.ensures).events ∙ ((c.in_ok-start_map_before.ensures).events
     ∙ ap (λ n. insert c.flow_node.new.events n MapStart) c.len-before.ensures))
 
-pub returns-in-Some-clause-grown : goal.returns-in-Some-clause-grown
-returns-in-Some-clause-grown c = grown_appended c.args.text.now c.args.self.now.events c.flow_node.new.events _
+pub returns-in-Some-line_after-clause-grown : goal.returns-in-Some-line_after-clause-grown
+returns-in-Some-line_after-clause-grown c = grown_appended c.args.text.now c.args.self.now.events c.flow_node.new.events _
     ((c.in-Ok.ensures).reads).appended
 
 pub returns-in-None-clause-grown : goal.returns-in-None-clause-grown
 returns-in-None-clause-grown c = grown_appended c.args.text.now c.args.self.now.events c.flow_node.new.events _
     ((c.in-Ok.ensures).reads).appended
+
+pub line_value-requires : goal.line_value-requires
+line_value-requires c =
+    let above = ((c.in-Ok.ensures).reads).above in
+    let gap = ((c.white_end-colon.ensures).taken).above in
+    let deep : c.in_ok-indent.indent ≤ c.args.leaf.at = subst (λ (x : Option ℕ). IfSome x (λ i. i ≤ c.args.leaf.at))
+    (c.in_ok-indent.ensures).pairs c.requires.pairs in
+    record { at = ((c.white_end-colon.ensures).taken).boundary; deep = omega (arith, deep, above, gap) }
+
+pub returns-in-Some-clause-onward : goal.returns-in-Some-clause-onward
+returns-in-Some-clause-onward c =
+    let text = c.args.text.now in
+    let at = c.args.leaf.at in
+    let start = c.in-Some.value.start in
+    let above = ((c.in-Ok.ensures).reads).above in
+    let gap = ((c.white_end-colon.ensures).taken).above in
+    let lead = ((c.in-Some.ensures).lead).above in
+    onward_so text at start (3 * (length text - start)) (3 * (length text - at)) c.line_pair.result
+    (omega (arith, above, gap, lead)) (omega (arith, above, gap, lead)) c.line_pair.ensures.onward
+
+pub returns-in-Some-clause-leads : goal.returns-in-Some-clause-leads
+returns-in-Some-clause-leads c =
+    let deep : c.in_ok-indent.indent ≤ c.args.leaf.at = subst (λ (x : Option ℕ). IfSome x (λ i. i ≤ c.args.leaf.at))
+    (c.in_ok-indent.ensures).pairs c.requires.pairs in
+    ok_so c.line_pair.result _ _
+    (λ to l. leaf_value c.args.text.now c.utf8.text c.args.leaf c.in_ok-indent.indent c.in-Ok.end
+    c.white_end-colon.result c.in-Some.value.start c.args.self.now c.start_map_before.new.self
+    c.line_pair.new.self c.flow_node.new.events to (c.in_ok-indent.ensures).pairs deep c.requires.at
+    (c.in-Ok.ensures).reads (c.white_end-colon.ensures).taken (sym c.sign_at.ensures ∙ c.if-sign_at.true)
+    (c.in_ok-indent.ensures).fits (c.in_ok-start_map_before.ensures).collections
+    ((c.in_ok-start_map_before.ensures).events ∙ ap (λ n. insert c.flow_node.new.events n MapStart) c.len-before.ensures)
+    (c.in-Some.ensures).lead l) c.line_pair.ensures.leads
+
+pub returns-in-Some-clause-none : goal.returns-in-Some-clause-none
+returns-in-Some-clause-none c =
+    faults_so c.line_pair.result ⊥ (Fails c.args.text.now (BeforeLeaf c.args.text.now c.args.leaf) c.args.self.now)
+    (λ x. absurd x) c.line_pair.ensures.none
+
+pub returns-in-Some-clause-grown : goal.returns-in-Some-clause-grown
+returns-in-Some-clause-grown c =
+    grown_grown c.args.self.now.events c.start_map_before.new.self.events c.line_pair.new.self.events
+    (grown_before c.args.text.now c.args.self.now.events c.flow_node.new.events c.start_map_before.new.self.events _
+    ((c.in-Ok.ensures).reads).appended
+    ((c.in_ok-start_map_before.ensures).events
+    ∙ ap (λ n. insert c.flow_node.new.events n MapStart) c.len-before.ensures)) c.line_pair.ensures.grown
