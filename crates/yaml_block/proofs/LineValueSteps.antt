@@ -9,8 +9,9 @@ use Rattle.yaml_chars.specs.Classes.{white}
 use Rattle.yaml_chars.specs.Places.{between, rest}
 use Rattle.yaml_grammar.specs.BlockNodes.{Indented}
 use Rattle.yaml_grammar.specs.Events as grammar
+use Rattle.yaml_grammar.specs.Events.{plain_style}
 use Rattle.yaml_grammar.specs.FlowNodes.{flow_events, flow_text}
-use Rattle.yaml_grammar.specs.FlowScalars.{outer}
+use Rattle.yaml_grammar.specs.FlowScalars.{block_key, outer}
 use Rattle.yaml_grammar.specs.Texts.{byte_len, first}
 use Rattle.yaml_recognizers.specs.BlockFrames.{BlockFrame}
 use Rattle.yaml_recognizers.specs.Comments.{all_comments, closes_line, read_line_end}
@@ -28,9 +29,12 @@ use Rattle.yaml_scan.specs.declared.lines.Line.{Line}
 use Rattle.yaml_scan.proofs.ByteSigns.{IsSign, sign_there}
 use Rattle.yaml_scan.proofs.GapSteps.{no_white_taken, solid_no_end, space_taken}
 use Rattle.yaml_scan.proofs.LineSteps.{no_comments_at, open_line}
+use Rattle.yaml_flow_scalars.specs.PlainPlaces.{IsFirstLine}
+use Rattle.yaml_flow_scalars.proofs.InsideLines.{ends_inside_line}
+use Rattle.yaml_flow_scalars.proofs.PlainLines.{key_no_line}
 use Rattle.yaml_flow.specs.FlowNodes.{FlowNodeRead}
 use Rattle.yaml_block.specs.Frames.{AfterPair, AtLeaf, AtLine}
-use Rattle.yaml_block.specs.LineValues.{IsLeadIn, IsLineValue}
+use Rattle.yaml_block.specs.LineValues.{IsLeadIn, IsLineValue, IsPlainLine}
 use Rattle.yaml_block.specs.Lines.{IsNextLine}
 use Rattle.yaml_block.specs.States.{BeforeColon, BeforeLeaf, BeforeLineValue, Holds, IsAfterSign, Leads, Onward, Stack}
 use Rattle.yaml_block.specs.declared.frame.Collection.{Collection}
@@ -66,6 +70,17 @@ no_colon (x ∷ xs) c = by_cases (sign 58 (drop_while white (x ∷ xs))) refl
         absurd (false≢true (sym (ap closes_line (no_comments_at false (x ∷ xs) none)) ∙ c))
 
 module _ (text : List ℕ) (u : IsUtf8 text) where
+  -- the first line of a plain scalar is the whole scalar where it is a key
+  pub first_line_key : (at end : ℕ) → IsCharBoundary text at → IsFirstLine block_key text at end
+      → IsPlainLine 0 block_key text at end
+  first_line_key at end b f =
+      let whole = f.whole 0 (key_no_line 0 block_key text end refl) in
+      record {
+        scalar = whole;
+        unbroken = f.unbroken;
+        inside_line = ends_inside_line plain_style 0 block_key text at (between text at end) end u b whole;
+      }
+
   -- after one space something solid goes on with the line
   pub lead_in : (at : ℕ) → IsCharBoundary text at → first (is_sign 32) (rest text at) ≡ true
       → first solid (rest text (at + 1)) ≡ true → IsLeadIn text at (at + 1)

@@ -1,14 +1,16 @@
 // A further pair of a mapping (YAML 1.2.2, 8.2.2).
-ghost use Rattle.std.specs.Prelude.{◌≡◌, ◌*◌, ◌-◌, ◌<◌, false, IfOk, IfErr, length};
+ghost use Rattle.std.specs.Prelude.{◌≡◌, ◌*◌, ◌+◌, ◌-◌, ◌<◌, nat_le, true, IfOk, IfErr, IfSome, length};
 ghost use Rattle.std.specs.Str.{IsCharBoundary};
-ghost use Rattle.yaml_chars.specs.Places.{rest};
-ghost use Rattle.yaml_chars.specs.Signs.{question};
+ghost use Rattle.yaml_chars.specs.Places.{between, rest};
+ghost use Rattle.yaml_chars.specs.Signs.{colon};
+ghost use Rattle.yaml_grammar.specs.FlowNodes.{key_limit};
 ghost use Rattle.yaml_recognizers.specs.Prefixes.{sign};
+ghost use Rattle.yaml_block.specs.LineValues.{IsLeadIn, IsLineValue};
 ghost use Rattle.yaml_block.specs.States.{Grown, IsPairPlace, Onward, Leads, FailsBy, BeforePair, BeforeColon};
 
 use crate::frame::{Next, Waits};
 use crate::line_sign::Sign;
-use crate::line_value::line_value;
+use crate::line_value::{LineValue, line_value};
 use crate::reader::Reader;
 use crate::refusals::{no_node, refusal};
 use yaml_events::{FlowContext, ScanFault, Why};
@@ -35,7 +37,14 @@ impl<'a> Reader<'a> {
         let mut at = at;
         let mut indent = indent;
         'pairs: loop {
-            match self.one_pair(text, at, indent)? {
+            let Some(end) = plain_first_line_end(text, at, FlowContext::BlockKey) else {
+                return self.any_pair(text, at, indent);
+            };
+            self.put_plain(text, at, end)?;
+            let Some(value) = key_value(text, at, end, indent) else {
+                return self.after_key(text, at, end, indent);
+            };
+            match self.line_pair(text, value, indent)? {
                 Next::Pair {
                     at: further,
                     indent: same,
@@ -48,10 +57,10 @@ impl<'a> Reader<'a> {
         }
     }
 
-    /// Reads the start of a further pair of a mapping: its key on one line with the `:`, or its `?`. Where its value is
-    /// the rest of the line, it reads the whole pair. Returns what is read next.
-    #[inline(always)]
-    fn one_pair(&mut self, text: &'a str, at: usize, indent: usize) -> Result<Next, ScanFault>
+    /// Reads the start of a further pair of a mapping, whatever its key is: its key on one line with the `:`, or its `?`.
+    /// Returns what is read next.
+    #[inline(never)]
+    fn any_pair(&mut self, text: &'a str, at: usize, indent: usize) -> Result<Next, ScanFault>
         requires placed { IsPairPlace text.now indent at }
         ensures onward { IfOk result (Onward text.now at (3 * (length text.now - at))) }
         ensures leads { IfOk result (Leads text.now
@@ -59,10 +68,6 @@ impl<'a> Reader<'a> {
         ensures grown { Grown self.old.events self.new.events }
         ensures none { IfErr result (FailsBy text.now (BeforePair text.now indent at) self.old) }
     {
-        if let Some(end) = plain_first_line_end(text, at, FlowContext::BlockKey) {
-            self.put_plain(text, at, end)?;
-            return self.after_key(text, at, end, indent);
-        }
         if sign_at(text, at, b'?') {
             self.wait(Waits::Key, indent)?;
             return Ok(Next::After {
@@ -71,20 +76,6 @@ impl<'a> Reader<'a> {
                 sign: Sign::Asked,
             });
         }
-        self.any_pair(text, at, indent)
-    }
-
-    /// Reads the start of a further pair of a mapping without a `?`, as [`one_pair`](Self::one_pair) does.
-    #[inline(never)]
-    fn any_pair(&mut self, text: &'a str, at: usize, indent: usize) -> Result<Next, ScanFault>
-        requires placed { IsPairPlace text.now indent at }
-        requires not_asked { sign question (rest text.now at) ≡ false }
-        ensures onward { IfOk result (Onward text.now at (3 * (length text.now - at))) }
-        ensures leads { IfOk result (Leads text.now
-            (BeforePair text.now indent at) self.old self.new) }
-        ensures grown { Grown self.old.events self.new.events }
-        ensures none { IfErr result (FailsBy text.now (BeforePair text.now indent at) self.old) }
-    {
         match flow_node(
             self.alloc,
             &mut self.events,
@@ -98,9 +89,8 @@ impl<'a> Reader<'a> {
         }
     }
 
-    /// Reads the `:` after the key between two places, and the value where it is the rest of the line. Returns what is
-    /// read next.
-    #[inline(always)]
+    /// Reads the `:` after the key between two places. Returns what is read next.
+    #[inline(never)]
     fn after_key(
         &mut self,
         text: &'a str,
@@ -118,11 +108,6 @@ impl<'a> Reader<'a> {
         ensures none { IfErr result (FailsBy text.now
             (BeforeColon text.now indent at end) self.old) }
     {
-        if at_most_chars(text, at, end, KEY_LIMIT) {
-            if let Some(value) = line_value(text, end, indent) {
-                return self.line_pair(text, value, indent);
-            }
-        }
         let colon = white_end(text, end);
         if !sign_at(text, colon, b':') {
             return Err(refusal(at, Why::Key));
@@ -137,4 +122,23 @@ impl<'a> Reader<'a> {
             sign: Sign::Colon,
         })
     }
+}
+
+/// Returns the value of the pair whose key is between two places, in a mapping at `indent`, as [`line_value`] does.
+/// Returns None also if the key is too long.
+#[inline(always)]
+fn key_value(text: &str, at: usize, end: usize, indent: usize) -> Option<LineValue>
+    requires placed { IsPairPlace text.now indent at }
+    requires above { at < end }
+    requires end { IsCharBoundary text.now end }
+    ensures short { IfSome result (λ _. nat_le (length (between text.now at end)) key_limit
+        ≡ true) }
+    ensures colon { IfSome result (λ _. sign colon (rest text.now end) ≡ true) }
+    ensures value { IfSome result (IsLineValue text.now indent) }
+    ensures lead { IfSome result (λ value. IsLeadIn text.now (end + 1) value.start) }
+{
+    if !at_most_chars(text, at, end, KEY_LIMIT) {
+        return None;
+    }
+    line_value(text, end, indent)
 }

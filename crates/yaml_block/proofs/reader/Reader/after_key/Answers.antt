@@ -1,43 +1,12 @@
-use Rattle.std.proofs.Common.{arith, inl, inr, length, refl, sym, ◌*◌, ◌-◌, ◌∙◌}
+use Rattle.std.proofs.Common.{arith, inl, inr, refl, sym, ◌∙◌}
 use Rattle.std.proofs.lemmas.Result.{err_from_is_err_and}
-use Rattle.yaml_scan.proofs.Outcomes.{fault_passed, faults_so, ok_so, refuses}
+use Rattle.yaml_scan.proofs.Outcomes.{fault_passed, refuses}
 use Rattle.yaml_block.specs.States.{BeforeColon, Fails}
 use Rattle.yaml_block.specs.declared.line_sign.Sign.TheVariants.{Colon}
 use Rattle.yaml_block.proofs.KeysAndPairs.{after_onward, pair_key, pair_unkeyed}
-use Rattle.yaml_block.proofs.LineValueSteps.{pair_value}
-use Rattle.yaml_block.proofs.SignsAndLines.{onward_so}
 use Rattle.yaml_block.proofs.Stacks.{grown_same}
 use Rattle.yaml_block.proofs.TextPlaces.{past_sign}
 use Rattle.yaml_block.proofs.reader.Reader.after_key.Goals as goal
-
-pub line_value-requires : goal.line_value-requires
-line_value-requires c = record {
-  at = c.requires.end;
-  deep = omega (arith, (c.requires.placed).deep, c.requires.above);
-}
-
-pub returns-in-Some-clause-onward : goal.returns-in-Some-clause-onward
-returns-in-Some-clause-onward c =
-    let text = c.args.text.now in
-    let at = c.args.at in
-    let start = c.in-Some.value.start in
-    let lead = ((c.in-Some.ensures).lead).above in
-    onward_so text at start (3 * (length text - start)) (3 * (length text - at)) c.line_pair.result
-    (omega (arith, c.requires.above, lead)) (omega (arith, c.requires.above, lead)) c.line_pair.ensures.onward
-
-pub returns-in-Some-clause-leads : goal.returns-in-Some-clause-leads
-returns-in-Some-clause-leads c =
-    ok_so c.line_pair.result _ _
-    (λ to l. pair_value c.args.text.now c.utf8.text c.args.at c.args.indent c.args.end c.in-Some.value.start
-    c.args.self.now c.line_pair.new.self to (c.requires.placed).boundary c.requires.end (c.requires.placed).deep
-    c.requires.above (c.in-Some.ensures).colon (sym c.at_most_chars.ensures ∙ c.if-at_most_chars.true)
-    (c.in-Some.ensures).lead l) c.line_pair.ensures.leads
-
-pub returns-in-Some-clause-none : goal.returns-in-Some-clause-none
-returns-in-Some-clause-none c =
-    faults_so c.line_pair.result ⊥
-    (Fails c.args.text.now (BeforeColon c.args.text.now c.args.indent c.args.at c.args.end) c.args.self.now)
-    (λ x. absurd x) c.line_pair.ensures.none
 
 pub returns-then-not-sign_at-clause-none : goal.returns-then-not-sign_at-clause-none
 returns-then-not-sign_at-clause-none c =
@@ -54,7 +23,7 @@ returns-then-not-at_most_chars-clause-none c =
     (Fails text (BeforeColon text c.args.indent c.args.at c.args.end) c.args.self.now)
     (pair_unkeyed text c.utf8.text c.args.at c.args.indent c.args.end c.white_end-colon.result
     (c.requires.placed).boundary c.requires.end (c.white_end-colon.ensures).taken c.args.self.now
-    (inr (sym c.at_most_chars-2.ensures ∙ c.if-not-at_most_chars.true)))
+    (inr (sym c.at_most_chars.ensures ∙ c.if-not-at_most_chars.true)))
 
 pub returns-clause-onward : goal.returns-clause-onward
 returns-clause-onward c =
@@ -72,7 +41,7 @@ pub returns-clause-leads : goal.returns-clause-leads
 returns-clause-leads c =
     pair_key c.args.text.now c.utf8.text c.args.at c.args.indent c.args.end c.white_end-colon.result
     (c.requires.placed).boundary c.requires.end (c.white_end-colon.ensures).taken c.args.self.now c.wait.new.self
-    (sym c.sign_at.ensures ∙ c.if-not-sign_at.false) (sym c.at_most_chars-2.ensures ∙ c.if-not-at_most_chars.false)
+    (sym c.sign_at.ensures ∙ c.if-not-sign_at.false) (sym c.at_most_chars.ensures ∙ c.if-not-at_most_chars.false)
     (c.in_ok-wait.ensures).collections (c.in_ok-wait.ensures).events
 
 pub returns-clause-grown : goal.returns-clause-grown

@@ -1,9 +1,11 @@
-use Rattle.std.proofs.Common.{refl}
+use Rattle.std.proofs.Common.{refl, ◌∙◌, arith, sym}
 use Rattle.yaml_grammar.specs.FlowScalars.{block_key}
 use Rattle.yaml_scan.proofs.Outcomes.{fault_kept, faults_so, ok_so}
 use Rattle.yaml_flow.specs.FlowNodes.{NoFlowNodeFound}
 use Rattle.yaml_block.specs.States.{BeforeColon, BeforePair, Fails}
-use Rattle.yaml_block.proofs.KeysAndPairs.{key_fails, key_leads, pair_missing}
+use Rattle.yaml_block.proofs.KeysAndPairs.{after_onward, key_fails, key_leads, pair_asked, pair_missing}
+use Rattle.yaml_block.specs.declared.line_sign.Sign.TheVariants.{Asked}
+use Rattle.yaml_block.proofs.TextPlaces.{past_sign}
 use Rattle.yaml_block.proofs.Stacks.{grown_appended, grown_grown, grown_same}
 use Rattle.yaml_block.proofs.reader.Reader.any_pair.Goals as goal
 
@@ -14,7 +16,7 @@ returns-in-Err-clause-none c =
     let k = c.args.indent in
     fault_kept c.in-Err.fault c.no_node.result (NoFlowNodeFound 0 block_key text at)
     (Fails text (BeforePair text k at) c.args.self.now) c.no_node.ensures
-    (pair_missing text c.utf8.text at k c.args.self.now c.requires.not_asked)
+    (pair_missing text c.utf8.text at k c.args.self.now (sym c.sign_at.ensures ∙ c.if-sign_at.false))
     (c.in-Err.ensures).missing
 
 pub returns-in-Err-clause-grown : goal.returns-in-Err-clause-grown
@@ -42,3 +44,25 @@ returns-in-Ok-clause-grown c =
     grown_grown c.args.self.now.events c.flow_node.new.events c.after_key.new.self.events
     (grown_appended c.args.text.now c.args.self.now.events c.flow_node.new.events _
     ((c.in-Ok.ensures).reads).appended) c.after_key.ensures.grown
+
+pub returns-then-sign_at-clause-onward : goal.returns-then-sign_at-clause-onward
+returns-then-sign_at-clause-onward c =
+    let text = c.args.text.now in
+    let at = c.args.at in
+    let s = past_sign text at 63 c.utf8.text (c.requires.placed).boundary (omega arith) refl (sym c.sign_at.ensures
+    ∙ c.if-sign_at.true) in
+    after_onward text at _ at c.args.indent Asked s (omega arith) (c.requires.placed).deep (omega (arith, s.below))
+
+pub returns-then-sign_at-clause-leads : goal.returns-then-sign_at-clause-leads
+returns-then-sign_at-clause-leads c =
+    pair_asked c.args.text.now c.utf8.text c.args.at c.args.indent c.args.self.now c.wait.new.self
+    (c.requires.placed).boundary (sym c.sign_at.ensures ∙ c.if-sign_at.true)
+    (c.in_ok-wait.ensures).collections (c.in_ok-wait.ensures).events
+
+pub returns-then-sign_at-clause-grown : goal.returns-then-sign_at-clause-grown
+returns-then-sign_at-clause-grown c = grown_same c.args.self.now.events c.wait.new.self.events
+    (c.in_ok-wait.ensures).events
+
+pub returns-in_err-wait-clause-grown : goal.returns-in_err-wait-clause-grown
+returns-in_err-wait-clause-grown c = grown_same c.args.self.now.events c.wait.new.self.events
+    (c.in_err-wait.ensures).events
