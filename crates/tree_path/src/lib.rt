@@ -8,7 +8,7 @@ mod laws;
 mod place;
 mod step_places;
 
-pub use edit::{at, delete, delete_planned, set, set_planned};
+pub use edit::{at, at_by, delete, delete_planned, set, set_planned};
 pub use json_pointer::{Path, PathFault, text_is_read_back};
 pub use key_index::KeyIndex;
 pub use laws::{keys_stay_distinct, set_is_found};

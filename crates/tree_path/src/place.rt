@@ -182,6 +182,21 @@ pub fn child<'t>(tree: &'t Tree, token: &str) -> Result<&'t Tree, Miss>
     child_at(tree, token, key_in(tree, token))
 }
 
+/// The same as [`child`], by an index where there is one.
+pub(crate) fn child_by<'t>(
+    index: Option<&KeyIndex>,
+    tree: &'t Tree,
+    token: &str,
+) -> Result<&'t Tree, Miss>
+    requires { distinct (tree_of tree.now) ≡ true }
+    ensures ok { IfOk result (λ value. child (tree_of tree.now) (chars token.now)
+        ≡ Ok (tree_of value.now)) }
+    ensures missed { IfErr result (λ miss. child (tree_of tree.now) (chars token.now) ≡ Err miss) }
+{
+    let mut walked = None;
+    child_at(tree, token, key_in_by(index, tree, token, 0, &mut walked))
+}
+
 /// The value to which a step leads, where the place of its token as a key is known, as [`key_in`] returns it. The misses
 /// are those of [`child`].
 pub fn child_at<'t>(tree: &'t Tree, token: &str, place: Option<usize>) -> Result<&'t Tree, Miss>

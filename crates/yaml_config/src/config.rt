@@ -1,5 +1,5 @@
 // A tree that is good to keep.
-ghost use Rattle.std.specs.Prelude.{◌≡◌, ◌+◌, ◌*◌, ◌^◌, ◌<◌, ◌≤◌, true, [], IfOk, IfErr};
+ghost use Rattle.std.specs.Prelude.{◌≡◌, ◌+◌, ◌*◌, ◌^◌, ◌<◌, ◌≤◌, true, [], Ok, Err, IfOk, IfErr};
 ghost use Rattle.yaml_grammar.specs.Reads.{Good};
 ghost use Rattle.yaml_grammar.specs.Style.{lines_after_dash, style_text};
 ghost use Rattle.yaml_grammar.specs.Texts.{byte_len};
@@ -8,12 +8,13 @@ ghost use Rattle.yaml_config.specs.Changes.{child_size};
 ghost use Rattle.yaml_config.specs.Kept.{IsKept, IsFirstFault, own_limits, limits_of};
 ghost use Rattle.yaml_data.specs.Seen.{tree_of};
 ghost use Rattle.yaml_writer.specs.Sizes.{element_size, indented};
+ghost use Rattle.tree_path.specs.Paths.{at};
 
 use crate::change::Slot;
 use crate::limits::Limits;
 use std::alloc::{AllocError, Global};
 use std::marker::Model;
-use tree_path::KeyIndex;
+use tree_path::{KeyIndex, Path, PathFault, at_by};
 use yaml_data::{Text, Tree, has_distinct_keys};
 use yaml_events::ReadFault;
 use yaml_writer::{Size, style_len};
@@ -177,6 +178,15 @@ impl Config {
         ensures kept { IsKept (tree_of self.now) }
     {
         &self.tree
+    }
+
+    /// The value at a path (RFC 6901, 4), as [`tree_path::at`] finds it, with the same faults. A key of a wide mapping
+    /// is looked up where the configuration has an index of the mapping. It takes no memory.
+    pub fn value_at(&self, path: &Path) -> Result<&Tree, PathFault>
+        ensures ok { IfOk result (λ value. at (tree_of self.now) path.now ≡ Ok (tree_of value.now)) }
+        ensures refused { IfErr result (λ fault. at (tree_of self.now) path.now ≡ Err fault) }
+    {
+        at_by(self.tree(), path, self.index())
     }
 
     /// The tree, taken out of the configuration, so that it can be changed.
