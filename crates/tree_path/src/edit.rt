@@ -7,12 +7,13 @@ ghost use Rattle.std.specs.Vec.{vec_len, vec_capacity};
 ghost use Rattle.yaml_grammar.specs.Trees.{Tree as Meant, distinct, sequence, mapping};
 ghost use Rattle.yaml_data.specs.Seen.{tree_of, elements_of, members_of};
 ghost use Rattle.tree_path.specs.Paths.{at_step, at, put, cut, set, delete, child, key_in};
+ghost use Rattle.tree_path.specs.Prints.{KnowsKeys};
 ghost use Rattle.tree_path.specs.Steps.{ArePlaces, Knows, KnowsWay, Lowered, Rebuilt, key_place};
 ghost use Rattle.json_pointer.specs.Tokens.{texts};
 
 use crate::key_index::KeyIndex;
 use crate::place::{self, Miss};
-use crate::step_places::{Known, StepPlaces};
+use crate::step_places::{Known, KnownKeys, StepPlaces};
 use json_pointer::{Path, PathFault};
 use std::alloc::{AllocError, Global};
 use std::borrow::CowStr;
@@ -35,17 +36,19 @@ pub fn at<'t>(tree: &'t Tree, path: &Path) -> Result<&'t Tree, PathFault>
 }
 
 /// The same as [`at`] in a tree in whose mappings no key comes twice. A key is looked up where the index knows its
-/// place. It takes no memory.
-pub fn at_by<'t>(
-    tree: &'t Tree,
-    path: &Path,
-    index: Option<&KeyIndex>,
-) -> Result<&'t Tree, PathFault>
-    requires { distinct (tree_of tree.now) ≡ true }
+/// place, and isn't searched for where it is known as missing. It takes no memory.
+pub fn at_by<'t>(tree: &'t Tree, path: &Path, keys: KnownKeys<'_>) -> Result<&'t Tree, PathFault>
+    requires distinct { distinct (tree_of tree.now) ≡ true }
+    requires keys { KnowsKeys keys (tree_of tree.now) }
     ensures ok { IfOk result (λ value. at (tree_of tree.now) path.now ≡ Ok (tree_of value.now)) }
     ensures refused { IfErr result (λ fault. at (tree_of tree.now) path.now ≡ Err fault) }
 {
-    value_by(tree, path.tokens(), index)
+    if let Tree::Map(_) = tree
+        && keys.lack(path)
+    {
+        return Err(PathFault::NoSuchPlace { step: 1 });
+    }
+    value_by(tree, path.tokens(), keys.index)
 }
 
 /// Puts a value at a path, in place. Every step but the last leads to a value that is there, as in [`at`]. At the last

@@ -12,7 +12,7 @@ use std::mem;
 use yaml_data::{Text, Tree};
 
 /// The fewest pairs of a wide mapping, whose keys an index may know. In a smaller one they are compared one by one.
-const WIDE: usize = 64;
+pub(crate) const WIDE: usize = 64;
 
 /// Why a step leads to nothing.
 #[derive(Clone, Copy, Debug, PartialEq, Eq)]

@@ -1,12 +1,14 @@
 // Where the steps of a path lead, kept so that an edit need not search for them again.
-ghost use Rattle.std.specs.Prelude.{◌≡◌, ◌⊎◌, true, Err, IfOk, IfErr};
+ghost use Rattle.std.specs.Prelude.{◌≡◌, ◌⊎◌, ℕ, List, [], ◌∷◌, true, None, Err, IfOk, IfErr};
 ghost use Rattle.std.specs.Str.{chars};
 ghost use Rattle.yaml_grammar.specs.Trees.{Tree as Meant, distinct};
 ghost use Rattle.yaml_data.specs.Seen.{tree_of};
 ghost use Rattle.tree_path.specs.Paths.{at, key_in};
+ghost use Rattle.tree_path.specs.Prints.{KnowsKeys};
 ghost use Rattle.tree_path.specs.Steps.{ArePlaces, KnowsLast, KnowsStep, parents_of, step_place};
 
 use crate::key_index::KeyIndex;
+use crate::key_prints::{KeyPrints, only_key};
 use crate::place::{self, Miss, key_in, key_in_by, step_place_by};
 use json_pointer::{Path, PathFault};
 use std::alloc::Global;
@@ -26,13 +28,37 @@ pub struct StepPlaces {
 
 impl StepPlaces {
     /// Finds the places of a path's steps in a tree in whose mappings no key comes twice. Each key is compared with
-    /// those of its mapping once, or looked up where the index knows its place.
+    /// those of its mapping once, or looked up where the index knows its place. A key of the outermost mapping that is
+    /// known as missing isn't compared.
     ///
     /// # Errors
     ///
     /// The fault of the first step before the last that leads nowhere, as [`at`](crate::at) says it;
     /// [`PathFault::OutOfMemory`] may come at any point.
     pub fn find(
+        alloc: Global,
+        tree: &Tree,
+        path: &Path,
+        keys: KnownKeys<'_>,
+    ) -> Result<StepPlaces, PathFault>
+        requires distinct { distinct (tree_of tree.now) ≡ true }
+        requires keys { KnowsKeys keys (tree_of tree.now) }
+        ensures ok { IfOk result (λ places. ArePlaces places (tree_of tree.now) path.now) }
+        ensures refused { IfErr result (λ fault. (fault ≡ PathFault.OutOfMemory)
+            ⊎ (at (tree_of tree.now) (parents_of path.now) ≡ Err fault)) }
+    {
+        if keys.lack(path) {
+            return Ok(StepPlaces {
+                parents: Vec::new(alloc),
+                last: None,
+                walked: None,
+            });
+        }
+        StepPlaces::search(alloc, tree, path, keys.index)
+    }
+
+    /// Finds the places as [`StepPlaces::find`] does, where nothing is known of missing keys.
+    fn search(
         alloc: Global,
         tree: &Tree,
         path: &Path,
@@ -67,6 +93,31 @@ impl StepPlaces {
             last,
             walked,
         })
+    }
+}
+
+/// What is known of the keys of a tree.
+#[derive(Clone, Copy)]
+pub struct KnownKeys<'k> {
+    /// Where the keys of a wide mapping are.
+    pub index: Option<&'k KeyIndex>,
+    /// The prints of the keys of the tree's outermost mapping.
+    pub prints: Option<&'k KeyPrints>,
+}
+
+impl KnownKeys<'_> {
+    /// Whether a path is one step, whose key the tree surely lacks.
+    pub(crate) fn lack(self, path: &Path) -> bool
+        ensures { result ≡ true → (t : Meant) → KnowsKeys self.entry t
+            → (key : List ℕ) × (path.now ≡ key ∷ []) × (key_in t key ≡ None) }
+    {
+        let Some(prints) = self.prints else {
+            return false;
+        };
+        let Some(key) = only_key(path) else {
+            return false;
+        };
+        prints.lack(key)
     }
 }
 

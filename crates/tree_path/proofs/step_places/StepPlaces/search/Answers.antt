@@ -10,7 +10,7 @@ use Rattle.tree_path.specs.Steps.{step_place, Leads}
 use Rattle.tree_path.proofs.Descents.{texts-append, texts-turn, at_from-turn, at_from-missed, last_key-parent}
 use Rattle.tree_path.proofs.EditLaws.{child-distinct}
 use Rattle.tree_path.proofs.Ways.{place-missed, Leads-push, parents-split}
-use Rattle.tree_path.proofs.step_places.StepPlaces.find.Goals as goal
+use Rattle.tree_path.proofs.step_places.StepPlaces.search.Goals as goal
 
 pub returns-in-Err-clause-refused : goal.returns-in-Err-clause-refused
 returns-in-Err-clause-refused c =
