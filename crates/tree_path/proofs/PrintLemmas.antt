@@ -9,7 +9,6 @@ use Rattle.yaml_grammar.specs.Texts.{same_text}
 use Rattle.yaml_grammar.specs.Trees.{Tree, text, sequence, mapping, Elements, Members, no_member, member}
 use Rattle.yaml_data.specs.Seen.{Pair, members_of}
 use Rattle.yaml_data.specs.TextBytes.{text_bytes}
-use Rattle.json_pointer.specs.declared.fault.PathFault.TheVariants.{NoSuchPlace}
 use Rattle.tree_path.specs.declared.place.Miss.{Miss}
 use Rattle.tree_path.specs.declared.place.Miss.TheVariants.{Absent}
 use Rattle.tree_path.specs.declared.key_prints.KeyCounts.{KeyCounts}
@@ -17,10 +16,9 @@ use Rattle.tree_path.specs.declared.key_prints.KeyPrints.{KeyPrints}
 use Rattle.tree_path.specs.Paths.{Index, number, after_last, no_index, index_of, at_index, present, put_element, cut_element, push_element, value_of, put_member, cut_member, place_of, key_in, last_key, child, put, cut, at_step, edit_from, delete}
 use Rattle.tree_path.specs.Paths as paths
 use Rattle.tree_path.specs.Prints.{next_print, print_after, print_of, has_print, members_with, keys_with, IsCounted, AreCounts, Covers, IsGrown, IsShrunk, only_step}
-use Rattle.tree_path.specs.Steps.{Leads, parents_of}
 use Rattle.tree_path.proofs.StepLaws.{option_map-Some, none-other, present-Ok}
 use Rattle.tree_path.proofs.EditLaws.{at_step-Ok, and_then-Ok, same_Ok}
-use Rattle.tree_path.proofs.Ways.{place_of-there, value_of-missed}
+use Rattle.tree_path.proofs.Ways.{place_of-there}
 
 -- ---- one key
 
@@ -393,19 +391,20 @@ pub some-there : {A : Type 0} (o : Option A) → is_some o ≡ true → (a : A) 
 some-there None is = cc
 some-there (Some a) is = (a, refl)
 
--- ---- a key that is known as missing
+-- ---- the only step of a path
 
--- the places of a path of one step, whose key is missing
-pub one-missing : (t : Tree) (path : List (List ℕ)) (parents : List ℕ) → (key : List ℕ) × (path ≡ key ∷ []) × (key_in t key ≡ None)
-    → Leads (parents_of path) t parents × (None ≡ last_key t path)
-one-missing t path parents (key, same, none) =
-    (subst (λ p. Leads (parents_of p) t parents) (sym same) tt, subst (λ p. None ≡ last_key t p) (sym same) (sym none))
+pub only-path : (path : List (List ℕ)) (key : List ℕ) → Some key ≡ only_step path → path ≡ key ∷ []
+only-path [] key is = cc
+only-path (token ∷ []) key is = let same : token ≡ key = cc in ap (λ k. k ∷ []) same
+only-path (token ∷ next ∷ tokens) key is = cc
 
--- nothing is at such a path in a mapping
-pub at-missing : (t : Tree) (ms : Members) (path : List (List ℕ)) → t ≡ mapping ms → (key : List ℕ) × (path ≡ key ∷ []) × (key_in t key ≡ None)
-    → paths.at t path ≡ Err (NoSuchPlace 1)
-unfolding child
-at-missing t ms path is (key, same, none) =
-    let missed : value_of ms key ≡ None = value_of-missed ms key (ap (λ x. key_in x key) (sym is) ∙ none) in
-    ap (λ p. paths.at t p) same ∙ ap (λ x. paths.at x (key ∷ [])) is
-    ∙ ap (λ o. at_step 1 (present o) (λ u. paths.at_from 2 u [])) missed
+-- what it leads to is at the path
+pub at-one : (t u : Tree) (path : List (List ℕ)) (key : List ℕ) → Some key ≡ only_step path → child t key ≡ Ok u → paths.at t path ≡ Ok u
+at-one t u path key is found =
+    ap (λ p. paths.at t p) (only-path path key is) ∙ ap (λ r. at_step 1 r (λ w. paths.at_from 2 w [])) found
+
+-- and where it misses is nothing
+pub at-one-missed : (t : Tree) (miss : Miss) (path : List (List ℕ)) (key : List ℕ) → Some key ≡ only_step path → child t key ≡ Err miss
+    → paths.at t path ≡ Err (paths.refusal miss 1)
+at-one-missed t miss path key is missed =
+    ap (λ p. paths.at t p) (only-path path key is) ∙ ap (λ r. at_step 1 r (λ w. paths.at_from 2 w [])) missed

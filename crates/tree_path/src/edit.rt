@@ -12,6 +12,7 @@ ghost use Rattle.tree_path.specs.Steps.{ArePlaces, Knows, KnowsWay, Lowered, Reb
 ghost use Rattle.json_pointer.specs.Tokens.{texts};
 
 use crate::key_index::KeyIndex;
+use crate::key_prints::only_key;
 use crate::place::{self, Miss};
 use crate::step_places::{Known, KnownKeys, StepPlaces};
 use json_pointer::{Path, PathFault};
@@ -43,10 +44,11 @@ pub fn at_by<'t>(tree: &'t Tree, path: &Path, keys: KnownKeys<'_>) -> Result<&'t
     ensures ok { IfOk result (λ value. at (tree_of tree.now) path.now ≡ Ok (tree_of value.now)) }
     ensures refused { IfErr result (λ fault. at (tree_of tree.now) path.now ≡ Err fault) }
 {
-    if let Tree::Map(_) = tree
-        && keys.lack(path)
-    {
-        return Err(PathFault::NoSuchPlace { step: 1 });
+    if let Some(key) = only_key(path) {
+        return match place::outermost_child(keys, tree, key) {
+            Ok(child) => Ok(child),
+            Err(miss) => Err(miss.at_step(1)),
+        };
     }
     value_by(tree, path.tokens(), keys.index)
 }

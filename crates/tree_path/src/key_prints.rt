@@ -93,7 +93,7 @@ impl KeyCounts {
 }
 
 /// Prints of the keys of a wide mapping, which say that a key is missing without a walk along the mapping. A missing
-/// key that has its prints in common with other keys is seldom known as missing.
+/// key isn't known as missing if each of its prints is also one of another key, which is seldom.
 #[derive(Debug, Drop)]
 pub struct KeyPrints {
     first: KeyCounts,

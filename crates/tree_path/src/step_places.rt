@@ -1,5 +1,5 @@
 // Where the steps of a path lead, kept so that an edit need not search for them again.
-ghost use Rattle.std.specs.Prelude.{◌≡◌, ◌⊎◌, ℕ, List, [], ◌∷◌, true, None, Err, IfOk, IfErr};
+ghost use Rattle.std.specs.Prelude.{◌≡◌, ◌⊎◌, [], ◌∷◌, true, Err, IfOk, IfErr};
 ghost use Rattle.std.specs.Str.{chars};
 ghost use Rattle.yaml_grammar.specs.Trees.{Tree as Meant, distinct};
 ghost use Rattle.yaml_data.specs.Seen.{tree_of};
@@ -9,7 +9,7 @@ ghost use Rattle.tree_path.specs.Steps.{ArePlaces, KnowsLast, KnowsStep, parents
 
 use crate::key_index::KeyIndex;
 use crate::key_prints::{KeyPrints, only_key};
-use crate::place::{self, Miss, key_in, key_in_by, step_place_by};
+use crate::place::{self, Miss, key_in, key_in_by, outermost_key_in, step_place_by};
 use json_pointer::{Path, PathFault};
 use std::alloc::Global;
 use yaml_data::Tree;
@@ -47,14 +47,25 @@ impl StepPlaces {
         ensures refused { IfErr result (λ fault. (fault ≡ PathFault.OutOfMemory)
             ⊎ (at (tree_of tree.now) (parents_of path.now) ≡ Err fault)) }
     {
-        if keys.lack(path) {
-            return Ok(StepPlaces {
-                parents: Vec::new(alloc),
-                last: None,
-                walked: None,
-            });
+        if let Some(key) = only_key(path) {
+            return Ok(StepPlaces::of_key(alloc, tree, key, keys));
         }
         StepPlaces::search(alloc, tree, path, keys.index)
+    }
+
+    /// The place of the only step of a path.
+    fn of_key(alloc: Global, tree: &Tree, key: &str, keys: KnownKeys<'_>) -> StepPlaces
+        requires distinct { distinct (tree_of tree.now) ≡ true }
+        requires keys { KnowsKeys keys (tree_of tree.now) }
+        ensures { ArePlaces result (tree_of tree.now) (chars key.now ∷ []) }
+    {
+        let mut walked = None;
+        let last = outermost_key_in(keys, tree, key, &mut walked);
+        StepPlaces {
+            parents: Vec::new(alloc),
+            last,
+            walked,
+        }
     }
 
     /// Finds the places as [`StepPlaces::find`] does, where nothing is known of missing keys.
@@ -103,22 +114,6 @@ pub struct KnownKeys<'k> {
     pub index: Option<&'k KeyIndex>,
     /// The prints of the keys of the tree's outermost mapping.
     pub prints: Option<&'k KeyPrints>,
-}
-
-impl KnownKeys<'_> {
-    /// Whether a path is one step, whose key the tree surely lacks.
-    pub(crate) fn lack(self, path: &Path) -> bool
-        ensures { result ≡ true → (t : Meant) → KnowsKeys self.entry t
-            → (key : List ℕ) × (path.now ≡ key ∷ []) × (key_in t key ≡ None) }
-    {
-        let Some(prints) = self.prints else {
-            return false;
-        };
-        let Some(key) = only_key(path) else {
-            return false;
-        };
-        prints.lack(key)
-    }
 }
 
 /// What is known of the places to which the steps of a path lead.

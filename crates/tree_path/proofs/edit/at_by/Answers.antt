@@ -1,11 +1,16 @@
-use Rattle.std.proofs.Common.{ap, ◌∙◌}
-use Rattle.yaml_data.specs.Seen.{tree_of, members_of}
-use Rattle.yaml_data.proofs.SeenLemmas.{tree_of-Map}
-use Rattle.tree_path.proofs.PrintLemmas.{at-missing}
+use Rattle.std.proofs.Common.{Err, option_map, sym, ap, ◌∙◌}
+use Rattle.std.specs.Str.{chars}
+use Rattle.yaml_data.specs.Seen.{tree_of}
+use Rattle.tree_path.proofs.PrintLemmas.{at-one, at-one-missed}
 use Rattle.tree_path.proofs.edit.at_by.Goals as goal
 
-pub returns-clause-refused : goal.returns-clause-refused
-returns-clause-refused c =
-    let v = c.in-Map.field-0 in
-    at-missing (tree_of c.args.tree.now) (members_of v.items) c.args.path.now (ap tree_of c.in-Map.is ∙ tree_of-Map v)
-    (c.lack.ensures c.if-lack.true (tree_of c.args.tree.now) c.requires.keys)
+pub returns-in-Ok-clause-ok : goal.returns-in-Ok-clause-ok
+returns-in-Ok-clause-ok c =
+    at-one (tree_of c.args.tree.now) (tree_of c.in-Ok.child.now) c.args.path.now (chars c.in-Some.key.now)
+    (sym (ap (option_map (λ key. chars key.now)) c.in-Some.is) ∙ c.only_key.ensures) c.in-Ok.ensures.ok
+
+pub returns-in-Err-clause-refused : goal.returns-in-Err-clause-refused
+returns-in-Err-clause-refused c =
+    at-one-missed (tree_of c.args.tree.now) c.in-Err.miss c.args.path.now (chars c.in-Some.key.now)
+    (sym (ap (option_map (λ key. chars key.now)) c.in-Some.is) ∙ c.only_key.ensures) c.in-Err.ensures.missed
+    ∙ ap Err (sym c.at_step.ensures)
