@@ -4,6 +4,7 @@ pub mod Edits
 pub mod KeyLemmas
 pub mod Numbers
 pub mod Places
+pub mod PrintLemmas
 pub mod StepLaws
 pub mod Steps
 pub mod Ways

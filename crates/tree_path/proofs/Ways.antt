@@ -24,7 +24,7 @@ use Rattle.tree_path.proofs.StepLaws.{option_map-Some, option_map-None, present-
 -- ---- the place of a step
 
 -- of a key that is there
-place_of-there : (ms : Members) (key : List ℕ) (c : Tree) → value_of ms key ≡ Some c → (i : ℕ) × (place_of ms key ≡ Some i)
+pub place_of-there : (ms : Members) (key : List ℕ) (c : Tree) → value_of ms key ≡ Some c → (i : ℕ) × (place_of ms key ≡ Some i)
 place_of-there no_member key c is = cc
 place_of-there (member other t ms) key c is =
     let P : Bool → Type 0 = λ b. cond b (Some t) (value_of ms key) ≡ Some c → (i : ℕ) × (cond b (Some 0) (option_map suc (place_of ms key)) ≡ Some i) in
@@ -34,7 +34,7 @@ place_of-there (member other t ms) key c is =
     ]) is
 
 -- of one that is missing
-value_of-missed : (ms : Members) (key : List ℕ) → place_of ms key ≡ None → value_of ms key ≡ None
+pub value_of-missed : (ms : Members) (key : List ℕ) → place_of ms key ≡ None → value_of ms key ≡ None
 value_of-missed no_member key is = refl
 value_of-missed (member other t ms) key is =
     let P : Bool → Type 0 = λ b. cond b (Some 0) (option_map suc (place_of ms key)) ≡ None → cond b (Some t) (value_of ms key) ≡ None in

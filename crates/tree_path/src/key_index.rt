@@ -95,13 +95,18 @@ impl KeyIndex {
         None
     }
 
+    /// Whether it is the index of a mapping. Then there were some walks along wide mappings.
+    pub fn is_made(&self) -> bool {
+        !self.newest.is_empty()
+    }
+
     /// Counts a walk along a wide mapping, from a search for the steps of a path. After some walks the index becomes
     /// that of this mapping, if there is memory.
     pub fn count_walk(&mut self, alloc: Global, tree: &Tree, path: &Path, places: &StepPlaces) {
         let Some(steps) = places.walked.and_then(|passed| path.tokens().get(..passed)) else {
             return;
         };
-        if places.last.is_none() && matches!(self.reach(path), Reach::Key) {
+        if self.is_made() && places.last.is_none() && matches!(self.reach(path), Reach::Key) {
             return;
         }
         self.walks = self.walks.saturating_add(1);

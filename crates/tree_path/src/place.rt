@@ -4,15 +4,17 @@ ghost use Rattle.std.specs.Str.{chars};
 ghost use Rattle.yaml_grammar.specs.Trees.{sequence, mapping, distinct, members_distinct};
 ghost use Rattle.yaml_data.specs.Seen.{tree_of, elements_of, members_of};
 ghost use Rattle.tree_path.specs.Paths.{child, put, refusal, key_in};
+ghost use Rattle.tree_path.specs.Prints.{KnowsKeys};
 ghost use Rattle.tree_path.specs.Steps.{number_of, as_usize, index_below, step_place, key_place as place_of};
 
 use crate::key_index::KeyIndex;
+use crate::step_places::KnownKeys;
 use json_pointer::PathFault;
 use std::mem;
 use yaml_data::{Text, Tree};
 
 /// The fewest pairs of a wide mapping, whose keys an index may know. In a smaller one they are compared one by one.
-const WIDE: usize = 64;
+pub(crate) const WIDE: usize = 64;
 
 /// Why a step leads to nothing.
 #[derive(Clone, Copy, Debug, PartialEq, Eq)]
@@ -159,6 +161,52 @@ pub(crate) fn step_place_by(
     }
 }
 
+/// The same as [`key_in`] in the outermost mapping, by what is known of its keys. A walk along a wide mapping is noted
+/// in `walked`, with no steps that lead to it.
+pub(crate) fn outermost_key_in(
+    keys: KnownKeys<'_>,
+    tree: &Tree,
+    key: &str,
+    walked: &mut Option<usize>,
+) -> Option<usize>
+    requires distinct { distinct (tree_of tree.now) ≡ true }
+    requires keys { KnowsKeys keys (tree_of tree.now) }
+    ensures { result ≡ key_in (tree_of tree.now) (chars key.now) }
+{
+    match tree {
+        Tree::Map(pairs) => outermost_key_place(keys, pairs, key, walked),
+        _ => None,
+    }
+}
+
+/// The same as [`key_place`] in the outermost mapping. The index is asked first, since a key that is there has prints.
+fn outermost_key_place(
+    keys: KnownKeys<'_>,
+    pairs: &[(Text, Tree)],
+    key: &str,
+    walked: &mut Option<usize>,
+) -> Option<usize>
+    requires distinct { members_distinct (members_of pairs.now) ≡ true }
+    requires keys { KnowsKeys keys (mapping (members_of pairs.now)) }
+    ensures { result ≡ place_of (chars key.now) pairs.now }
+{
+    if pairs.len() < WIDE {
+        return key_place(pairs, key);
+    }
+    if let Some(index) = keys.index
+        && let Some(place) = index.find(pairs, key)
+    {
+        return Some(place);
+    }
+    if let Some(prints) = keys.prints
+        && prints.lack(key)
+    {
+        return None;
+    }
+    *walked = Some(0);
+    key_place(pairs, key)
+}
+
 /// The value at the place of a step, as [`step_place`] returns it.
 pub fn child_in(tree: &Tree, place: usize) -> &Tree
     requires { (token : List ℕ) × (step_place (tree_of tree.now) token ≡ Ok place) }
@@ -180,6 +228,41 @@ pub fn child<'t>(tree: &'t Tree, token: &str) -> Result<&'t Tree, Miss>
     ensures missed { IfErr result (λ miss. child (tree_of tree.now) (chars token.now) ≡ Err miss) }
 {
     child_at(tree, token, key_in(tree, token))
+}
+
+/// The same as [`child`], by an index where there is one.
+pub(crate) fn child_by<'t>(
+    index: Option<&KeyIndex>,
+    tree: &'t Tree,
+    token: &str,
+) -> Result<&'t Tree, Miss>
+    requires { distinct (tree_of tree.now) ≡ true }
+    ensures ok { IfOk result (λ value. child (tree_of tree.now) (chars token.now)
+        ≡ Ok (tree_of value.now)) }
+    ensures missed { IfErr result (λ miss. child (tree_of tree.now) (chars token.now) ≡ Err miss) }
+{
+    let mut walked = None;
+    child_at(tree, token, key_in_by(index, tree, token, 0, &mut walked))
+}
+
+/// The same as [`child`] of the whole tree, by what is known of its keys.
+pub(crate) fn outermost_child<'t>(
+    keys: KnownKeys<'_>,
+    tree: &'t Tree,
+    token: &str,
+) -> Result<&'t Tree, Miss>
+    requires distinct { distinct (tree_of tree.now) ≡ true }
+    requires keys { KnowsKeys keys (tree_of tree.now) }
+    ensures ok { IfOk result (λ value. child (tree_of tree.now) (chars token.now)
+        ≡ Ok (tree_of value.now)) }
+    ensures missed { IfErr result (λ miss. child (tree_of tree.now) (chars token.now) ≡ Err miss) }
+{
+    let mut walked = None;
+    child_at(
+        tree,
+        token,
+        outermost_key_in(keys, tree, token, &mut walked),
+    )
 }
 
 /// The value to which a step leads, where the place of its token as a key is known, as [`key_in`] returns it. The misses

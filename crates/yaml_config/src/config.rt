@@ -1,5 +1,5 @@
 // A tree that is good to keep.
-ghost use Rattle.std.specs.Prelude.{◌≡◌, ◌+◌, ◌*◌, ◌^◌, ◌<◌, ◌≤◌, true, [], IfOk, IfErr};
+ghost use Rattle.std.specs.Prelude.{◌≡◌, ◌+◌, ◌*◌, ◌^◌, ◌<◌, ◌≤◌, true, [], Ok, Err, IfOk, IfErr, IfSome};
 ghost use Rattle.yaml_grammar.specs.Reads.{Good};
 ghost use Rattle.yaml_grammar.specs.Style.{lines_after_dash, style_text};
 ghost use Rattle.yaml_grammar.specs.Texts.{byte_len};
@@ -8,12 +8,14 @@ ghost use Rattle.yaml_config.specs.Changes.{child_size};
 ghost use Rattle.yaml_config.specs.Kept.{IsKept, IsFirstFault, own_limits, limits_of};
 ghost use Rattle.yaml_data.specs.Seen.{tree_of};
 ghost use Rattle.yaml_writer.specs.Sizes.{element_size, indented};
+ghost use Rattle.tree_path.specs.Paths.{at};
+ghost use Rattle.tree_path.specs.Prints.{Covers, KnowsKeys};
 
 use crate::change::Slot;
 use crate::limits::Limits;
 use std::alloc::{AllocError, Global};
 use std::marker::Model;
-use tree_path::KeyIndex;
+use tree_path::{KeyIndex, KeyPrints, KnownKeys, Path, PathFault, at_by};
 use yaml_data::{Text, Tree, has_distinct_keys};
 use yaml_events::ReadFault;
 use yaml_writer::{Size, style_len};
@@ -31,6 +33,8 @@ pub struct Config {
     lines: Option<u64>,
     /// Where the keys of the wide mapping are in which keys were last searched for: a hint, of which nothing is known.
     index: Option<Box<KeyIndex>>,
+    /// The prints of the keys of the outermost mapping.
+    prints: Option<Box<KeyPrints>>,
 }
 
 impl Model for Config {
@@ -47,12 +51,14 @@ impl Model for Config {
     ghost use Rattle.yaml_config.specs.Kept.{IsKept};
     ghost use Rattle.yaml_data.specs.Seen.{tree_of};
     ghost use Rattle.yaml_writer.specs.Sizes.{indented};
+    ghost use Rattle.tree_path.specs.Prints.{Covers};
 
     ghost view = { λ c. c.tree };
 
     ghost invariant = { λ c. IsKept (tree_of c.tree)
         × (c.length ≡ byte_len (style_text (tree_of c.tree)))
-        × IfSome c.lines (λ lines. lines ≡ indented (tree_of c.tree)) };
+        × IfSome c.lines (λ lines. lines ≡ indented (tree_of c.tree))
+        × IfSome c.prints (λ prints. Covers prints.value (tree_of c.tree)) };
 }
 
 impl Config {
@@ -140,6 +146,7 @@ impl Config {
             length,
             lines: None,
             index: None,
+            prints: None,
         }
     }
 
@@ -156,6 +163,7 @@ impl Config {
             length,
             lines: Some(element.lines as u64),
             index: None,
+            prints: None,
         }
     }
 
@@ -168,6 +176,7 @@ impl Config {
             length: EMPTY_LENGTH,
             lines: Some(0),
             index: None,
+            prints: None,
         }
     }
 
@@ -177,6 +186,15 @@ impl Config {
         ensures kept { IsKept (tree_of self.now) }
     {
         &self.tree
+    }
+
+    /// The value at a path (RFC 6901, 4), as [`tree_path::at`] finds it, with the same faults. A key of a wide mapping
+    /// is looked up where the configuration has an index of the mapping. It takes no memory.
+    pub fn value_at(&self, path: &Path) -> Result<&Tree, PathFault>
+        ensures ok { IfOk result (λ value. at (tree_of self.now) path.now ≡ Ok (tree_of value.now)) }
+        ensures refused { IfErr result (λ fault. at (tree_of self.now) path.now ≡ Err fault) }
+    {
+        at_by(self.tree(), path, self.known_keys())
     }
 
     /// The tree, taken out of the configuration, so that it can be changed.
@@ -225,15 +243,23 @@ impl Config {
             length: self.length,
             lines: self.lines,
             index: None,
+            prints: None,
         })
     }
 
-    /// The index of a wide mapping, if there is one.
-    pub(crate) fn index(&self) -> Option<&KeyIndex> {
-        match &self.index {
-            Some(index) => Some(index),
+    /// What is known of the keys of the tree.
+    pub(crate) fn known_keys(&self) -> KnownKeys<'_>
+        ensures { KnowsKeys result (tree_of self.now) }
+    {
+        let index = match &self.index {
+            Some(index) => Some(&**index),
             None => None,
-        }
+        };
+        let prints = match &self.prints {
+            Some(prints) => Some(&**prints),
+            None => None,
+        };
+        KnownKeys { index, prints }
     }
 
     /// The index of a wide mapping, taken out of the configuration.
@@ -248,6 +274,48 @@ impl Config {
         ensures { self.new ≡ self.old }
     {
         self.index = index;
+    }
+
+    /// The prints of the keys of the outermost mapping, taken out of the configuration.
+    pub(crate) fn take_prints(&mut self) -> Option<Box<KeyPrints>>
+        ensures same { self.new ≡ self.old }
+        ensures prints { IfSome result (λ prints. Covers prints.value (tree_of self.old)) }
+    {
+        self.prints.take()
+    }
+
+    /// Puts prints of the keys of the outermost mapping in.
+    pub(crate) fn put_prints(&mut self, prints: Option<Box<KeyPrints>>)
+        requires { IfSome prints (λ prints. Covers prints.value (tree_of self.old)) }
+        ensures { self.new ≡ self.old }
+    {
+        self.prints = prints;
+    }
+
+    /// Makes the prints of the keys of the outermost mapping, or makes them anew where there are too few for the keys.
+    /// There are none if memory runs out, or the mapping isn't wide.
+    pub(crate) fn renew_prints(&mut self, alloc: Global)
+        ensures { self.new ≡ self.old }
+    {
+        if let Some(prints) = &self.prints
+            && !prints.are_crowded(&self.tree)
+        {
+            return;
+        }
+        self.prints = prints_of(alloc, &self.tree);
+    }
+}
+
+/// The prints of the keys of a tree that is a wide mapping; `None` if it is none, or memory runs out.
+fn prints_of(alloc: Global, tree: &Tree) -> Option<Box<KeyPrints>>
+    ensures { IfSome result (λ prints. Covers prints.value (tree_of tree.now)) }
+{
+    let Some(prints) = KeyPrints::of_tree(alloc, tree) else {
+        return None;
+    };
+    match Box::new(alloc, prints) {
+        Ok(prints) => Some(prints),
+        Err(_) => None,
     }
 }
 

@@ -1,11 +1,12 @@
 // Edits inside a configuration, planned and made.
-ghost use Rattle.std.specs.Prelude.{◌≡◌, ◌⊎◌, ◌<◌, ◌≤◌, true, Ok, Err, OnOk, OnErr, IfOk, IfErr, length, nat_le};
+ghost use Rattle.std.specs.Prelude.{◌≡◌, ◌⊎◌, ◌<◌, ◌≤◌, true, Ok, Err, OnOk, OnErr, IfOk, IfErr, IfSome, length, nat_le};
 ghost use Rattle.yaml_grammar.specs.Reads.{Good};
 ghost use Rattle.yaml_grammar.specs.Texts.{byte_len};
 ghost use Rattle.yaml_grammar.specs.Trees.{Tree as Meant, depth, distinct};
 ghost use Rattle.yaml_grammar.specs.Style.{style_text};
 ghost use Rattle.yaml_data.specs.Seen.{tree_of};
 ghost use Rattle.yaml_config.specs.Changes.{Changes};
+ghost use Rattle.tree_path.specs.Prints.{Covers};
 ghost use Rattle.tree_path.specs.Steps.{ArePlaces};
 ghost use Rattle.yaml_config.specs.Edits.{tree_after_edit};
 ghost use Rattle.yaml_config.specs.Limits.{config_limits};
@@ -17,7 +18,7 @@ use crate::limits::Limits;
 use crate::measure::{Plan, plan_delete, plan_set_sized};
 use std::alloc::Global;
 use std::mem;
-use tree_path::{KeyIndex, Path, PathFault, StepPlaces, delete_planned, set_planned};
+use tree_path::{KeyIndex, KeyPrints, Path, PathFault, StepPlaces, delete_planned, set_planned};
 use yaml_data::Tree;
 
 /// An edit of a configuration, at a path that is not empty (RFC 6901). It can be planned before anything changes, and
@@ -93,8 +94,14 @@ impl Edit {
     {
         let index = with_walk(config.take_index(), alloc, config.tree(), path, places);
         let index = self.noted_in(index, path, places);
+        let wants_prints = is_made(&index) && is_walk_for_new_key(places);
+        let prints = self.prints_after(config.take_prints(), path, places);
         self.edit_config(alloc, config, path, places, bytes)?;
         config.put_index(index);
+        config.put_prints(prints);
+        if wants_prints {
+            config.renew_prints(alloc);
+        }
         Ok(())
     }
 
@@ -111,6 +118,29 @@ impl Edit {
             Edit::Delete => index.note_delete(path, places),
         }
         Some(index)
+    }
+
+    /// The prints of the keys of the outermost mapping, as they are after the edit.
+    fn prints_after(
+        &self,
+        prints: Option<Box<KeyPrints>>,
+        path: &Path,
+        places: &StepPlaces,
+    ) -> Option<Box<KeyPrints>>
+        requires { 0 < length path.now }
+        ensures { (t new : Meant) → ArePlaces places.now t path.now
+            → IfSome prints (λ prints. Covers prints.value t)
+            → tree_after_edit self.now t path.now ≡ Ok new
+            → IfSome result (λ prints. Covers prints.value new) }
+    {
+        let Some(mut prints) = prints else {
+            return None;
+        };
+        match self {
+            Edit::Set(_) => prints.note_set(path, places),
+            Edit::Delete => prints.note_delete(path),
+        }
+        Some(prints)
     }
 
     /// Makes the edit that was planned, as [`Edit::perform`] does, in a configuration that has no index.
@@ -181,6 +211,19 @@ impl Edit {
             }
         }
     }
+}
+
+/// Whether there is an index of a wide mapping, so that keys were searched for several times.
+fn is_made(index: &Option<Box<KeyIndex>>) -> bool {
+    match index {
+        Some(index) => index.is_made(),
+        None => false,
+    }
+}
+
+/// Whether a search for the step of a path walked along the outermost mapping, and the mapping has no such key.
+fn is_walk_for_new_key(places: &StepPlaces) -> bool {
+    places.parents.is_empty() && places.last.is_none() && places.walked.is_some()
 }
 
 /// The index, after a search for the steps of a path: it is made or replaced if there were some walks along wide

@@ -4,7 +4,7 @@ use Rattle.yaml_data.specs.Seen.{tree_of}
 use Rattle.tree_path.specs.Paths.{at}
 use Rattle.tree_path.specs.Steps.{Leads}
 use Rattle.json_pointer.specs.Tokens.{texts}
-use Rattle.tree_path.proofs.step_places.StepPlaces.find.Given as goal
+use Rattle.tree_path.proofs.step_places.StepPlaces.search.Given as goal
 
 abbrev pub invariant-loop-passed : goal.invariant-loop-passed
 invariant-loop-passed l =
