@@ -1,5 +1,5 @@
 -- What the text goes on with after the spaces that are left, it goes on with after all of them.
-use Rattle.std.specs.Prelude.{ℕ, List}
+use Rattle.std.specs.Prelude.{List, ℕ}
 use Rattle.yaml_grammar.specs.Texts.{spaces}
 use Rattle.conf_record.specs.Comparing.{GoesOn}
 use Rattle.conf_record.proofs.comparison.ComparisonSink.put_spaces.Given as goal
