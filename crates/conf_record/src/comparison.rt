@@ -7,6 +7,9 @@ use yaml_tree::Sink;
 #[derive(Drop)]
 pub(crate) struct Differs;
 
+/// The most spaces that are compared at once.
+const SPACES: &str = "                                                                ";
+
 /// A sink that compares what is written with a text. It fails at the first piece that the text does not go on with. It
 /// takes no memory.
 #[derive(Drop)]
@@ -60,14 +63,21 @@ impl Sink for Comparison<'_> {
     }
 
     fn put_char(&mut self, c: char) -> Result<(), Differs> {
-        let mut bytes = [0; 4];
-        self.compare(c.encode_utf8(&mut bytes))
+        match self.rest.strip_prefix(c) {
+            Some(rest) => {
+                self.rest = rest;
+                Ok(())
+            }
+            None => Err(Differs),
+        }
     }
 
     fn put_spaces(&mut self, count: u64) -> Result<(), Differs> {
-        for _ in 0..count {
-            self.compare(" ")?;
+        let mut left = count as usize;
+        while left > SPACES.len() {
+            self.compare(SPACES)?;
+            left -= SPACES.len();
         }
-        Ok(())
+        self.compare(&SPACES[..left])
     }
 }

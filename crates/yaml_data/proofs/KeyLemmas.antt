@@ -47,7 +47,7 @@ pub contains-is_seen : (k : Key) (ks : List Key) → list_any (is_at (key_cmp k)
 contains-is_seen k [] = refl
 contains-is_seen k (x ∷ xs) = ap₂ (λ a b. a || b) (compared k.now x.now) (contains-is_seen k xs)
 
-same_bytes : (a b : List ℕ) → IsUtf8 a → IsUtf8 b → chars a ≡ chars b → a ≡ b
+pub same_bytes : (a b : List ℕ) → IsUtf8 a → IsUtf8 b → chars a ≡ chars b → a ≡ b
 same_bytes a b utf8 utf8' e = sym (encodes-chars a utf8) ∙ ap encode_utf8_all e ∙ encodes-chars b utf8'
 
 same_chars : (a b : List ℕ) → IsUtf8 a → IsUtf8 b → same_text (chars a) (chars b) ≡ same_text a b

@@ -5,6 +5,7 @@ ghost use Rattle.yaml_grammar.specs.Trees.{distinct, has_key};
 ghost use Rattle.yaml_data.specs.Keys.{key_members, keys_differ, own_keys_differ, level_distinct, levels_distinct, level_nodes, nodes, steps_left};
 ghost use Rattle.yaml_data.specs.Seen.{tree_of};
 
+use crate::prints::have_distinct_prints;
 use crate::{Text, Tree};
 use std::alloc::{AllocError, Global};
 use std::collections::BTreeSet;
@@ -112,6 +113,9 @@ pub fn keys_differ<T>(alloc: Global, pairs: &[(Text, T)]) -> Result<bool, AllocE
 {
     if pairs.len() <= FEW {
         return Ok(few_keys_differ(pairs));
+    }
+    if have_distinct_prints(alloc, pairs)? {
+        return Ok(true);
     }
     many_keys_differ(alloc, pairs)
 }

@@ -3,6 +3,7 @@
 #![tactic(auto)]
 
 mod keys;
+mod prints;
 mod short;
 mod text;
 mod tree;

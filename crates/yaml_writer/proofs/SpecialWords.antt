@@ -1,8 +1,11 @@
 -- A text is a special word just where it is one of those of its length, in any letter case.
-use Rattle.std.proofs.Common.{◌≡◌, ℕ, suc, ◌==◌, ◌&&◌, ◌||◌, Bool, true, false, List, [], ◌∷◌, length, if◌then◌else◌, refl, sym, ap, ◌∙◌}
+use Rattle.std.proofs.Common.{◌≡◌, ℕ, suc, ◌+◌, ◌==◌, ◌&&◌, ◌||◌, Bool, true, false, List, [], ◌∷◌, length, if◌then◌else◌, refl, sym, ap, ◌∙◌, arith}
 use Rattle.std.proofs.lemmas.Bool.{ne_eqb, eqb-false}
+use Rattle.std.proofs.lemmas.Bool.Decides.{nat_tests}
+use Rattle.yaml_chars.specs.Classes.{in_range, is_in}
 use Rattle.yaml_grammar.specs.Texts.{same_text}
 use Rattle.yaml_grammar.specs.Style.{lower, is_among, special_words}
+use Rattle.yaml_writer.specs.ScalarStyles.{special_initials}
 
 -- lowercase letters keep a text's length
 pub length-lower : (cs : List ℕ) → length (lower cs) ≡ length cs
@@ -66,3 +69,14 @@ second {word = word} never found split =
 -- the only word decides
 pub only : {word result whole : Bool} → result ≡ word → whole ≡ (word || false) → result ≡ whole
 only {word = word} found split = found ∙ sym (or-false word) ∙ sym split
+
+-- no special word starts with another letter
+pub other_initial : (c : ℕ) (rest : List ℕ) → is_in c special_initials ≡ false
+    → is_among (lower (c ∷ rest)) special_words ≡ false
+other_initial c rest e =
+    let f : ((if in_range 65 90 c then c + 32 else c) == 102) ≡ false = grind (arith, nat_tests, e) in
+    let n : ((if in_range 65 90 c then c + 32 else c) == 110) ≡ false = grind (arith, nat_tests, e) in
+    let o : ((if in_range 65 90 c then c + 32 else c) == 111) ≡ false = grind (arith, nat_tests, e) in
+    let t : ((if in_range 65 90 c then c + 32 else c) == 116) ≡ false = grind (arith, nat_tests, e) in
+    let y : ((if in_range 65 90 c then c + 32 else c) == 121) ≡ false = grind (arith, nat_tests, e) in
+    rw (f, n, o, t, y) refl

@@ -1,5 +1,5 @@
 -- Which style a scalar has in the one style, as a key and as a value.
-use Rattle.std.specs.Prelude.{ℕ, zero, suc, List, if◌then◌else◌}
+use Rattle.std.specs.Prelude.{ℕ, zero, suc, List, codes, if◌then◌else◌}
 use Rattle.yaml_grammar.specs.Style.{plain_in_style, literal_in_style, feeds_at_end}
 use Rattle.yaml_writer.specs.declared.scalar_style.ScalarStyle.{ScalarStyle}
 use Rattle.yaml_writer.specs.declared.scalar_style.ScalarStyle.TheVariants.{Plain, Double, LiteralStrip, LiteralClip, LiteralKeep}
@@ -20,3 +20,7 @@ value_style value =
     if plain_in_style value then Plain
     else if literal_in_style value then literal_style (feeds_at_end value)
     else Double
+
+-- the letters, small and capital, with which special words start
+abbrev pub special_initials : List ℕ
+special_initials = codes "FNOTYfnoty"

@@ -1,12 +1,12 @@
 // How the one style writes a scalar.
-ghost use Rattle.std.specs.Prelude.{◌≡◌, ◌&&◌, IsTrue};
+ghost use Rattle.std.specs.Prelude.{◌≡◌, ◌&&◌, false, IsTrue};
 ghost use Rattle.std.specs.Str.{chars};
 ghost use Rattle.yaml_grammar.specs.Style.{letter, word_char, shown, plain_in_style, literal_in_style, special_words, lower, is_among, shown_or_feed, space_or_feed, feeds_at_end};
 ghost use Rattle.std.specs.List.{list_all};
 ghost use Rattle.yaml_grammar.specs.Texts.{first, same_text};
 ghost use Rattle.yaml_chars.specs.Classes.{is_in};
 ghost use Rattle.yaml_chars.specs.Signs.{line_feed};
-ghost use Rattle.yaml_writer.specs.ScalarStyles.{value_style, key_style, literal_style};
+ghost use Rattle.yaml_writer.specs.ScalarStyles.{value_style, key_style, literal_style, special_initials};
 
 use crate::bytes::{LineBytes, WordBytes, are_all};
 use crate::lines::split_line;
@@ -94,6 +94,37 @@ fn has_word_chars(text: &str) -> bool
 
 /// Whether a text of ASCII is, in any letter case, a word that other readers of YAML take for something else.
 fn is_special(text: &str) -> bool
+    requires { chars text.now ≡ text.now }
+    ensures { result ≡ is_among (lower (chars text.now)) special_words }
+{
+    starts_as_special(text) && is_special_word(text)
+}
+
+/// Whether a text of ASCII starts with the first letter of a special word, in any letter case.
+#[inline(always)]
+fn starts_as_special(text: &str) -> bool
+    requires { chars text.now ≡ text.now }
+    ensures { result ≡ false → is_among (lower (chars text.now)) special_words ≡ false }
+{
+    match text.as_bytes().first() {
+        Some(byte) => is_special_initial(*byte),
+        None => false,
+    }
+}
+
+/// Whether a byte is, in any letter case, the first letter of a special word.
+#[inline(always)]
+fn is_special_initial(byte: u8) -> bool
+    ensures { result ≡ is_in byte special_initials }
+{
+    matches!(
+        byte,
+        b'F' | b'N' | b'O' | b'T' | b'Y' | b'f' | b'n' | b'o' | b't' | b'y'
+    )
+}
+
+/// Whether a text of ASCII is one of the special words of its length, in any letter case.
+fn is_special_word(text: &str) -> bool
     requires { chars text.now ≡ text.now }
     ensures { result ≡ is_among (lower (chars text.now)) special_words }
 {
