@@ -23,7 +23,8 @@ use Rattle.yaml_scan.specs.declared.lines.Line.{Line as NextLine}
 use Rattle.yaml_flow_scalars.specs.PlainPlaces.{NoNextLine}
 
 -- where a plain scalar ends no further line of it is read
-no_line : (n : ℕ) (after : List ℕ) → scalar_ends n outer (plain [] []) after ≡ true → read_plain_line n outer after ≡ None
+no_line : (n : ℕ) (after : List ℕ) → scalar_ends n outer (plain [] []) after ≡ true
+    → read_plain_line n outer after ≡ None
 unfolding scalar_ends plain_ends
 no_line n after h = none (read_plain_line n outer after) (and_parts _ _ h).1
   where

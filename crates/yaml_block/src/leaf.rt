@@ -63,8 +63,8 @@ impl<'a> Reader<'a> {
         })
     }
 
-    /// Reads a flow node, which may be the first key of a mapping. Where the value of the key is the rest of the line, it
-    /// reads this too.
+    /// Reads a flow node, which may be the first key of a mapping. Where the value of the key is the rest of the line,
+    /// it reads this too.
     fn flow_leaf(&mut self, text: &'a str, leaf: Leaf) -> Result<Next, ScanFault>
         requires at { IsCharBoundary text.now leaf.at }
         requires pairs { IfSome leaf.pairs (λ indent. indent ≤ leaf.at) }

@@ -30,9 +30,10 @@ pub(crate) struct LineValue {
     pub after: Line,
 }
 
-/// Returns the value of a pair in a mapping at `indent`, if its `:` is at `colon` and one space is before the value, which
-/// begins with an ASCII letter or digit and is the rest of the line, and if the next line is not deeper than the mapping.
-/// Most values are such. Returns None at any other, and where the text ends without a break.
+/// Returns the value of a pair whose `:` is at `colon`, in a mapping at `indent`, if it is the rest of its line.
+///
+/// One space is before the value, which begins with an ASCII letter or digit, and the next line is not deeper than the
+/// mapping. Most values are such. Returns None at any other, and where the text ends without a break.
 #[inline(always)]
 pub(crate) fn line_value(text: &str, colon: usize, indent: usize) -> Option<LineValue>
     requires at { IsCharBoundary text.now colon }
@@ -63,7 +64,7 @@ pub(crate) fn line_value(text: &str, colon: usize, indent: usize) -> Option<Line
 }
 
 impl<'a> Reader<'a> {
-    /// Appends the event of the plain scalar between two places of one line, where the last part ends.
+    /// Appends the event of the plain scalar between two places of one line. The last part ends with it.
     #[inline(always)]
     pub(crate) fn put_plain(
         &mut self,
@@ -92,8 +93,8 @@ impl<'a> Reader<'a> {
         Ok(())
     }
 
-    /// Reads the value of a pair that is the rest of its line, and the end of the mapping where no further pair
-    /// follows. Returns what is read next.
+    /// Reads the value of a pair, which is the rest of its line. Closes the mapping if no further pair follows. Returns
+    /// what is read next.
     #[inline(always)]
     pub(crate) fn line_pair(
         &mut self,

@@ -1,4 +1,4 @@
-// A further pair of a mapping (YAML 1.2.2, 8.2.2).
+// Further pairs of a mapping (YAML 1.2.2, 8.2.2).
 ghost use Rattle.std.specs.Prelude.{◌≡◌, ◌*◌, ◌+◌, ◌-◌, ◌<◌, nat_le, true, IfOk, IfErr, IfSome, length};
 ghost use Rattle.std.specs.Str.{IsCharBoundary};
 ghost use Rattle.yaml_chars.specs.Places.{between, rest};
@@ -57,7 +57,7 @@ impl<'a> Reader<'a> {
         }
     }
 
-    /// Reads the start of a further pair of a mapping, whatever its key is: its key on one line with the `:`, or its `?`.
+    /// Reads the start of a further pair of a mapping: its key, of any kind, on one line with the `:`, or its `?`.
     /// Returns what is read next.
     #[inline(never)]
     fn any_pair(&mut self, text: &'a str, at: usize, indent: usize) -> Result<Next, ScanFault>

@@ -21,13 +21,18 @@ plain_first_line_end-requires c =
     past_space c.args.text.now c.utf8.text c.args.colon c.requires.at
     (sym c.stands_at.ensures ∙ c.if-not-stands_at.false) (sym c.stands_at-2.ensures ∙ c.if-not-stands_at-2.false)
 
-whole : (c : goal.Else-after-indent) → ScalarAt plain_style (c.args.indent + 1) outer c.args.text.now (c.args.colon + 1 + 1)
-    (between c.args.text.now (c.args.colon + 1 + 1) c.in-Some.end) c.in-Some.end
-whole c = c.in-Some.ensures.whole (c.args.indent + 1) (no_further_line (c.args.indent + 1) c.args.text.now c.in-Some.end _
-    (line_after_end c.args.text.now c.in-Some.end c.in-Some-rest_of_line_end.next c.solid_line-after.result
-    c.in-Some-rest_of_line_end.ensures.found c.solid_line-after.ensures.found)
-    (closes_after_end c.args.text.now c.in-Some.end c.in-Some-rest_of_line_end.next c.solid_line-after.result
-    c.in-Some-rest_of_line_end.ensures.found c.solid_line-after.ensures.found)
+-- the value is a whole scalar
+whole : (c : goal.Else-after-indent) → ScalarAt plain_style (c.args.indent + 1) outer c.args.text.now
+    (c.args.colon + 1 + 1) (between c.args.text.now (c.args.colon + 1 + 1) c.in-Some.end) c.in-Some.end
+whole c =
+    let text = c.args.text.now in
+    let end = c.in-Some.end in
+    let next = c.in-Some-rest_of_line_end.next in
+    let line = c.solid_line-after.result in
+    let line_end = c.in-Some-rest_of_line_end.ensures.found in
+    let found = c.solid_line-after.ensures.found in
+    c.in-Some.ensures.whole (c.args.indent + 1) (no_further_line (c.args.indent + 1) text end line
+    (line_after_end text end next line line_end found) (closes_after_end text end next line line_end found)
     (omega (arith, c.if-after-indent.false)))
 
 pub returns-clause-value : goal.returns-clause-value

@@ -89,7 +89,11 @@ returns-in-Some-line_after-clause-onward c =
       above = omega (arith, above, further);
       less = omega (arith, above, within, further);
       placed = record {
-        line = record { boundary = found.boundary; spaces = found.spaces; starts = (c.in-Some-line_after.ensures).starts };
+        line = record {
+          boundary = found.boundary;
+          spaces = found.spaces;
+          starts = (c.in-Some-line_after.ensures).starts;
+        };
         solid = found.solid;
       };
     }
@@ -139,7 +143,8 @@ returns-then-sign_at-clause-grown c =
     ∙ ap (λ n. insert c.flow_node.new.events n MapStart) c.len-before.ensures))
 
 pub returns-in-Some-line_after-clause-grown : goal.returns-in-Some-line_after-clause-grown
-returns-in-Some-line_after-clause-grown c = grown_appended c.args.text.now c.args.self.now.events c.flow_node.new.events _
+returns-in-Some-line_after-clause-grown c =
+    grown_appended c.args.text.now c.args.self.now.events c.flow_node.new.events _
     ((c.in-Ok.ensures).reads).appended
 
 pub returns-in-None-clause-grown : goal.returns-in-None-clause-grown
@@ -175,7 +180,8 @@ returns-in-Some-clause-leads c =
     c.line_pair.new.self c.flow_node.new.events to (c.in_ok-indent.ensures).pairs deep c.requires.at
     (c.in-Ok.ensures).reads (c.white_end-colon.ensures).taken (sym c.sign_at.ensures ∙ c.if-sign_at.true)
     (c.in_ok-indent.ensures).fits (c.in_ok-start_map_before.ensures).collections
-    ((c.in_ok-start_map_before.ensures).events ∙ ap (λ n. insert c.flow_node.new.events n MapStart) c.len-before.ensures)
+    ((c.in_ok-start_map_before.ensures).events
+    ∙ ap (λ n. insert c.flow_node.new.events n MapStart) c.len-before.ensures)
     (c.in-Some.ensures).lead l) c.line_pair.ensures.leads
 
 pub returns-in-Some-clause-none : goal.returns-in-Some-clause-none
