@@ -1,4 +1,5 @@
 pub mod DepthTests
+pub mod Examples
 pub mod KeyLemmas
 pub mod LevelLemmas
 pub mod ListLemmas

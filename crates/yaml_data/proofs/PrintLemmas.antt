@@ -1,14 +1,15 @@
--- Keys whose prints ascend, in some order, differ.
-use Rattle.std.proofs.Common.{◌≡◌, ℕ, suc, ◌+◌, ◌<◌, ◌≤◌, Bool, true, false, cond, not, ◌&&◌, ◌||◌, ◌==◌, List, [], ◌∷◌, length, get_or, sum_by, IsPermutation, IsUtf8, refl, sym, ap, ap₂, ◌∙◌, subst, le_of_eq, lt_trans, zero-add, true≢false, arith}
+-- Keys whose prints differ, which they do if they ascend in some order, differ.
+use Rattle.std.proofs.Common.{◌≡◌, ℕ, zero, suc, ◌+◌, ◌<◌, ◌≤◌, Bool, true, false, cond, not, ◌&&◌, ◌||◌, ◌==◌, List, [], ◌∷◌, length, get_or, sum_by, IsPermutation, IsSorted, nat_cmp, IsUtf8, refl, sym, ap, ap₂, ◌∙◌, subst, le_of_eq, lt_trans, zero-add, true≢false, arith}
 use Rattle.std.proofs.lemmas.Bool.{eq-eqb, eqb-true}
-use Rattle.std.proofs.lemmas.List.Sorted.{sum_by-IsPermutation}
+use Rattle.std.proofs.lemmas.Bool.Decides.{nat_tests}
+use Rattle.std.proofs.lemmas.List.Sorted.{sum_by-IsPermutation, IsNonDecreasingBy-from_sort}
 use Rattle.std.proofs.lemmas.List.Sums.{sum_by-cons}
 use Rattle.std.specs.List.{AllAdjacentBelow}
 use Rattle.std.specs.Str.{chars}
 use Rattle.yaml_grammar.specs.Texts.{same_text}
 use Rattle.yaml_grammar.specs.Trees.{has_key}
 use Rattle.yaml_data.specs.Keys.{key_members, keys_differ}
-use Rattle.yaml_data.specs.Prints.{print_of, key_prints}
+use Rattle.yaml_data.specs.Prints.{print_of, key_prints, AreDistinct}
 use Rattle.yaml_data.specs.TextBytes.{text_bytes}
 use Rattle.yaml_data.specs.declared.text.Text.{Text}
 use Rattle.yaml_data.proofs.CharacterLemmas.{same_text-Decides}
@@ -25,6 +26,10 @@ count p qs = sum_by (one_for p) qs
 
 abbrev pub IsAscending : List ℕ → Type 0
 IsAscending qs = AllAdjacentBelow (λ a b. a < b) qs (length qs)
+
+less_or_same : (a b : ℕ) (same : Bool) → (a == b) ≡ same → a ≤ b → (a ≡ b → ⊥) → a < b
+less_or_same a b true e le other = absurd (other (eqb-true a b e))
+less_or_same a b false e le other = grind (arith, nat_tests)
 
 -- ---- a print is at most once among prints that ascend
 
@@ -87,6 +92,9 @@ held_once key [] utf8 held = absurd (true≢false (sym held))
 held_once key (m ∷ ms) utf8 held =
     held_here key m ms (same_text (chars key) (chars (text_bytes m.0))) refl utf8 held (held_once key ms utf8)
 
+distinct-tail : (q : ℕ) (qs : List ℕ) → AreDistinct (q ∷ qs) → AreDistinct qs
+distinct-tail q qs once = λ p. omega (arith, sum_by-cons (one_for p) q qs, once p)
+
 differ_more : {A : Type 0} (m : Text × A) (ms : List (Text × A)) (h : Bool) → has_key (chars (text_bytes m.0)) (key_members ms) ≡ h
     → count (print_of (text_bytes m.0)) (key_prints (m ∷ ms)) ≤ 1 → keys_differ (key_members ms) ≡ true
     → keys_differ (key_members (m ∷ ms)) ≡ true
@@ -97,15 +105,37 @@ differ_more m ms true e once rest =
     absurd (omega (arith, one, all, once, held_once (text_bytes m.0) ms (IsUtf8-text_bytes m.0) e))
 differ_more m ms false e once rest = ap₂ (λ a b. not a && b) e rest
 
--- keys differ if no print is there twice
-differ_by_counts : {A : Type 0} (ms : List (Text × A)) → ((p : ℕ) → count p (key_prints ms) ≤ 1) → keys_differ (key_members ms) ≡ true
-differ_by_counts [] once = refl
-differ_by_counts (m ∷ ms) once =
-    let fewer : (p : ℕ) → count p (key_prints ms) ≤ 1 =
-    λ p. omega (arith, sum_by-cons (one_for p) (print_of (text_bytes m.0)) (key_prints ms), once p) in
-    differ_more m ms (has_key (chars (text_bytes m.0)) (key_members ms)) refl (once (print_of (text_bytes m.0))) (differ_by_counts ms fewer)
+-- keys differ if their prints do
+pub differ_by_prints : {A : Type 0} (ms : List (Text × A)) → AreDistinct (key_prints ms) → keys_differ (key_members ms) ≡ true
+differ_by_prints [] once = refl
+differ_by_prints (m ∷ ms) once =
+    let fewer = distinct-tail (print_of (text_bytes m.0)) (key_prints ms) once in
+    differ_more m ms (has_key (chars (text_bytes m.0)) (key_members ms)) refl (once (print_of (text_bytes m.0))) (differ_by_prints ms fewer)
 
--- keys differ if their prints ascend in some order
-pub differ_by_prints : {A : Type 0} (ms : List (Text × A)) (qs : List ℕ) → IsPermutation (key_prints ms) qs → IsAscending qs → keys_differ (key_members ms) ≡ true
-differ_by_prints ms qs moved up =
-    differ_by_counts ms (λ p. subst (λ n. n ≤ 1) (sum_by-IsPermutation (one_for p) (key_prints ms) qs moved) (at_most_once p qs up))
+-- ---- sorted prints ascend exactly if they differ
+
+-- prints differ if they ascend in some order
+pub distinct-from_ascending : (ps qs : List ℕ) → IsPermutation ps qs → IsAscending qs → AreDistinct ps
+distinct-from_ascending ps qs moved up =
+    λ p. subst (λ n. n ≤ 1) (sum_by-IsPermutation (one_for p) ps qs moved) (at_most_once p qs up)
+
+-- no two neighbours are equal where all differ
+no_same_neighbours : (qs : List ℕ) (k d : ℕ) → k + 1 < length qs → get_or qs k d ≡ get_or qs (k + 1) d → AreDistinct qs → ⊥
+no_same_neighbours [] k d within e once = omega (arith, within)
+no_same_neighbours (q ∷ []) k d within e once = omega (arith, within)
+no_same_neighbours (q ∷ r ∷ rs) zero d within e once =
+    let one = ap {B = ℕ} (λ b. cond b 1 0) (eq-eqb q q refl) in
+    let next = ap {B = ℕ} (λ b. cond b 1 0) (eq-eqb q r e) in
+    omega (arith, one, next, sum_by-cons (one_for q) q (r ∷ rs), sum_by-cons (one_for q) r rs, once q)
+no_same_neighbours (q ∷ r ∷ rs) (suc k) d within e once =
+    let next : suc k + 1 ≡ suc (k + 1) = omega arith in
+    no_same_neighbours (r ∷ rs) k d (omega arith) (e ∙ ap (λ n. get_or (q ∷ r ∷ rs) n d) next) (distinct-tail q (r ∷ rs) once)
+
+-- sorted prints ascend if they differ in some order
+pub ascending-from_distinct : (ps qs : List ℕ) → IsPermutation ps qs → IsSorted nat_cmp qs → AreDistinct ps → IsAscending qs
+ascending-from_distinct ps qs moved sorted once =
+    let distinct : AreDistinct qs =
+    λ p. subst (λ n. n ≤ 1) (sym (sum_by-IsPermutation (one_for p) ps qs moved)) (once p) in
+    λ k d within.
+    let rises = IsNonDecreasingBy-from_sort (λ n. n) qs sorted k (k + 1) d (omega arith) within in
+    less_or_same (get_or qs k d) (get_or qs (k + 1) d) (get_or qs k d == get_or qs (k + 1) d) refl rises (λ e. no_same_neighbours qs k d within e distinct)

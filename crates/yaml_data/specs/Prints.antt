@@ -1,5 +1,5 @@
 -- The print of a text: a number of 64 bits that is made of its bytes. Texts whose prints differ are different texts.
-use Rattle.std.specs.Prelude.{ℕ, ◌+◌, ◌*◌, ◌/◌, ◌%◌, ◌^◌, List, [], ◌∷◌, length, drop, map}
+use Rattle.std.specs.Prelude.{ℕ, ◌+◌, ◌*◌, ◌/◌, ◌%◌, ◌^◌, ◌≤◌, ◌==◌, List, [], ◌∷◌, length, drop, map, count_by}
 use Rattle.std.specs.Int.{from_le_bytes, w64}
 use Rattle.std.specs.Simd.{first_chunks}
 use Rattle.yaml_data.specs.TextBytes.{text_bytes}
@@ -26,3 +26,7 @@ print_of bs = print_bytes (print_pieces 1 (first_chunks 8 (length bs / 8) bs)) (
 -- the prints of the keys of these pairs
 abbrev pub key_prints : {A : Type 0} → List (Text × A) → List ℕ
 key_prints ms = map (λ m. print_of (text_bytes m.0)) ms
+
+-- each number is there at most once
+abbrev pub AreDistinct : List ℕ → Type 0
+AreDistinct ns = (n : ℕ) → count_by (λ m. n == m) ns ≤ 1

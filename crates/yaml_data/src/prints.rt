@@ -1,8 +1,7 @@
 // Prints of keys, by which keys that differ are told apart without comparing them one by one.
-ghost use Rattle.std.specs.Prelude.{◌≡◌, ◌<◌, true, length, IfOk, IsTrue};
+ghost use Rattle.std.specs.Prelude.{◌≡◌, ◌<◌, ◌↔◌, length, IfOk, IsTrue};
 ghost use Rattle.std.specs.List.{AllAdjacentBelow};
-ghost use Rattle.yaml_data.specs.Keys.{key_members, keys_differ};
-ghost use Rattle.yaml_data.specs.Prints.{print_with, print_bytes, print_pieces, print_of, key_prints};
+ghost use Rattle.yaml_data.specs.Prints.{print_with, print_bytes, print_pieces, print_of, key_prints, AreDistinct};
 
 use crate::Text;
 use std::alloc::{AllocError, Global};
@@ -14,13 +13,13 @@ const START: u64 = 1;
 /// different prints.
 const FACTOR: u64 = 6_364_136_223_846_793_005;
 
-/// Whether the prints of the keys differ from one another, and so the keys. Different keys may have equal prints, so
-/// `false` says nothing of the keys. It fails only if memory runs out.
+/// Whether the prints of the keys differ from one another. If they do, so do the keys; different keys may have equal
+/// prints, but seldom have. It fails only if memory runs out.
 pub(crate) fn have_distinct_prints<T>(
     alloc: Global,
     pairs: &[(Text, T)],
 ) -> Result<bool, AllocError>
-    ensures { IfOk result (λ answer. IsTrue answer → keys_differ (key_members pairs.now) ≡ true) }
+    ensures { IfOk result (λ answer. IsTrue answer ↔ AreDistinct (key_prints pairs.now)) }
 {
     let mut prints = prints_of(alloc, pairs)?;
     prints.sort_unstable();
@@ -40,7 +39,7 @@ fn prints_of<T>(alloc: Global, pairs: &[(Text, T)]) -> Result<Vec<u64>, AllocErr
 
 /// Whether each number is less than the next.
 fn ascend(numbers: &[u64]) -> bool
-    ensures { IsTrue result → AllAdjacentBelow (λ a b. a < b) numbers.now (length numbers.now) }
+    ensures { IsTrue result ↔ AllAdjacentBelow (λ a b. a < b) numbers.now (length numbers.now) }
 {
     for later in 1..numbers.len() {
         if numbers[later - 1] >= numbers[later] {
