@@ -36,7 +36,7 @@ use conf_record::{base_text, documents_are_read, documents_close};
 use conf_state::{Command, Names, State, StoreFault, good_name};
 use std::alloc::Global;
 use std::marker::Model;
-use tree_path::{Path, at};
+use tree_path::Path;
 use yaml_emit::style_text;
 use yaml_recognizers::closings::one_list_of_pieces;
 use yaml_tree::{Config, Tree};
@@ -673,7 +673,7 @@ impl<D: Disk> Store<D> {
             ≡ Err fault) }
     {
         let config = self.config(name)?;
-        match at(config.tree(), path) {
+        match config.value_at(path) {
             Ok(tree) => Ok(tree),
             Err(fault) => Err(StoreFault::Path(fault)),
         }

@@ -16,7 +16,7 @@ use conf_history::{HistoryFault, state_at};
 use conf_state::{State, StoreFault, good_name};
 use std::alloc::{AllocError, Global};
 use std::io::{Read, Write};
-use tree_path::{Path, PathFault, at};
+use tree_path::{Path, PathFault};
 use yaml_tree::{Config, Sink, Tree, write_style};
 
 /// How a value is written.
@@ -142,7 +142,7 @@ fn value_text(
         Err(PathFault::OutOfMemory) => return Err(StoreFault::OutOfMemory),
         Err(fault) => return Err(StoreFault::Path(fault)),
     };
-    match at(config.tree(), &path) {
+    match config.value_at(&path) {
         Ok(value) => Ok(shown(alloc, value, form)?),
         Err(fault) => Err(StoreFault::Path(fault)),
     }

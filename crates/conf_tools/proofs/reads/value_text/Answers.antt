@@ -9,6 +9,6 @@ use Rattle.conf_tools.proofs.reads.value_text.Goals as goal
 
 pub shown-requires : goal.shown-requires
 shown-requires c =
-    let there : at (tree_of c.in-Ok.config.now) c.in-Ok-parse.path ≡ Ok (tree_of c.in-Ok-at.value.now) = search rules in
-    value-shallow c.args.state.now (chars c.args.name.now) c.in-Ok-parse.path (tree_of c.in-Ok-at.value.now) c.in-Ok.ensures.limits
-    (value_at_tokens c.args.state.now (chars c.args.name.now) (chars c.args.pointer.now) (tree_of c.in-Ok.config.now) (tree_of c.in-Ok-at.value.now) c.in-Ok-parse.path c.in-Ok.ensures.ok there)
+    let there : at (tree_of c.in-Ok.config.now) c.in-Ok-parse.path ≡ Ok (tree_of c.in-Ok-value_at.value.now) = search rules in
+    value-shallow c.args.state.now (chars c.args.name.now) c.in-Ok-parse.path (tree_of c.in-Ok-value_at.value.now) c.in-Ok.ensures.limits
+    (value_at_tokens c.args.state.now (chars c.args.name.now) (chars c.args.pointer.now) (tree_of c.in-Ok.config.now) (tree_of c.in-Ok-value_at.value.now) c.in-Ok-parse.path c.in-Ok.ensures.ok there)
