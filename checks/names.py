@@ -28,7 +28,7 @@ TOP = os.path.dirname(os.path.dirname(os.path.abspath(__file__)))
 CODE = re.compile(r"`([^`]+)`")
 # The libraries that no file of a crate names, but whose types its contracts speak of.
 UNNAMED = {"example_edit": {"yaml_data"}, "conf_history": {"yaml_data"}}
-MOST_WAYS = 5200
+MOST_WAYS = 5500
 # The enums of faults that the program prints, and the names that it prints for what isn't a variant of that name.
 FAULTS = ["Why", "ReadFault", "StoreFault", "PathFault", "OpenFault", "FolderFault", "SessionFault", "HistoryFault"]
 PRINTED = {"BadCommand", "Input", "Output", "StoreExists"}
