@@ -8,7 +8,7 @@ instructions instead, as valgrind does (`apt-get install valgrind`). They are th
 machine is. After each shape it prints how many times as much an edit takes by a command as in the tree; it may be 3.
 
 Then it counts instructions, with `-i` or without, of a command of a session that sets a key which a mapping of so many
-keys has, and of opening a store after such commands.
+keys has, or has not, and of opening a store after such commands.
 
 `./confstore --version`, and `rt run -- edits tree wide 1 1` in crates/bench_driver, build the programs:
 
@@ -98,24 +98,33 @@ def session(folder, commands):
     return int(re.search(rb"Collected : (\d+)", done.stderr)[1])
 
 
-def sets(width, count):
-    """Commands that set keys which are there, all over the mapping."""
-    keys = [number * 7919 % width for number in range(count)]
-    return "".join(f"---\nset: wide\npath: /k{key}\nvalue: v{number:05}\n...\n" for number, key in enumerate(keys))
+def sets(numbers):
+    """Commands that set the keys with these numbers."""
+    return "".join(f"---\nset: wide\npath: /k{key}\nvalue: v{turn:05}\n...\n" for turn, key in enumerate(numbers))
 
 
-def old_keys(width):
-    """What a set of an old key costs in a session and at opening, in instructions."""
+def old_keys(width, count):
+    """The numbers of keys that are there, all over the mapping."""
+    return [turn * 7919 % width for turn in range(count)]
+
+
+def new_keys(width, count):
+    """The numbers of keys that are not there yet."""
+    return range(width, width + count)
+
+
+def set_costs(width, name, numbers):
+    """Prints what a set of such a key costs in a session and at opening, in instructions."""
     pairs = "".join(f"  k{number}: v00000\n" for number in range(width))
 
     def costs(count):
         with tempfile.TemporaryDirectory() as folder:
             session(folder, f"---\nimport: wide\ntext: |\n{pairs}...\n---\ncheckpoint:\n...\n")
-            return session(folder, sets(width, count)), session(folder, "")
+            return session(folder, sets(numbers(width, count))), session(folder, "")
 
     many, few = costs(3 * SETS // 2), costs(SETS // 2)
     in_session, opening = ((one - other) / SETS for one, other in zip(many, few))
-    print(f"a set of an old key of {width:6}: {in_session:9.0f} instructions in a session,"
+    print(f"a set of {name} key beside {width:6}: {in_session:9.0f} instructions in a session,"
           f" {opening:9.0f} at opening", flush=True)
 
 
@@ -134,7 +143,8 @@ def main():
     print(f"an edit by a command takes at most {max(ratios):.2f} times one in the tree: {within} {GOAL} times")
     if shutil.which("valgrind") is not None and os.access(CONFSTORE, os.X_OK):
         for width in WIDTHS:
-            old_keys(width)
+            set_costs(width, "an old", old_keys)
+            set_costs(width, "a new", new_keys)
     return 0
 
 
