@@ -33,8 +33,10 @@ SHAPES = [
     ("deep", 8, 100_000, 50_000),
     ("deep", 64, 50_000, 20_000),
 ]
-# How many rounds are counted: valgrind makes a run some fifty times slower.
+# How many rounds are counted: valgrind makes a run some fifty times slower. The rounds before are not: in them a wide
+# mapping gets its index and its prints.
 COUNTED = 100
+UNCOUNTED = 20
 # Of how many keys a mapping has one set, and how often.
 WIDTHS = (32, 100, 1_000, 10_000, 100_000)
 SETS = 1_000
@@ -70,7 +72,7 @@ def instructions(*words):
         done = subprocess.run(command, capture_output=True, text=True, check=True)
         return int(re.search(r"Collected : (\d+)", done.stderr)[1])
 
-    return (collected(2 + COUNTED) - collected(2)) / (2 * COUNTED)
+    return (collected(UNCOUNTED + COUNTED) - collected(UNCOUNTED)) / (2 * COUNTED)
 
 
 def cost(target, shape, size, rounds, counts):
