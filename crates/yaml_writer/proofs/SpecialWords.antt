@@ -1,5 +1,5 @@
 -- A text is a special word just where it is one of those of its length, in any letter case.
-use Rattle.std.proofs.Common.{◌≡◌, ℕ, suc, ◌+◌, ◌==◌, ◌&&◌, ◌||◌, Bool, true, false, List, [], ◌∷◌, length, if◌then◌else◌, refl, sym, ap, ◌∙◌, arith}
+use Rattle.std.proofs.Common.{◌≡◌, ℕ, suc, ◌+◌, ◌<◌, ◌==◌, ◌&&◌, ◌||◌, Bool, true, false, List, [], ◌∷◌, length, if◌then◌else◌, refl, sym, ap, ◌∙◌, arith}
 use Rattle.std.proofs.lemmas.Bool.{ne_eqb, eqb-false}
 use Rattle.std.proofs.lemmas.Bool.Decides.{nat_tests}
 use Rattle.yaml_chars.specs.Classes.{in_range, is_in}
@@ -55,6 +55,13 @@ pub none_of_length : (n : ℕ) → (n ≡ 1 → ⊥) → (n ≡ 2 → ⊥) → (
     → of_length n special_words ≡ []
 none_of_length n one two three four five =
     rw (ne_eqb n 1 one, ne_eqb n 2 two, ne_eqb n 3 three, ne_eqb n 4 four, ne_eqb n 5 five) refl
+
+-- so no longer text is a special word
+pub none_longer : (v : List ℕ) (n : ℕ) → length v ≡ n → 5 < n → is_among v special_words ≡ false
+none_longer v n e long =
+    let none = none_of_length n (λ same. omega (arith, long, same)) (λ same. omega (arith, long, same))
+    (λ same. omega (arith, long, same)) (λ same. omega (arith, long, same)) (λ same. omega (arith, long, same)) in
+    special_of_length v n e ∙ ap (is_among v) none
 
 or-false : (b : Bool) → (b || false) ≡ b
 or-false true = refl

@@ -12,6 +12,9 @@ use crate::bytes::{LineBytes, WordBytes, are_all};
 use crate::lines::split_line;
 use yaml_chars::printable;
 
+/// How many bytes the longest special word has.
+const LONGEST_SPECIAL: usize = 5;
+
 /// How the one style writes a scalar (YAML 1.2.2, 7.3 and 8.1).
 #[derive(Clone, Copy, Debug, PartialEq, Eq)]
 pub enum ScalarStyle {
@@ -97,15 +100,18 @@ fn is_special(text: &str) -> bool
     requires { chars text.now ≡ text.now }
     ensures { result ≡ is_among (lower (chars text.now)) special_words }
 {
-    starts_as_special(text) && is_special_word(text)
+    may_be_special(text) && is_special_word(text)
 }
 
-/// Whether a text of ASCII starts with the first letter of a special word, in any letter case.
+/// Whether a text of ASCII is as short as a special word and starts, in any letter case, with the first letter of one.
 #[inline(always)]
-fn starts_as_special(text: &str) -> bool
+fn may_be_special(text: &str) -> bool
     requires { chars text.now ≡ text.now }
     ensures { result ≡ false → is_among (lower (chars text.now)) special_words ≡ false }
 {
+    if text.len() > LONGEST_SPECIAL {
+        return false;
+    }
     match text.as_bytes().first() {
         Some(byte) => is_special_initial(*byte),
         None => false,
