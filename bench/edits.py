@@ -10,6 +10,9 @@ machine is. After each shape it prints how many times as much an edit takes by a
 Then it counts instructions, with `-i` or without, of a command of a session that sets a key which a mapping of so many
 keys has, or has not, and of opening a store after such commands.
 
+Last it times deletes at the head of a long list, in one batch and at the opening after it: the processor time of a
+delete, the least of three runs, less that of a batch of one delete. A delete moves the elements behind it.
+
 `./confstore --version`, and `rt run -- edits tree wide 1 1` in crates/bench_driver, build the programs:
 
     ./confstore --version && (cd crates/bench_driver && rt run -- edits tree wide 1 1) && python3 bench/edits.py [-i]
@@ -40,6 +43,9 @@ UNCOUNTED = 20
 # Of how many keys a mapping has one set, and how often.
 WIDTHS = (32, 100, 1_000, 10_000, 100_000)
 SETS = 1_000
+# How many elements the list has that is deleted from at its head, and how often.
+ELEMENTS = 1_000_000
+DELETES = 500
 # How many times an edit in the tree an edit by a command may take.
 GOAL = 3
 
@@ -130,6 +136,40 @@ def set_costs(width, name, numbers):
           f" {opening:9.0f} at opening", flush=True)
 
 
+def session_time(folder, commands):
+    """The processor time of a session that performs these commands."""
+    with tempfile.TemporaryFile() as given, tempfile.TemporaryFile() as answers:
+        given.write(commands.encode())
+        given.seek(0)
+        process = subprocess.Popen([CONFSTORE, "run", "--group", folder], stdin=given, stdout=answers)
+        _, status, usage = os.wait4(process.pid, 0)
+        process.returncode = status
+        answers.seek(0)
+        said = answers.read()
+    if status != 0 or b"refused" in said:
+        sys.exit(f"a session ended with {status}: {said[:200]!r}")
+    return usage.ru_utime + usage.ru_stime
+
+
+def delete_costs():
+    """Prints what a delete at the head of a long list costs, in a batch and at the opening after it."""
+    elements = ",".join(["a"] * ELEMENTS)
+
+    def costs(count):
+        edits = "- {delete: long, path: /0}\n" * count
+        with tempfile.TemporaryDirectory() as folder:
+            session_time(folder, f"---\nimport: long\ntext: \"[{elements}]\"\n...\n---\ncheckpoint:\n...\n")
+            return session_time(folder, f"---\nbatch:\n{edits}...\n"), session_time(folder, "")
+
+    def least(count):
+        batches, openings = zip(*(costs(count) for _ in range(3)))
+        return min(batches), min(openings)
+
+    in_batch, opening = ((many - one) / (DELETES - 1) * 1e3 for many, one in zip(least(DELETES), least(1)))
+    print(f"a delete at the head of {ELEMENTS} elements: {in_batch:.2f} ms in a batch, {opening:.2f} ms at opening",
+          flush=True)
+
+
 def main():
     if not os.access(PROGRAM, os.X_OK):
         sys.exit("the program is not built: `rt run -- edits tree wide 1 1`, in crates/bench_driver, builds it")
@@ -147,6 +187,8 @@ def main():
         for width in WIDTHS:
             set_costs(width, "an old", old_keys)
             set_costs(width, "a new", new_keys)
+    if os.access(CONFSTORE, os.X_OK):
+        delete_costs()
     return 0
 
 
