@@ -91,7 +91,7 @@ export -f readme_lines
 step "the lines of clients/README.md" 120 bash -c readme_lines
 
 warnings=(-std=c11 -Wall -Wextra -Wpedantic -Wconversion -Wshadow -Werror -g -O1)
-sources=(clients/c/confstore.c clients/c/test_confstore.c -Wl,--wrap=realloc -Wl,--wrap=calloc)
+sources=(clients/c/confstore.c clients/c/test_confstore.c "-Wl,--wrap=realloc" "-Wl,--wrap=calloc")
 mkdir "$folder/served"
 "$python" clients/serve.py "$folder/socket" "$folder/served" &
 server=$!

@@ -1,31 +1,81 @@
 #!/usr/bin/env bash
-# The gate: proves every crate, tries the edits that the prover has to refuse and runs the tests and programs (rt ci),
-# and then tries the programs that this built by the scripts below, which take about a minute. Its last line is
-# 'N passed, M failed', of crates, edits and scripts; the status is 0 if M is 0.
+# The gate: proves every crate from nothing, tries the edits that the prover has to refuse and runs the tests and
+# programs (rt ci), and then tries the programs that this built by the scripts below. After the proof the program that
+# it built is looked up in release/.
+#
+#     checks/gate.sh
+#
+# Each part has a line where it begins, and one where it ends that says how long it took, by the clock and in time of
+# processors. The last line is 'N passed, M failed', of crates, edits and scripts; the status is 0 if M is 0.
 set -u
-cd "$(dirname "${BASH_SOURCE[0]}")/.." || exit 1
-log=$(mktemp) || exit 1
-trap 'rm -f "$log"' EXIT
+top=$(cd "$(dirname "${BASH_SOURCE[0]}")/.." && pwd -P) && cd "$top" || exit 1
+# shellcheck source=packaging/program.sh
+. "$top/packaging/program.sh" || exit 1
+# The scripts try the program that the proof builds, and no other.
+unset CONFSTORE
+room=$(mktemp -d) || exit 1
+trap 'rm -rf "$room"' EXIT
 
 SCRIPTS=(
-    names.py edits.py program.py cases.py fail_calls.py fail_file_calls.py refuse_allocations.sh
-    refuse_tree_allocations.sh
-    refuse_state_allocations.py refuse_store_allocations.py refuse_session_allocations.py
+    released.sh names.py edits.py program.py cases.py fail_calls.py fail_file_calls.py refuse_allocations.sh
+    refuse_tree_allocations.sh refuse_state_allocations.py refuse_store_allocations.py
+    refuse_session_allocations.py release.py
 )
-
-rt ci 2>&1 | tee "$log"
-status=${PIPESTATUS[0]}
-[ "$status" -eq 0 ] || exit "$status"
-passed=$(sed -n 's/^\([0-9]*\) passed, 0 failed$/\1/p' "$log" | tail -n 1)
+passed=0
 failed=0
+clock=0
+processors=0
+
+# Runs a part of the gate, and says when it begins and how long it took. The status is the command's.
+part() { # NAME COMMAND..
+    local name=$1 status real user system
+    shift
+    echo "== $name: begins after $clock s"
+    TIMEFORMAT='%0R %0U %0S'
+    exec 3>&2
+    { time "$@" 2>&3 </dev/null; } 2>"$room/time"
+    status=$?
+    exec 3>&-
+    read -r real user system <"$room/time"
+    clock=$((clock + real))
+    processors=$((processors + user + system))
+    echo "== $name: took $real s by the clock, and $((user + system)) s of processors"
+    return "$status"
+}
+
+# Proves all, and notes of which sources the program was made.
+prove_all() {
+    local before sum
+    before=$(state_of_sources)
+    sum=$(sum_of_sources src specs) || return
+    rt ci 2>&1 | tee "$room/log"
+    [ "${PIPESTATUS[0]}" -eq 0 ] || return
+    if [ "$(state_of_sources)" != "$before" ]; then
+        echo "the sources changed while they were proved: run the gate again"
+        return 1
+    fi
+    record_built "$sum"
+}
+
+# What an interrupted ./prove has left is not a part of the sources.
+if [ -e out/proof ] && ! flock --nonblock out/proof.lock rm -rf out/proof; then
+    echo "a ./prove runs here: wait until it has ended"
+    echo "0 passed, 1 failed"
+    exit 1
+fi
+if ! part "rt ci" prove_all; then
+    tail -n 1 "$room/log" 2>/dev/null | grep -E '^[0-9]+ passed, [1-9][0-9]* failed$' || echo "0 passed, 1 failed"
+    exit 1
+fi
+passed=$(sed -n 's/^\([0-9]*\) passed, 0 failed$/\1/p' "$room/log" | tail -n 1)
 for script in "${SCRIPTS[@]}"; do
-    echo "== checks/$script"
-    if "checks/$script" </dev/null; then
+    if part "checks/$script" "checks/$script"; then
         passed=$((passed + 1))
     else
         echo "FAILED: checks/$script"
         failed=$((failed + 1))
     fi
 done
+echo "the gate took $clock s by the clock, and $((processors / 60)) minutes of processors"
 echo "$passed passed, $failed failed"
 [ "$failed" -eq 0 ]

@@ -11,6 +11,8 @@ proved, `Answers` what is written), and then those of the COUNT dearest function
 the prover takes before it writes its first file is not in them.
 """
 
+from __future__ import annotations
+
 import collections
 import os
 import sys
@@ -24,7 +26,7 @@ MADE = (
 )
 
 
-def kept(folder):
+def kept(folder: str) -> list[tuple[float, int, str]]:
     """The time at which each file was written, its size, and its module's name, in order of time."""
     found = []
     for place, _, files in os.walk(os.path.join(folder, "out", "incremental")):
@@ -35,38 +37,39 @@ def kept(folder):
     return sorted(found)
 
 
-def parts_of(name):
-    """The parts of a module's name below its library."""
+def parts_of(name: str) -> list[str]:
+    """The parts of a module's name below its library, at least one: a file may be named as a part is."""
     for library in ("-proofs.", "-specs."):
         name = name.split(library)[-1]
-    return [part for part in name.split(".") if part not in PARTS]
+    parts = name.split(".")
+    return [part for part in parts if part not in PARTS] or parts
 
 
-def subject_of(parts):
+def subject_of(parts: list[str]) -> str:
     """The function that a module is made of, or the file that it is."""
     names = [part for part in parts if part not in MADE]
     return ".".join(names) or parts[0]
 
 
-def show(title, sums, count):
+def show(title: str, sums: dict[str, tuple[float, int]], count: int) -> None:
     print(title)
     for name, (seconds, size) in sorted(sums.items(), key=lambda one: -one[1][0])[:count]:
         print(f"{seconds:7.1f} s {size / 1e6:7.2f} MB  {name}")
 
 
-def main():
+def main() -> None:
     if len(sys.argv) < 2:
         sys.exit(__doc__)
     files = kept(sys.argv[1])
     if not files:
         sys.exit(f"{sys.argv[1]}/out/incremental has no modules")
-    kinds, subjects = (collections.defaultdict(lambda: [0.0, 0]) for _ in range(2))
+    kinds: dict[str, tuple[float, int]] = collections.defaultdict(lambda: (0.0, 0))
+    subjects: dict[str, tuple[float, int]] = collections.defaultdict(lambda: (0.0, 0))
     before = files[0][0]
     for time, size, name in files:
         parts = parts_of(name)
         for sums, key in ((kinds, parts[-1]), (subjects, subject_of(parts))):
-            sums[key][0] += time - before
-            sums[key][1] += size
+            sums[key] = (sums[key][0] + time - before, sums[key][1] + size)
         before = time
     print(f"{len(files)} modules in {before - files[0][0]:.0f} s")
     show("by kind:", kinds, 12)

@@ -5,7 +5,7 @@
 # (./confstore --version builds it).
 set -u
 top=$(cd "$(dirname "${BASH_SOURCE[0]}")/.." && pwd)
-program=$top/crates/confstore/out/confstore
+program=${CONFSTORE:-$top/crates/confstore/out/confstore}
 text=$top/checks/data/every_form.yaml
 expected=$top/checks/data/every_form.expected
 [ -x "$program" ] || { echo "the program is not built: run ./confstore --version first" >&2; exit 1; }

@@ -7,7 +7,13 @@
 # 'N passed, M failed', and the status is 0 if M is 0.
 set -u
 top=$(cd "$(dirname "${BASH_SOURCE[0]}")/../.." && pwd)
-program=${1:-${CONFSTORE:-$top/crates/confstore/out/confstore}}
+# shellcheck source=packaging/program.sh
+. "$top/packaging/program.sh"
+program=${1:-${CONFSTORE:-}}
+if [ -z "$program" ] && ! find_program; then
+    echo "try.sh: there is no program: ${why:-the line above says why}; ./prove builds one" >&2
+    exit 1
+fi
 if [ "$(id -u)" -ne 0 ] && [ -z "${FAKEROOTKEY:-}" ]; then
     if command -v fakeroot >/dev/null; then exec fakeroot "$0" "$program"; fi
     echo "try.sh: needs root or fakeroot" >&2
@@ -57,6 +63,9 @@ try "install" in_root --install "$package"
 wanted=$("$program" --version)
 command -v systemd-sysusers >/dev/null && try "the user" grep -q '^confstore:' "$tree/etc/passwd"
 try "the program" is_same "$tree/usr/bin/confstore" --version
+try "the same program" cmp "$program" "$tree/usr/bin/confstore"
+try "the licence" grep -q '^License: Apache-2.0$' "$tree/usr/share/doc/confstore/copyright"
+try "the guide" cmp "$top/docs/GUIDE.md" "$tree/usr/share/doc/confstore/GUIDE.md"
 try "a store" works
 for page in "$tree"/usr/share/man/man*/*.gz; do
     try "$(basename "$page")" has_page "$page"

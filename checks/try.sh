@@ -1,0 +1,86 @@
+#!/usr/bin/env bash
+# The short test: tries the program by all scripts that need nothing else, some side by side.
+#
+#     checks/try.sh
+#
+# The program is the environment's CONFSTORE, or the one that ./confstore runs: the one that was proved and built here,
+# or the released one. What a script needs beside it and isn't installed is named, and the script left out. A script's
+# output is shown if it fails. The last line is 'N passed, M failed', of scripts, and the status is 0 if M is 0. It takes
+# at most three minutes.
+set -u
+top=$(cd "$(dirname "${BASH_SOURCE[0]}")/.." && pwd -P) && cd "$top" || exit 1
+# shellcheck source=packaging/program.sh
+. "$top/packaging/program.sh" || exit 1
+if [ -z "${CONFSTORE:-}" ]; then
+    find_program || { echo "try.sh: there is no program: ${why:-the line above says why}; ./prove builds one" >&2; exit 1; }
+    CONFSTORE=$program
+fi
+CONFSTORE=$(realpath "$CONFSTORE") && export CONFSTORE || exit 1
+room=$(mktemp -d) || exit 1
+trap 'rm -rf "$room"' EXIT
+trap 'exit 1' INT TERM HUP
+
+# The scripts, those that take longest first, each with the commands that it needs.
+SCRIPTS=(
+    "checks/readers.py" "checks/fail_calls.py cc" "checks/sessions.py cc" "checks/kills.py" "checks/release.py xz"
+    "python/tests" "checks/completions.py" "checks/many_clients.py" "checks/fail_file_calls.py cc"
+    "checks/refuse_session_allocations.py cc" "checks/refuse_allocations.sh cc" "packaging/deb/try.sh dpkg-deb"
+    "checks/editors.py git" "checks/names.py" "checks/program.py" "checks/guide.py" "checks/edits.py"
+)
+passed=0
+failed=0
+declare -A running began
+
+run() { # SCRIPT: from the top, or a folder of Python tests
+    case $1 in
+        */tests) cd "${1%/tests}" && exec python3 -m unittest ;;
+        *.py) exec python3 "$1" ;;
+        *) exec "$1" ;;
+    esac
+}
+
+start() { # SCRIPT
+    run "$1" </dev/null >"$room/${1//\//_}" 2>&1 &
+    running[$!]=$1
+    began[$!]=$SECONDS
+}
+
+# Waits until a script ends, and says how it went.
+take_one() {
+    local ended status script
+    wait -n -p ended "${!running[@]}"
+    status=$?
+    script=${running[$ended]}
+    if [ "$status" -eq 0 ]; then
+        passed=$((passed + 1))
+        echo "$script: $((SECONDS - began[$ended])) s, $(tail -n 1 "$room/${script//\//_}")"
+    else
+        failed=$((failed + 1))
+        cat "$room/${script//\//_}"
+        echo "FAILED: $script"
+    fi
+    unset "running[$ended]"
+}
+
+lacking() { # COMMAND..
+    local command
+    for command; do command -v "$command" >/dev/null || { echo "$command"; return; }; done
+}
+
+echo "trying $("$CONFSTORE" --version), $CONFSTORE"
+at_once=$(nproc)
+[ "$at_once" -le 4 ] || at_once=4
+for line in "${SCRIPTS[@]}"; do
+    read -r script needs <<<"$line"
+    # shellcheck disable=SC2086 # The commands are words.
+    lacks=$(lacking $needs)
+    if [ -n "$lacks" ]; then
+        echo "$script: left out, as $lacks is not installed"
+        continue
+    fi
+    [ "${#running[@]}" -lt "$at_once" ] || take_one
+    start "$script"
+done
+while [ "${#running[@]}" -gt 0 ]; do take_one; done
+echo "$passed passed, $failed failed"
+[ "$failed" -eq 0 ]

@@ -1,0 +1,24 @@
+# shellcheck shell=bash disable=SC2034,SC2154
+# The files of a release, which the archive and the Debian package both have. It is sourced, with `top` set.
+
+# Times in a release are this one, so that the same files make the same bytes: 1980-01-01, the first that a zip file has.
+RELEASE_TIME=315532800
+
+put() { # MODE FILE PLACE
+    install -D -m "$1" "$2" "$3"
+}
+
+# Puts the program and what goes with it below a folder, as below /usr.
+put_files() { # PROGRAM FOLDER
+    local page
+    put 755 "$1" "$2/bin/confstore" &&
+        put 755 "$top/clients/serve.py" "$2/lib/confstore/serve.py" &&
+        put 644 "$top/packaging/confstore@.service" "$2/lib/systemd/system/confstore@.service" &&
+        put 644 "$top/packaging/confstore.sysusers" "$2/lib/sysusers.d/confstore.conf" &&
+        put 644 "$top/completions/confstore.bash" "$2/share/bash-completion/completions/confstore" &&
+        put 644 "$top/completions/_confstore" "$2/share/zsh/vendor-completions/_confstore" &&
+        put 644 "$top/completions/confstore.fish" "$2/share/fish/vendor_completions.d/confstore.fish" || return
+    for page in "$top"/docs/man/*.[1-9]; do
+        put 644 "$page" "$2/share/man/man${page##*.}/${page##*/}" || return
+    done
+}
