@@ -23,23 +23,29 @@ SCRIPTS=(
 )
 passed=0
 failed=0
+# Milliseconds, by the clock and in time of processors, of all parts.
 clock=0
 processors=0
 
+# Milliseconds as seconds.
+seconds() { printf '%d.%d' "$(($1 / 1000))" "$(($1 % 1000 / 100))"; }
+
 # Runs a part of the gate, and says when it begins and how long it took. The status is the command's.
 part() { # NAME COMMAND..
-    local name=$1 status real user system
+    local name=$1 status real user system used
     shift
-    echo "== $name: begins after $clock s"
-    TIMEFORMAT='%0R %0U %0S'
+    echo "== $name: begins after $(seconds "$clock") s"
+    TIMEFORMAT='%3R %3U %3S'
     exec 3>&2
     { time "$@" 2>&3 </dev/null; } 2>"$room/time"
     status=$?
     exec 3>&-
     read -r real user system <"$room/time"
+    used=$((10#${user/[.,]/} + 10#${system/[.,]/}))
+    real=$((10#${real/[.,]/}))
     clock=$((clock + real))
-    processors=$((processors + user + system))
-    echo "== $name: took $real s by the clock, and $((user + system)) s of processors"
+    processors=$((processors + used))
+    echo "== $name: took $(seconds "$real") s by the clock, and $(seconds "$used") s of processors"
     return "$status"
 }
 
@@ -76,6 +82,6 @@ for script in "${SCRIPTS[@]}"; do
         failed=$((failed + 1))
     fi
 done
-echo "the gate took $clock s by the clock, and $((processors / 60)) minutes of processors"
+echo "the gate took $(seconds "$clock") s by the clock, and $((processors / 60000)) minutes of processors"
 echo "$passed passed, $failed failed"
 [ "$failed" -eq 0 ]

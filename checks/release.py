@@ -296,7 +296,7 @@ def try_damage(scene: Scene, whole: Path, failures: Failures) -> None:
     refuse("half a manifest", copy, "release/manifest has no")
     copy = scene.copy(whole)
     manifest = copy / "release/manifest"
-    manifest.write_text(re.sub("(?m)^(program_sha256: ).*", r"\1" + "0" * 64, manifest.read_text("utf-8")), encoding="utf-8")
+    manifest.write_text(re.sub("(?m)^(program_sha256: ).*", r"\g<1>" + "0" * 64, manifest.read_text("utf-8")), encoding="utf-8")
     refuse("another program than the manifest's", copy, "is refused")
     copy = scene.old(scene.copy(whole))
     change(unpacked(copy), 5000)

@@ -20,16 +20,19 @@ room=$(mktemp -d) || exit 1
 trap 'rm -rf "$room"' EXIT
 trap 'exit 1' INT TERM HUP
 
+# The package is installed in a root of its own, which root alone can do, or what acts as root.
+as_root=
+[ "$(id -u)" -eq 0 ] || as_root=fakeroot
 # The scripts, those that take longest first, each with the commands that it needs.
 SCRIPTS=(
     "checks/readers.py" "checks/fail_calls.py cc" "checks/sessions.py cc" "checks/kills.py" "checks/release.py xz"
     "python/tests" "checks/completions.py" "checks/many_clients.py" "checks/fail_file_calls.py cc"
-    "checks/refuse_session_allocations.py cc" "checks/refuse_allocations.sh cc" "packaging/deb/try.sh dpkg-deb"
+    "checks/refuse_session_allocations.py cc" "checks/refuse_allocations.sh cc" "packaging/deb/try.sh dpkg-deb $as_root"
     "checks/editors.py git" "checks/names.py" "checks/program.py" "checks/guide.py" "checks/edits.py"
 )
 passed=0
 failed=0
-declare -A running began
+declare -A running=() began=()
 
 run() { # SCRIPT: from the top, or a folder of Python tests
     case $1 in

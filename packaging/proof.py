@@ -7,8 +7,8 @@
 the longest chain above them come first, and where fewer crates are ready than processors are free, a crate gets more
 than one job. JOBS is how many jobs run at one time: one for each processor, if there are 3 GiB of memory for each.
 
-`rt` locks a crate and all below it. So each crate is proved in a folder of its own below `out/proof`, which has a copy
-of the sources as they stood at the start, and links to the libraries below it. What the run makes is then moved into
+`rt` locks a crate and all below it. So each crate is proved in a folder of its own below `out/proof`, which has the
+sources of these crates as they stood at the start, and links to the libraries below it. What the run makes is then moved into
 the crate's `out/`, where `rt` finds it.
 
 Lines on standard error say what is proved, and each half minute what runs and how long it has taken. The status is 0 if
@@ -136,7 +136,9 @@ def make_room(crate: Crate) -> Path:
             place = CRATES / name / "out" / made
             if place.is_dir():
                 shutil.copytree(place, room / "crates" / name / "out" / made, copy_function=link)
-    shutil.copy2(ROOM / "sources" / "crates.txt", room)
+    lines = (ROOM / "sources" / "crates.txt").read_text(encoding="utf-8").splitlines(keepends=True)
+    here = [line for line in lines if re.split(r"\W", line)[0] in crate.below | {crate.name}]
+    (room / "crates.txt").write_text("".join(here), encoding="utf-8")
     return room / "crates" / crate.name
 
 
