@@ -7,61 +7,111 @@ A client connects to SOCKET, sends commands as to `confstore run`, and reads the
 All commands go to one `confstore run --group FOLDER`, in the order in which they come. Those that come while it syncs
 share the next sync. This program has no part in keeping what was answered: the session alone has.
 
-Who may write in FOLDER may connect: the socket has the folder's group, and is open to the owner, the group and others
-as the folder is to their writing. It is made once the session has opened the store, so a store that is locked or
-damaged ends this program at once, with the session's status and line. A socket that nobody listens to is replaced.
+Who may write in FOLDER may connect, and nobody else: the socket has the owner, the group and the access list of the
+folder, with reading and writing for those whose entry lets them write there. Where the system refuses that, the owner
+alone may connect. The socket has its name once all that is done and the session has opened the store. So a store that
+is locked or damaged ends this program at once, with the session's status and line. A socket that nobody listens to is
+replaced; anything else at its name ends this program.
 
 Each client has a queue. At most 16 of its commands are in the session, one where the answer may be long, and none are
-taken while it has answers to read; so what is kept of a client is at most a command and what was read with it, a long
-answer and some short ones. A client that reads nothing for a minute while there is something to read, or sends more
-than 16,777,216 bytes without a closing line, is cut off. At most 256 clients are connected, and others wait.
+taken while it has answers to read. What is kept of a client is at most 65,536 bytes of commands and as much of answers.
+Only `--max-long-commands` clients at a time have more of a command here, up to 16,777,216 bytes, and only
+`--max-long-answers` have a longer answer here or under way; the others wait for their turn. So with 256 clients the
+commands have at most 83,886,080 bytes, all together.
+
+At most `--max-clients` are connected, and others wait. A client that keeps others waiting for `--max-wait` seconds is
+cut off: where all are connected, the one that did nothing for longest, and where a turn is waited for, one that sends
+its command or reads its answer too slowly. To do something is to send a whole command, or to read all answers. Clients
+with commands in the session stay. A client is also cut off if it reads nothing for `--max-unread` seconds while there
+is something to read, sends a longer command, or asks for an answer of more than 67,108,864 bytes.
 
 When the session ends, all clients are cut off after the answers that came, and this program ends with the session's
-status. On SIGTERM or SIGINT no more commands are taken, those that the session has are performed and answered, the
-socket is removed, and the status is 0. Shortly before the session was sent as much as it takes, it is ended and
-another one started; clients don't notice. The program is CONFSTORE, or `confstore` on the PATH.
+status. On SIGTERM, SIGINT or SIGHUP no more clients and commands are taken, those commands that the session has are
+performed and answered, the socket is removed, and the status is 0. Shortly before the session was sent as much as it
+takes, it is ended and another one started; clients don't notice. If another run holds the store just then, the new
+session is tried again for `--max-lock-wait` seconds. The program is CONFSTORE, or `confstore` on the PATH.
 """
 
-import argparse
+from __future__ import annotations
+
+import signal
+
+if __name__ == "__main__":
+    signal.signal(signal.SIGINT, signal.SIG_DFL)  # until it is caught, it ends this program without a trace
+
+import argparse  # noqa: E402
 import collections
+import contextlib
 import errno
 import os
+import resource
 import selectors
-import signal
 import socket
-import stat
 import subprocess
 import sys
 import time
+from types import FrameType
+from typing import Callable, NamedTuple, Optional, Sequence
+
+# The other half of this program is beside it, wherever it is run from.
+sys.path.insert(0, os.path.dirname(os.path.realpath(__file__)))
+sys.dont_write_bytecode = True
+
+from serve_socket import FAILED, Fault, Listener, reason, say, shown, write_error  # noqa: E402
 
 LONGEST = 16_777_216  # bytes of a command
+LONGEST_ANSWER = 67_108_864  # bytes
 SESSION = 1_073_741_824  # bytes that a session takes
-PART = 65_536  # bytes that are read at once
+PART = 65_536  # bytes that are read at once, and that are kept of each client
 MOST_DUE = 16  # commands of a client in the session
 MOST_UNSENT = 1_048_576  # bytes that wait to be sent to the session while more are put there
-MOST_CLIENTS = 256
-PATIENCE = 60  # seconds that a client may read nothing
-GRACE = 10  # seconds until all clients have read their answers at the end
-LOOK = 1  # seconds between two looks at who reads
+ERRORS_KEPT = 4_096  # bytes of the session's standard error while it opens the store
+RESERVED = 32  # files that are open beside the clients
+GRACE = 10  # seconds until all clients have read their answers at the end, and until a session is gone
+LOOK = 0.5  # seconds between two looks at who is late
+STAY = 1  # seconds that each client is connected, whoever waits
+PAUSE = 0.1  # seconds between two tries to open the store again
+QUIET = 60  # seconds between two lines about the same lack
+FOREVER = 1e9  # seconds that no bound has
 
 # How commands begin whose answers are short, after `---`, and how many bytes are looked at for that.
 LOOKED_AT = 16
 SHORT = tuple(word + end for word in (b"set:", b"delete:", b"import:", b"batch:") for end in (b" ", b"\n"))
 
+# What the session says where another run holds the store.
+LOCKED = b"confstore: Locked"
+
+READ, WRITE = selectors.EVENT_READ, selectors.EVENT_WRITE
+
+
+class Bounds(NamedTuple):
+    """What the clients may take."""
+
+    clients: int
+    wait: float
+    unread: float
+    long_commands: int
+    long_answers: int
+    lock_wait: float
+    renew_after: int
+
 
 class Pieces:
-    """Bytes that come in parts, and are cut after closing lines."""
+    """Bytes that come in parts, and are cut after closing lines.
 
-    def __init__(self):
+    The Python package has a cutter of its own. This program has one too, since it is installed without the package.
+    """
+
+    def __init__(self) -> None:
         self.bytes = bytearray()
         self.end = 0  # of the first piece, or 0 if none is whole
         self.looked = 0
 
-    def add(self, part):
+    def add(self, part: bytes) -> None:
         self.bytes += part
         self.look()
 
-    def look(self):
+    def look(self) -> None:
         while not self.end and (found := self.bytes.find(b"...\n", self.looked)) >= 0:
             self.looked = found + 4
             if found == 0 or self.bytes[found - 1] == ord("\n"):
@@ -69,18 +119,26 @@ class Pieces:
         if not self.end:
             self.looked = max(self.looked, len(self.bytes) - 3, 0)
 
-    def take(self):
-        piece = bytes(self.bytes[: self.end])
-        del self.bytes[: self.end]
+    def take(self) -> bytearray:
+        if self.end == len(self.bytes):
+            piece, self.bytes = self.bytes, bytearray()
+        else:
+            piece = self.bytes[: self.end]
+            del self.bytes[: self.end]
         self.looked = self.end = 0
         self.look()
         return piece
 
-    def is_too_long(self):
-        return (self.end or len(self.bytes)) > LONGEST
+    def is_longer_than(self, most: int) -> bool:
+        return (self.end or len(self.bytes)) > most
+
+    def forget(self) -> None:
+        """Drops what came of a piece that isn't whole, but for the start of a line break and a closing line."""
+        del self.bytes[:-4]
+        self.looked = 1
 
 
-def may_be_long(start):
+def may_be_long(start: bytes) -> bool:
     """Whether the answer to a command with this start may be long."""
     return not start.removeprefix(b"---\n").startswith(SHORT)
 
@@ -88,100 +146,159 @@ def may_be_long(start):
 class Session:
     """A session, which answers the k-th command that it is sent by its k-th answer."""
 
-    def __init__(self, words):
+    def __init__(self, words: Sequence[str]) -> None:
         self.process = subprocess.Popen(
-            words, stdin=subprocess.PIPE, stdout=subprocess.PIPE, bufsize=0, start_new_session=True,
-            restore_signals=False,
+            words, stdin=subprocess.PIPE, stdout=subprocess.PIPE, stderr=subprocess.PIPE, bufsize=0,
+            start_new_session=True, restore_signals=False,
+            env={name: value for name, value in os.environ.items() if name != "NOTIFY_SOCKET"},
         )  # fmt: skip
-        os.set_blocking(self.process.stdin.fileno(), False)
-        os.set_blocking(self.process.stdout.fileno(), False)
+        assert self.process.stdin and self.process.stdout and self.process.stderr
+        self.streams = (self.process.stdin, self.process.stdout, self.process.stderr)
+        self.commands, self.output, self.errors_end = (stream.fileno() for stream in self.streams)
+        for stream in self.streams:
+            os.set_blocking(stream.fileno(), False)
         self.unsent = bytearray()
         self.sent = 0
-        self.turns = collections.deque()  # whose turn it is: the clients of the answers to come
+        self.turns: collections.deque[Optional[Client]] = collections.deque()  # the clients of the answers to come
         self.answers = Pieces()
-        self.is_open = True
+        self.skips = False  # whether the answer that comes is too long to keep
+        self.errors = bytearray()
+        self.takes_commands = True
+        self.has_opened = False
+        self.is_over = False
+        self.send(bytearray(b"names:\n...\n"), None)
+        self.first = self.sent
 
-    def send(self, piece, client):
-        self.unsent += piece
+    def send(self, piece: bytearray, client: Optional[Client]) -> None:
+        self.unsent = self.unsent + piece if self.unsent else piece
         self.sent += len(piece)
         self.turns.append(client)
 
-    def write(self):
+    def write(self) -> None:
         """Sends what the session takes now."""
         try:
-            del self.unsent[: os.write(self.process.stdin.fileno(), self.unsent)]
+            del self.unsent[: os.write(self.commands, self.unsent)]
         except BlockingIOError:
             pass
         except OSError:
             self.unsent.clear()  # it ends, which is seen at its output
 
-    def read(self):
-        """The answers that came, each with its client, and whether there may be more."""
+    def read(self) -> tuple[list[tuple[Client, bytearray]], bool]:
+        """The answers that came, each with its client, and whether there may be more. One too long is empty."""
         try:
-            part = os.read(self.process.stdout.fileno(), PART)
+            part = os.read(self.output, PART)
         except BlockingIOError:
             return [], True
         self.answers.add(part)
         given = []
         while self.answers.end:
             answer = self.answers.take()
-            if self.turns:
-                given.append((self.turns.popleft(), answer))
+            client = self.turns.popleft() if self.turns else None
+            if client is not None:
+                given.append((client, bytearray() if self.skips else answer))
+            self.has_opened = True
+            self.skips = False
+        if self.answers.is_longer_than(LONGEST_ANSWER):
+            self.answers.forget()
+            self.skips = True
         return given, bool(part)
 
-    def finish(self):
+    def read_errors(self) -> bool:
+        """Takes what it says on standard error. Whether there may be more."""
+        try:
+            part = os.read(self.errors_end, PART)
+        except BlockingIOError:
+            return True
+        self.errors += part
+        if self.has_opened or len(self.errors) > ERRORS_KEPT:
+            self.pass_errors_on()
+        return bool(part)
+
+    def pass_errors_on(self) -> None:
+        write_error(bytes(self.errors))
+        self.errors.clear()
+
+    def finish(self) -> None:
         """Tells the session that no more commands come."""
-        if self.is_open:
-            self.is_open = False
-            self.process.stdin.close()
+        if self.takes_commands:
+            self.takes_commands = False
+            self.streams[0].close()
+
+    def wait(self) -> int:
+        """Its status, once it is gone. One that has ended its output, and doesn't go, is killed."""
+        self.finish()
+        try:
+            status = self.process.wait(GRACE)
+        except subprocess.TimeoutExpired:
+            self.process.kill()
+            status = self.process.wait()
+        while not self.streams[2].closed and self.read_errors():
+            pass
+        for stream in self.streams:
+            stream.close()
+        return status
+
+    def was_locked(self) -> bool:
+        """Whether it ended since another run holds the store. What it said on standard error is still here then."""
+        return not self.has_opened and self.process.returncode == FAILED and LOCKED in self.errors
 
 
 class Client:
     """A client: what it sent and is not in the session, and what it has to read."""
 
-    def __init__(self, connection, server):
+    def __init__(self, connection: socket.socket, serve: Callable[[Client, int], None]) -> None:
         self.connection = connection
-        self.serve = lambda events: server.serve_client(self, events)
+        self.descriptor = connection.fileno()
+        self.serve = lambda events: serve(self, events)
         self.heard = Pieces()
+        self.may_hear = PART
         self.unsaid = bytearray()
         self.due = 0
         self.waits_for_long = False
         self.has_sent_all = False
-        self.read_last = time.monotonic()
+        self.is_gone = False
+        self.came = self.read_last = self.active = time.monotonic()
 
-    def may_send(self):
+    def may_send(self) -> bool:
         """Whether its next command may go to the session."""
-        return self.heard.end and not self.unsaid and not self.waits_for_long and self.due < MOST_DUE
+        return bool(self.heard.end) and not self.unsaid and not self.waits_for_long and self.due < MOST_DUE
 
-    def next_command(self):
-        """Its next command, or none if that has to wait for the answers to those before."""
-        if may_be_long(bytes(self.heard.bytes[:LOOKED_AT])):
-            if self.due:
-                return None
-            self.waits_for_long = True
+    def wants_long(self) -> bool:
+        """Whether the answer to its next command may be long."""
+        return may_be_long(bytes(self.heard.bytes[:LOOKED_AT]))
+
+    def next_command(self) -> bytearray:
+        self.waits_for_long = self.wants_long()
         self.due += 1
+        self.may_hear = PART
         return self.heard.take()
 
-    def hear(self):
+    def hear(self) -> bool:
         """Takes what it sends. Whether it may go on."""
+        room = self.may_hear - len(self.heard.bytes)
+        if room <= 0 or self.has_sent_all:
+            return True
         try:
-            part = self.connection.recv(PART)
+            part = self.connection.recv(min(PART, room))
         except BlockingIOError:
             return True
         except OSError:
             return False
         self.has_sent_all = not part
         self.heard.add(part)
-        return not self.heard.is_too_long()
+        if self.heard.end:
+            self.active = time.monotonic()
+        return not self.heard.is_longer_than(LONGEST)
 
-    def answer(self, answer):
+    def answer(self, answer: bytearray) -> None:
+        self.active = time.monotonic()
         if not self.unsaid:
-            self.read_last = time.monotonic()
+            self.read_last = self.active
         self.due -= 1
         self.waits_for_long = False
-        self.unsaid += answer
+        self.unsaid = self.unsaid + answer if self.unsaid else answer
 
-    def say(self):
+    def say(self) -> bool:
         """Sends it what it takes now. Whether it may go on."""
         try:
             count = self.connection.send(self.unsaid)
@@ -191,157 +308,359 @@ class Client:
             return False
         del self.unsaid[:count]
         self.read_last = time.monotonic()
+        if not self.unsaid:
+            self.active = self.read_last
         return True
 
-    def is_done(self):
+    def is_done(self) -> bool:
         return self.has_sent_all and not self.unsaid and not self.due and not self.heard.end
 
-    def is_late(self):
-        return self.unsaid and time.monotonic() - self.read_last > PATIENCE
+    def is_idle(self) -> bool:
+        """Whether the session has nothing to do for it."""
+        return not self.due and not self.heard.end
 
-    def events(self):
-        wants_more = not self.has_sent_all and not self.heard.end and not self.unsaid
-        return (selectors.EVENT_READ if wants_more else 0) | (selectors.EVENT_WRITE if self.unsaid else 0)
+    def needs_place(self) -> bool:
+        """Whether it has sent as much of a command as is kept of each client."""
+        return not self.heard.end and len(self.heard.bytes) >= self.may_hear and not self.has_sent_all
+
+    def events(self) -> int:
+        hears = not (self.has_sent_all or self.heard.end or self.unsaid) and len(self.heard.bytes) < self.may_hear
+        return (READ if hears else 0) | (WRITE if self.unsaid else 0)
+
+
+class Places:
+    """Places for so many clients at a time. The others wait for theirs, in order."""
+
+    def __init__(self, count: int) -> None:
+        self.count = count
+        self.since: dict[Client, float] = {}
+        self.waiting: dict[Client, None] = {}
+
+    def ask(self, client: Client) -> bool:
+        """Whether the client has a place. If not, it waits for one from now on."""
+        if client not in self.since:
+            self.waiting[client] = None
+        return client in self.since
+
+    def give(self) -> list[Client]:
+        """Those who have got a place just now."""
+        got = list(self.waiting)[: max(self.count - len(self.since), 0)]
+        for client in got:
+            del self.waiting[client]
+            self.since[client] = client.active = time.monotonic()
+        return got
+
+    def leave(self, client: Client) -> None:
+        self.since.pop(client, None)
+        self.waiting.pop(client, None)
+
+    def held(self) -> list[tuple[Client, float]]:
+        """Who has had a place since when, where others wait for one."""
+        return list(self.since.items()) if self.waiting else []
+
+
+class Signals:
+    """Whether this program was told to end, and a socket that is readable once a signal came."""
+
+    def __init__(self) -> None:
+        self.came = False
+        self.ear, self.bell = socket.socketpair()
+        self.ear.setblocking(False)
+        self.bell.setblocking(False)
+        signal.set_wakeup_fd(self.bell.fileno(), warn_on_full_buffer=False)
+        for number in (signal.SIGTERM, signal.SIGINT, signal.SIGHUP):
+            if number != signal.SIGHUP or signal.getsignal(number) is not signal.SIG_IGN:
+                signal.signal(number, self.stop)
+
+    def stop(self, _number: int, _frame: Optional[FrameType]) -> None:
+        self.came = True
+
+    def hear(self, _events: int) -> None:
+        self.ear.recv(PART)
+
+    def close(self) -> None:
+        signal.set_wakeup_fd(-1)
+        self.ear.close()
+        self.bell.close()
 
 
 class Server:
     """The session, the clients, and what each of them waits for."""
 
-    def __init__(self, words, renew_after):
+    def __init__(self, words: Sequence[str], bounds: Bounds, signals: Signals) -> None:
         self.words = words
-        self.renew_after = renew_after
+        self.bounds = bounds
+        self.signals = signals
         self.selector = selectors.DefaultSelector()
-        self.listener = None
-        self.clients = collections.deque()
-        self.is_ending = False
-        self.session = None
+        self.watched: dict[int, int] = {}
+        self.watch(signals.ear.fileno(), READ, signals.hear)
+        self.listener: Optional[Listener] = None
+        self.clients: collections.deque[Client] = collections.deque()
+        self.long_commands = Places(bounds.long_commands)
+        self.long_answers = Places(bounds.long_answers)
+        self.others_since: Optional[float] = None  # when others began to wait to be taken
+        self.takes_none_until = 0.0
+        self.complained = -float(QUIET)
+        self.next_look = 0.0
+        self.has_ended = False
         self.begin()
 
-    def begin(self):
+    def is_ending(self) -> bool:
+        return self.has_ended or self.signals.came
+
+    def begin(self) -> None:
         self.session = Session(self.words)
-        self.watch(self.session.process.stdout.fileno(), selectors.EVENT_READ, self.take_answers)
-        self.session.send(b"names:\n...\n", None)
+        self.watch(self.session.output, READ, self.take_answers)
+        self.watch(self.session.errors_end, READ, self.take_errors)
 
-    def watch(self, thing, events, call):
+    def watch(self, descriptor: int, events: int, call: Callable[[int], None]) -> None:
         """Calls so when one of the events is there; never, without events."""
-        key = self.selector.get_map().get(thing)
-        if not events and key:
-            self.selector.unregister(thing)
-        elif events and not key:
-            self.selector.register(thing, events, call)
-        elif events and key.events != events:
-            self.selector.modify(thing, events, call)
+        known = self.watched.get(descriptor, 0)
+        if events == known:
+            return
+        self.watched[descriptor] = events
+        if not known:
+            self.selector.register(descriptor, events, call)
+        elif events:
+            self.selector.modify(descriptor, events, call)
+        else:
+            self.unwatch(descriptor)
 
-    def open(self, path, folder):
-        """Takes clients at a path, as soon as the session has opened the store. Whether it has."""
-        while self.session.turns and not self.is_over():
+    def unwatch(self, descriptor: int) -> None:
+        if self.watched.pop(descriptor, 0) or descriptor in self.selector.get_map():
+            self.selector.unregister(descriptor)
+
+    def opens(self) -> bool:
+        """Waits for the session to open the store. Whether it has."""
+        while not self.session.has_opened and not self.session.is_over:
+            if self.is_ending():
+                self.finish_session()
             self.turn()
-        if self.is_over():
+        return self.session.has_opened
+
+    def accept(self, _events: int = READ) -> None:
+        """Takes the clients that wait, as far as there is room."""
+        if self.listener is None:
+            return
+        now = time.monotonic()
+        while self.listener.is_waited_for():
+            if self.is_full(now) and not self.make_room(now):
+                self.others_since = self.others_since or now
+                return
+            try:
+                connection = self.listener.accept()
+            except (BlockingIOError, ConnectionAbortedError):
+                continue
+            except OSError as error:
+                self.takes_none_until = now + LOOK
+                self.complain(f"no more clients than {len(self.clients)} can be taken: {error.strerror}: raise the limit")
+                self.others_since = self.others_since or now
+                return
+            self.clients.append(Client(connection, self.serve_client))
+        self.others_since = None
+
+    def complain(self, line: str) -> None:
+        if time.monotonic() - self.complained >= QUIET:
+            self.complained = time.monotonic()
+            say(line)
+
+    def is_full(self, now: float) -> bool:
+        return len(self.clients) >= self.bounds.clients or now < self.takes_none_until
+
+    def make_room(self, now: float) -> bool:
+        """Cuts off the client that did nothing for longest, if that was long enough. Whether it was."""
+        waited = now - self.others_since if self.others_since else 0
+        stay = min(STAY, self.bounds.wait)
+        idle = [client for client in self.clients if client.is_idle() and now - client.came >= stay]
+        idle = [client for client in idle if client not in self.long_commands.waiting]
+        client = min(idle, key=lambda client: client.active, default=None)
+        if client is None or now - client.active < self.bounds.wait - waited:
             return False
-        self.listener = listen(path, folder)
-        self.watch(self.listener, selectors.EVENT_READ, self.accept)
-        tell_manager()
+        if client.hear() and not client.is_idle():
+            return False
+        self.drop(client)
+        self.takes_none_until = 0
         return True
 
-    def is_over(self):
-        return self.session.process.stdout.closed
-
-    def accept(self, _events):
-        try:
-            connection, _ = self.listener.accept()
-        except OSError:
+    def serve_client(self, client: Client, events: int) -> None:
+        if client.is_gone:
             return
-        connection.setblocking(False)
-        self.clients.append(Client(connection, self))
-
-    def serve_client(self, client, events):
-        if events & selectors.EVENT_WRITE and not client.say():
+        if (events & WRITE and not client.say()) or (events & READ and not client.hear()):
             self.drop(client)
-        elif events & selectors.EVENT_READ and not client.hear():
-            self.drop(client)
+        elif not client.unsaid and not client.due:
+            self.long_answers.leave(client)
 
-    def drop(self, client):
+    def drop(self, client: Client) -> None:
         """Cuts a client off. What it sent to the session is performed all the same."""
-        self.watch(client.connection, 0, None)
+        client.is_gone = True
+        self.unwatch(client.descriptor)
         client.connection.close()
         self.clients.remove(client)
+        self.long_commands.leave(client)
+        self.long_answers.leave(client)
 
-    def take_answers(self, _events):
+    def take_answers(self, _events: int) -> None:
         given, may_be_more = self.session.read()
         for client, answer in given:
-            if client in self.clients:
-                client.answer(answer)
+            if client.is_gone:
+                continue
+            if not answer:
+                self.drop(client)
+                continue
+            if len(answer) <= PART:
+                self.long_answers.leave(client)
+            client.answer(answer)
         if not may_be_more:
-            self.watch(self.session.process.stdout.fileno(), 0, None)
-            self.watch_commands(False)
-            self.session.process.stdout.close()
+            self.session.is_over = True
+            self.unwatch(self.session.output)
+            self.unwatch(self.session.errors_end)
+            if self.session.takes_commands:
+                self.unwatch(self.session.commands)
 
-    def watch_commands(self, wants):
-        if self.session.is_open:
-            write = self.session.write
-            self.watch(self.session.process.stdin.fileno(), wants and selectors.EVENT_WRITE, lambda _: write())
+    def take_errors(self, _events: int) -> None:
+        if not self.session.read_errors():
+            self.unwatch(self.session.errors_end)
 
-    def send_commands(self):
+    def send_commands(self) -> None:
         """Sends commands of the clients in turn, one of each, as long as there is room."""
-        was_sent = True
-        while was_sent and not self.is_ending and self.session.is_open:
-            was_sent = False
+        was_sent = self.session.has_opened and not self.is_ending()
+        while was_sent and self.session.takes_commands:
+            was_sent = bool(self.long_answers.give())
             for client in list(self.clients):
-                if len(self.session.unsent) > MOST_UNSENT or not client.may_send():
+                if len(self.session.unsent) > MOST_UNSENT or not client.may_send() or not self.has_turn(client):
                     continue
-                if self.session.sent + client.heard.end > self.renew_after:
+                if self.session.sent > self.session.first and self.session.sent + client.heard.end > self.bounds.renew_after:
                     self.finish_session()
                     return
-                piece = client.next_command()
-                if piece is not None:
-                    self.session.send(piece, client)
-                    was_sent = True
+                self.session.send(client.next_command(), client)
+                self.long_commands.leave(client)
+                was_sent = True
+            was_sent = was_sent or (bool(self.long_answers.waiting) and bool(self.long_answers.give()))
         self.clients.rotate(-1)
 
-    def finish_session(self):
-        """Ends the session once what it was sent is written."""
-        if self.session.unsent:
-            return
-        self.watch_commands(False)
-        self.session.finish()
+    def has_turn(self, client: Client) -> bool:
+        """Whether a client may send its command now: one whose answer may be long waits for the answers before."""
+        return not client.wants_long() or (not client.due and self.long_answers.ask(client))
 
-    def turn(self):
+    def finish_session(self) -> None:
+        """Ends the session once what it was sent is written."""
+        if not self.session.unsent and self.session.takes_commands:
+            self.unwatch(self.session.commands)
+            self.session.finish()
+
+    def look(self, now: float) -> None:
+        """Cuts off the clients that are late, and takes others where there was no room."""
+        for client in list(self.clients):
+            if client.unsaid and now - client.read_last > self.bounds.unread:
+                self.drop(client)
+        for client, since in self.long_commands.held():
+            if (not client.heard.end or client.unsaid) and now - since > self.bounds.wait:
+                self.drop(client)
+        for client, _since in self.long_answers.held():
+            if client.unsaid and now - client.active > self.bounds.wait:
+                self.drop(client)
+        if not self.is_ending() and self.is_full(now):
+            self.accept()
+
+    def turn(self) -> None:
         """Waits until something can be done, and does it."""
-        for client in [client for client in self.clients if client.is_done() or client.is_late()]:
+        now = time.monotonic()
+        if now >= self.next_look:
+            self.next_look = now + LOOK
+            self.look(now)
+        for client in [client for client in self.clients if client.is_done()]:
             self.drop(client)
-        if not self.is_over():
+        if not self.session.is_over:
             self.send_commands()
             if self.session.unsent:
                 self.session.write()
-            self.watch_commands(bool(self.session.unsent))
-        for client in self.clients:
-            self.watch(client.connection, self.events_of(client), client.serve)
+            if self.session.takes_commands:
+                wanted = WRITE if self.session.unsent else 0
+                self.watch(self.session.commands, wanted, lambda _: self.session.write())
+        self.watch_clients()
         if self.listener is not None:
-            takes_more = len(self.clients) < MOST_CLIENTS
-            self.watch(self.listener, takes_more and selectors.EVENT_READ, self.accept)
+            takes = not self.is_full(now) and not self.is_ending()
+            self.watch(self.listener.socket.fileno(), READ if takes else 0, self.accept)
         for key, events in self.selector.select(LOOK):
             key.data(events)
 
-    def events_of(self, client):
-        return client.events() & selectors.EVENT_WRITE if self.is_ending else client.events()
+    def watch_clients(self) -> None:
+        may = WRITE if self.is_ending() else READ | WRITE
+        for client in self.clients:
+            if client.needs_place():
+                self.long_commands.ask(client)
+        for client in self.long_commands.give():
+            client.may_hear = LONGEST + 1
+        for client in self.clients:
+            self.watch(client.descriptor, client.events() & may, client.serve)
 
-    def serve(self):
-        """Serves until the session is over or the server is told to end. The session's status."""
-        while not self.is_ending:
+    def serve(self) -> int:
+        """Serves until the session is over or the server is told to end. The status."""
+        while not self.is_ending():
             self.turn()
-            if self.is_over():
-                status = self.session.process.wait()
-                if status != 0 or self.session.is_open:
-                    return self.end(status)
-                self.begin()
-        while not self.is_over():
+            if self.session.is_over:
+                was_told = not self.session.takes_commands
+                status = self.session.wait()
+                if status != 0 or not was_told:
+                    return self.end(self.said_why(status))
+                if not self.renew():
+                    return self.end(self.session.process.returncode)
+        self.stop_taking()
+        while not self.session.is_over:
             self.finish_session()
             self.turn()
-        return self.end(self.session.process.wait())
+        status = self.session.wait()
+        return self.end(0 if self.session.was_locked() else status)
 
-    def end(self, status):
+    def said_why(self, status: int) -> int:
+        """The status that the session has ended with, without being told to, after a line where it said none."""
+        if status < 0:
+            say(f"the session was ended by signal {-status}: start the server again")
+        elif status == 0:
+            say("the session ended by itself: start the server again")
+        return status
+
+    def why_not_opened(self) -> int:
+        """The status of a session that has not opened the store."""
+        status = self.session.wait()
+        self.session.pass_errors_on()
+        if status == 0 and not self.is_ending():
+            raise Fault(f"{shown(self.words[0])} answered nothing: name the program confstore in CONFSTORE")
+        return abs(self.said_why(status) if status < 0 else status)
+
+    def renew(self) -> bool:
+        """Starts a session after one that is gone, and waits for others that hold the store. Whether one goes on."""
+        deadline = time.monotonic() + self.bounds.lock_wait
+        waits = False
+        while not self.is_ending():
+            with contextlib.suppress(BlockingIOError):  # no process can be made just now
+                self.begin()
+                if self.opens():
+                    return True
+                self.session.wait()
+            is_held = self.session.was_locked()
+            if not is_held or time.monotonic() > deadline:
+                self.session.pass_errors_on()
+                if is_held:
+                    say(f"the store was held by another run for {self.bounds.lock_wait:g} seconds: end that run, and start again")
+                return False
+            if not waits:
+                waits = True
+                say("another run holds the store: the next session waits for it")
+            time.sleep(PAUSE)
+        return True
+
+    def stop_taking(self) -> None:
+        if self.listener is not None:
+            self.unwatch(self.listener.socket.fileno())
+            self.listener.close()
+            self.listener = None
+
+    def end(self, status: int) -> int:
         """Lets the clients read the answers that came, and cuts them off."""
-        self.is_ending = True
+        self.has_ended = True
+        self.stop_taking()
+        self.session.pass_errors_on()
         deadline = time.monotonic() + GRACE
         while any(client.unsaid for client in self.clients) and time.monotonic() < deadline:
             self.turn()
@@ -349,104 +668,142 @@ class Server:
             self.drop(client)
         return abs(status)
 
-
-def listen(path, folder):
-    """A socket at a path that takes those clients that may write in the folder."""
-    listener = socket.socket(socket.AF_UNIX)
-    narrow = os.umask(0o177)
-    try:
-        try:
-            listener.bind(path)
-        except OSError as error:
-            if error.errno != errno.EADDRINUSE or is_served(path):
-                raise
-            os.unlink(path)
-            listener.bind(path)
-    finally:
-        os.umask(narrow)
-    found = os.stat(folder)
-    writers = stat.S_IMODE(found.st_mode) & 0o222
-    if found.st_gid != os.stat(path).st_gid:
-        try:
-            os.chown(path, -1, found.st_gid)
-        except OSError:
-            writers &= 0o202
-    os.chmod(path, 0o600 | writers | writers << 1)
-    listener.setblocking(False)
-    listener.listen(64)
-    return listener
+    def close(self) -> None:
+        """Ends the session, however this program ends."""
+        if not self.session.is_over:
+            self.session.wait()
 
 
-def is_served(path):
-    """Whether what is at a path is no socket, or one that somebody listens to."""
-    if not stat.S_ISSOCK(os.lstat(path).st_mode):
-        return True
-    with socket.socket(socket.AF_UNIX) as connection:
-        return connection.connect_ex(path) != errno.ECONNREFUSED
-
-
-def tell_manager():
+def tell_manager() -> None:
     """Tells systemd that clients are taken, if it has started this program."""
     address = os.environ.get("NOTIFY_SOCKET")
-    if address:
+    if not address:
+        return
+    try:
         with socket.socket(socket.AF_UNIX, socket.SOCK_DGRAM) as manager:
+            manager.settimeout(GRACE)
             manager.connect("\0" + address[1:] if address[0] == "@" else address)
             manager.send(b"READY=1")
+    except OSError as error:
+        say(f"nobody is told at NOTIFY_SOCKET, {shown(address)}, that clients are taken: {reason(error)}: unset it")
 
 
-def wake_on_signals(server):
-    """Ends the server on SIGTERM and SIGINT."""
-    ear, bell = socket.socketpair()
-    ear.setblocking(False)
-    bell.setblocking(False)
-
-    def stop(*_):
-        server.is_ending = True
-
-    signal.set_wakeup_fd(bell.fileno(), warn_on_full_buffer=False)
-    server.watch(ear, selectors.EVENT_READ, lambda _: ear.recv(PART))
-    for number in (signal.SIGTERM, signal.SIGINT):
-        signal.signal(number, stop)
-    return ear, bell
+def open_standard_streams() -> None:
+    """Opens /dev/null in the place of each standard stream that is closed, so that nothing else takes its number."""
+    while (descriptor := os.open(os.devnull, os.O_RDWR)) <= 2:
+        os.set_inheritable(descriptor, True)
+    os.close(descriptor)
+    sys.stdout = sys.stdout or open(1, "w", closefd=False)
+    sys.stderr = sys.stderr or open(2, "w", closefd=False)
 
 
-def words_of(arguments):
+def clients_with_room(wanted: int) -> int:
+    """How many clients may be connected, once as many files may be open as that takes and the system allows."""
+    allowed, most = resource.getrlimit(resource.RLIMIT_NOFILE)
+    if allowed != resource.RLIM_INFINITY and allowed < wanted + RESERVED:
+        raised = wanted + RESERVED if most == resource.RLIM_INFINITY else min(most, wanted + RESERVED)
+        with contextlib.suppress(OSError, ValueError):
+            resource.setrlimit(resource.RLIMIT_NOFILE, (raised, most))
+            allowed = raised
+        if allowed <= RESERVED:
+            raise Fault(f"only {allowed} files may be open, and {RESERVED + 1} have to be: raise the limit (ulimit -n)")
+        if allowed < wanted + RESERVED:
+            few = f"only {allowed - RESERVED} clients at once, not {wanted}, since {allowed} files may be open"
+            say(f"{few}: raise the limit (ulimit -n)")
+            return allowed - RESERVED
+    return wanted
+
+
+def count(text: str) -> int:
+    number = int(text)
+    if number < 1:
+        raise ValueError
+    return number
+
+
+def seconds(text: str) -> float:
+    number = float(text)
+    if not 0 < number < FOREVER:
+        raise ValueError
+    return number
+
+
+def arguments_of(words: Sequence[str]) -> argparse.Namespace:
+    parser = argparse.ArgumentParser(description="Lets many clients share one session on a store.")
+    parser.add_argument("socket", metavar="SOCKET", help="where clients connect")
+    parser.add_argument("folder", metavar="FOLDER", help="the store")
+    parser.add_argument("--checkpoint-after", metavar="BYTES", type=count, help="as for `confstore run --group`")
+    for word, kind, default, about in (
+        ("--renew-after", count, SESSION, "start another session after so many bytes of commands"),
+        ("--max-clients", count, 256, "clients at a time; others wait"),
+        ("--max-wait", seconds, 10, "how long a client that is idle or slow may keep others waiting"),
+        ("--max-unread", seconds, 60, "how long a client may read nothing of an answer"),
+        ("--max-long-commands", count, 4, f"clients at a time that send a command of more than {PART} bytes"),
+        ("--max-long-answers", count, 16, f"clients at a time whose answer may have more than {PART} bytes"),
+        ("--max-lock-wait", seconds, 30, "how long a next session waits for another run that holds the store"),
+    ):
+        shape = "SECONDS" if kind is seconds else "BYTES" if word == "--renew-after" else "COUNT"
+        parser.add_argument(word, metavar=shape, type=kind, default=default, help=f"{about} (default: {default})")
+    return parser.parse_args(words)
+
+
+def words_of(arguments: argparse.Namespace) -> list[str]:
     program = os.environ.get("CONFSTORE", "confstore")
     more = ["--checkpoint-after", str(arguments.checkpoint_after)] if arguments.checkpoint_after else []
     return [program, "run", "--group", *more, os.path.abspath(arguments.folder)]
 
 
-def main():
-    parser = argparse.ArgumentParser(description="Lets many clients share one session on a store.")
-    parser.add_argument("socket", metavar="SOCKET", help="where clients connect")
-    parser.add_argument("folder", metavar="FOLDER", help="the store")
-    parser.add_argument("--checkpoint-after", metavar="BYTES", type=int, help="as for `confstore run --group`")
-    renew = "start another session after so many bytes of commands"
-    parser.add_argument("--renew-after", metavar="BYTES", type=int, default=SESSION, help=renew)
-    arguments = parser.parse_args()
+def bounds_of(arguments: argparse.Namespace) -> Bounds:
+    return Bounds(
+        clients_with_room(arguments.max_clients), arguments.max_wait, arguments.max_unread,
+        arguments.max_long_commands, arguments.max_long_answers, arguments.max_lock_wait, arguments.renew_after,
+    )  # fmt: skip
+
+
+def started(words: Sequence[str], bounds: Bounds, signals: Signals) -> Server:
     try:
-        server = Server(words_of(arguments), arguments.renew_after)
+        return Server(words, bounds, signals)
     except OSError as error:
-        sys.exit(f"serve.py: the program can't be run: {error}")
-    ends = wake_on_signals(server)
+        remedy = "install it, or name it in CONFSTORE"
+        if error.errno not in (errno.ENOENT, errno.EACCES, errno.ENOEXEC, errno.ENOTDIR):
+            remedy = "raise the limit of open files and processes"
+        raise Fault(f"the program {shown(words[0])} can't be run: {reason(error)}: {remedy}") from None
+
+
+def run(arguments: argparse.Namespace, signals: Signals) -> int:
+    listener = Listener(arguments.socket)
     try:
-        if server.open(arguments.socket, arguments.folder):
-            status = server.serve()
-        else:
-            status = abs(server.session.process.wait())
-    except OSError as error:
-        server.session.finish()
-        server.session.process.wait()
-        print(f"serve.py: no clients are taken at {arguments.socket}: {error.strerror}", file=sys.stderr)
-        return 3
+        listener.look()
+        server = started(words_of(arguments), bounds_of(arguments), signals)
+        try:
+            if not server.opens():
+                return server.why_not_opened()
+            listener.open(arguments.folder)
+            server.listener = listener
+            tell_manager()
+            return server.serve()
+        finally:
+            server.close()
     finally:
-        if server.listener is not None:
-            server.listener.close()
-            os.unlink(arguments.socket)
-        signal.set_wakeup_fd(-1)
-        for end in ends:
-            end.close()
-    return status
+        listener.close()
+
+
+def main() -> int:
+    open_standard_streams()
+    signals = Signals()
+    try:
+        return run(arguments_of(sys.argv[1:]), signals)
+    except Fault as fault:
+        say(str(fault))
+        return fault.status
+    except OSError as error:
+        say(f"a call of the system failed: {reason(error)}: start the server again")
+        return FAILED
+    except MemoryError:
+        say("memory ran out: give the server more, or lower its bounds")
+        return 1
+    finally:
+        signals.close()
 
 
 if __name__ == "__main__":

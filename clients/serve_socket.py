@@ -1,0 +1,272 @@
+"""The socket of `serve.py`: its name, who may connect, and the lines that say what is wrong.
+
+A socket is made in a folder of its own, which nobody else may enter, beside its name. It gets its owner, group and
+access list there, and is listened to. Only then it is linked to its name, which fails where anything is. So no mode is
+set through a link that another user put there, and nobody connects who may not.
+"""
+
+from __future__ import annotations
+
+import contextlib
+import errno
+import os
+import secrets
+import select
+import socket
+import stat
+import struct
+from typing import Iterator, NamedTuple, Optional
+
+LONGEST_PATH = 107  # bytes of a socket's path
+BACKLOG = 4_096  # clients that wait to be taken
+TRIES = 10  # to take a name where others take it and leave it
+GONE_SLOW = 1_000  # milliseconds that a line waits for room on standard error
+
+WRONG_WORDS, FAILED = 2, 3  # statuses
+
+# An access list as Linux has it in an attribute of a file: a head, and entries of a tag, bits and an id.
+ACL, ACL_DEFAULT = "system.posix_acl_access", "system.posix_acl_default"
+ACL_HEAD, ACL_ENTRY, NO_ID = struct.pack("<I", 2), struct.Struct("<HHI"), 0xFFFF_FFFF
+OWNER, USER, OWN_GROUP, GROUP, MASK, OTHER = 1, 2, 4, 8, 16, 32
+WRITE_AND_SEARCH, READ_AND_WRITE = 3, 6
+
+# The names of a socket, and of one before it, in the folder where it is made.
+MADE, REPLACED = "made", "replaced"
+
+
+class Fault(Exception):
+    """A line that says what is wrong and what to do, and a status."""
+
+    def __init__(self, line: str, status: int = FAILED) -> None:
+        super().__init__(line)
+        self.status = status
+
+
+def write_error(text: bytes) -> None:
+    """Writes to standard error. What nobody takes is dropped, so that no reader of it holds up the clients."""
+    with contextlib.suppress(OSError):
+        room = select.poll()
+        room.register(2, select.POLLOUT)
+        while text and room.poll(GONE_SLOW):
+            text = text[os.write(2, text[: select.PIPE_BUF]) :]
+
+
+def say(line: str) -> None:
+    write_error(f"serve.py: {line}\n".encode("utf-8", "backslashreplace"))
+
+
+def shown(text: str) -> str:
+    """A name as a line shows it: what can't be printed is escaped."""
+    return "".join(sign if sign.isprintable() else sign.encode("unicode_escape").decode() for sign in text)
+
+
+def reason(error: OSError) -> str:
+    return error.strerror or str(error)
+
+
+class Entry(NamedTuple):
+    """An entry of an access list: whom it is about, and its bits."""
+
+    tag: int
+    bits: int
+    id: int
+
+
+def access_of(folder: int) -> list[Entry]:
+    """The access list of an open folder. Without one it has the three entries of the mode."""
+    mode = os.fstat(folder).st_mode
+    try:
+        return [Entry(*entry) for entry in ACL_ENTRY.iter_unpack(os.getxattr(folder, ACL)[len(ACL_HEAD) :])]
+    except OSError as error:
+        if error.errno not in (errno.ENODATA, errno.ENOTSUP):
+            mode &= stat.S_IRWXU  # the group's bits may be those of a list that can't be read
+    return [Entry(OWNER, mode >> 6 & 7, NO_ID), Entry(OWN_GROUP, mode >> 3 & 7, NO_ID), Entry(OTHER, mode & 7, NO_ID)]
+
+
+def clients_of(access: list[Entry]) -> list[Entry]:
+    """The entries of a socket for those who may write in a folder with such a list, without its mask."""
+    mask = next((entry.bits for entry in access if entry.tag == MASK), 7)
+    made = []
+    for tag, bits, identity in access:
+        if tag in (USER, OWN_GROUP, GROUP):
+            bits &= mask
+        writes = tag == OWNER or bits & WRITE_AND_SEARCH == WRITE_AND_SEARCH
+        if tag != MASK:
+            made.append(Entry(tag, READ_AND_WRITE if writes else 0, identity))
+    return made
+
+
+def moved(entries: list[Entry], folder: os.stat_result, socket_now: os.stat_result) -> list[Entry]:
+    """The entries for a socket whose owner or group isn't the folder's: what is there for those, by their ids."""
+    bits = {(tag, identity): bits for tag, bits, identity in entries}
+    if socket_now.st_uid != folder.st_uid:
+        bits[USER, folder.st_uid] = bits[OWNER, NO_ID]
+        bits[OWNER, NO_ID] = READ_AND_WRITE
+    if socket_now.st_gid != folder.st_gid:
+        bits[GROUP, folder.st_gid] = bits[OWN_GROUP, NO_ID] | bits.get((GROUP, folder.st_gid), 0)
+        groups = [bits_there for (tag, _), bits_there in bits.items() if tag == GROUP]
+        bits[OWN_GROUP, NO_ID] = bits[OTHER, NO_ID] if all(groups) else 0
+    return [Entry(tag, bits_there, identity) for (tag, identity), bits_there in bits.items()]
+
+
+def give_access(name: str, folder: int) -> None:
+    """Lets those connect to the socket at a name that may write in the open folder. Nobody else can reach it yet."""
+    for attribute in (ACL, ACL_DEFAULT):
+        with contextlib.suppress(OSError):
+            os.removexattr(name, attribute)
+    os.chmod(name, stat.S_IRUSR | stat.S_IWUSR)
+    found = os.fstat(folder)
+    for owner, group in ((-1, found.st_gid), (found.st_uid, -1)):
+        with contextlib.suppress(OSError):
+            os.chown(name, owner, group)
+    entries = moved(clients_of(access_of(folder)), found, os.stat(name))
+    if len(entries) > 3:
+        entries = sorted([*entries, Entry(MASK, READ_AND_WRITE, NO_ID)])
+        with contextlib.suppress(OSError):  # the list can't be kept: the owner alone may connect
+            os.setxattr(name, ACL, ACL_HEAD + b"".join(ACL_ENTRY.pack(*entry) for entry in entries))
+    else:
+        bits = {tag: bits for tag, bits, _ in entries}
+        os.chmod(name, bits[OWNER] << 6 | bits[OWN_GROUP] << 3 | bits[OTHER])
+
+
+@contextlib.contextmanager
+def working_in(folder: int) -> Iterator[None]:
+    """Works in an open folder, so that a name leads there and a path is never too long."""
+    here = os.open(".", os.O_PATH | os.O_DIRECTORY)
+    try:
+        os.fchdir(folder)
+        yield
+    finally:
+        os.fchdir(here)
+        os.close(here)
+
+
+def hindrance(name: str) -> Optional[str]:
+    """Why what is at a name in the working folder may not be replaced. A socket that nobody listens to may be."""
+    try:
+        if not stat.S_ISSOCK(os.lstat(name).st_mode):
+            return "what is there is no socket: remove it, or choose another path"
+    except FileNotFoundError:
+        return None
+    with socket.socket(socket.AF_UNIX) as connection:
+        connection.setblocking(False)
+        code = connection.connect_ex(name)
+    if code in (0, errno.EAGAIN):
+        return "another server takes clients there: end it, or choose another path"
+    if code not in (errno.ECONNREFUSED, errno.ENOENT):
+        return f"whether a server listens there can't be told: {os.strerror(code)}: remove it, or choose another path"
+    return None
+
+
+class Listener:
+    """A socket with a name, which takes those clients that may write in the store's folder."""
+
+    def __init__(self, path: str) -> None:
+        self.path = path
+        parent, self.name = os.path.split(path)
+        if not self.name:
+            raise Fault(f"no clients are taken at {shown(path)}: the path of a socket ends in its name", WRONG_WORDS)
+        length = len(os.fsencode(path))
+        if length > LONGEST_PATH:
+            limit = f"a socket's path has at most {LONGEST_PATH} bytes, and this one has {length}: choose a shorter one"
+            raise Fault(f"no clients are taken at {shown(path)}: {limit}", WRONG_WORDS)
+        try:
+            self.place = os.open(parent or ".", os.O_PATH | os.O_DIRECTORY)
+        except OSError as error:
+            hint = "make it first" if error.errno == errno.ENOENT else "choose another one"
+            raise Fault(f"the socket's folder {shown(parent)} can't be used: {reason(error)}: {hint}") from None
+        self.socket = socket.socket(socket.AF_UNIX)
+        self.waiting = select.poll()
+        self.made: Optional[tuple[int, int]] = None
+
+    def refuse(self, why: str) -> Fault:
+        return Fault(f"no clients are taken at {shown(self.path)}: {why}")
+
+    def look(self) -> None:
+        """Raises what is wrong with the name, as far as can be seen now."""
+        with working_in(self.place):
+            why = hindrance(self.name)
+        if why is not None:
+            raise self.refuse(why)
+
+    def open(self, folder: str) -> None:
+        """Makes the socket, and takes clients."""
+        private = f".{self.name}.{secrets.token_hex(8)}"
+        try:
+            os.mkdir(private, stat.S_IRWXU, dir_fd=self.place)
+            try:
+                self.make_in(private, folder)
+            finally:
+                os.rmdir(private, dir_fd=self.place)
+        except OSError as error:
+            raise self.refuse(f"{reason(error)}: see who may write in that folder, and whether there is room") from None
+
+    def make_in(self, private: str, folder: str) -> None:
+        inside = os.open(private, os.O_RDONLY | os.O_DIRECTORY | os.O_NOFOLLOW, dir_fd=self.place)
+        store = os.open(folder, os.O_RDONLY | os.O_DIRECTORY)
+        try:
+            found = os.fstat(inside)
+            if found.st_uid != os.geteuid() or stat.S_IMODE(found.st_mode) & (stat.S_IRWXG | stat.S_IRWXO):
+                raise self.refuse("another user changes the names in that folder: choose a folder of your own")
+            with working_in(inside):
+                self.socket.bind(MADE)
+                give_access(MADE, store)
+                made = os.lstat(MADE)
+            self.socket.setblocking(False)
+            self.socket.listen(BACKLOG)
+            self.waiting.register(self.socket, select.POLLIN)
+            self.take_name(inside)
+            self.made = made.st_dev, made.st_ino
+        finally:
+            for name in (MADE, REPLACED):
+                with contextlib.suppress(FileNotFoundError):
+                    os.unlink(name, dir_fd=inside)
+            os.close(inside)
+            os.close(store)
+
+    def take_name(self, inside: int) -> None:
+        """Links the socket to its name, where nothing is, or a socket that nobody listens to."""
+        for _ in range(TRIES):
+            try:
+                os.link(MADE, self.name, src_dir_fd=inside, dst_dir_fd=self.place, follow_symlinks=False)
+                return
+            except FileExistsError:
+                self.look()
+            with contextlib.suppress(FileNotFoundError):
+                self.remove_old(inside)
+        raise self.refuse("others take that name again and again: choose another path")
+
+    def remove_old(self, inside: int) -> None:
+        """Removes the socket at the name, which seemed dead. It goes where nobody else can change it, and is looked at
+        there: if a server has taken the name meanwhile, it gets it back."""
+        os.rename(self.name, REPLACED, src_dir_fd=self.place, dst_dir_fd=inside)
+        with working_in(inside):
+            why = hindrance(REPLACED)
+        if why is not None:
+            os.link(REPLACED, self.name, src_dir_fd=inside, dst_dir_fd=self.place, follow_symlinks=False)
+        os.unlink(REPLACED, dir_fd=inside)
+        if why is not None:
+            raise self.refuse(why)
+
+    def is_waited_for(self) -> bool:
+        """Whether a client waits to be taken."""
+        return bool(self.waiting.poll(0))
+
+    def accept(self) -> socket.socket:
+        connection, _ = self.socket.accept()
+        connection.setblocking(False)
+        return connection
+
+    def close(self) -> None:
+        """Removes the name, if it is still this socket's, and takes no more clients."""
+        try:
+            if self.made is not None:
+                found = os.lstat(self.name, dir_fd=self.place)
+                if (found.st_dev, found.st_ino) == self.made:
+                    os.unlink(self.name, dir_fd=self.place)
+        except FileNotFoundError:
+            pass
+        except OSError as error:
+            say(f"the socket {shown(self.path)} can't be removed: {reason(error)}: remove it")
+        self.made = None
+        self.socket.close()
