@@ -312,6 +312,12 @@ class Client:
             self.active = self.read_last
         return True
 
+    def leave(self) -> None:
+        """Ends the connection, and lets go of the memory."""
+        self.is_gone = True
+        self.connection.close()
+        self.heard, self.unsaid = Pieces(), bytearray()
+
     def is_done(self) -> bool:
         return self.has_sent_all and not self.unsaid and not self.due and not self.heard.end
 
@@ -492,9 +498,8 @@ class Server:
 
     def drop(self, client: Client) -> None:
         """Cuts a client off. What it sent to the session is performed all the same."""
-        client.is_gone = True
         self.unwatch(client.descriptor)
-        client.connection.close()
+        client.leave()
         self.clients.remove(client)
         self.long_commands.leave(client)
         self.long_answers.leave(client)

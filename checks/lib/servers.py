@@ -1,0 +1,215 @@
+"""What the trials of the server share: clients, servers that run, and a test with a folder of its own."""
+
+from __future__ import annotations
+
+import contextlib
+import os
+import shutil
+import signal
+import socket
+import subprocess
+import sys
+import tempfile
+import time
+import unittest
+from typing import Any, Callable, Optional, Sequence
+
+TOP = os.path.dirname(os.path.dirname(os.path.dirname(os.path.abspath(__file__))))
+PROGRAM = os.environ.get("CONFSTORE") or os.path.join(TOP, "crates", "confstore", "out", "confstore")
+SERVER = os.environ.get("SERVER") or os.path.join(TOP, "clients", "serve.py")
+
+# How long in seconds anything here is waited for, and how long a client is told to wait for a server that is at its
+# bound: `--max-wait 1`, the second in which a client may be idle in any case, and the server's looks at its clients.
+PATIENCE = 20
+BOUNDED = 4.0
+
+NAMES = b"names:\n...\n"
+MEGABYTE = 1_000_000
+
+# A session that answers `get: N` by a text of N bytes, and all else by `names: []`.
+FAKE = """
+import sys
+while (line := sys.stdin.buffer.readline()):
+    word = line if line != b"---\\n" else sys.stdin.buffer.readline()
+    while line not in (b"...\\n", b""):
+        line = sys.stdin.buffer.readline()
+    length = int(word[5:]) if word.startswith(b"get: ") else 0
+    sys.stdout.buffer.write(b"---\\nvalue: " + b"x" * length + b"\\n...\\n" if length else b"---\\nnames: []\\n...\\n")
+    sys.stdout.buffer.flush()
+"""
+
+
+class Client:
+    """A connection to a server."""
+
+    def __init__(self, path: str) -> None:
+        self.socket = socket.socket(socket.AF_UNIX)
+        self.socket.settimeout(PATIENCE)
+        self.socket.connect(path)
+        self.rest = b""
+
+    def send(self, commands: bytes) -> None:
+        self.socket.sendall(commands)
+
+    def send_some(self, commands: bytes) -> int:
+        """Sends what the server takes within a moment. How much that was."""
+        self.socket.settimeout(0.2)
+        sent = 0
+        with contextlib.suppress(OSError):
+            while sent < len(commands):
+                sent += self.socket.send(commands[sent : sent + 65_536])
+        self.socket.settimeout(PATIENCE)
+        return sent
+
+    def answer(self) -> bytes:
+        """The next answer, or nothing if the server cut this client off."""
+        while b"\n...\n" not in self.rest:
+            try:
+                part = self.socket.recv(1 << 20)
+            except ConnectionResetError:
+                part = b""
+            if not part:
+                return b""
+            self.rest += part
+        answer, _, self.rest = self.rest.partition(b"\n...\n")
+        return answer + b"\n...\n"
+
+    def ask(self, command: bytes) -> bytes:
+        try:
+            self.send(command)
+        except BrokenPipeError:
+            return b""
+        return self.answer()
+
+    def next_byte(self) -> Optional[bytes]:
+        """The next byte that is there to be read, nothing if the server cut this client off, and None if none came."""
+        self.socket.setblocking(False)
+        try:
+            return self.socket.recv(1, socket.MSG_PEEK)
+        except BlockingIOError:
+            return None
+        except ConnectionResetError:
+            return b""
+        finally:
+            self.socket.settimeout(PATIENCE)
+
+    def close(self) -> None:
+        self.socket.close()
+
+
+class Running:
+    """A server that runs, and what it says on standard error."""
+
+    def __init__(self, words: Sequence[str], top: str, before: Sequence[str], **more: Any) -> None:
+        self.errors_file = os.path.join(top, f"errors{time.monotonic_ns()}")
+        with open(self.errors_file, "wb") as errors:
+            self.process = subprocess.Popen(
+                [*before, sys.executable, SERVER, *words], stdin=subprocess.DEVNULL, stderr=errors, **more
+            )
+
+    def errors(self) -> str:
+        with open(self.errors_file, encoding="utf-8") as errors:
+            return errors.read()
+
+    def wait(self) -> int:
+        return self.process.wait(PATIENCE)
+
+    def end(self, number: int = signal.SIGTERM) -> int:
+        self.process.send_signal(number)
+        return self.wait()
+
+    def kilobytes(self, name: str) -> int:
+        """A figure of the server's memory."""
+        with open(f"/proc/{self.process.pid}/status", encoding="ascii") as status:
+            return int(next(line for line in status if line.startswith(name + ":")).split()[1])
+
+    def seconds_of_processor(self) -> float:
+        with open(f"/proc/{self.process.pid}/stat", encoding="ascii") as figures:
+            used = figures.read().rpartition(")")[2].split()[11:13]
+        return sum(map(int, used)) / os.sysconf("SC_CLK_TCK")
+
+    def catches_signals(self) -> bool:
+        with open(f"/proc/{self.process.pid}/status", encoding="ascii") as status:
+            caught = int(next(line for line in status if line.startswith("SigCgt:")).split()[1], 16)
+        return bool(caught >> signal.SIGTERM - 1 & 1)
+
+    def session(self) -> int:
+        with open(f"/proc/{self.process.pid}/task/{self.process.pid}/children", encoding="ascii") as children:
+            return int(children.read().split()[0])
+
+
+class ServerTest(unittest.TestCase):
+    """A test with a folder of its own, and servers on stores in it. None of them may end with a trace of Python."""
+
+    def setUp(self) -> None:
+        self.top = tempfile.mkdtemp()
+        self.addCleanup(shutil.rmtree, self.top, ignore_errors=True)
+        os.chmod(self.top, 0o755)
+        self.folder = os.path.join(self.top, "store")
+        os.mkdir(self.folder)
+        self.path = os.path.join(self.top, "socket")
+
+    def start(
+        self, *options: str, path: str = "", folder: str = "", program: str = PROGRAM, before: Sequence[str] = (), **more: Any
+    ) -> Running:
+        """A server that was started."""
+        environment = {**os.environ, "CONFSTORE": program, **more.pop("environment", {})}
+        words = [*options, path or self.path, folder or self.folder]
+        server = Running(words, self.top, before, env=environment, **more)
+        self.addCleanup(self.stop, server)
+        return server
+
+    def serve(self, *options: str, **more: Any) -> Running:
+        """A server that takes clients."""
+        server = self.start(*options, **more)
+        path = more.get("path") or self.path
+        self.await_that(lambda: accepts(path) or server.process.poll() is not None, "the server takes clients")
+        self.assertIsNone(server.process.poll(), server.errors())
+        return server
+
+    def stop(self, server: Running) -> None:
+        server.process.kill()
+        server.process.wait()
+        self.assertNotIn("Traceback", server.errors())
+
+    def fake(self) -> str:
+        path = os.path.join(self.top, "fake")
+        with open(path, "w", encoding="ascii") as program:
+            program.write(f"#!{sys.executable}\n{FAKE}")
+        os.chmod(path, 0o755)
+        return path
+
+    def client(self, path: str = "") -> Client:
+        client = Client(path or self.path)
+        self.addCleanup(client.close)
+        return client
+
+    def clients(self, count: int) -> list[Client]:
+        return [self.client() for _ in range(count)]
+
+    def await_that(self, holds: Callable[[], bool], what: str, limit: float = PATIENCE) -> float:
+        """Waits until something holds. How long that took."""
+        start = time.monotonic()
+        while not holds():
+            if time.monotonic() - start > limit:
+                self.fail(f"not within {limit} seconds: {what}")
+            time.sleep(0.01)
+        return time.monotonic() - start
+
+    def assert_served(self, limit: float = BOUNDED, command: bytes = NAMES) -> Client:
+        """A new client that is answered within so many seconds."""
+        start = time.monotonic()
+        client = self.client()
+        client.socket.settimeout(limit)
+        try:
+            self.assertTrue(client.ask(command).startswith(b"---\n"))
+        except TimeoutError:
+            self.fail(f"no answer within {limit} seconds")
+        self.assertLess(time.monotonic() - start, limit)
+        return client
+
+
+def accepts(path: str) -> bool:
+    with socket.socket(socket.AF_UNIX) as connection:
+        connection.setblocking(False)
+        return connection.connect_ex(path) == 0
