@@ -9,12 +9,13 @@
 # - C: the library and its test under the sanitizers of each compiler that is there, and under valgrind, over sessions
 #   of its own and over a socket.
 # - Sixteen clients of one session that is killed and started again.
+# - The types of the server and of its trials, where mypy is installed, and the server's bounds, socket, faults and ends.
 # - The settings for editors, the hook, the examples, the page of a log, the completions, the man pages, and a Debian
 #   package.
 #
 # What isn't installed is left out, with a line that says so. Each step has a limit of time, and ends what it started.
 # The program is CONFSTORE, or the one that ./confstore builds. The last line is 'N passed, M failed', of steps, and the
-# status is 0 if M is 0. It takes some three minutes.
+# status is 0 if M is 0. It takes some four minutes.
 set -u
 top=$(cd "$(dirname "${BASH_SOURCE[0]}")/.." && pwd)
 CONFSTORE=${CONFSTORE:-$top/crates/confstore/out/confstore}
@@ -77,7 +78,8 @@ export -f try_install
 export python folder
 step "the Python package is installed without a network" 120 bash -c try_install
 types() { MYPYPATH=python mypy --config-file python/pyproject.toml python/confstore replicated/confstore_replicated; }
-export -f types
+server_types() { MYPYPATH=checks:clients mypy --strict --explicit-package-bases clients/serve.py checks/server.py; }
+export -f types server_types
 if has mypy; then step "its types, and those of the replicated store" 120 bash -c types; fi
 step "its tests" 600 env -C python "$python" -m unittest
 step "the replicated store's tests without etcd" 300 env -C replicated "$python" -m unittest
@@ -114,7 +116,9 @@ if has c++; then step "the header in C++" 60 c++ -fsyntax-only -Wall -Wextra -We
 kill "$server" && wait "$server"
 server=
 
+if has mypy; then step "the types of the server and its trials" 120 bash -c server_types; fi
 step "sixteen clients of a session that is killed and started again" 300 "$python" checks/many_clients.py
+step "the server: clients, the socket, faults and signals" 300 "$python" checks/server.py
 step "editors, the hook and the examples" 300 "$python" checks/editors.py
 step "the page of a log" 300 "$python" checks/page.py
 step "completions" 300 "$python" checks/completions.py

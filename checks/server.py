@@ -15,7 +15,8 @@ Run it from the repository's root after the program is built; it takes up to a m
     ./confstore --version && python3 checks/server.py
 
 Names of tests may follow, as `Bounds` or `Bounds.test_idle_clients`. SERVER may name another server to try. What needs
-root, setfacl, systemd-analyze or libseccomp is left out where that is missing. The status is 0 if all is as it should be.
+root, setfacl, systemd-analyze or libseccomp is left out where that is missing. The status is 0 if all is as it should
+be.
 """
 
 from __future__ import annotations
@@ -100,7 +101,7 @@ class Bounds(ServerTest):
         with open("/proc/sys/net/core/somaxconn", encoding="ascii") as limit:
             if int(limit.read()) < 600:
                 self.skipTest("the system lets fewer than 600 clients wait")
-        server = self.serve("--max-wait", "1")
+        server = self.serve()
         server.process.send_signal(signal.SIGSTOP)
         burst: list[socket.socket] = []
         refused = 0
@@ -279,7 +280,8 @@ class Sessions(ServerTest):
         with open(text, "w", encoding="ascii") as target:
             target.write("no program")
         os.chmod(text, 0o755)
-        for program, word in (("/bin/true", "answered nothing"), ("/nowhere/confstore", "can't be run"), (text, "can't be run")):
+        wanted = {"/bin/true": "answered nothing", "/nowhere/confstore": "can't be run", text: "can't be run"}
+        for program, word in wanted.items():
             server = self.start(program=program)
             self.assertEqual(server.wait(), 3, program)
             self.assertRegex(server.errors(), rf"\Aserve\.py: [^\n]*{word}[^\n]*CONFSTORE\n\Z")
@@ -325,7 +327,8 @@ class Faults(ServerTest):
         time.sleep(1.5)
         self.assertLess(server.seconds_of_processor() - before, 0.5)
         self.assertEqual(kept.ask(NAMES), b"---\nnames: []\n...\n")
-        self.assertRegex(server.errors(), r"\Aserve\.py: no more clients than [0-9]+ can be taken: Too many open files: [^\n]*\n\Z")
+        wanted = r"no more clients than [0-9]+ can be taken: Too many open files: [^\n]*"
+        self.assertRegex(server.errors(), rf"\Aserve\.py: {wanted}\n\Z")
         resource.prlimit(server.process.pid, resource.RLIMIT_NOFILE, (most, most))
         self.assertEqual([client.answer() for client in others], [b"---\nnames: []\n...\n"] * 10)
 
@@ -335,11 +338,13 @@ class Faults(ServerTest):
         clients = self.clients(8)
         self.assertEqual([client.ask(NAMES) for client in clients], [b"---\nnames: []\n...\n"] * 8)
         self.assert_served()
-        self.assertRegex(server.errors(), r"\Aserve\.py: only 8 clients at once, not 256, [^\n]*: raise the limit [^\n]*\n\Z")
+        wanted = r"only 8 clients at once, not 256, [^\n]*: raise the limit [^\n]*"
+        self.assertRegex(server.errors(), rf"\Aserve\.py: {wanted}\n\Z")
         for limit in ("32", "14"):
             server = self.start(before=["prlimit", f"--nofile={limit}:{limit}"], path=self.path + limit)
             self.assertEqual(server.wait(), 3)
-            self.assertRegex(server.errors(), rf"\Aserve\.py: only {limit} files may be open[^\n]*: raise the limit [^\n]*\n\Z")
+            wanted = rf"only {limit} files may be open[^\n]*: raise the limit [^\n]*"
+            self.assertRegex(server.errors(), rf"\Aserve\.py: {wanted}\n\Z")
 
     def test_a_limit_that_may_be_raised(self) -> None:
         server = self.serve(before=["prlimit", "--nofile=20:4096"])
@@ -352,7 +357,8 @@ class Faults(ServerTest):
             with self.subTest(closed=closed):
                 script = f'"$@" {closed} & echo $! >&3; wait $!'
                 reading, writing = os.pipe()
-                server = self.start(before=["bash", "-c", script.replace(">&3", f">&{writing}"), "bash"], pass_fds=[writing])
+                script = script.replace(">&3", f">&{writing}")
+                server = self.start(before=["bash", "-c", script, "bash"], pass_fds=[writing])
                 os.close(writing)
                 with open(reading, encoding="ascii") as source:
                     process = int(source.readline())
@@ -392,7 +398,8 @@ class Ends(ServerTest):
             while client.answer():
                 answered += 1
             self.assertEqual((server.wait(), os.path.exists(self.path), server.errors()), (0, False, ""))
-            done = subprocess.run([PROGRAM, "run", folder], input=b"checkpoint:\n...\n", capture_output=True, check=True)
+            words = [PROGRAM, "run", folder]
+            done = subprocess.run(words, input=b"checkpoint:\n...\n", capture_output=True, check=True)
             self.assertEqual(done.stdout, b'---\nok: "%d"\n...\n' % answered)
 
     def test_a_hangup_that_is_ignored(self) -> None:
@@ -434,7 +441,8 @@ class Ends(ServerTest):
         """In the middle of a command, of an answer, with commands in the session, and after all was sent."""
         server = self.serve(program=self.fake())
         for _ in range(20):
-            for commands in (b"names", b"get: 3000000\n...\n", NAMES * 100, b"", b"get: 3000000\n...\nget: 30\n...\nnames"):
+            long = b"get: 3000000\n...\n"
+            for commands in (b"names", long, NAMES * 100, b"", long + b"get: 30\n...\nnames"):
                 with contextlib.closing(Client(self.path)) as client:
                     client.send(commands)
                     if commands.endswith(b"\nnames"):
@@ -549,7 +557,8 @@ class Unit(ServerTest):
             self.assertIn("Seccomp:\t2\n", status.read())
         client = self.client()
         for number in range(1, 201):
-            self.assertEqual(client.ask(b"import: a\ntext: x\n...\n"), b'---\nok: "%d"\n...\n' % number, server.errors())
+            answer = client.ask(b"import: a\ntext: x\n...\n")
+            self.assertEqual(answer, b'---\nok: "%d"\n...\n' % number, server.errors())
         self.assertEqual(client.ask(b"checkpoint:\n...\n"), b'---\nok: "200"\n...\n')
         self.assertEqual(client.ask(b"set: a\npath: ''\nvalue: y\n...\n"), b'---\nok: "201"\n...\n')
         self.assertEqual((server.end(), server.errors()), (0, ""))

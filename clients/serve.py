@@ -57,7 +57,8 @@ from typing import Callable, NamedTuple, Optional, Sequence
 sys.path.insert(0, os.path.dirname(os.path.realpath(__file__)))
 sys.dont_write_bytecode = True
 
-from serve_socket import FAILED, Fault, Listener, reason, say, shown, write_error  # noqa: E402
+from serve_socket import FAILED, Fault, Listener, open_standard_streams, reason, say, shown, tell_manager  # noqa: E402
+from serve_socket import write_error  # noqa: E402
 
 LONGEST = 16_777_216  # bytes of a command
 LONGEST_ANSWER = 67_108_864  # bytes
@@ -173,6 +174,10 @@ class Session:
         self.unsent = self.unsent + piece if self.unsent else piece
         self.sent += len(piece)
         self.turns.append(client)
+
+    def is_used_up(self, length: int, most: int) -> bool:
+        """Whether a command of this length would be more than it takes. A session without commands takes any."""
+        return self.sent > self.first and self.sent + length > most
 
     def write(self) -> None:
         """Sends what the session takes now."""
@@ -459,7 +464,8 @@ class Server:
                 continue
             except OSError as error:
                 self.takes_none_until = now + LOOK
-                self.complain(f"no more clients than {len(self.clients)} can be taken: {error.strerror}: raise the limit")
+                few = f"no more clients than {len(self.clients)} can be taken"
+                self.complain(f"{few}: {reason(error)}: raise the limit")
                 self.others_since = self.others_since or now
                 return
             self.clients.append(Client(connection, self.serve_client))
@@ -534,7 +540,7 @@ class Server:
             for client in list(self.clients):
                 if len(self.session.unsent) > MOST_UNSENT or not client.may_send() or not self.has_turn(client):
                     continue
-                if self.session.sent > self.session.first and self.session.sent + client.heard.end > self.bounds.renew_after:
+                if self.session.is_used_up(client.heard.end, self.bounds.renew_after):
                     self.finish_session()
                     return
                 self.session.send(client.next_command(), client)
@@ -647,7 +653,8 @@ class Server:
             if not is_held or time.monotonic() > deadline:
                 self.session.pass_errors_on()
                 if is_held:
-                    say(f"the store was held by another run for {self.bounds.lock_wait:g} seconds: end that run, and start again")
+                    waited = f"the store was held by another run for {self.bounds.lock_wait:g} seconds"
+                    say(f"{waited}: end that run, and start the server again")
                 return False
             if not waits:
                 waits = True
@@ -677,29 +684,6 @@ class Server:
         """Ends the session, however this program ends."""
         if not self.session.is_over:
             self.session.wait()
-
-
-def tell_manager() -> None:
-    """Tells systemd that clients are taken, if it has started this program."""
-    address = os.environ.get("NOTIFY_SOCKET")
-    if not address:
-        return
-    try:
-        with socket.socket(socket.AF_UNIX, socket.SOCK_DGRAM) as manager:
-            manager.settimeout(GRACE)
-            manager.connect("\0" + address[1:] if address[0] == "@" else address)
-            manager.send(b"READY=1")
-    except OSError as error:
-        say(f"nobody is told at NOTIFY_SOCKET, {shown(address)}, that clients are taken: {reason(error)}: unset it")
-
-
-def open_standard_streams() -> None:
-    """Opens /dev/null in the place of each standard stream that is closed, so that nothing else takes its number."""
-    while (descriptor := os.open(os.devnull, os.O_RDWR)) <= 2:
-        os.set_inheritable(descriptor, True)
-    os.close(descriptor)
-    sys.stdout = sys.stdout or open(1, "w", closefd=False)
-    sys.stderr = sys.stderr or open(2, "w", closefd=False)
 
 
 def clients_with_room(wanted: int) -> int:

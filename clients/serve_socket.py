@@ -1,4 +1,4 @@
-"""The socket of `serve.py`: its name, who may connect, and the lines that say what is wrong.
+"""What `serve.py` has of the system: its socket, who may connect, its standard streams, its manager, and its lines.
 
 A socket is made in a folder of its own, which nobody else may enter, beside its name. It gets its owner, group and
 access list there, and is listened to. Only then it is linked to its name, which fails where anything is. So no mode is
@@ -15,12 +15,14 @@ import select
 import socket
 import stat
 import struct
+import sys
 from typing import Iterator, NamedTuple, Optional
 
 LONGEST_PATH = 107  # bytes of a socket's path
 BACKLOG = 4_096  # clients that wait to be taken
 TRIES = 10  # to take a name where others take it and leave it
-GONE_SLOW = 1_000  # milliseconds that a line waits for room on standard error
+LINE_WAITS = 1_000  # milliseconds for room on standard error
+MANAGER_TAKES = 10  # seconds to be told
 
 WRONG_WORDS, FAILED = 2, 3  # statuses
 
@@ -47,7 +49,7 @@ def write_error(text: bytes) -> None:
     with contextlib.suppress(OSError):
         room = select.poll()
         room.register(2, select.POLLOUT)
-        while text and room.poll(GONE_SLOW):
+        while text and room.poll(LINE_WAITS):
             text = text[os.write(2, text[: select.PIPE_BUF]) :]
 
 
@@ -270,3 +272,26 @@ class Listener:
             say(f"the socket {shown(self.path)} can't be removed: {reason(error)}: remove it")
         self.made = None
         self.socket.close()
+
+
+def tell_manager() -> None:
+    """Tells systemd that clients are taken, if it has started this program."""
+    address = os.environ.get("NOTIFY_SOCKET")
+    if not address:
+        return
+    try:
+        with socket.socket(socket.AF_UNIX, socket.SOCK_DGRAM) as manager:
+            manager.settimeout(MANAGER_TAKES)
+            manager.connect("\0" + address[1:] if address[0] == "@" else address)
+            manager.send(b"READY=1")
+    except OSError as error:
+        say(f"nobody is told at NOTIFY_SOCKET, {shown(address)}, that clients are taken: {reason(error)}: unset it")
+
+
+def open_standard_streams() -> None:
+    """Opens /dev/null in the place of each standard stream that is closed, so that nothing else takes its number."""
+    while (descriptor := os.open(os.devnull, os.O_RDWR)) <= 2:
+        os.set_inheritable(descriptor, True)
+    os.close(descriptor)
+    sys.stdout = sys.stdout or open(1, "w", closefd=False)
+    sys.stderr = sys.stderr or open(2, "w", closefd=False)

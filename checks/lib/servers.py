@@ -150,7 +150,13 @@ class ServerTest(unittest.TestCase):
         self.path = os.path.join(self.top, "socket")
 
     def start(
-        self, *options: str, path: str = "", folder: str = "", program: str = PROGRAM, before: Sequence[str] = (), **more: Any
+        self,
+        *options: str,
+        path: str = "",
+        folder: str = "",
+        program: str = PROGRAM,
+        before: Sequence[str] = (),
+        **more: Any,
     ) -> Running:
         """A server that was started."""
         environment = {**os.environ, "CONFSTORE": program, **more.pop("environment", {})}
