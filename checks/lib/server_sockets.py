@@ -154,18 +154,24 @@ class Access(ServerTest):
         self.assertEqual(connects, {"root", "alice"})
 
     def test_a_link_in_place_of_the_socket(self) -> None:
-        """Another user who may change the names exchanges the socket for a link, as soon as it sees it."""
+        """Another user who may change the names exchanges the socket for a link, as soon as it sees it. The calls that
+        give the socket its mode and owner are delayed, so that there is time for that."""
+        delays = []
+        if shutil.which("strace"):
+            calls = "chmod,fchmodat,chown,lchown,fchownat"
+            delays = ["strace", "-D", "-f", "-qq", "-o", "/dev/null", "-e", f"trace={calls}"]
+            delays += ["-e", f"inject={calls}:delay_enter=50000"]
         self.prepare(0o770, "")
         victim = os.path.join(self.top, "victim")
         with open(victim, "w", encoding="ascii") as target:
             target.write("root only\n")
         os.chmod(victim, 0o600)
         self.path = os.path.join(self.folder, "socket")
-        for _ in range(12):
+        for _ in range(3 if delays else 12):
             with exchanging(self.path, victim):
-                server = self.start()
+                server = self.start(before=delays)
                 with contextlib.suppress(subprocess.TimeoutExpired):
-                    server.process.wait(0.5)
+                    server.process.wait(1)
                 server.process.kill()
                 server.process.wait()
             found = os.stat(victim)
