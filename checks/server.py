@@ -192,12 +192,13 @@ class Bounds(ServerTest):
 
 
 class Holder(threading.Thread):
-    """Another run, which takes the store whenever it can, and holds it for some time."""
+    """Another run, which takes the store whenever it can, and holds it for some time. It rests after it had it."""
 
     def __init__(self, folder: str, seconds: float) -> None:
         super().__init__(daemon=True)
         self.folder = folder
         self.seconds = seconds
+        self.pause = 0.0
         self.held = 0
         self.stop = threading.Event()
 
@@ -210,11 +211,14 @@ class Holder(threading.Thread):
                 with contextlib.suppress(BrokenPipeError):
                     run.stdin.write(NAMES)
                     run.stdin.flush()
+                    self.pause = 0.0
                     if run.stdout.readline():
                         self.held += 1
                         self.stop.wait(self.seconds)
+                        self.pause = self.seconds
                 with contextlib.suppress(BrokenPipeError):
                     run.stdin.close()
+            self.stop.wait(self.pause)
 
 
 class Sessions(ServerTest):

@@ -71,7 +71,7 @@ RESERVED = 32  # files that are open beside the clients
 GRACE = 10  # seconds until all clients have read their answers at the end, and until a session is gone
 LOOK = 0.5  # seconds between two looks at who is late
 STAY = 1  # seconds that each client is connected, whoever waits
-PAUSE = 0.1  # seconds between two tries to open the store again
+PAUSE = 0.02  # seconds between two tries to open the store again
 QUIET = 60  # seconds between two lines about the same lack
 FOREVER = 1e9  # seconds that no bound has
 
