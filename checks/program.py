@@ -7,7 +7,9 @@ The rows are in checks/data/program.txt. A row is some lines, and an empty line 
     file PATH TEXT  makes a file there
     link PATH TO    makes a symbolic link there
     held FOLDER     another run of the program holds the store in the folder meanwhile
+    stuck WORDS     another run of the program, with these words, has filled a pipe that nobody reads, and waits
     words WORDS     the program's words
+    word TEXT       one more word, behind those; there may be several such lines
     input TEXT      what it reads; nothing without this line
     reader broken   reading fails after the input
     writer full     what it writes goes to a full device
@@ -23,20 +25,24 @@ The rows are in checks/data/program.txt. A row is some lines, and an empty line 
     leads PATH TO   where a symbolic link leads afterwards
     has PATH NAMES  what is in a folder afterwards, in order
 
-A text has the escapes of checks/cases.py. All rows share one folder, and run in order. The program has to be built first:
+A text has the escapes of checks/cases.py, and so has the path of a file or a folder that is made. All rows share one folder, and run in order. The program has to be built first:
 
     ./confstore --version && python3 checks/program.py
 
 The last line is 'N passed, M failed', of rows; the status is 0 if M is 0.
 """
 
+import array
 import contextlib
+import fcntl
 import os
 import socket
 import subprocess
 import sys
 import tempfile
+import termios
 import threading
+import time
 
 from cases import bytes_of, long_runs
 from lib.store_runs import PROGRAM, TOP, need_program, read_file, write_file
@@ -45,6 +51,12 @@ ROWS = os.path.join(TOP, "checks", "data", "program.txt")
 
 # The standard streams, by their numbers.
 STREAMS = ("input", "output", "errors")
+
+# How many seconds another run has to fill a pipe.
+PATIENCE = 60
+
+# A pipe that has no room for so many bytes is full.
+PAGE = 4096
 
 
 def read_rows(path):
@@ -72,13 +84,18 @@ def value(row, word):
     return "".join(values(row, word)[:1])
 
 
+def name_of(text):
+    """The name of a file that a text with escapes means."""
+    return os.fsdecode(bytes_of(text))
+
+
 def prepare(row, top):
     """Makes the folders and files of a row."""
     for folder in values(row, "folder"):
-        os.mkdir(os.path.join(top, folder))
+        os.mkdir(os.path.join(top, name_of(folder)))
     for file in values(row, "file"):
         path, text = file.split(" ", 1)
-        write_file(os.path.join(top, path), bytes_of(text))
+        write_file(os.path.join(top, name_of(path)), bytes_of(text))
     for link in values(row, "link"):
         path, target = link.split(" ")
         os.symlink(target, os.path.join(top, path))
@@ -97,6 +114,33 @@ def held(folder, top):
     run.stdin.close()
     run.stdout.close()
     run.wait()
+
+
+def wait_until_full(pipe):
+    """Waits until a pipe has no room for a page."""
+    size = fcntl.fcntl(pipe, fcntl.F_GETPIPE_SZ)
+    held = array.array("i", [0])
+    end = time.monotonic() + PATIENCE
+    while held[0] <= size - PAGE:
+        if time.monotonic() > end:
+            raise SystemExit(f"a run that was to fill a pipe wrote {held[0]} bytes")
+        time.sleep(0.01)
+        fcntl.ioctl(pipe, termios.FIONREAD, held)
+
+
+@contextlib.contextmanager
+def stuck(words, top):
+    """Another run of the program, which has filled a pipe that nobody reads, and waits."""
+    reading, writing = os.pipe()
+    run = subprocess.Popen([PROGRAM, *words.split()], cwd=top, stdin=subprocess.DEVNULL, stdout=writing)
+    os.close(writing)
+    try:
+        wait_until_full(reading)
+        yield
+    finally:
+        run.kill()
+        run.wait()
+        os.close(reading)
 
 
 @contextlib.contextmanager
@@ -129,11 +173,13 @@ def close(streams):
 
 def run(row, top):
     """The status, the output and the errors of the program."""
-    words = [PROGRAM, *value(row, "words").split()]
+    words = [PROGRAM, *value(row, "words").split(), *map(bytes_of, values(row, "word"))]
     content = bytes_of(value(row, "input"))
     with contextlib.ExitStack() as ends:
         for folder in values(row, "held"):
             ends.enter_context(held(folder, top))
+        for other in values(row, "stuck"):
+            ends.enter_context(stuck(other, top))
         given = {"input": content}
         if value(row, "reader") == "broken":
             given = {"stdin": ends.enter_context(broken_reader(content))}

@@ -1,8 +1,10 @@
 -- What an export has written, and from which state.
-use Rattle.std.specs.Prelude.{◌≡◌, ◌⊎◌, ℕ, List, Option, Result, Ok, Err, encode_utf8_all}
+use Rattle.std.specs.Prelude.{◌≡◌, ◌⊎◌, ℕ, List, Option, Result, Ok, Err, MatchResult, encode_utf8_all}
 use Rattle.std.specs.Io.KnownBytes.{Keeps, Appends}
 use Rattle.std.specs.Str.{chars}
 use Rattle.conf_disk.specs.Folder.{Folder, bytes_under}
+use Rattle.conf_disk.specs.Image.{Image}
+use Rattle.conf_disk.specs.Moments.{LeavesOnly}
 use Rattle.conf_disk.specs.declared.disk.Name.TheVariants.{Store}
 use Rattle.conf_state.specs.States.{Contents}
 use Rattle.conf_state.specs.declared.fault.StoreFault.{StoreFault}
@@ -10,7 +12,7 @@ use Rattle.conf_state.specs.declared.fault.StoreFault.TheVariants.{OutOfMemory}
 use Rattle.conf_store.specs.Calls.{Exports, HasFailed, tree_named}
 use Rattle.conf_store.specs.Files.{IsNewBase}
 use Rattle.conf_store.specs.Meaning.{FileMeans}
-use Rattle.conf_store.specs.Opens.{RefusesOpening}
+use Rattle.conf_store.specs.Opens.{MeantAtEntry, RefusesOpening}
 use Rattle.conf_store.specs.declared.fault.OpenFault.TheVariants as OpenFaults
 use Rattle.conf_tools.specs.declared.stores.StoreToolFault.{StoreToolFault}
 use Rattle.conf_tools.specs.declared.stores.StoreToolFault.TheVariants.{Open, Export, Output}
@@ -70,3 +72,12 @@ abbrev pub RefusesExport : {D : Type 0} → Type 0 → (D → Folder) → (D →
 RefusesExport honest folder failures old new name held written Output = Unit {0}
 RefusesExport honest folder failures old new name held written fault =
     LacksText honest folder failures old new name fault × Keeps held written
+
+-- What was written, or why not, from a disk that was let go before anything was written.
+pub record ExportsAndLetsGo {D : Type 0} (honest : Type 0) (folder : D → Folder) (moment : D → ℕ)
+    (since : D → ℕ → Image → Type 0) (failures : D → ℕ) (old : D) (name : List ℕ) (held written : Option (List ℕ))
+    (result : Result Unit StoreToolFault) : Type 0 where
+  pub new : D
+  pub exports : MatchResult result (λ done. ExportsFrom honest folder failures old new name held written)
+      (RefusesExport honest folder failures old new name held written)
+  pub crashes : honest → LeavesOnly moment since old new (λ image. MeantAtEntry (folder old) image.store)

@@ -6,6 +6,7 @@ pub mod Changes
 pub mod Tails
 pub mod ProgramCalls
 pub mod Exports
+pub mod Dropped
 pub mod Reads
 pub mod Surveys
 pub mod ReadingStatuses

@@ -1,5 +1,5 @@
 -- What is written of a store's file by `verify`: what an opening would find in it.
-use Rattle.std.specs.Prelude.{◌≡◌, ℕ, List, [], ◌++◌, Option, Some, None, IfSome, codes, decimal}
+use Rattle.std.specs.Prelude.{◌≡◌, ℕ, List, [], ◌++◌, Option, Some, None, IfSome, Result, MatchResult, codes, decimal}
 use Rattle.std.specs.Io.KnownBytes.{Keeps, Appends}
 use Rattle.yaml_events.specs.declared.read_fault.ReadFault.{ReadFault}
 use Rattle.yaml_events.specs.declared.read_fault.ReadFault.TheVariants as read
@@ -144,3 +144,10 @@ RefusesSaving honest folder given left held written old new (Salvage fault) =
     (honest → RefusesSalvage given left (folder old) (folder new) fault) × Keeps held written
 RefusesSaving honest folder given left held written old new fault =
     (findings : Findings) × SavesOn honest folder given left old new findings × CannotWrite held written fault
+
+-- What was made and written, or why not, where the disk was let go before anything was written.
+pub record SavesAndLetsGo {D : Type 0} (honest : Type 0) (folder : D → Folder)
+    (given left held written : Option (List ℕ)) (old : D) (result : Result Unit ReadingFault) : Type 0 where
+  pub new : D
+  pub saves : MatchResult result (λ done. SavesStore honest folder given left held written old new)
+      (RefusesSaving honest folder given left held written old new)

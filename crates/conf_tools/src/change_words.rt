@@ -44,7 +44,7 @@ pub(crate) fn init_folder<F: Files<File = File>, E: Write>(
         Ok(disk) => disk,
         Err(fault) => return write_store_fault(errors, StoreToolFault::Folder(fault)),
     };
-    match make_store(alloc, disk) {
+    match make_store(alloc, disk, errors) {
         Ok(disk) => {
             drop(disk);
             Status::Done
@@ -163,7 +163,7 @@ pub(crate) fn change_folder<F: Files<File = File>, E: Write>(
         Ok(disk) => disk,
         Err(fault) => return write_store_fault(errors, StoreToolFault::Folder(fault)),
     };
-    match change_store(alloc, disk, change) {
+    match change_store(alloc, disk, change, errors) {
         Ok(disk) => {
             drop(disk);
             Status::Done

@@ -1,10 +1,13 @@
 // Single changes of a store, over any disk.
 ghost use Rattle.std.specs.Prelude.{◌≡◌, ◌≢◌, ◌≤◌, ◌⊎◌, ◌↔◌, [], true, false, IfOk, IfErr, IsErrOf, OnOk};
+ghost use Rattle.std.specs.Io.KnownBytes.{Keeps};
+ghost use Rattle.conf_disk.specs.Folder.{bytes_under};
 ghost use Rattle.conf_disk.specs.Moments.{LeavesOnly};
 ghost use Rattle.conf_store.specs.Calls.{HasFailed};
 ghost use Rattle.conf_store.specs.Durable.{AllImagesMean, HasFlushed};
 ghost use Rattle.conf_store.specs.Opens.{MeantAtEntry};
 ghost use Rattle.conf_tools.specs.Changes.{CannotChange, CannotMake, ChangesOn, ChangeSurvives, MakesStore, Makes, MeansOneOf, RefusesChange};
+ghost use Rattle.conf_tools.specs.Dropped.{HasNoRest};
 ghost use Rattle.conf_tools.specs.Exports.{disk_handed_back};
 
 use crate::stores::{StoreToolFault, open_store};
@@ -12,6 +15,7 @@ use conf_disk::{Content, Disk, DiskFault, Name};
 use conf_state::{Command, StoreFault, steps_are_counted_or_refused};
 use conf_store::{OpenFault, Store, one_state_is_flushed};
 use std::alloc::Global;
+use std::io::Write;
 
 /// One change of a store.
 #[derive(Drop)]
@@ -55,7 +59,8 @@ fn make<D: Disk>(store: &mut Store<D>, change: Change) -> Result<(), StoreFault>
     }
 }
 
-/// Opens the store on `disk` and makes one change. Returns the disk, with the change on it.
+/// Opens the store on `disk` and makes one change. Returns the disk, with the change on it. One line to `errors` says how
+/// many bytes opening dropped, if there were any.
 ///
 /// While the store is opened, a crash leaves a `store.yaml` that means what it might have meant before the call. From
 /// then on, a crash at any moment leaves the state before the change or after it. Once this has returned `Ok`, it leaves
@@ -64,19 +69,23 @@ fn make<D: Disk>(store: &mut Store<D>, change: Change) -> Result<(), StoreFault>
 /// # Errors
 /// The disk is returned with the fault. `Open` if the store can't be opened, and `Refused` if it refuses the change;
 /// each but `Device` changes no configuration.
-pub fn change_store<D: Disk + Drop>(
+pub fn change_store<D: Disk + Drop, E: Write>(
     alloc: Global,
     disk: D,
     change: Change,
+    errors: &mut E,
 ) -> Result<D, (D, StoreToolFault)>
     ensures made { IfOk result (ChangesOn D.honest D.folder D.moment D.left disk change) }
     ensures refused { IfErr result (λ r.
         CannotChange D.honest D.folder D.moment D.left D.failure_count disk change r.0 r.1) }
     // No crash loses a change that was made, or keeps one that was refused.
     ensures crashes { D.honest → ChangeSurvives D.folder D.moment D.left disk change result }
+    // Nothing is written to `errors` if no bytes are dropped.
+    ensures quiet { D.honest → HasNoRest (bytes_under (D.folder disk) Name.Store)
+        → Keeps (E.contents errors.old) (E.contents errors.new) }
 {
     steps_are_counted_or_refused();
-    let mut store = match open_store(alloc, disk) {
+    let mut store = match open_store(alloc, disk, errors) {
         Ok(store) => store,
         Err((disk, fault)) => return Err((disk, StoreToolFault::Open(fault))),
     };
@@ -93,13 +102,19 @@ pub fn change_store<D: Disk + Drop>(
 /// # Errors
 /// The disk is returned with the fault. `StoreExists` if there is a `store.yaml`, whatever it holds: nothing has
 /// changed. `Open` if a call of the disk fails, or memory runs out.
-pub fn make_store<D: Disk + Drop>(alloc: Global, disk: D) -> Result<D, (D, StoreToolFault)>
+pub fn make_store<D: Disk + Drop, E: Write>(
+    alloc: Global,
+    disk: D,
+    errors: &mut E,
+) -> Result<D, (D, StoreToolFault)>
     ensures made { IfOk result (λ disk_behind. D.honest → MakesStore D.folder disk disk_behind) }
     ensures refused { IfErr result (λ r.
         CannotMake D.honest D.folder disk r.0 r.1) }
     // No crash leaves anything else than what was there, or an empty store.
     ensures crashes { D.honest → LeavesOnly D.moment D.left disk (disk_handed_back result)
         (λ image. MeantAtEntry (D.folder disk) image.store) }
+    // A new store has nothing to drop.
+    ensures quiet { D.honest → Keeps (E.contents errors.old) (E.contents errors.new) }
 {
     let mut disk = disk;
     match disk.read(alloc, Name::Store, 0) {
@@ -110,7 +125,7 @@ pub fn make_store<D: Disk + Drop>(alloc: Global, disk: D) -> Result<D, (D, Store
         }
         Err(DiskFault::Device) => return Err((disk, StoreToolFault::Open(OpenFault::Device))),
     }
-    match open_store(alloc, disk) {
+    match open_store(alloc, disk, errors) {
         Ok(store) => Ok(store.close()),
         Err((disk, fault)) => Err((disk, StoreToolFault::Open(fault))),
     }

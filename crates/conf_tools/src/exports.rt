@@ -1,15 +1,18 @@
 // Writing one configuration of a store, over any disk and writer.
 ghost use Rattle.std.specs.Prelude.{◌≡◌, ◌≤◌, ◌⊎◌, IfOk, IfErr, Err, string_bytes};
+ghost use Rattle.std.specs.Io.KnownBytes.{Keeps};
 ghost use Rattle.std.specs.Str.{chars};
+ghost use Rattle.conf_disk.specs.Folder.{bytes_under};
 ghost use Rattle.conf_disk.specs.Moments.{LeavesOnly};
 ghost use Rattle.conf_store.specs.Calls.{Exports, tree_named};
 ghost use Rattle.conf_store.specs.Files.{FilesStay};
 ghost use Rattle.conf_store.specs.Opens.{MeantAtEntry};
-ghost use Rattle.conf_tools.specs.Exports.{ExportsFrom, HasText, LacksText, RefusesExport, disk_back, disk_handed_back};
+ghost use Rattle.conf_tools.specs.Dropped.{HasNoRest};
+ghost use Rattle.conf_tools.specs.Exports.{ExportsAndLetsGo, HasText, LacksText, disk_back};
 
 use crate::stores::{StoreToolFault, open_store};
 use crate::texts::write_whole;
-use conf_disk::{Disk, reading_is_an_image};
+use conf_disk::{Disk, Name, reading_is_an_image};
 use conf_state::{State, StoreFault, good_name};
 use conf_store::{OpenFault, read_state};
 use std::alloc::Global;
@@ -20,7 +23,7 @@ use yaml_emit::style_text;
 ///
 /// # Errors
 /// `BadName` if the name may not be used, `NoConfig` if no configuration has it, and `OutOfMemory`.
-fn export_text(alloc: Global, state: &State, name: &str) -> Result<String, StoreFault>
+fn text_in(alloc: Global, state: &State, name: &str) -> Result<String, StoreFault>
     ensures ok { IfOk result (λ text.
         Exports state.now (chars name.now) (chars (string_bytes text))) }
     ensures refused { IfErr result (λ fault.
@@ -40,7 +43,7 @@ fn export_text(alloc: Global, state: &State, name: &str) -> Result<String, Store
 ///
 /// # Errors
 /// The disk is returned with the fault: `Open` if the file can't be read or means nothing, and `Export` as
-/// [`export_store`] says.
+/// [`export_text`] says.
 fn read_text<D: Disk + Drop>(
     alloc: Global,
     disk: D,
@@ -59,28 +62,43 @@ fn read_text<D: Disk + Drop>(
         Ok((state, _)) => state,
         Err(fault) => return Err((disk, StoreToolFault::Open(fault))),
     };
-    match export_text(alloc, &state, name) {
+    match text_in(alloc, &state, name) {
         Ok(text) => Ok((disk, text)),
         Err(fault) => Err((disk, StoreToolFault::Export(fault))),
     }
 }
 
-/// The same from the store on `disk`, which is opened. If the device fails then, it is read, so that a folder serves
-/// that can't be written.
-fn text_of<D: Disk + Drop>(
+/// Opens the store on `disk`, and returns the text of the configuration under a name, in the one style, with the disk.
+/// One line to `errors` says how many bytes opening dropped, if there were any.
+///
+/// If the device fails while the store is opened, `store.yaml` is read as it stands, and nothing more is written or
+/// synced. So the configuration can be had from a folder that can't be written. But a crash may take back the last
+/// commands that were read so.
+///
+/// Whatever this returns, a crash at any moment leaves a `store.yaml` that means what it might have meant before.
+///
+/// # Errors
+/// The disk is returned with the fault. `Open` if the store can't be opened or read, with `Device` only if the device
+/// failed; `Export` if the name may not be used, no configuration has it, or memory runs out.
+pub fn export_text<D: Disk + Drop, E: Write>(
     alloc: Global,
     disk: D,
     name: &str,
+    errors: &mut E,
 ) -> Result<(D, String), (D, StoreToolFault)>
     ensures ok { IfOk result (λ r. HasText D.honest D.folder D.failure_count disk r.0
         (chars name.now) (string_bytes r.1)) }
     ensures refused { IfErr result (λ r. LacksText D.honest D.folder D.failure_count disk r.0
         (chars name.now) r.1) }
+    // No crash loses a command that was accepted.
     ensures crashes { D.honest → LeavesOnly D.moment D.left disk (disk_back result)
         (λ image. MeantAtEntry (D.folder disk) image.store) }
+    // Nothing is written to `errors` if no bytes are dropped.
+    ensures quiet { D.honest → HasNoRest (bytes_under (D.folder disk) Name.Store)
+        → Keeps (E.contents errors.old) (E.contents errors.new) }
 {
     reading_is_an_image();
-    let store = match open_store(alloc, disk) {
+    let store = match open_store(alloc, disk, errors) {
         Ok(store) => store,
         Err((disk, OpenFault::Device)) => return read_text(alloc, disk, name),
         Err((disk, fault)) => return Err((disk, StoreToolFault::Open(fault))),
@@ -93,39 +111,34 @@ fn text_of<D: Disk + Drop>(
     }
 }
 
-/// Opens the store on `disk`, and writes the configuration under a name to `writer`, in the one style. Returns the
-/// disk.
-///
-/// If the device fails while the store is opened, `store.yaml` is read as it stands, and nothing more is written or
-/// synced. So the configuration can be had from a folder that can't be written. But a crash may take back the last
-/// commands that were read so.
-///
-/// Whatever this returns, a crash at any moment leaves a `store.yaml` that means what it might have meant before.
+/// Writes the configuration under a name to `writer`, in the one style, as [`export_text`] finds it in the store on
+/// `disk`. The disk is let go before anything is written, so that no other run waits for whoever reads the output.
 ///
 /// # Errors
-/// The disk is returned with the fault. `Open` if the store can't be opened or read, with `Device` only if the device
-/// failed; `Export` if the name may not be used, no configuration has it, or memory runs out. Then nothing is written.
-/// `Output` if the writer fails: some of the text may be written.
-pub fn export_store<D: Disk + Drop, W: Write>(
+/// Those of [`export_text`]; then nothing is written. `Output` if the writer fails: some of the text may be written.
+pub fn export_store<D: Disk + Drop, W: Write, E: Write>(
     alloc: Global,
     disk: D,
     name: &str,
     writer: &mut W,
-) -> Result<D, (D, StoreToolFault)>
-    ensures ok { IfOk result (λ disk_behind. ExportsFrom D.honest D.folder D.failure_count
-        disk disk_behind (chars name.now) (W.contents writer.old) (W.contents writer.new)) }
-    ensures refused { IfErr result (λ r. RefusesExport D.honest D.folder D.failure_count
-        disk r.0 (chars name.now) (W.contents writer.old) (W.contents writer.new) r.1) }
-    // No crash loses a command that was accepted.
-    ensures crashes { D.honest → LeavesOnly D.moment D.left disk (disk_handed_back result)
-        (λ image. MeantAtEntry (D.folder disk) image.store) }
+    errors: &mut E,
+) -> Result<(), StoreToolFault>
+    // What was written, of the disk that was let go, and what a crash leaves of that.
+    ensures exports { ExportsAndLetsGo D.honest D.folder D.moment D.left D.failure_count disk
+        (chars name.now) (W.contents writer.old) (W.contents writer.new) result }
+    ensures quiet { D.honest → HasNoRest (bytes_under (D.folder disk) Name.Store)
+        → Keeps (E.contents errors.old) (E.contents errors.new) }
 {
-    let (disk, text) = match text_of(alloc, disk, name) {
+    let (disk, text) = match export_text(alloc, disk, name, errors) {
         Ok(found) => found,
-        Err(refused) => return Err(refused),
+        Err((disk, fault)) => {
+            drop(disk);
+            return Err(fault);
+        }
     };
+    drop(disk);
     match write_whole(writer, text.as_bytes()) {
-        Ok(()) => Ok(disk),
-        Err(_) => Err((disk, StoreToolFault::Output)),
+        Ok(()) => Ok(()),
+        Err(_) => Err(StoreToolFault::Output),
     }
 }

@@ -8,7 +8,7 @@ use crate::program::{Status, write_fault};
 use crate::texts::{ToolFault, check_text, format_text};
 use clap::ArgMatches;
 use conf_files::{ReplaceFault, open_file, replace_file};
-use conf_words::{FILE, IN_PLACE, ONLY_CHECK};
+use conf_words::{FILE, IN_PLACE, ONLY_CHECK, escaped};
 use std::alloc::{AllocError, Global};
 use std::fs::File;
 use std::io::{Read, Write};
@@ -158,7 +158,7 @@ fn format_file<F: Files<File = File>, R: Read, W: Write, E: Write>(
     match format_named(rt, alloc, file, reader, writer) {
         Ok(()) => Status::Done,
         Err(ToolFault::Output) => write_fault(errors, ToolFault::Output),
-        Err(fault) => write_file_fault(errors, file, fault),
+        Err(fault) => write_file_fault(alloc, errors, file, fault),
     }
 }
 
@@ -196,7 +196,7 @@ fn replace_files<F: Files<File = File>, E: Write>(
     let mut status = Status::Done;
     for file in files {
         if let Err(fault) = restyle_file(rt, alloc, file) {
-            status = worst(status, write_file_fault(errors, file, fault));
+            status = worst(status, write_file_fault(alloc, errors, file, fault));
         }
     }
     status
@@ -235,7 +235,7 @@ fn try_files<F: Files<File = File>, R: Read, W: Write, E: Write>(
         match try_file(rt, alloc, report, file, reader, writer) {
             Ok(found) => status = worst(status, found),
             Err(ToolFault::Output) => return write_fault(errors, ToolFault::Output),
-            Err(fault) => status = worst(status, write_file_fault(errors, file, fault)),
+            Err(fault) => status = worst(status, write_file_fault(alloc, errors, file, fault)),
         }
     }
     status
@@ -262,7 +262,7 @@ fn try_file<F: Files<File = File>, R: Read, W: Write>(
     }
 }
 
-/// Reports on the text of a file.
+/// Reports on the text of a file, whose name is shown [`escaped`].
 fn try_text<R: Read, W: Write>(
     alloc: Global,
     report: Report,
@@ -273,13 +273,28 @@ fn try_text<R: Read, W: Write>(
     ensures { TriesText (R.remaining reader.old) (R.remaining reader.new)
         (W.contents writer.old) (W.contents writer.new) result }
 {
+    let name = escaped(alloc, file)?;
+    report_on(alloc, report, &name, reader, writer)
+}
+
+/// Reports on the text of a file, which is shown under this name.
+fn report_on<R: Read, W: Write>(
+    alloc: Global,
+    report: Report,
+    name: &str,
+    reader: &mut R,
+    writer: &mut W,
+) -> Result<Status, ToolFault>
+    ensures { TriesText (R.remaining reader.old) (R.remaining reader.new)
+        (W.contents writer.old) (W.contents writer.new) result }
+{
     match report {
-        Report::Findings => match check_file(alloc, file, reader, writer) {
+        Report::Findings => match check_file(alloc, name, reader, writer) {
             Ok(0) => Ok(Status::Done),
             Ok(_) => Ok(Status::Found),
             Err(fault) => Err(fault),
         },
-        Report::Name => match list_changed(alloc, file, reader, writer) {
+        Report::Name => match list_changed(alloc, name, reader, writer) {
             Ok(false) => Ok(Status::Done),
             Ok(true) => Ok(Status::Found),
             Err(fault) => Err(fault),
@@ -298,20 +313,27 @@ fn worst(one: Status, other: Status) -> Status
     }
 }
 
-/// Writes in one line why a file was not read or replaced, with the place if there is one, and returns the status.
-fn write_file_fault<E: Write>(errors: &mut E, file: &str, fault: ToolFault) -> Status
+/// Writes in one line why a file was not read or replaced, with the place if there is one, and returns the status. The
+/// name of the file is shown [`escaped`], or as `FILE` if there is no memory for that.
+fn write_file_fault<E: Write>(alloc: Global, errors: &mut E, file: &str, fault: ToolFault) -> Status
     ensures { result ≡ status_of fault }
 {
-    let _ = match fault {
-        ToolFault::Read(ReadFault::Syntax { line, column, why }) => {
-            writeln!(errors, "{file}:{line}:{column}: Syntax {why:?}")
-        }
-        _ => writeln!(errors, "{file}: {fault}"),
-    };
+    write_file_line(alloc, errors, file, fault);
     match fault {
         ToolFault::Input | ToolFault::Output => Status::Device,
         ToolFault::Read(_) => Status::Refused,
     }
+}
+
+fn write_file_line<E: Write>(alloc: Global, errors: &mut E, file: &str, fault: ToolFault) {
+    let name = escaped(alloc, file).ok();
+    let name = name.as_deref().unwrap_or("FILE");
+    let _ = match fault {
+        ToolFault::Read(ReadFault::Syntax { line, column, why }) => {
+            writeln!(errors, "{name}:{line}:{column}: Syntax {why:?}")
+        }
+        _ => writeln!(errors, "{name}: {fault}"),
+    };
 }
 
 /// Writes why the words are wrong, and returns the status.

@@ -5,12 +5,13 @@
 //! [`check_text`] reports where a text departs from it. For the text of a file that was named, [`restyle`] returns what
 //! it is in the one style, [`list_changed`] writes the name if that is another text, and [`check_file`] reports as
 //! `FILE:LINE: S1`. [`run_store`] performs a session of commands, and [`export_store`] writes one configuration.
-//! [`change_store`] makes a single change, and [`make_store`] an empty store. The store may be on any disk.
-//! [`calls_hold`] says what these calls keep over any crashes.
+//! [`change_store`] makes a single change, and [`make_store`] an empty store. The store may be on any disk. Each of these
+//! says on a writer for errors how many bytes opening dropped. [`calls_hold`] says what these calls keep over any crashes.
 #![tactic(auto)]
 
 mod change_words;
 mod changes;
+mod dropped;
 mod exports;
 mod file_texts;
 mod file_words;
@@ -29,7 +30,7 @@ mod tail;
 mod texts;
 
 pub use changes::{Change, change_store, make_store};
-pub use exports::export_store;
+pub use exports::{export_store, export_text};
 pub use file_texts::{Restyled, check_file, list_changed, restyle};
 pub use laws::calls_hold;
 pub use program::{perform, refuse_words};

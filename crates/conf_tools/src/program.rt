@@ -21,7 +21,7 @@ use conf_folder::{FolderDisk, FolderFault};
 use conf_session::{Checkpoints, SessionFault};
 use conf_state::StoreFault;
 use conf_store::OpenFault;
-use conf_words::{CHECKPOINT_AFTER, FOLDER, GROUP, NAME, Subcommand, command};
+use conf_words::{CHECKPOINT_AFTER, FOLDER, GROUP, NAME, Subcommand, command, wrong_words};
 use std::alloc::{AllocError, Global};
 use std::fs::File;
 use std::io;
@@ -64,7 +64,8 @@ impl Status {
 /// refused, memory ran out or something was found in a text. It is 3 if reading or writing failed, or the folder is
 /// missing or locked. A fault is written to `errors` in one line; if that write fails, it is ignored. Commands that are
 /// refused inside a session leave the status 0. So do bytes after the last closing line of its input; if they are not
-/// blank, one line to `errors` says that they were not performed, and the likely cause.
+/// blank, one line to `errors` says that they were not performed, and the likely cause. Another line there says how many
+/// bytes after the last whole record of a store were dropped, if there were any.
 pub fn perform<F: Files<File = File>, R: Read, W: Write, E: Write>(
     rt: &F,
     alloc: Global,
@@ -84,10 +85,13 @@ pub fn perform<F: Files<File = File>, R: Read, W: Write, E: Write>(
         Err(error) if error.kind() == clap::error::ErrorKind::OutOfMemory => {
             write_fault(errors, ToolFault::from(AllocError)).code()
         }
-        Err(error) if error.use_stderr() => {
-            let _ = write!(errors, "{error}");
-            Status::WrongWords.code()
-        }
+        Err(error) if error.use_stderr() => match wrong_words(alloc, words) {
+            Ok(lines) => {
+                let _ = errors.write_all(lines.as_bytes());
+                Status::WrongWords.code()
+            }
+            Err(fault) => write_fault(errors, ToolFault::from(fault)).code(),
+        },
         Err(error) => match write!(writer, "{error}") {
             Ok(()) => Status::Done.code(),
             Err(_) => write_fault(errors, ToolFault::Output).code(),
@@ -151,7 +155,7 @@ fn run_folder<F: Files<File = File>, R: Read, W: Write, E: Write>(
         Ok(disk) => disk,
         Err(fault) => return write_store_fault(errors, StoreToolFault::Folder(fault)),
     };
-    match run_store(alloc, disk, grouping_of(words), reader, writer) {
+    match run_store(alloc, disk, grouping_of(words), reader, writer, errors) {
         Ok((disk, tally)) => {
             drop(disk);
             write_rest(errors, &reader.tail, tally.rest);
@@ -198,15 +202,9 @@ fn export_folder<F: Files<File = File>, W: Write, E: Write>(
         Ok(disk) => disk,
         Err(fault) => return write_store_fault(errors, StoreToolFault::Folder(fault)),
     };
-    match export_store(alloc, disk, name, writer) {
-        Ok(disk) => {
-            drop(disk);
-            Status::Done
-        }
-        Err((disk, fault)) => {
-            drop(disk);
-            write_store_fault(errors, fault)
-        }
+    match export_store(alloc, disk, name, writer, errors) {
+        Ok(()) => Status::Done,
+        Err(fault) => write_store_fault(errors, fault),
     }
 }
 

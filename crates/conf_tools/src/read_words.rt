@@ -11,7 +11,7 @@ use crate::surveys::{Soundness, salvage_store, write_survey};
 use clap::ArgMatches;
 use conf_folder::{FolderDisk, FolderFault, make_folder, open_store_file};
 use conf_history::{HistoryFault, LogForm, SalvageFault, write_log};
-use conf_words::{AT, FOLDER, NAME, NEW, POINTER, RAW, YAML};
+use conf_words::{AT, FOLDER, FolderWord, NAME, NEW, POINTER, RAW, YAML};
 use std::alloc::Global;
 use std::fs::File;
 use std::io::Write;
@@ -148,7 +148,8 @@ fn write_damage<E: Write>(errors: &mut E, folder: &str) -> Status
     let _ = writeln!(errors, "confstore: Damaged");
     let _ = writeln!(
         errors,
-        "confstore: to keep what comes before the damage: confstore salvage {folder} NEW"
+        "confstore: to keep what comes before the damage: confstore salvage {} NEW",
+        FolderWord(folder)
     );
     Status::Refused
 }
@@ -178,14 +179,8 @@ pub(crate) fn salvage_folder<F: Files<File = File>, W: Write, E: Write>(
         Err(fault) => return write_reading_fault(errors, fault),
     };
     match salvage_store(alloc, &mut file, disk, writer) {
-        Ok(disk) => {
-            drop(disk);
-            Status::Done
-        }
-        Err((disk, fault)) => {
-            drop(disk);
-            write_reading_fault(errors, fault)
-        }
+        Ok(()) => Status::Done,
+        Err(fault) => write_reading_fault(errors, fault),
     }
 }
 

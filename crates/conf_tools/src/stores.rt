@@ -1,8 +1,12 @@
 // Sessions on a store, over any disk, reader and writer.
 ghost use Rattle.std.specs.Prelude.{◌≡◌, ◌⊎◌, ◌↔◌, true, IfOk, IfErr, IsErrOf};
+ghost use Rattle.std.specs.Io.KnownBytes.{Keeps};
+ghost use Rattle.conf_disk.specs.Folder.{bytes_under};
+ghost use Rattle.conf_tools.specs.Dropped.{HasNoRest};
 ghost use Rattle.conf_tools.specs.Stores.{CannotOpen, OpensOn, RunsOn, SessionRuns, SurvivesCrashes};
 
-use conf_disk::Disk;
+use crate::dropped::write_dropped;
+use conf_disk::{Disk, Name};
 use conf_folder::FolderFault;
 use conf_session::{Checkpoints, SessionFault, Tally, answers_acknowledge, run, run_grouped};
 use conf_state::StoreFault;
@@ -46,14 +50,24 @@ pub enum Grouping {
     Grouped(Checkpoints),
 }
 
-/// Opens the store on `disk`. Nothing waits then, and no checkpoint runs.
-pub(crate) fn open_store<D: Disk + Drop>(alloc: Global, disk: D) -> Result<Store<D>, (D, OpenFault)>
+/// Opens the store on `disk`. Nothing waits then, and no checkpoint runs. One line to `errors` says how many bytes after
+/// the last whole record were dropped, if there were any.
+pub(crate) fn open_store<D: Disk + Drop, E: Write>(
+    alloc: Global,
+    disk: D,
+    errors: &mut E,
+) -> Result<Store<D>, (D, OpenFault)>
     ensures opens { IfOk result (OpensOn D.honest D.folder D.moment D.left disk) }
     ensures refused { IfErr result (λ r.
         CannotOpen D.honest D.folder D.moment D.left D.failure_count disk r.0 r.1) }
+    ensures quiet { D.honest → HasNoRest (bytes_under (D.folder disk) Name.Store)
+        → Keeps (E.contents errors.old) (E.contents errors.new) }
 {
     match Store::open(alloc, disk) {
-        Ok((store, _)) => Ok(store),
+        Ok((store, opened)) => {
+            let _ = write_dropped(errors, opened.dropped);
+            Ok(store)
+        }
         Err(refused) => Err(refused),
     }
 }
@@ -91,12 +105,13 @@ fn run_session<D: Disk, R: Read, W: Write>(
 /// # Errors
 /// The disk is returned with the fault. `Open` if the store can't be opened: nothing is read or written, and, but for
 /// `Device`, no file has changed. `Session` if the session ends before the end of its input.
-pub fn run_store<D: Disk + Drop, R: Read, W: Write>(
+pub fn run_store<D: Disk + Drop, R: Read, W: Write, E: Write>(
     alloc: Global,
     disk: D,
     grouping: Grouping,
     reader: &mut R,
     writer: &mut W,
+    errors: &mut E,
 ) -> Result<(D, Tally), (D, StoreToolFault)>
     ensures runs { RunsOn D.honest D.folder D.moment D.left D.failure_count
         (R.remaining reader.old) (R.remaining reader.new)
@@ -106,9 +121,12 @@ pub fn run_store<D: Disk + Drop, R: Read, W: Write>(
     ensures crashes { D.honest → SurvivesCrashes D.folder D.moment D.left (R.remaining reader.old)
         (R.remaining reader.new) (W.contents writer.old) (W.contents writer.new)
         grouping disk result }
+    // Nothing is written to `errors` if no bytes are dropped.
+    ensures quiet { D.honest → HasNoRest (bytes_under (D.folder disk) Name.Store)
+        → Keeps (E.contents errors.old) (E.contents errors.new) }
 {
     answers_acknowledge();
-    let mut store = match open_store(alloc, disk) {
+    let mut store = match open_store(alloc, disk, errors) {
         Ok(store) => store,
         Err((disk, fault)) => return Err((disk, StoreToolFault::Open(fault))),
     };

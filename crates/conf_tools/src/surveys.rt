@@ -1,7 +1,7 @@
 // What stands in a store's file, and a store of what stands before its first bad piece, over any reader, disk and writer.
 ghost use Rattle.std.specs.Prelude.{◌≡◌, IfOk, IfErr, OnOk};
 ghost use Rattle.std.specs.Io.KnownBytes.{Appends};
-ghost use Rattle.conf_tools.specs.Surveys.{CannotWrite, RefusesSaving, RefusesWriting, SavesStore, WritesSurvey, findings_text, soundness_of};
+ghost use Rattle.conf_tools.specs.Surveys.{CannotWrite, RefusesWriting, SavesAndLetsGo, WritesSurvey, findings_text, soundness_of};
 
 use crate::findings::findings_text;
 use crate::reading_fault::ReadingFault;
@@ -57,10 +57,10 @@ fn soundness_of(bad: &Option<Bad>) -> Soundness
 }
 
 /// Makes a store on `disk` of the state that stands before the first bad piece of a store's file, and writes what stands
-/// in the file, as [`write_survey`] does. Returns the disk. The file is read as by [`salvage`].
+/// in the file, as [`write_survey`] does. The file is read as by [`salvage`]. The disk is let go before anything is
+/// written, so that no other run waits for whoever reads the output.
 ///
 /// # Errors
-/// The disk is returned with the fault.
 /// - `Salvage` if [`salvage`] fails. Nothing is written.
 /// - `History` with `OutOfMemory` if memory runs out when the store is made. Nothing is written.
 /// - `Output` if the writer fails. The store is made, and some of the text may be written.
@@ -69,21 +69,22 @@ pub fn salvage_store<R: Read, D: Disk + Drop, W: Write>(
     reader: &mut R,
     disk: D,
     writer: &mut W,
-) -> Result<D, (D, ReadingFault)>
-    ensures ok { IfOk result (λ disk_behind. SavesStore D.honest D.folder
+) -> Result<(), ReadingFault>
+    ensures { SavesAndLetsGo D.honest D.folder
         (R.remaining reader.old) (R.remaining reader.new)
-        (W.contents writer.old) (W.contents writer.new) disk disk_behind) }
-    ensures refused { IfErr result (λ r. RefusesSaving D.honest D.folder
-        (R.remaining reader.old) (R.remaining reader.new)
-        (W.contents writer.old) (W.contents writer.new) disk r.0 r.1) }
+        (W.contents writer.old) (W.contents writer.new) disk result }
 {
     let (disk, findings) = match salvage(alloc, reader, disk) {
         Ok(made) => made,
-        Err((disk, fault)) => return Err((disk, ReadingFault::Salvage(fault))),
+        Err((disk, fault)) => {
+            drop(disk);
+            return Err(ReadingFault::Salvage(fault));
+        }
     };
+    drop(disk);
     match write_findings(alloc, &findings, writer) {
-        Ok(()) => Ok(disk),
-        Err(fault) => Err((disk, fault)),
+        Ok(()) => Ok(()),
+        Err(fault) => Err(fault),
     }
 }
 

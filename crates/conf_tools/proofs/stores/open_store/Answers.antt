@@ -12,8 +12,8 @@ returns-in-Ok-clause-opens g c =
       no_checkpoint = opened.no_checkpoint;
       opens = λ h. record {
         means = opened.means h;
-        records = c.in-Ok.field-0-1.commands;
-        dropped = c.in-Ok.field-0-1.dropped;
+        records = c.in-Ok.opened.commands;
+        dropped = c.in-Ok.opened.dropped;
         recovers = opened.found h;
         reads = opened.reads h;
         size = opened.size h;
@@ -23,3 +23,7 @@ returns-in-Ok-clause-opens g c =
       flushed = λ h. opened.flushed h;
       images = λ h. opened.now h;
     }
+
+pub returns-in-Ok-clause-quiet : goal.returns-in-Ok-clause-quiet
+returns-in-Ok-clause-quiet g c h none =
+    c.write_dropped.ensures.quiet (none c.in-Ok.store.state c.in-Ok.opened.commands c.in-Ok.opened.dropped (c.in-Ok.ensures.found h))

@@ -6,7 +6,7 @@ use Rattle.conf_store.specs.declared.fault.OpenFault.{OpenFault}
 use Rattle.conf_tools.specs.Exports.{HasText}
 use Rattle.conf_tools.specs.Stores.{CannotOpen}
 use Rattle.conf_tools.proofs.ExportLemmas.{leaves-since, opened-finds, refused-since, text-since}
-use Rattle.conf_tools.proofs.exports.text_of.Goals as goal
+use Rattle.conf_tools.proofs.exports.export_text.Goals as goal
 
 pub returns-in-Err-default-Device-clause-ok : goal.returns-in-Err-default-Device-clause-ok
 returns-in-Err-default-Device-clause-ok g c =

@@ -1,6 +1,6 @@
 -- What a report that ended early took and wrote.
 use Rattle.conf_tools.proofs.FileLemmas.{not_listed, not_reported, takes_at_most}
-use Rattle.conf_tools.proofs.file_words.try_text.Goals as goal
+use Rattle.conf_tools.proofs.file_words.report_on.Goals as goal
 
 pub returns-in-Err : goal.returns-in-Err
 returns-in-Err g c = not_reported _ _ _ _ c.in-Err.fault (takes_at_most _ _ _ c.check_file.ensures.bounded) c.in-Err.ensures.stops
