@@ -43,8 +43,8 @@ STOPPED = (ENDED, "")
 # docs/STORE.md have them: opening writes a base, and each of the three changes appends and syncs a record before its
 # answer.
 CHANGES_OF_NEW = [
-    "create store.lock", "fsync folder", "create next.yaml", "write next.yaml", "fsync next.yaml", "rename next.yaml",
-    "fsync folder",
+    "create store.lock", "fsync folder", "create next.yaml", "write next.yaml", "fsync next.yaml", "link next.yaml",
+    "unlink next.yaml", "fsync folder",
     "write store.yaml", "fsync store.yaml", "write output",
     "write store.yaml", "fsync store.yaml", "write output",
     "write output",
@@ -56,7 +56,7 @@ CHANGES_OF_NEW = [
 
 # The same of that session in groups: all changes share one sync and one write of answers, and then a checkpoint begins.
 CHANGES_IN_A_GROUP = [
-    *CHANGES_OF_NEW[:7],
+    *CHANGES_OF_NEW[:8],
     "write store.yaml", "write store.yaml", "write store.yaml", "fsync store.yaml", "write output", "create next.yaml",
 ]
 
@@ -144,8 +144,10 @@ class Call:
         return (self.name, self.file) == ("write", "output")
 
     def is_dispensable(self):
-        """Whether the program does without the call: a handle that is closed, and the look whether there is a /proc."""
-        return self.name == "close" or (self.file == "proc" and self.first)
+        """Whether the program does without the call: a handle that is closed, the look whether there is a /proc, and the
+        mode of `store.lock`."""
+        is_mode_of_lock = (self.name, self.file) == ("fchmod", "store.lock")
+        return self.name == "close" or (self.file == "proc" and self.first) or is_mode_of_lock
 
 
 class Trial:
@@ -296,7 +298,7 @@ def try_story(top, story, most, failures):
 
 def is_change(call):
     """Whether a call changes the folder, syncs a change, or answers."""
-    return call.name in ("fsync", "unlink", "create", "rename", "write")
+    return call.name in ("fsync", "unlink", "create", "link", "rename", "write")
 
 
 def name_of(ending):

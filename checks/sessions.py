@@ -48,6 +48,7 @@ LOCKED = (3, b"", "confstore: Locked\n")
 SET = b'set: a\npath: ""\nvalue: z\n...\n'
 LOOK = b'get: a\npath: ""\n...\n'
 HELD = (0, b"---\nvalue: z\n...\n", "")
+HELD_BEFORE = (0, b"---\nvalue: x\n...\n", "")
 CHECKPOINT = b"checkpoint:\n...\n"
 SECOND = '---\nok: "2"\n...\n'
 
@@ -254,13 +255,16 @@ def a_lock_outlives_its_file(top, failures):
         failures.expect(f"a checkpoint, store.lock {way}", ask(process, CHECKPOINT), SECOND)
         failures.expect(f"the status, store.lock {way}", ended(process), 0)
         failures.expect(f"what is held, store.lock {way}", session(folder, LOOK), HELD)
-    for name in (".", "store.lock"):
-        folder = folder_with_store(top, f"lock at {name}")
-        session(folder, b"")
-        handle = os.open(os.path.join(folder, name), os.O_RDONLY)
-        fcntl.flock(handle, fcntl.LOCK_EX)
-        failures.expect(f"another program's lock at {name}", session(folder, LOOK), LOCKED)
-        os.close(handle)
+    for name, made, wanted in ((".", False, LOCKED), (".", True, HELD_BEFORE), ("store.lock", True, LOCKED)):
+        for how in (fcntl.LOCK_EX, fcntl.LOCK_SH):
+            folder = folder_with_store(top, f"lock {how} at {name}, {made}")
+            if made:
+                session(folder, b"")
+            handle = os.open(os.path.join(folder, name), os.O_RDONLY)
+            fcntl.flock(handle, how)
+            described = f"another program's lock {how} at {name}, store.lock {'there' if made else 'missing'}"
+            failures.expect(described, session(folder, LOOK), wanted)
+            os.close(handle)
 
 
 def without_proc(top):

@@ -6,6 +6,9 @@
 //   FAULT_ANSWER  what it returns: count (what was done), zero, error; or exit, which ends the process
 //   FAULT_ERROR   the error's number
 //   FAULT_LATER   if set, every later call fails with that error and does nothing
+//   FAULT_HIDE    if set, the file of this name is hidden in place of that: from the call on, each that opens or looks at
+//                 it by name says that it is not there; FAULT_TIMES says how often, without it always
+//   FAULT_SWAP    if set, the call is made as it is, after the names FAULT_SWAP and FAULT_WITH were exchanged
 //   FAULT_MOST    if set, a read or a write moves at most so many bytes
 //   FAULT_LOG     a file to which each call adds a line, as `write store.yaml 47`
 #define _GNU_SOURCE
@@ -20,7 +23,8 @@
 #include <sys/syscall.h>
 #include <unistd.h>
 
-#define REAL(name) ((__typeof__(&name))dlsym(RTLD_NEXT, #name))
+// The function of the C library. POSIX lets a pointer to an object, as dlsym returns it, stand for a function.
+#define REAL(name) (*(__typeof__(&name) *)(void *[]){dlsym(RTLD_NEXT, #name)})
 #define STATUS_OF_EXIT 99
 #define HANDLES 64
 #define OPEN_FILES "/proc/self/fd/"
@@ -66,11 +70,28 @@ static void write_log(const char *call, const char *name, size_t size) {
     syscall(SYS_close, log);
 }
 
+// Whether the file of a call is hidden from it.
+static int is_hidden(const char *call, const char *name) {
+    static long times;
+    if (!is("FAULT_HIDE", name) || (strcmp(call, "open") != 0 && strcmp(call, "statx") != 0)) {
+        return 0;
+    }
+    times++;
+    return !getenv("FAULT_TIMES") || times <= number("FAULT_TIMES");
+}
+
 static enum turn next_turn(const char *call, const char *name, size_t size) {
     static long count;
     long wanted = number("FAULT_CALL");
     write_log(call, name, size);
     count++;
+    if (getenv("FAULT_HIDE")) {
+        return count >= wanted && is_hidden(call, name) ? LATER : CLEAR;
+    }
+    if (getenv("FAULT_SWAP") && count == wanted) {
+        syscall(SYS_renameat2, AT_FDCWD, getenv("FAULT_SWAP"), AT_FDCWD, getenv("FAULT_WITH"), RENAME_EXCHANGE);
+        return CLEAR;
+    }
     if (wanted == 0 || count < wanted) {
         return CLEAR;
     }
@@ -126,7 +147,7 @@ int open(const char *path, int flags, ...) {
 }
 
 int statx(int handle, const char *path, int flags, unsigned mask, struct statx *out) {
-    enum turn turn = next_turn("statx", *path ? last_part(path) : name_of(handle), 0);
+    enum turn turn = *path ? next_turn("statx", last_part(path), 0) : next_turn("fstat", name_of(handle), 0);
     return (int)answer(turn, is_made(turn) ? REAL(statx)(handle, path, flags, mask, out) : -1);
 }
 
@@ -160,15 +181,38 @@ int unlink(const char *path) {
     return (int)answer(turn, is_made(turn) ? REAL(unlink)(path) : -1);
 }
 
-int rename(const char *from, const char *to) {
-    enum turn turn = next_turn("rename", last_part(from), 0);
-    int done = is_made(turn) ? REAL(rename)(from, to) : -1;
-    for (int handle = 0; done == 0 && handle < HANDLES; handle++) {
+// The handles of a file have its new name.
+static void name_anew(const char *from, const char *to) {
+    for (int handle = 0; handle < HANDLES; handle++) {
         if (!strcmp(names[handle], last_part(from))) {
             snprintf(names[handle], sizeof names[handle], "%s", last_part(to));
         }
     }
+}
+
+int rename(const char *from, const char *to) {
+    enum turn turn = next_turn("rename", last_part(from), 0);
+    int done = is_made(turn) ? REAL(rename)(from, to) : -1;
+    if (done == 0) {
+        name_anew(from, to);
+    }
     return (int)answer(turn, done);
+}
+
+int link(const char *from, const char *to) {
+    enum turn turn = next_turn("link", last_part(from), 0);
+    int done = is_made(turn) ? REAL(link)(from, to) : -1;
+    if (done == 0) {
+        name_anew(from, to);
+    }
+    return (int)answer(turn, done);
+}
+
+// It returns the error's number.
+int posix_fadvise(int handle, off_t offset, off_t size, int advice) {
+    enum turn turn = next_turn("fadvise", name_of(handle), 0);
+    long done = answer(turn, is_made(turn) ? REAL(posix_fadvise)(handle, offset, size, advice) : 0);
+    return done == -1 ? errno : (int)done;
 }
 
 ssize_t read(int handle, void *bytes, size_t size) {

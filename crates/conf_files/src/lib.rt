@@ -1,14 +1,24 @@
-//! Files that a user names, each replaced whole.
+//! Files and folders that a user names, reached so that nobody can put another one in their place.
 //!
-//! [`open_file`] opens one to be read, and [`replace_file`] puts a file of other bytes in its place. A crash at any
-//! moment leaves the old file or the new one, whole. [`take_after`] gives a new file the owner, the group and the mode
-//! of the one that it replaces.
+//! [`OpenFolder`] is a folder that is open, with a path that leads to it whatever becomes of its name. [`look`],
+//! [`open_plain`] and [`open_to_read`] use plain files alone: a link, a FIFO or a folder is neither followed nor opened.
+//! [`settle`] makes a read give what the device has.
+//!
+//! [`open_to_replace`] opens a file to be read, and [`replace_file`] puts a file of other bytes in its place. A crash at
+//! any moment leaves the old file or the new one, whole. [`take_after`] gives a new file the owner, the group and the
+//! mode of the one that it replaces.
 //!
 //! No contract says what a file holds, so what a crash leaves is shown by trials alone.
 #![tactic(auto)]
 
+mod device;
+mod folder;
 mod owner;
+mod plain;
 mod replace;
 
-pub use owner::{OWNER_ALONE, take_after};
-pub use replace::{ReplaceFault, open_file, replace_file};
+pub use device::settle;
+pub use folder::{OpenFolder, parent_of};
+pub use owner::{OWNER_ALONE, give_owner_and_group, is_of_same_owner_and_group, take_after};
+pub use plain::{Identity, look, open_plain, open_to_read};
+pub use replace::{Place, ReplaceFault, open_to_replace, replace_file};

@@ -37,12 +37,13 @@ pub fn take_after(file: &File, replaced: &Metadata) -> io::Result<()> {
     file.set_permissions(Permissions::from_mode(mode))
 }
 
-fn is_of_same_owner_and_group(one: &Metadata, other: &Metadata) -> bool {
+/// Whether both files have the same owner and the same group.
+pub fn is_of_same_owner_and_group(one: &Metadata, other: &Metadata) -> bool {
     one.uid() == other.uid() && one.gid() == other.gid()
 }
 
 /// Gives a file the owner and the group of another, or the group alone, as far as the system allows it.
-fn give_owner_and_group(file: &File, replaced: &Metadata) {
+pub fn give_owner_and_group(file: &File, replaced: &Metadata) {
     let group = Some(replaced.gid());
     if fchown(file, Some(replaced.uid()), group).is_err() {
         let _ = fchown(file, None, group);

@@ -1,5 +1,7 @@
 // A file of other bytes in the place of one that is there.
+use crate::folder::{OpenFolder, parent_of};
 use crate::owner::{OWNER_ALONE, take_after};
+use crate::plain::{Identity, look, open_plain};
 use std::alloc::Global;
 use std::fs::{File, Metadata, OpenOptions};
 use std::io::{ErrorKind, Write};
@@ -12,11 +14,12 @@ use thiserror::Error;
 /// How many names are tried for a new file, of which others may be left over.
 const MOST_NAMES: u32 = 10_000;
 
-/// Why a file was not replaced.
+/// Why a file was not opened to be replaced, or not replaced.
 #[derive(Clone, Copy, Debug, PartialEq, Eq, Error)]
 pub enum ReplaceFault {
-    /// There is no plain file at the path, it may not be written, or a call of the system failed. The file is the old
-    /// one, whole. It may be the new one, whole, if its folder could not be synced.
+    /// There is no plain file at the path, it may not be read or written, another file has its name by now, or a call
+    /// of the system failed. The file is the old one, whole. It may be the new one, whole, if its folder could not be
+    /// synced.
     #[error("Device")]
     Device,
     /// Out of memory. The file is the old one.
@@ -24,30 +27,56 @@ pub enum ReplaceFault {
     OutOfMemory,
 }
 
-/// Opens the plain file at a path to be read. A link is followed. What is no plain file is not opened, since that might
-/// wait.
-///
-/// # Errors
-/// If there is no plain file at the path, or the system refuses.
-pub fn open_file<R: Files<File = File>>(rt: &R, path: &str) -> io::Result<File> {
-    if !fs::metadata(rt, path)?.is_file() {
-        return Err(io::Error::from(ErrorKind::InvalidInput));
+impl From<io::Error> for ReplaceFault {
+    fn from(error: io::Error) -> ReplaceFault {
+        if error.kind() == ErrorKind::OutOfMemory {
+            ReplaceFault::OutOfMemory
+        } else {
+            ReplaceFault::Device
+        }
     }
-    File::open(rt, path)
 }
 
-/// Puts a file that has these bytes in the place of the plain file at a path. If the path is a link, the file that it
-/// leads to is replaced, and the link stays.
+/// Where a file is that was opened to be replaced: in which open folder, under which name, and which file it is.
+#[derive(Drop)]
+pub struct Place {
+    folder: OpenFolder,
+    path: String,
+    identity: Identity,
+}
+
+/// Opens the plain file at a path to be read, and the folder that has it, so that [`replace_file`] replaces this very
+/// file. If the path is a link, it is the file that the link leads to. What is no plain file is not opened.
+///
+/// # Errors
+/// - [`ReplaceFault::Device`] if there is no plain file at the path, or the system refuses.
+/// - [`ReplaceFault::OutOfMemory`] if there is no memory for a path.
+pub fn open_to_replace<R: Files<File = File>>(
+    rt: &R,
+    alloc: Global,
+    path: &str,
+) -> Result<(File, Place), ReplaceFault> {
+    match open_target(rt, alloc, path) {
+        Ok(opened) => Ok(opened),
+        Err(error) => Err(ReplaceFault::from(error)),
+    }
+}
+
+/// Puts a file that has these bytes in the place of a file that was opened to be replaced.
 ///
 /// The new file is written beside the old one, under a name as `.confstore-0.tmp`, synced, and renamed. Then the folder
 /// is synced. So a crash at any moment leaves the old file or the new one, whole. The new file has the mode of the old
 /// one, and its owner and its group as far as the system allows it, as [`take_after`] says. Other hard links keep the
 /// old file.
 ///
+/// Whoever can change the folders on the path can't have another folder's file replaced: all is done in the folder that
+/// was opened, by its own name, and the name in it has to have the file that was opened. Where there is no /proc, the
+/// path is looked at before each step.
+///
 /// A process that is killed may leave the new file under its first name. A later call takes another name.
 ///
 /// # Errors
-/// - [`ReplaceFault::Device`] if there is no plain file at the path, it may not be written, or a call of the system
+/// - [`ReplaceFault::Device`] if another file has the name by now, the file may not be written, or a call of the system
 ///   fails. The file is the old one, or the new one if its folder can't be synced.
 /// - [`ReplaceFault::OutOfMemory`] if there is no memory for a path. The file is the old one.
 ///
@@ -55,64 +84,81 @@ pub fn open_file<R: Files<File = File>>(rt: &R, path: &str) -> io::Result<File> 
 pub fn replace_file<R: Files<File = File>>(
     rt: &R,
     alloc: Global,
-    path: &str,
+    place: &Place,
     bytes: &[u8],
 ) -> Result<(), ReplaceFault> {
-    match replace_target(rt, alloc, path, bytes) {
+    match replace_at(rt, alloc, place, bytes) {
         Ok(()) => Ok(()),
-        Err(error) if error.kind() == ErrorKind::OutOfMemory => Err(ReplaceFault::OutOfMemory),
-        Err(_) => Err(ReplaceFault::Device),
+        Err(error) => Err(ReplaceFault::from(error)),
     }
 }
 
-/// Replaces the file at a path, or the one that a link at it leads to.
-fn replace_target<R: Files<File = File>>(
+/// Opens the file at a path, or the one that a link at it leads to.
+fn open_target<R: Files<File = File>>(
     rt: &R,
     alloc: Global,
     path: &str,
-    bytes: &[u8],
-) -> io::Result<()> {
-    let replaced = writable_file(rt, path)?;
-    if fs::symlink_metadata(rt, path)?.is_symlink() {
-        let target = fs::canonicalize(&(rt, alloc), path)?;
-        return replace_plain(rt, alloc, target.as_path().as_str(), &replaced, bytes);
-    }
-    replace_plain(rt, alloc, path, &replaced, bytes)
-}
-
-/// What is known of the plain file at a path, which may be written.
-fn writable_file<R: Files<File = File>>(rt: &R, path: &str) -> io::Result<Metadata> {
+) -> io::Result<(File, Place)> {
     if !fs::metadata(rt, path)?.is_file() {
         return Err(io::Error::from(ErrorKind::InvalidInput));
     }
-    let mut how = OpenOptions::new();
-    how.append(true);
-    how.open(rt, path)?.metadata()
+    if fs::symlink_metadata(rt, path)?.is_symlink() {
+        let target = fs::canonicalize(&(rt, alloc), path)?;
+        return open_in_folder(rt, alloc, target.as_path().as_str());
+    }
+    open_in_folder(rt, alloc, path)
 }
 
-/// Replaces the file at a path that is no link.
-fn replace_plain<R: Files<File = File>>(
+/// Opens the file at a path that is no link, in the open folder that has it.
+fn open_in_folder<R: Files<File = File>>(
     rt: &R,
     alloc: Global,
     path: &str,
-    replaced: &Metadata,
+) -> io::Result<(File, Place)> {
+    let Some(name) = Path::new(path).file_name() else {
+        return Err(io::Error::from(ErrorKind::InvalidInput));
+    };
+    let folder = OpenFolder::new(rt, alloc, parent_of(path))?;
+    let path = folder.path_of(alloc, name)?;
+    let file = open_plain(rt, OpenOptions::new().read(true), path.as_str())?;
+    let identity = Identity::of(&file.metadata()?);
+    Ok((
+        file,
+        Place {
+            folder,
+            path,
+            identity,
+        },
+    ))
+}
+
+/// Replaces the file at a place.
+fn replace_at<R: Files<File = File>>(
+    rt: &R,
+    alloc: Global,
+    place: &Place,
     bytes: &[u8],
 ) -> io::Result<()> {
-    let folder_path = folder_of(path);
-    let folder = File::open(rt, folder_path)?;
-    let (staged_path, staged) = create_staged(rt, alloc, folder_path)?;
-    if let Err(error) = swap_in(rt, staged, staged_path.as_str(), path, replaced, bytes) {
+    let replaced = writable_file(rt, place)?;
+    let (staged_path, staged) = create_staged(rt, alloc, &place.folder)?;
+    if let Err(error) = swap_in(rt, staged, staged_path.as_str(), place, &replaced, bytes) {
         let _ = fs::remove_file(rt, staged_path.as_str());
         return Err(error);
     }
-    folder.sync_all()
+    place.folder.sync()
 }
 
-/// The folder that has the path's last part.
-fn folder_of(path: &str) -> &str {
-    match Path::new(path).parent() {
-        Some(parent) if !parent.as_str().is_empty() => parent.as_str(),
-        _ => ".",
+/// What is known of the file at a place, which may be written.
+fn writable_file<R: Files<File = File>>(rt: &R, place: &Place) -> io::Result<Metadata> {
+    if !place.folder.is_in_place(rt) {
+        return Err(io::Error::from(ErrorKind::NotFound));
+    }
+    let file = open_plain(rt, OpenOptions::new().append(true), place.path.as_str())?;
+    let found = file.metadata()?;
+    if Identity::of(&found) == place.identity {
+        Ok(found)
+    } else {
+        Err(io::Error::from(ErrorKind::NotFound))
     }
 }
 
@@ -120,12 +166,13 @@ fn folder_of(path: &str) -> &str {
 fn create_staged<R: Files<File = File>>(
     rt: &R,
     alloc: Global,
-    folder: &str,
+    folder: &OpenFolder,
 ) -> io::Result<(String, File)> {
     let mut how = OpenOptions::new();
     how.write(true).create_new(true).mode(OWNER_ALONE);
     for number in 0..MOST_NAMES {
-        let path = format!(in alloc; "{folder}/.confstore-{number}.tmp")?;
+        let name = format!(in alloc; ".confstore-{number}.tmp")?;
+        let path = folder.path_of(alloc, name.as_str())?;
         match how.open(rt, path.as_str()) {
             Ok(file) => return Ok((path, file)),
             Err(error) if error.kind() == ErrorKind::AlreadyExists => {}
@@ -135,12 +182,12 @@ fn create_staged<R: Files<File = File>>(
     Err(io::Error::from(ErrorKind::AlreadyExists))
 }
 
-/// Writes the new file, syncs it, and renames it to the path of the one that it replaces.
+/// Writes the new file, syncs it, and renames it to the name of the one that it replaces, which still has to be there.
 fn swap_in<R: Files<File = File>>(
     rt: &R,
     staged: File,
     staged_path: &str,
-    path: &str,
+    place: &Place,
     replaced: &Metadata,
     bytes: &[u8],
 ) -> io::Result<()> {
@@ -148,5 +195,18 @@ fn swap_in<R: Files<File = File>>(
     staged.write_all(bytes)?;
     take_after(&staged, replaced)?;
     staged.sync_all()?;
-    fs::rename(rt, staged_path, path)
+    if !is_there(rt, place)? {
+        return Err(io::Error::from(ErrorKind::NotFound));
+    }
+    fs::rename(rt, staged_path, place.path.as_str())
+}
+
+/// Whether the file that was opened still has its name, in the folder that the path leads to.
+fn is_there<R: Files<File = File>>(rt: &R, place: &Place) -> io::Result<bool> {
+    match look(rt, place.path.as_str())? {
+        Some(found) => {
+            Ok(Identity::of(&found) == place.identity && place.folder.is_in_place(rt))
+        }
+        None => Ok(false),
+    }
 }

@@ -3,11 +3,10 @@ ghost use Rattle.std.specs.Prelude.{◌≡◌, ◌≢◌, ◌<◌, Err, min, ◌
 ghost use Rattle.conf_disk.specs.Moments.{CountsFailures};
 
 use crate::FolderFault;
-use crate::folder::OpenFolder;
-use crate::lock::lock_file;
-use crate::plain::{look, open_plain, open_to_read};
+use crate::lock::{find_unlocked, lock_store};
+use crate::reading::open_folder;
 use conf_disk::{Content, Disk, DiskFault, Name};
-use conf_files::{OWNER_ALONE, take_after};
+use conf_files::{OWNER_ALONE, OpenFolder, look, open_plain, open_to_read, settle, take_after};
 use std::alloc::{AllocError, Global};
 use std::fs::{File, Metadata, OpenOptions};
 use std::io::{ErrorKind, Read, Write};
@@ -18,13 +17,14 @@ use std::{fs, io};
 /// The name of the file that a store is read from.
 pub(crate) const STORE_FILE: &str = "store.yaml";
 
-/// The disk of a real folder: `store.yaml` and `next.yaml` in it. It holds a lock on the folder, one on `store.lock`,
+/// The disk of a real folder: `store.yaml` and `next.yaml` in it. It holds a lock on `store.lock`, one on the folder,
 /// and a handle for appending to each file that it appended to, until it is dropped. Where a name has no plain file but
 /// a link, a FIFO or a folder, a call on it fails.
 ///
-/// One that was opened [`for_reading`](FolderDisk::for_reading) holds the lock on the folder alone, and one that was
-/// opened [`unlocked`](FolderDisk::unlocked) holds none. On both each call but `read` and `failures` fails, and changes
-/// nothing.
+/// A read gives what the device has, and not what a failed sync of an earlier run left in memory.
+///
+/// One that was opened [`for_reading`](FolderDisk::for_reading) holds no lock, and reads what the system gives. On it
+/// each call but `read` and `failures` fails, and changes nothing.
 #[derive(Drop)]
 pub struct FolderDisk<'r, R: Files<File = File>> {
     rt: &'r R,
@@ -33,7 +33,17 @@ pub struct FolderDisk<'r, R: Files<File = File>> {
     access: Access,
     store: Option<File>,
     next: Option<File>,
+    replacing: Replacing,
     failures: u64,
+}
+
+/// What the new `next.yaml` is to do when it is renamed.
+#[derive(Clone, Copy, PartialEq, Eq)]
+enum Replacing {
+    /// It takes the place of the `store.yaml` that was there when it was made.
+    Store,
+    /// It takes a name that is free: no `store.yaml` was there.
+    Nothing,
 }
 
 /// What a disk does with its folder.
@@ -54,17 +64,12 @@ struct Paths {
 }
 
 impl Paths {
-    fn new(alloc: Global, folder: &str) -> Result<Paths, AllocError> {
-        let lock = path_in(alloc, folder, "store.lock")?;
-        let store = path_in(alloc, folder, STORE_FILE)?;
-        let next = path_in(alloc, folder, "next.yaml")?;
+    fn new(alloc: Global, folder: &OpenFolder) -> Result<Paths, AllocError> {
+        let lock = folder.path_of(alloc, "store.lock")?;
+        let store = folder.path_of(alloc, STORE_FILE)?;
+        let next = folder.path_of(alloc, "next.yaml")?;
         Ok(Paths { lock, store, next })
     }
-}
-
-/// The path of a file in a folder.
-pub(crate) fn path_in(alloc: Global, folder: &str, name: &str) -> Result<String, AllocError> {
-    format!(in alloc; "{folder}/{name}")
 }
 
 /// The bytes of a file, or `TooLong` if it has more than `max`.
@@ -80,18 +85,21 @@ fn file_content(alloc: Global, file: File, max: u64) -> io::Result<Content> {
     Ok(Content::Bytes(bytes))
 }
 
-/// Locks an open folder, and looks at `store.yaml` and `next.yaml` in it. Returns the paths of its files.
-fn lock_paths<R: Files<File = File>>(
+/// Looks at `store.yaml` and `next.yaml`. Returns what is known of the first, if it is there.
+///
+/// # Errors
+/// `Device` if either is no plain file, or a call of the system fails.
+fn look_at_files<R: Files<File = File>>(
     rt: &R,
-    alloc: Global,
-    folder: &OpenFolder,
-) -> Result<Paths, FolderFault> {
-    folder.lock()?;
-    let paths = Paths::new(alloc, folder.path())?;
-    if look(rt, paths.store.as_str()).is_err() || look(rt, paths.next.as_str()).is_err() {
-        return Err(FolderFault::Device);
+    paths: &Paths,
+) -> Result<Option<Metadata>, FolderFault> {
+    match (
+        look(rt, paths.store.as_str()),
+        look(rt, paths.next.as_str()),
+    ) {
+        (Ok(store), Ok(_)) => Ok(store),
+        _ => Err(FolderFault::Device),
     }
-    Ok(paths)
 }
 
 /// Makes an empty file under a path, for appending. If it is to replace a file, it takes after that one, and nobody but
@@ -111,45 +119,67 @@ fn create_staged<R: Files<File = File>>(
     Ok(file)
 }
 
+/// Renames a file. It takes the place of the one that is there, or takes a name that is free.
+fn rename<R: Files<File = File>>(
+    rt: &R,
+    replacing: Replacing,
+    from: &str,
+    to: &str,
+) -> io::Result<()> {
+    match replacing {
+        Replacing::Store => fs::rename(rt, from, to),
+        Replacing::Nothing => take_free_name(rt, from, to),
+    }
+}
+
+/// Gives the file at a path another name, which has to be free, and removes the old one. A file system that has no hard
+/// links is only asked whether the name is free.
+fn take_free_name<R: Files<File = File>>(rt: &R, path: &str, free: &str) -> io::Result<()> {
+    match fs::hard_link(rt, path, free) {
+        Ok(()) => fs::remove_file(rt, path),
+        Err(error) if has_no_links(&error) => match look(rt, free)? {
+            Some(_) => Err(io::Error::from(ErrorKind::AlreadyExists)),
+            None => fs::rename(rt, path, free),
+        },
+        Err(error) => Err(error),
+    }
+}
+
+/// Whether an error says that the file system has no hard links.
+fn has_no_links(error: &io::Error) -> bool {
+    error.kind() == ErrorKind::PermissionDenied || error.kind() == ErrorKind::Unsupported
+}
+
 impl<'r, R: Files<File = File>> FolderDisk<'r, R> {
-    /// The disk of the folder at a path. It opens the folder and takes the lock on it, and then the one on its
-    /// `store.lock`, without waiting. It makes that file if it is missing.
+    /// The disk of the folder at a path. It opens the folder, takes the lock on its `store.lock`, and one on the folder,
+    /// without waiting. It makes `store.lock` if it is missing.
+    ///
+    /// Whoever can only read the folder can't hold these locks, once a run has made `store.lock`.
     ///
     /// # Errors
     /// `Device` if there is no folder at the path, one of the names has no plain file but something else, or a call of
     /// the system fails; `Locked` if another run holds a lock; and `OutOfMemory`.
     pub fn new(rt: &'r R, alloc: Global, folder: &str) -> Result<Self, FolderFault> {
-        let folder = OpenFolder::new(rt, alloc, folder)?;
-        let paths = lock_paths(rt, alloc, &folder)?;
-        let lock = lock_file(rt, paths.lock.as_str())?;
+        let folder = open_folder(rt, alloc, folder)?;
+        let paths = Paths::new(alloc, &folder)?;
+        let store = look_at_files(rt, &paths)?;
+        let lock = lock_store(rt, &folder, paths.lock.as_str(), store)?;
         let access = Access::Changing { _lock: lock };
         Ok(FolderDisk::over(rt, folder, paths, access))
     }
 
     /// The disk of the folder at a path, for reading alone: for a folder or files that can't be written, or are not to
-    /// be. It opens the folder and takes the lock on it, without waiting. It takes none on `store.lock`, and makes no
-    /// file.
+    /// be. It opens the folder, and finds that no run holds the lock on it. It holds none itself, and makes no file.
     ///
     /// # Errors
     /// `Device` if there is no folder at the path, `store.yaml` or `next.yaml` is no plain file but something else, or
     /// a call of the system fails; `Locked` if another run holds the lock on the folder; and `OutOfMemory`. The folder
     /// is unchanged.
     pub fn for_reading(rt: &'r R, alloc: Global, folder: &str) -> Result<Self, FolderFault> {
-        let folder = OpenFolder::new(rt, alloc, folder)?;
-        let paths = lock_paths(rt, alloc, &folder)?;
-        Ok(FolderDisk::over(rt, folder, paths, Access::Reading))
-    }
-
-    /// The disk of the folder at a path, for reading beside a run that holds the store. It opens the folder, takes no
-    /// lock, and makes no file. What another run is about to append may be read in part, and what was read may not be
-    /// synced. A file that is put in the place of `store.yaml` is read whole, or not at all.
-    ///
-    /// # Errors
-    /// `Device` if there is no folder at the path, or a call of the system fails, and `OutOfMemory`. The folder is
-    /// unchanged.
-    pub fn unlocked(rt: &'r R, alloc: Global, folder: &str) -> Result<Self, FolderFault> {
-        let folder = OpenFolder::new(rt, alloc, folder)?;
-        let paths = Paths::new(alloc, folder.path())?;
+        let folder = open_folder(rt, alloc, folder)?;
+        find_unlocked(&folder)?;
+        let paths = Paths::new(alloc, &folder)?;
+        look_at_files(rt, &paths)?;
         Ok(FolderDisk::over(rt, folder, paths, Access::Reading))
     }
 
@@ -162,6 +192,7 @@ impl<'r, R: Files<File = File>> FolderDisk<'r, R> {
             access,
             store: None,
             next: None,
+            replacing: Replacing::Nothing,
             failures: 0,
         }
     }
@@ -244,6 +275,10 @@ impl<'r, R: Files<File = File>> FolderDisk<'r, R> {
     {
         self.may_change()?;
         let replaced = look(self.rt, self.path(Name::Store)?)?;
+        self.replacing = match replaced {
+            Some(_) => Replacing::Store,
+            None => Replacing::Nothing,
+        };
         let file = create_staged(self.rt, self.path(Name::Next)?, replaced)?;
         self.keep_handle(Name::Next, file);
         Ok(())
@@ -255,7 +290,9 @@ impl<'r, R: Files<File = File>> FolderDisk<'r, R> {
         self.may_change()?;
         self.store = None;
         let staged = self.next.take();
-        fs::rename(self.rt, self.path(Name::Next)?, self.path(Name::Store)?)?;
+        let replacing = self.replacing;
+        let (from, to) = (self.path(Name::Next)?, self.path(Name::Store)?);
+        rename(self.rt, replacing, from, to)?;
         self.store = staged;
         Ok(())
     }
@@ -277,10 +314,16 @@ impl<'r, R: Files<File = File>> FolderDisk<'r, R> {
         self.folder.sync()
     }
 
-    /// Reads the file under a name, if there is one. A file of more than `max` bytes is `TooLong`.
+    /// Reads the file under a name, if there is one. A file of more than `max` bytes is `TooLong`. A run that may
+    /// change the files reads what the device has.
     fn try_read(&self, alloc: Global, name: Name, max: u64) -> io::Result<Content> {
         match open_to_read(self.rt, self.path(name)?) {
-            Ok(file) => file_content(alloc, file, max),
+            Ok(file) => {
+                if self.may_change().is_ok() {
+                    settle(&file)?;
+                }
+                file_content(alloc, file, max)
+            }
             Err(error) if error.kind() == ErrorKind::NotFound => Ok(Content::Missing),
             Err(error) => Err(error),
         }

@@ -1,16 +1,18 @@
 // Why a folder can't be used as a disk.
 use std::alloc::AllocError;
+use std::io;
+use std::io::ErrorKind;
 use thiserror::Error;
 
-/// Why a folder can't be used as a disk. The folder is unchanged, except that an empty `store.lock` may be new in it if
-/// it was opened for changes.
+/// Why a folder can't be used as a disk. The folder is unchanged, except that an empty `store.lock` may be new in it, or
+/// have another mode, if it was opened for changes.
 #[derive(Clone, Copy, Debug, PartialEq, Eq, Error)]
 pub enum FolderFault {
     /// There is no folder at the path, one of its names has something else than a plain file, or a call of the system
     /// failed.
     #[error("Device")]
     Device,
-    /// Another run holds the lock on the folder, or the one on its `store.lock`.
+    /// Another run holds the lock on `store.lock`, or the one on the folder where it counts.
     #[error("Locked")]
     Locked,
     /// Out of memory.
@@ -26,5 +28,14 @@ impl From<AllocError> for FolderFault {
 
     fn from(_error: AllocError) -> FolderFault {
         FolderFault::OutOfMemory
+    }
+}
+
+/// The fault of an error of the system: never `Locked`.
+pub(crate) fn fault_of(error: io::Error) -> FolderFault {
+    if error.kind() == ErrorKind::OutOfMemory {
+        FolderFault::OutOfMemory
+    } else {
+        FolderFault::Device
     }
 }

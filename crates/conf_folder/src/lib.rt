@@ -1,10 +1,9 @@
 //! A disk over a real folder.
 //!
 //! [`FolderDisk`] makes the calls of [`Disk`](conf_disk::Disk) on the files `store.yaml` and `next.yaml` of a folder.
-//! It holds a lock on the folder, and one on its `store.lock`, until it is dropped. One for reading alone holds the lock
-//! on the folder and changes nothing, so it serves for a folder that can't be written. One that is unlocked serves beside
-//! a run that holds the store. [`make_folder`] makes a folder that is to hold one. [`open_store_file`] opens the file of
-//! a store alone, to be read from its start to its end.
+//! It holds a lock on the folder's `store.lock`, and one on the folder, until it is dropped. One for reading alone holds
+//! no lock and changes nothing, so it serves for a folder that can't be written. [`make_folder`] makes a folder that is
+//! to hold one. [`open_store_file`] opens the file of a store alone, to be read from its start to its end.
 //!
 //! Its contract says nothing of what the folder keeps: that a real folder is an honest disk is a premise that nothing
 //! here proves.
@@ -12,10 +11,8 @@
 
 mod disk;
 mod fault;
-mod folder;
 mod lock;
 mod making;
-mod plain;
 mod reading;
 
 pub use disk::FolderDisk;

@@ -1,13 +1,123 @@
-// Locks on open files and folders.
+// The locks by which one run at a time changes a store.
+ghost use Rattle.std.specs.Prelude.{◌≡◌, ◌⊎◌, bit_and};
+
 use crate::FolderFault;
-use crate::plain::open_plain;
-use std::fs::{File, OpenOptions, TryLockError};
-use std::io;
+use conf_files::{
+    Identity, OpenFolder, give_owner_and_group, is_of_same_owner_and_group, look, open_plain,
+};
+use std::fs::{File, Metadata, OpenOptions, Permissions, TryLockError};
 use std::io::ErrorKind;
+use std::os::unix::fs::{MetadataExt, OpenOptionsExt, PermissionsExt};
 use std::rt::Files;
+use std::{fs, io};
+
+/// The mode of a new `store.lock`. The sticky bit, which says nothing else of a plain file, marks a file that a run
+/// made, or took for its own, under the lock on the folder.
+const NEW_LOCK: u32 = 0o1600;
+
+/// The bit of a mode that marks a `store.lock` as made by a run.
+const MARK: u32 = 0o1000;
+
+/// The bits of a mode that say what kind of access is given to whom, the mark among them.
+const ACCESS: u32 = 0o7777;
+
+/// The bits of a mode that say that the group and all others may write.
+const OTHER_WRITERS: u32 = 0o22;
+
+/// Finds that no run holds the lock on a folder.
+///
+/// # Errors
+/// `Locked` if another run holds it, and `Device` if a call of the system fails.
+pub(crate) fn find_unlocked(folder: &OpenFolder) -> Result<(), FolderFault> {
+    take_lock(folder.file())?;
+    match folder.file().unlock() {
+        Ok(()) => Ok(()),
+        Err(_) => Err(FolderFault::Device),
+    }
+}
+
+/// Takes the locks of a run that changes the store in a folder, without waiting. They are held until the file that this
+/// returns and the folder are closed. A missing `store.lock` is made.
+///
+/// `store` is what is known of `store.yaml`, if it is there.
+///
+/// # Errors
+/// `Locked` if another run holds a lock, and `Device` if a call of the system fails.
+pub(crate) fn lock_store<R: Files<File = File>>(
+    rt: &R,
+    folder: &OpenFolder,
+    path: &str,
+    store: Option<Metadata>,
+) -> Result<File, FolderFault> {
+    match open_marked(rt, path) {
+        Ok(Some(file)) => lock_marked(rt, folder, path, file),
+        Ok(None) => lock_anew(rt, folder, path, store),
+        Err(_) => Err(FolderFault::Device),
+    }
+}
+
+/// Opens the `store.lock` that a run has made. `None` if there is none, it may not be opened, or no run made it.
+fn open_marked<R: Files<File = File>>(rt: &R, path: &str) -> io::Result<Option<File>> {
+    let file = match open_plain(rt, OpenOptions::new().read(true).write(true), path) {
+        Ok(file) => file,
+        Err(error) if error.kind() == ErrorKind::NotFound => return Ok(None),
+        Err(error) if error.kind() == ErrorKind::PermissionDenied => return Ok(None),
+        Err(error) => return Err(error),
+    };
+    if file.metadata()?.mode() & MARK == 0 {
+        return Ok(None);
+    }
+    Ok(Some(file))
+}
+
+/// Locks a `store.lock` that a run has made, and shares the lock on the folder with whoever only looks at it. If another
+/// program holds the folder's lock alone, the run does without: no other run is there, since it would hold the file's.
+fn lock_marked<R: Files<File = File>>(
+    rt: &R,
+    folder: &OpenFolder,
+    path: &str,
+    file: File,
+) -> Result<File, FolderFault> {
+    take_lock(&file)?;
+    match folder.file().try_lock_shared() {
+        Ok(()) | Err(TryLockError::WouldBlock) => {}
+        Err(TryLockError::Error(_)) => return Err(FolderFault::Device),
+    }
+    match is_at(rt, path, &file) {
+        Ok(true) => Ok(file),
+        Ok(false) | Err(_) => Err(FolderFault::Device),
+    }
+}
+
+/// Whether an open file is the one at a path.
+fn is_at<R: Files<File = File>>(rt: &R, path: &str, file: &File) -> io::Result<bool> {
+    let identity = Identity::of(&file.metadata()?);
+    match look(rt, path)? {
+        Some(found) => Ok(Identity::of(&found) == identity),
+        None => Ok(false),
+    }
+}
+
+/// Locks a folder for this run alone, and then its `store.lock`, which is made, or marked if no run made it.
+fn lock_anew<R: Files<File = File>>(
+    rt: &R,
+    folder: &OpenFolder,
+    path: &str,
+    store: Option<Metadata>,
+) -> Result<File, FolderFault> {
+    take_lock(folder.file())?;
+    let Ok(file) = open_or_make(rt, path) else {
+        return Err(FolderFault::Device);
+    };
+    take_lock(&file)?;
+    match admit(folder, &file, store) {
+        Ok(()) => Ok(file),
+        Err(_) => Err(FolderFault::Device),
+    }
+}
 
 /// Takes the lock on an open file or folder without waiting. It is held until that is closed.
-pub(crate) fn take_lock(file: &File) -> Result<(), FolderFault> {
+fn take_lock(file: &File) -> Result<(), FolderFault> {
     match file.try_lock() {
         Ok(()) => Ok(()),
         Err(TryLockError::WouldBlock) => Err(FolderFault::Locked),
@@ -15,20 +125,49 @@ pub(crate) fn take_lock(file: &File) -> Result<(), FolderFault> {
     }
 }
 
-/// Opens the plain file at a path and takes the lock on it without waiting. A missing file is made.
-pub(crate) fn lock_file<R: Files<File = File>>(rt: &R, path: &str) -> Result<File, FolderFault> {
-    let Ok(file) = open_or_make(rt, path) else {
-        return Err(FolderFault::Device);
-    };
-    take_lock(&file)?;
-    Ok(file)
+/// Opens the plain file at a path. A missing file is made, and one that may not be opened is replaced by a new one:
+/// nobody holds its lock, since its holder would hold the folder's too.
+fn open_or_make<R: Files<File = File>>(rt: &R, path: &str) -> io::Result<File> {
+    match open_plain(rt, OpenOptions::new().read(true).write(true), path) {
+        Err(error) if error.kind() == ErrorKind::NotFound => {}
+        Err(error) if error.kind() == ErrorKind::PermissionDenied => fs::remove_file(rt, path)?,
+        opened => return opened,
+    }
+    let mut how = OpenOptions::new();
+    how.read(true).write(true).create_new(true).mode(NEW_LOCK);
+    how.open(rt, path)
 }
 
-fn open_or_make<R: Files<File = File>>(rt: &R, path: &str) -> io::Result<File> {
-    let mut how = OpenOptions::new();
-    how.read(true).write(true);
-    match open_plain(rt, &how, path) {
-        Err(error) if error.kind() == ErrorKind::NotFound => how.create_new(true).open(rt, path),
-        opened => opened,
+/// Gives a `store.lock` the owner and the group of `store.yaml`, or of the folder if there is no store, and lets open it
+/// whoever may write either. Where the system refuses, it stays as it is.
+fn admit(folder: &OpenFolder, file: &File, store: Option<Metadata>) -> io::Result<()> {
+    let of_folder = folder.file().metadata()?;
+    let writers = match &store {
+        Some(store) => store.mode() | of_folder.mode(),
+        None => of_folder.mode(),
+    };
+    let owner = store.unwrap_or(of_folder);
+    let made = file.metadata()?;
+    if !is_of_same_owner_and_group(&made, &owner) {
+        give_owner_and_group(file, &owner);
+    }
+    let mode = lock_mode(writers | made.mode());
+    if made.mode() & ACCESS != mode {
+        let _ = file.set_permissions(Permissions::from_mode(mode));
+    }
+    Ok(())
+}
+
+/// The mode of a `store.lock` which those may open who are writers by a mode. Who may not write may not read either, since
+/// whoever opens the file can hold its lock.
+fn lock_mode(mode: u32) -> u32
+    ensures nobody { bit_and mode 0o22 ≡ 0 → result ≡ 0o1600 }
+    ensures writers { (result ≡ 0o1600) ⊎ (result ≡ 0o1660) ⊎ (result ≡ 0o1606) ⊎ (result ≡ 0o1666) }
+{
+    match mode & OTHER_WRITERS {
+        0 => NEW_LOCK,
+        0o20 => NEW_LOCK | 0o60,
+        0o2 => NEW_LOCK | 0o6,
+        _ => NEW_LOCK | 0o66,
     }
 }

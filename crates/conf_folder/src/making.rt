@@ -1,8 +1,8 @@
 // Making a folder that is to hold a store.
 use crate::FolderFault;
+use conf_files::parent_of;
 use std::fs::File;
 use std::io::ErrorKind;
-use std::path::Path;
 use std::rt::Files;
 use std::{fs, io};
 
@@ -13,7 +13,7 @@ use std::{fs, io};
 /// `Device` if a call of the system fails.
 pub fn make_folder<R: Files<File = File>>(rt: &R, path: &str) -> Result<(), FolderFault> {
     let made = match fs::create_dir(rt, path) {
-        Ok(()) => sync_parent(rt, path),
+        Ok(()) => sync_folder(rt, parent_of(path)),
         Err(error) if error.kind() == ErrorKind::AlreadyExists => Ok(()),
         Err(error) => Err(error),
     };
@@ -23,11 +23,7 @@ pub fn make_folder<R: Files<File = File>>(rt: &R, path: &str) -> Result<(), Fold
     }
 }
 
-/// Syncs the folder that has the path's last part.
-fn sync_parent<R: Files<File = File>>(rt: &R, path: &str) -> io::Result<()> {
-    let parent = match Path::new(path).parent() {
-        Some(parent) if !parent.as_str().is_empty() => parent.as_str(),
-        _ => ".",
-    };
-    File::open(rt, parent)?.sync_all()
+/// Syncs the folder at a path.
+fn sync_folder<R: Files<File = File>>(rt: &R, path: &str) -> io::Result<()> {
+    File::open(rt, path)?.sync_all()
 }

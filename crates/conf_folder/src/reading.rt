@@ -1,8 +1,8 @@
 // The file of a store, opened to be read beside a run that holds the store.
 use crate::FolderFault;
-use crate::disk::{STORE_FILE, path_in};
-use crate::folder::OpenFolder;
-use crate::plain::open_to_read;
+use crate::disk::STORE_FILE;
+use crate::fault::fault_of;
+use conf_files::{OpenFolder, open_to_read};
 use std::alloc::Global;
 use std::fs::File;
 use std::io::ErrorKind;
@@ -11,8 +11,8 @@ use std::rt::Files;
 /// Opens `store.yaml` in the folder at a path, to be read. It takes no lock, and makes and changes no file, so it serves
 /// beside a run that holds the store, and for a folder that can't be written. `None` if the folder has no such file.
 ///
-/// What another run is about to append may be read in part, and what was read may not be synced. If another run puts a
-/// new file in the place of `store.yaml`, the one that was opened is still read.
+/// What another run is about to append may be read in part, and what was read may not be synced, or not be what the
+/// device has. If another run puts a new file in the place of `store.yaml`, the one that was opened is still read.
 ///
 /// # Errors
 /// `Device` if there is no folder at the path, `store.yaml` is no plain file but something else, as a link or a FIFO,
@@ -22,8 +22,8 @@ pub fn open_store_file<R: Files<File = File>>(
     alloc: Global,
     folder: &str,
 ) -> Result<Option<File>, FolderFault> {
-    let folder = OpenFolder::new(rt, alloc, folder)?;
-    let path = path_in(alloc, folder.path(), STORE_FILE)?;
+    let folder = open_folder(rt, alloc, folder)?;
+    let path = folder.path_of(alloc, STORE_FILE)?;
     if !folder.is_in_place(rt) {
         return Err(FolderFault::Device);
     }
@@ -31,5 +31,20 @@ pub fn open_store_file<R: Files<File = File>>(
         Ok(file) => Ok(Some(file)),
         Err(error) if error.kind() == ErrorKind::NotFound => Ok(None),
         Err(_) => Err(FolderFault::Device),
+    }
+}
+
+/// Opens the folder at a path.
+///
+/// # Errors
+/// `Device` if there is no folder at the path or a call of the system fails, and `OutOfMemory`.
+pub(crate) fn open_folder<R: Files<File = File>>(
+    rt: &R,
+    alloc: Global,
+    path: &str,
+) -> Result<OpenFolder, FolderFault> {
+    match OpenFolder::new(rt, alloc, path) {
+        Ok(folder) => Ok(folder),
+        Err(error) => Err(fault_of(error)),
     }
 }

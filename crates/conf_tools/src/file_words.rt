@@ -7,7 +7,7 @@ use crate::file_texts::{Restyled, check_file, list_changed, restyle};
 use crate::program::{Status, write_fault};
 use crate::texts::{ToolFault, check_text, format_text};
 use clap::ArgMatches;
-use conf_files::{ReplaceFault, open_file, replace_file};
+use conf_files::{ReplaceFault, open_to_replace, replace_file};
 use conf_words::{FILE, IN_PLACE, ONLY_CHECK, escaped};
 use std::alloc::{AllocError, Global};
 use std::fs::File;
@@ -204,12 +204,14 @@ fn replace_files<F: Files<File = File>, E: Write>(
 
 /// Replaces a file by its text in the one style, if that is another one.
 fn restyle_file<F: Files<File = File>>(rt: &F, alloc: Global, file: &str) -> Result<(), ToolFault> {
-    let Ok(mut opened) = open_file(rt, file) else {
-        return Err(ToolFault::Input);
+    let (mut opened, place) = match open_to_replace(rt, alloc, file) {
+        Ok(found) => found,
+        Err(ReplaceFault::Device) => return Err(ToolFault::Input),
+        Err(ReplaceFault::OutOfMemory) => return Err(ToolFault::from(AllocError)),
     };
     match restyle(alloc, &mut opened)? {
         Restyled::Same => Ok(()),
-        Restyled::Changed(text) => match replace_file(rt, alloc, file, text.as_bytes()) {
+        Restyled::Changed(text) => match replace_file(rt, alloc, &place, text.as_bytes()) {
             Ok(()) => Ok(()),
             Err(ReplaceFault::Device) => Err(ToolFault::Output),
             Err(ReplaceFault::OutOfMemory) => Err(ToolFault::from(AllocError)),

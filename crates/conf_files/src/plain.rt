@@ -10,14 +10,14 @@ const MOST_LOOKS: u32 = 100;
 
 /// Which file or folder of the system it is, whatever its paths are.
 #[derive(Clone, Copy, PartialEq, Eq)]
-pub(crate) struct Identity {
+pub struct Identity {
     device: u64,
     number: u64,
 }
 
 impl Identity {
     /// The identity of what is described.
-    pub(crate) fn of(metadata: &Metadata) -> Identity {
+    pub fn of(metadata: &Metadata) -> Identity {
         Identity {
             device: metadata.dev(),
             number: metadata.ino(),
@@ -29,7 +29,7 @@ impl Identity {
 ///
 /// # Errors
 /// If what is there is no plain file, or the system refuses.
-pub(crate) fn look<R: Files<File = File>>(rt: &R, path: &str) -> io::Result<Option<Metadata>> {
+pub fn look<R: Files<File = File>>(rt: &R, path: &str) -> io::Result<Option<Metadata>> {
     match fs::symlink_metadata(rt, path) {
         Ok(metadata) if metadata.is_file() => Ok(Some(metadata)),
         Ok(_) => Err(io::Error::from(ErrorKind::InvalidInput)),
@@ -63,7 +63,7 @@ fn open_seen<R: Files<File = File>>(
 ///
 /// # Errors
 /// `NotFound` if nothing is there. If it is no plain file, or another one by now, or the system refuses.
-pub(crate) fn open_plain<R: Files<File = File>>(
+pub fn open_plain<R: Files<File = File>>(
     rt: &R,
     how: &OpenOptions,
     path: &str,
@@ -78,7 +78,7 @@ pub(crate) fn open_plain<R: Files<File = File>>(
 ///
 /// # Errors
 /// `NotFound` if nothing is there. If it is no plain file, or another one each time, or the system refuses.
-pub(crate) fn open_to_read<R: Files<File = File>>(rt: &R, path: &str) -> io::Result<File> {
+pub fn open_to_read<R: Files<File = File>>(rt: &R, path: &str) -> io::Result<File> {
     let mut how = OpenOptions::new();
     how.read(true);
     for _ in 0..MOST_LOOKS {

@@ -1,20 +1,19 @@
-// The folder of a disk, open, and locked unless it is only looked at.
-use crate::FolderFault;
-use crate::lock::take_lock;
+// A folder that is open, and reached by its own name.
 use crate::plain::Identity;
 use std::alloc::{AllocError, Global};
 use std::fs::File;
 use std::io::ErrorKind;
 use std::os::fd::AsRawFd;
+use std::path::Path;
 use std::rt::Files;
 use std::{fs, io};
 
 /// A folder that is open until it is dropped, and a path to it.
 ///
-/// The path is that of the open folder under /proc, which leads to it even if it is moved. Where there is no /proc, it
-/// is the path that was given, which may come to lead to another folder.
+/// The path is that of the open folder under /proc, which leads to it even if it is moved, or another folder is put in
+/// its place. Where there is no /proc, it is the path that was given, which may come to lead to another folder.
 #[derive(Drop)]
-pub(crate) struct OpenFolder {
+pub struct OpenFolder {
     file: File,
     identity: Identity,
     path: String,
@@ -24,15 +23,9 @@ impl OpenFolder {
     /// Opens the folder at a path.
     ///
     /// # Errors
-    /// `Device` if there is no folder at the path or a call of the system fails, and `OutOfMemory`.
-    pub(crate) fn new<R: Files<File = File>>(
-        rt: &R,
-        alloc: Global,
-        path: &str,
-    ) -> Result<OpenFolder, FolderFault> {
-        let Ok((file, identity)) = open_folder(rt, path) else {
-            return Err(FolderFault::Device);
-        };
+    /// If there is no folder at the path, the system refuses, or there is no memory for a path.
+    pub fn new<R: Files<File = File>>(rt: &R, alloc: Global, path: &str) -> io::Result<OpenFolder> {
+        let (file, identity) = open_folder(rt, path)?;
         let path = lasting_path(rt, alloc, &file, identity, path)?;
         Ok(OpenFolder {
             file,
@@ -41,27 +34,39 @@ impl OpenFolder {
         })
     }
 
-    /// Takes the lock on the folder without waiting. It is held until the folder is dropped.
-    ///
-    /// # Errors
-    /// `Locked` if another run holds the lock, and `Device` if a call of the system fails.
-    pub(crate) fn lock(&self) -> Result<(), FolderFault> {
-        take_lock(&self.file)
+    /// The open folder, to be locked or looked at.
+    pub fn file(&self) -> &File {
+        &self.file
     }
 
-    /// The path to the folder.
-    pub(crate) fn path(&self) -> &str {
-        self.path.as_str()
+    /// The path of a file in the folder.
+    ///
+    /// # Errors
+    /// If there is no memory for it.
+    pub fn path_of(&self, alloc: Global, name: &str) -> Result<String, AllocError> {
+        let folder = self.path.as_str();
+        format!(in alloc; "{folder}/{name}")
     }
 
     /// Whether the path still leads to the folder.
-    pub(crate) fn is_in_place<R: Files<File = File>>(&self, rt: &R) -> bool {
+    pub fn is_in_place<R: Files<File = File>>(&self, rt: &R) -> bool {
         leads_to(rt, self.path.as_str(), self.identity)
     }
 
     /// Syncs the folder.
-    pub(crate) fn sync(&self) -> io::Result<()> {
+    ///
+    /// # Errors
+    /// If the system refuses.
+    pub fn sync(&self) -> io::Result<()> {
         self.file.sync_all()
+    }
+}
+
+/// The path of the folder that has a path's last part.
+pub fn parent_of(path: &str) -> &str {
+    match Path::new(path).parent() {
+        Some(parent) if !parent.as_str().is_empty() => parent.as_str(),
+        _ => ".",
     }
 }
 

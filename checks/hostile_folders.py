@@ -1,0 +1,175 @@
+#!/usr/bin/env python3
+"""Others lock, leave or exchange what lies in a folder, or a file of it is hidden, and the program does no harm.
+
+- A user who can only read a folder can't open its `store.lock`. What root leaves there doesn't shut the owner out, and
+  a `store.lock` of another user, as older versions left it, is replaced.
+- `format -i` on a file of a folder that is exchanged with a link to another folder before any of its calls: no file of
+  that folder is replaced or left over, and none has another owner.
+- Each call that opens or looks at a file of a store says falsely that it is not there, once or from then on: no store
+  is made over the one that is there, and what was acknowledged is held.
+
+The library that lets calls go wrong is shims/fail_calls.c. Run it from the repository's root after the program is
+built; run as root it tries more. It takes half a minute, and needs a C compiler:
+
+    ./confstore --version && python3 checks/hostile_folders.py
+
+The status is 0 if all is as it should be.
+"""
+
+import errno
+import fcntl
+import os
+import pwd
+import shutil
+import stat
+import subprocess
+import sys
+import tempfile
+from pathlib import Path
+
+from lib.store_runs import EMPTY, IMPORT, PROGRAM, Failures, compiled, need_program
+
+SECONDS = 60
+NOBODY = "nobody"
+
+# A store with `a`, which is `x`; a session that changes it twice, and what it holds after each change.
+STORE = EMPTY + IMPORT
+COMMANDS = b'set: a\npath: ""\nvalue: y\n...\ncheckpoint:\n...\nset: a\npath: ""\nvalue: z\n...\n'
+VALUES = ["x\n", "y\n", "z\n"]
+
+
+def run(program: str, *words: str, commands: bytes = b"", user: str | None = None, **env: str) -> tuple[int, str]:
+    """The program: its status, and what it wrote."""
+    done = subprocess.run([program, *words], input=commands, capture_output=True, check=False, timeout=SECONDS,
+                          user=user, group=user and pwd.getpwnam(user).pw_gid, extra_groups=[] if user else None,
+                          env={**os.environ, **env})
+    return done.returncode, done.stdout.decode()
+
+
+def new_store(top: Path, name: str) -> Path:
+    folder = top / name
+    folder.mkdir()
+    (folder / "store.yaml").write_bytes(STORE)
+    return folder
+
+
+def value_of(folder: Path) -> str:
+    return run(PROGRAM, "get", str(folder), "a")[1]
+
+
+def lock_modes(top: Path, failures: Failures) -> None:
+    """Who may open `store.lock`: those who may write the folder or the store."""
+    rows = [(0o755, 0o644, 0o600), (0o775, 0o644, 0o660), (0o755, 0o664, 0o660), (0o777, 0o666, 0o666), (0o700, 0o606, 0o606)]
+    for of_folder, of_store, wanted in rows:
+        for left in (None, 0o644, 0o600):
+            folder = new_store(top, f"{of_folder:o} {of_store:o} {left}")
+            (folder / "store.yaml").chmod(of_store)
+            folder.chmod(of_folder)
+            lock = folder / "store.lock"
+            if left:
+                lock.touch()
+                lock.chmod(left)
+            for turn in ("first", "second"):
+                failures.expect(f"{folder.name}: the {turn} run", run(PROGRAM, "set", str(folder), "a", "", "y")[0], 0)
+            failures.expect(f"{folder.name}: mode", stat.S_IMODE(lock.stat().st_mode) & 0o777, wanted)
+
+
+def locks_of_others(top: Path, failures: Failures) -> None:
+    """Root and `nobody` in turn in a folder of `nobody`, and `nobody` before a folder of root."""
+    program = shutil.copy(PROGRAM, top / "confstore")
+    top.chmod(0o755)
+    nobody = pwd.getpwnam(NOBODY)
+    for left in ("root's run", "an old version"):
+        folder = new_store(top, f"left by {left}")
+        for path in (folder, folder / "store.yaml"):
+            os.chown(path, nobody.pw_uid, nobody.pw_gid)
+        if left == "root's run":
+            failures.expect("a run of root", run(program, "get", str(folder), "a"), (0, "x\n"))
+            failures.expect("a change of root", run(program, "set", str(folder), "a", "", "y")[0], 0)
+        else:
+            (folder / "store.lock").touch(0o644)
+        failures.expect(f"the owner after {left}", run(program, "set", str(folder), "a", "", "z", user=NOBODY)[0], 0)
+        failures.expect(f"the owner of store.lock after {left}", (folder / "store.lock").stat().st_uid, nobody.pw_uid)
+    folder = new_store(top, "of root")
+    run(program, "set", str(folder), "a", "", "y")
+    opened = subprocess.run(["cat", str(folder / "store.lock")], user=NOBODY, capture_output=True, check=False)
+    failures.expect("a reader opens store.lock", opened.returncode, 1)
+    failures.expect("a reader changes the store", run(program, "set", str(folder), "a", "", "q", user=NOBODY)[0], 3)
+    failures.expect("a reader exports", run(program, "export", str(folder), "a", user=NOBODY), (0, "y\n"))
+    held = os.open(folder, os.O_RDONLY)
+    fcntl.flock(held, fcntl.LOCK_SH)
+    failures.expect("a change beside a reader's lock", run(program, "set", str(folder), "a", "", "z")[0], 0)
+    os.close(held)
+
+
+def calls(library: str, log: Path, *words: str, commands: bytes = b"") -> int:
+    """How many calls the program makes."""
+    run(PROGRAM, *words, commands=commands, LD_PRELOAD=library, FAULT_LOG=str(log))
+    count = len(log.read_text().splitlines())
+    log.unlink()
+    return count
+
+
+def exchanged_folders(top: Path, library: str, failures: Failures) -> None:
+    """`format -i` on a file in a folder that is exchanged with a link to another folder before one of its calls."""
+    theirs, mine, link = top / "theirs", top / "mine", top / "link"
+    theirs.mkdir()
+    link.symlink_to(theirs)
+    mine.mkdir()
+    (mine / "x.yaml").write_text("by:   an attacker\n")
+    count = calls(library, top / "log", "format", "-i", str(mine / "x.yaml"))
+    for number in range(1, count + 1):
+        (mine / "x.yaml").write_text("by:   an attacker\n")
+        (theirs / "x.yaml").write_text("theirs:   1\n")
+        run(PROGRAM, "format", "-i", str(mine / "x.yaml"), LD_PRELOAD=library, FAULT_CALL=str(number),
+            FAULT_SWAP=str(mine), FAULT_WITH=str(link))
+        if mine.is_symlink():
+            mine.rename(top / "other")
+            link.rename(mine)
+            (top / "other").rename(link)
+        found = (theirs / "x.yaml").read_text()
+        name = f"exchanged before call {number} of {count}"
+        failures.expect(f"{name}: {found!r}", found in ("theirs:   1\n", 'theirs: "1"\n'), True)
+        failures.expect(f"{name}: files", sorted(os.listdir(theirs)), ["x.yaml"])
+        for left in mine.glob(".confstore-*"):
+            failures.expect(f"{name}: left over", left.name, None)
+            left.unlink()
+    print(f"  {count} calls of format -i with another folder in the place of the first")
+
+
+def hidden_files(top: Path, library: str, failures: Failures) -> None:
+    """A file of a store is said not to be there, by one call or by each from then on."""
+    tried = 0
+    for words in (("run",), ("init",)):
+        count = calls(library, top / "log", *words, str(new_store(top, f"{words[0]}, plain")), commands=COMMANDS)
+        for file in ("store.yaml", "next.yaml", "store.lock"):
+            for number in range(1, count + 1):
+                for often in ({}, {"FAULT_TIMES": "1"}):
+                    name = f"{words[0]}, {file} hidden from call {number}{' once' if often else ''}"
+                    folder = new_store(top, name)
+                    status, output = run(PROGRAM, *words, str(folder), commands=COMMANDS, LD_PRELOAD=library,
+                                         FAULT_CALL=str(number), FAULT_HIDE=file, FAULT_ERROR=str(errno.ENOENT), **often)
+                    least = sum(f'ok: "{at}"' in output for at in ("2", "3"))
+                    failures.expect(f"{name}: the status {status}", status in ((0, 3) if words == ("run",) else (1, 3)), True)
+                    failures.expect(f"{name}: the value {value_of(folder)!r}", value_of(folder) in VALUES[least:], True)
+                    shutil.rmtree(folder)
+                    tried += 1
+    print(f"  {tried} files hidden")
+
+
+def main() -> int:
+    need_program()
+    failures = Failures()
+    with tempfile.TemporaryDirectory() as name:
+        top = Path(name)
+        library = compiled("fail_calls.c", name)
+        lock_modes(top, failures)
+        if os.geteuid() == 0:
+            locks_of_others(top, failures)
+        exchanged_folders(top, library, failures)
+        hidden_files(top, library, failures)
+    return failures.report()
+
+
+if __name__ == "__main__":
+    sys.exit(main())
