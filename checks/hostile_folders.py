@@ -3,6 +3,7 @@
 
 - A user who can only read a folder can't open its `store.lock`. What root leaves there doesn't shut the owner out, and
   a `store.lock` of another user, as older versions left it, is replaced.
+- An access list of a folder keeps others out of a store through checkpoints and `format -i`, as `docs/DISK.md` says.
 - `format -i` on a file of a folder that is exchanged with a link to another folder before any of its calls: no file of
   that folder is replaced or left over, and none has another owner.
 - Each call that opens or looks at a file of a store says falsely that it is not there, once or from then on: no store
@@ -31,11 +32,12 @@ from lib.store_runs import EMPTY, IMPORT, PROGRAM, Failures, compiled, need_prog
 
 SECONDS = 60
 NOBODY = "nobody"
+OUTSIDER = "daemon"
 
 # A store with `a`, which is `x`; a session that changes it twice, and what it holds after each change.
 STORE = EMPTY + IMPORT
-COMMANDS = b'set: a\npath: ""\nvalue: y\n...\ncheckpoint:\n...\nset: a\npath: ""\nvalue: z\n...\n'
-VALUES = ["x\n", "y\n", "z\n"]
+COMMANDS = b'set: a\npath: ""\nvalue: p\n...\ncheckpoint:\n...\nset: a\npath: ""\nvalue: q\n...\n'
+VALUES = ["x\n", "p\n", "q\n"]
 
 
 def run(program: str, *words: str, commands: bytes = b"", user: str | None = None, **env: str) -> tuple[int, str]:
@@ -70,7 +72,7 @@ def lock_modes(top: Path, failures: Failures) -> None:
                 lock.touch()
                 lock.chmod(left)
             for turn in ("first", "second"):
-                failures.expect(f"{folder.name}: the {turn} run", run(PROGRAM, "set", str(folder), "a", "", "y")[0], 0)
+                failures.expect(f"{folder.name}: the {turn} run", run(PROGRAM, "set", str(folder), "a", "", "p")[0], 0)
             failures.expect(f"{folder.name}: mode", stat.S_IMODE(lock.stat().st_mode) & 0o777, wanted)
 
 
@@ -85,21 +87,42 @@ def locks_of_others(top: Path, failures: Failures) -> None:
             os.chown(path, nobody.pw_uid, nobody.pw_gid)
         if left == "root's run":
             failures.expect("a run of root", run(program, "get", str(folder), "a"), (0, "x\n"))
-            failures.expect("a change of root", run(program, "set", str(folder), "a", "", "y")[0], 0)
+            failures.expect("a change of root", run(program, "set", str(folder), "a", "", "p")[0], 0)
         else:
             (folder / "store.lock").touch(0o644)
-        failures.expect(f"the owner after {left}", run(program, "set", str(folder), "a", "", "z", user=NOBODY)[0], 0)
+        failures.expect(f"the owner after {left}", run(program, "set", str(folder), "a", "", "q", user=NOBODY)[0], 0)
         failures.expect(f"the owner of store.lock after {left}", (folder / "store.lock").stat().st_uid, nobody.pw_uid)
     folder = new_store(top, "of root")
-    run(program, "set", str(folder), "a", "", "y")
+    run(program, "set", str(folder), "a", "", "p")
     opened = subprocess.run(["cat", str(folder / "store.lock")], user=NOBODY, capture_output=True, check=False)
     failures.expect("a reader opens store.lock", opened.returncode, 1)
-    failures.expect("a reader changes the store", run(program, "set", str(folder), "a", "", "q", user=NOBODY)[0], 3)
-    failures.expect("a reader exports", run(program, "export", str(folder), "a", user=NOBODY), (0, "y\n"))
+    failures.expect("a reader changes the store", run(program, "set", str(folder), "a", "", "r", user=NOBODY)[0], 3)
+    failures.expect("a reader exports", run(program, "export", str(folder), "a", user=NOBODY), (0, "p\n"))
     held = os.open(folder, os.O_RDONLY)
     fcntl.flock(held, fcntl.LOCK_SH)
-    failures.expect("a change beside a reader's lock", run(program, "set", str(folder), "a", "", "z")[0], 0)
+    failures.expect("a change beside a reader's lock", run(program, "set", str(folder), "a", "", "q")[0], 0)
     os.close(held)
+
+
+def list_of_a_folder(top: Path, failures: Failures) -> None:
+    """A folder whose list lets `nobody` in, and not `daemon`, with files that all may read and write."""
+    program = str(top / "confstore")
+    folder = new_store(top, "with a list")
+    (folder / "x.yaml").write_text("a:   1\n")
+    for file in ("store.yaml", "x.yaml"):
+        (folder / file).chmod(0o666)
+    folder.chmod(0o700)
+    subprocess.run(["setfacl", "-m", f"u:{NOBODY}:rwx,g::---", str(folder)], check=True, timeout=SECONDS)
+    ways = (("nothing",), ("checkpoint", str(folder)), ("format", "-i", str(folder / "x.yaml")))
+    for number, words in enumerate(ways):
+        if number:
+            failures.expect(f"{words[0]} in a folder with a list", run(program, *words)[0], 0)
+        for file in ("store.yaml", "x.yaml"):
+            read = subprocess.run(["cat", str(folder / file)], user=OUTSIDER, group=pwd.getpwnam(OUTSIDER).pw_gid,
+                                  extra_groups=[], capture_output=True, check=False)
+            failures.expect(f"{OUTSIDER} reads {file} after {words[0]}", read.returncode, 1)
+        changed = run(program, "set", str(folder), "a", "", "p", user=NOBODY)[0]
+        failures.expect(f"{NOBODY} changes the store after {words[0]}", changed, 0)
 
 
 def calls(library: str, log: Path, *words: str, commands: bytes = b"") -> int:
@@ -140,11 +163,12 @@ def exchanged_folders(top: Path, library: str, failures: Failures) -> None:
 def hidden_files(top: Path, library: str, failures: Failures) -> None:
     """A file of a store is said not to be there, by one call or by each from then on."""
     tried = 0
+    once_or_always: list[dict[str, str]] = [{"FAULT_TIMES": "1"}, {}]
     for words in (("run",), ("init",)):
         count = calls(library, top / "log", *words, str(new_store(top, f"{words[0]}, plain")), commands=COMMANDS)
         for file in ("store.yaml", "next.yaml", "store.lock"):
             for number in range(1, count + 1):
-                for often in ({}, {"FAULT_TIMES": "1"}):
+                for often in once_or_always:
                     name = f"{words[0]}, {file} hidden from call {number}{' once' if often else ''}"
                     folder = new_store(top, name)
                     status, output = run(PROGRAM, *words, str(folder), commands=COMMANDS, LD_PRELOAD=library,
@@ -166,6 +190,8 @@ def main() -> int:
         lock_modes(top, failures)
         if os.geteuid() == 0:
             locks_of_others(top, failures)
+            if shutil.which("setfacl"):
+                list_of_a_folder(top, failures)
         exchanged_folders(top, library, failures)
         hidden_files(top, library, failures)
     return failures.report()

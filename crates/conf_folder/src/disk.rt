@@ -1,5 +1,5 @@
 // The calls of a disk, each by calls of the system.
-ghost use Rattle.std.specs.Prelude.{◌≡◌, ◌≢◌, ◌<◌, Err, min, ◌+◌};
+ghost use Rattle.std.specs.Prelude.{◌≡◌, ◌≢◌, ◌<◌, Err, OnOk, IfErr, min, ◌+◌};
 ghost use Rattle.conf_disk.specs.Moments.{CountsFailures};
 
 use crate::FolderFault;
@@ -34,6 +34,8 @@ pub struct FolderDisk<'r, R: Files<File = File>> {
     store: Option<File>,
     next: Option<File>,
     replacing: Replacing,
+    /// Whether `store.yaml` was not there when it was looked for last.
+    is_missing: bool,
     failures: u64,
 }
 
@@ -193,6 +195,7 @@ impl<'r, R: Files<File = File>> FolderDisk<'r, R> {
             store: None,
             next: None,
             replacing: Replacing::Nothing,
+            is_missing: false,
             failures: 0,
         }
     }
@@ -275,6 +278,9 @@ impl<'r, R: Files<File = File>> FolderDisk<'r, R> {
     {
         self.may_change()?;
         let replaced = look(self.rt, self.path(Name::Store)?)?;
+        if replaced.is_some() {
+            self.find_store()?;
+        }
         self.replacing = match replaced {
             Some(_) => Replacing::Store,
             None => Replacing::Nothing,
@@ -293,6 +299,7 @@ impl<'r, R: Files<File = File>> FolderDisk<'r, R> {
         let replacing = self.replacing;
         let (from, to) = (self.path(Name::Next)?, self.path(Name::Store)?);
         rename(self.rt, replacing, from, to)?;
+        self.is_missing = false;
         self.store = staged;
         Ok(())
     }
@@ -314,19 +321,54 @@ impl<'r, R: Files<File = File>> FolderDisk<'r, R> {
         self.folder.sync()
     }
 
+    /// Returns if `store.yaml` may be there, which was found.
+    ///
+    /// # Errors
+    /// If it was not there before, and this run has not made it: then the system has said something false.
+    fn find_store(&self) -> io::Result<()> {
+        if self.is_missing {
+            return Err(io::Error::from(ErrorKind::AlreadyExists));
+        }
+        Ok(())
+    }
+
     /// Reads the file under a name, if there is one. A file of more than `max` bytes is `TooLong`. A run that may
     /// change the files reads what the device has.
-    fn try_read(&self, alloc: Global, name: Name, max: u64) -> io::Result<Content> {
-        match open_to_read(self.rt, self.path(name)?) {
-            Ok(file) => {
+    fn try_read(&mut self, alloc: Global, name: Name, max: u64) -> io::Result<Content>
+        ensures { self.new.failures ≡ self.old.failures }
+    {
+        let opened = open_to_read(self.rt, self.path(name)?);
+        match (opened, name) {
+            (Ok(file), Name::Store) => {
+                self.find_store()?;
                 if self.may_change().is_ok() {
                     settle(&file)?;
                 }
                 file_content(alloc, file, max)
             }
-            Err(error) if error.kind() == ErrorKind::NotFound => Ok(Content::Missing),
-            Err(error) => Err(error),
+            (Ok(file), Name::Next) => file_content(alloc, file, max),
+            (Err(error), name) if error.kind() == ErrorKind::NotFound => {
+                if name == Name::Store {
+                    self.is_missing = true;
+                }
+                Ok(Content::Missing)
+            }
+            (Err(error), _) => Err(error),
         }
+    }
+
+    /// Returns if a failure can still be counted.
+    ///
+    /// # Errors
+    /// `Device` if as many were counted as can be.
+    fn may_fail(&self) -> Result<(), DiskFault>
+        ensures counted { OnOk result (self.now.failures < u64.MAX) }
+        ensures spent { IfErr result (λ fault. (fault ≡ DiskFault.Device) × (self.now.failures ≡ u64.MAX)) }
+    {
+        if self.failures == u64::MAX {
+            return Err(DiskFault::Device);
+        }
+        Ok(())
     }
 
     /// Counts a failure if a call failed, and returns it as `Device`.
@@ -370,9 +412,7 @@ impl<'r, R: Files<File = File>> Disk for FolderDisk<'r, R> {
     }
 
     fn read(&mut self, alloc: Global, name: Name, max: u64) -> Result<Content, DiskFault> {
-        if self.failures == u64::MAX {
-            return Err(DiskFault::Device);
-        }
+        self.may_fail()?;
         match self.try_read(alloc, name, max) {
             Ok(content) => Ok(content),
             Err(error) if error.kind() == ErrorKind::OutOfMemory => Err(DiskFault::OutOfMemory),
@@ -384,49 +424,37 @@ impl<'r, R: Files<File = File>> Disk for FolderDisk<'r, R> {
     }
 
     fn create_next(&mut self) -> Result<(), DiskFault> {
-        if self.failures == u64::MAX {
-            return Err(DiskFault::Device);
-        }
+        self.may_fail()?;
         let done = self.try_create_next();
         self.count(done)
     }
 
     fn append(&mut self, name: Name, bytes: &[u8]) -> Result<(), DiskFault> {
-        if self.failures == u64::MAX {
-            return Err(DiskFault::Device);
-        }
+        self.may_fail()?;
         let done = self.try_append(name, bytes);
         self.count(done)
     }
 
     fn sync(&mut self, name: Name) -> Result<(), DiskFault> {
-        if self.failures == u64::MAX {
-            return Err(DiskFault::Device);
-        }
+        self.may_fail()?;
         let done = self.try_sync(name);
         self.count(done)
     }
 
     fn rename_next(&mut self) -> Result<(), DiskFault> {
-        if self.failures == u64::MAX {
-            return Err(DiskFault::Device);
-        }
+        self.may_fail()?;
         let done = self.try_rename_next();
         self.count(done)
     }
 
     fn remove_next(&mut self) -> Result<(), DiskFault> {
-        if self.failures == u64::MAX {
-            return Err(DiskFault::Device);
-        }
+        self.may_fail()?;
         let done = self.try_remove_next();
         self.count(done)
     }
 
     fn sync_folder(&mut self) -> Result<(), DiskFault> {
-        if self.failures == u64::MAX {
-            return Err(DiskFault::Device);
-        }
+        self.may_fail()?;
         let done = self.try_sync_folder();
         self.count(done)
     }

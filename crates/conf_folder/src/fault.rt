@@ -1,4 +1,6 @@
 // Why a folder can't be used as a disk.
+ghost use Rattle.std.specs.Prelude.{◌≢◌};
+
 use std::alloc::AllocError;
 use std::io;
 use std::io::ErrorKind;
@@ -32,7 +34,9 @@ impl From<AllocError> for FolderFault {
 }
 
 /// The fault of an error of the system: never `Locked`.
-pub(crate) fn fault_of(error: io::Error) -> FolderFault {
+pub(crate) fn fault_of(error: io::Error) -> FolderFault
+    ensures { result ≢ FolderFault.Locked }
+{
     if error.kind() == ErrorKind::OutOfMemory {
         FolderFault::OutOfMemory
     } else {
