@@ -2,6 +2,7 @@
 use Rattle.std.specs.Prelude.{◌≡◌, ◌≢◌, ◌⊎◌, ℕ, ◌≤◌, ◌<◌, Result, Err, IsErrOf, OnOk}
 use Rattle.conf_disk.specs.Folder.{Folder, Step, Performs}
 use Rattle.conf_disk.specs.Image.{Image, IsImage}
+use Rattle.conf_disk.specs.Models.{DiskModel}
 use Rattle.conf_disk.specs.declared.disk.DiskFault.{DiskFault}
 use Rattle.conf_disk.specs.declared.disk.Content.{Content}
 use Rattle.conf_disk.specs.declared.disk.Name.{Name}
@@ -18,8 +19,9 @@ pub record Elapses (before now : ℕ) (past since : ℕ → Image → Type 0) (m
   pub keeps : (t : ℕ) (image : Image) → t ≤ before → past t image → since t image
 
 -- time goes on from one value of a disk to the next
-abbrev pub TimeGoesOn : {D : Type 0} → (D → Folder) → (D → ℕ) → (D → ℕ → Image → Type 0) → D → D → Type 0
-TimeGoesOn folder moment left old new = Elapses (moment old) (moment new) (left old) (left new) (IsImage (folder new))
+abbrev pub TimeGoesOn : {D : Type 0} → DiskModel D → D → D → Type 0
+TimeGoesOn model old new =
+    Elapses (model.moment old) (model.moment new) (model.left old) (model.left new) (IsImage (model.folder new))
 
 -- A device's failures are counted, up to the greatest number. From then on every call fails. A call that returns Ok
 -- leaves the number as it was.
@@ -33,13 +35,12 @@ pub record CountsFailures {T : Type 0} (before now : ℕ) (result : Result T Dis
 -- How a call that changes something goes, whatever it returns: what it makes of the folder, which is nothing once the
 -- failures are at their greatest number; what a crash during it may leave; and when it fails. It never runs out of
 -- memory.
-pub record IsChange {D : Type 0} (honest : Type 0) (folder : D → Folder) (moment : D → ℕ)
-    (left : D → ℕ → Image → Type 0) (failure_count : D → ℕ)
+pub record IsChange {D : Type 0} (model : DiskModel D)
     (step : Step) (old : D) (result : Result (Unit {0}) DiskFault) (new : D) : Type 0 where
-  pub change : honest → Performs step (folder old) (folder new) result
-  pub spent : honest → failure_count old ≡ greatest → folder new ≡ folder old
-  pub time : honest → TimeGoesOn folder moment left old new
-  pub failures : CountsFailures (failure_count old) (failure_count new) result
+  pub change : model.honest → Performs step (model.folder old) (model.folder new) result
+  pub spent : model.honest → model.failure_count old ≡ greatest → model.folder new ≡ model.folder old
+  pub time : model.honest → TimeGoesOn model old new
+  pub failures : CountsFailures (model.failure_count old) (model.failure_count new) result
   pub fault : result ≢ Err OutOfMemory
 
 -- What a disk may promise of a call that changes something: of the disk before it, the step, what it returned, and the
@@ -52,9 +53,10 @@ abbrev pub SaysOfRead : Type 0 → Type 1
 SaysOfRead D = D → Name → ℕ → Result Content DiskFault → D → Type 0
 
 -- A crash at any moment from `old` to `new` leaves an image of which P holds.
-pub record LeavesOnly {D : Type 0} (moment : D → ℕ) (left : D → ℕ → Image → Type 0) (old new : D)
+pub record LeavesOnly {D : Type 0} (model : DiskModel D) (old new : D)
     (P : Image → Type 0) : Type 0 where
-  pub later : moment old ≤ moment new
-  pub each : (image : Image) → left new (moment old) image → P image
+  pub later : model.moment old ≤ model.moment new
+  pub each : (image : Image) → model.left new (model.moment old) image → P image
   -- since an earlier moment: what was left up to `old`, or an image of which P holds
-  pub before : (t : ℕ) (image : Image) → t ≤ moment old → left new t image → left old t image ⊎ P image
+  pub before : (t : ℕ) (image : Image) → t ≤ model.moment old → model.left new t image
+      → model.left old t image ⊎ P image

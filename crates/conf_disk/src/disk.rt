@@ -2,6 +2,7 @@
 ghost use Rattle.std.specs.Prelude.{◌≡◌, ◌≢◌, ◌≤◌, ℕ, None, IsSome, IfOk, Result, Err};
 ghost use Rattle.conf_disk.specs.Folder.{Folder, Step, CreateNext, Append, Sync, RenameNext, RemoveNext, SyncFolder, under, Performs, Reads};
 ghost use Rattle.conf_disk.specs.Image.{Image, IsImage, IsWhole};
+ghost use Rattle.conf_disk.specs.Models.{DiskModel};
 ghost use Rattle.conf_disk.specs.Moments.{TimeGoesOn, CountsFailures, IsChange, SaysOfChange, SaysOfRead};
 ghost use Rattle.conf_disk.specs.declared.disk.DiskFault.{DiskFault};
 ghost use Rattle.conf_disk.specs.declared.disk.Content.{Content};
@@ -56,20 +57,9 @@ pub enum DiskFault {
 /// Any call but `failures` may return [`DiskFault::Device`]; then what it was to change may have changed in whole, in
 /// part or not at all. Of an append a part is a prefix of the bytes, and of a sync a part of what it was to sync.
 pub trait Disk {
-    /// Whether the disk is one that the clauses below speak of. It does not depend on the value, so no call changes it.
-    ghost honest: { Type 0 };
-
-    /// The folder's files and stages.
-    ghost folder: { Self → Folder };
-
-    /// The moment, as a number that never falls.
-    ghost moment: { Self → ℕ };
-
-    /// The images that a crash at some moment from that one to now might have left, moments inside calls included.
-    ghost left: { Self → ℕ → Image → Type 0 };
-
-    /// How often the device has failed.
-    ghost failure_count: { Self → ℕ };
+    /// What contracts see of the disk: whether it is honest, its folder, the moment, what a crash leaves, and how often
+    /// the device has failed.
+    ghost model: { DiskModel Self };
 
     /// What a disk promises of a changing call beside the clauses below: the disk before, the call, its result, the
     /// disk after.
@@ -82,68 +72,62 @@ pub trait Disk {
     /// How often the device has failed, up to 18,446,744,073,709,551,615. From then on every other call returns
     /// `Device` and changes nothing.
     fn failures(&self) -> u64
-        ensures { result ≡ failure_count self.now };
+        ensures { result ≡ model.failure_count self.now };
 
     /// The bytes under a name, if they are at most `max`. A read changes nothing, whatever it returns.
     ///
     /// # Errors
     /// `Device`, and `OutOfMemory` if there is no memory for the bytes.
     fn read(&mut self, alloc: Global, name: Name, max: u64) -> Result<Content, DiskFault>
-        ensures content { honest → IfOk result (λ content.
-            Reads (folder self.old) name max content) }
-        ensures same { honest → folder self.new ≡ folder self.old }
-        ensures time { honest → TimeGoesOn folder moment left self.old self.new }
-        ensures failures { CountsFailures (failure_count self.old) (failure_count self.new) result }
+        ensures content { model.honest → IfOk result (λ content.
+            Reads (model.folder self.old) name max content) }
+        ensures same { model.honest → model.folder self.new ≡ model.folder self.old }
+        ensures time { model.honest → TimeGoesOn model self.old self.new }
+        ensures failures { CountsFailures (model.failure_count self.old) (model.failure_count self.new) result }
         ensures also { also_reads self.old name max result self.new };
 
     /// Makes an empty file under the name `Next`. There may be none before.
     fn create_next(&mut self) -> Result<(), DiskFault>
-        requires { honest → (folder self.old).now.next ≡ None }
-        ensures goes { IsChange honest folder moment left failure_count
-            CreateNext self.old result self.new }
+        requires { model.honest → (model.folder self.old).now.next ≡ None }
+        ensures goes { IsChange model CreateNext self.old result self.new }
         ensures also { also_changes self.old CreateNext result self.new };
 
     /// Appends bytes to the file under a name, which has to be there. They are pending until the file is synced.
     fn append(&mut self, name: Name, bytes: &[u8]) -> Result<(), DiskFault>
-        requires { honest → IsSome (under (folder self.old).now name) }
-        ensures goes { IsChange honest folder moment left failure_count
-            (Append name bytes.now) self.old result self.new }
+        requires { model.honest → IsSome (under (model.folder self.old).now name) }
+        ensures goes { IsChange model (Append name bytes.now) self.old result self.new }
         ensures also { also_changes self.old (Append name bytes.now) result self.new };
 
     /// Syncs the file under a name: after `Ok`, a crash leaves all of its bytes. Where there is no file it does
     /// nothing.
     fn sync(&mut self, name: Name) -> Result<(), DiskFault>
-        ensures goes { IsChange honest folder moment left failure_count
-            (Sync name) self.old result self.new }
+        ensures goes { IsChange model (Sync name) self.old result self.new }
         ensures also { also_changes self.old (Sync name) result self.new };
 
     /// Renames the file under `Next`, which has to be there, to `Store`. It replaces the file there, if there is one.
     fn rename_next(&mut self) -> Result<(), DiskFault>
-        requires { honest → IsSome (folder self.old).now.next }
-        ensures goes { IsChange honest folder moment left failure_count
-            RenameNext self.old result self.new }
+        requires { model.honest → IsSome (model.folder self.old).now.next }
+        ensures goes { IsChange model RenameNext self.old result self.new }
         ensures also { also_changes self.old RenameNext result self.new };
 
     /// Removes the file under `Next`. Where there is none it does nothing.
     fn remove_next(&mut self) -> Result<(), DiskFault>
-        ensures goes { IsChange honest folder moment left failure_count
-            RemoveNext self.old result self.new }
+        ensures goes { IsChange model RemoveNext self.old result self.new }
         ensures also { also_changes self.old RemoveNext result self.new };
 
     /// Syncs the folder: after `Ok`, a crash leaves each name with the file that it has now.
     fn sync_folder(&mut self) -> Result<(), DiskFault>
-        ensures goes { IsChange honest folder moment left failure_count
-            SyncFolder self.old result self.new }
+        ensures goes { IsChange model SyncFolder self.old result self.new }
         ensures also { also_changes self.old SyncFolder result self.new };
 
     /// This moment is one of those since an earlier one.
-    ghost counts_now: { (disk : Self) (t : ℕ) (image : Image) → honest → t ≤ moment disk
-        → IsImage (folder disk) image → left disk t image };
+    ghost counts_now: { (disk : Self) (t : ℕ) (image : Image) → model.honest → t ≤ model.moment disk
+        → IsImage (model.folder disk) image → model.left disk t image };
 
     /// Since this moment there is no other.
-    ghost only_now: { (disk : Self) (image : Image) → honest → left disk (moment disk) image
-        → IsImage (folder disk) image };
+    ghost only_now: { (disk : Self) (image : Image) → model.honest → model.left disk (model.moment disk) image
+        → IsImage (model.folder disk) image };
 
     /// Each file under a name is one of the folder's, and the staged one was never the live one.
-    ghost whole: { (disk : Self) → honest → IsWhole (folder disk) };
+    ghost whole: { (disk : Self) → model.honest → IsWhole (model.folder disk) };
 }

@@ -29,6 +29,6 @@ pub fn calls_leave_no_other_image()
 
 /// A law of an honest disk: what is read is what a crash since any moment might have left.
 pub fn what_reads_may_be_left<D: Disk>(_disk: &D)
-    ensures { D.honest → (t : ℕ) → t ≤ D.moment _disk.now →
-        D.left _disk.now t (image_now (D.folder _disk.now)) }
+    ensures { D.model.honest → (t : ℕ) → t ≤ D.model.moment _disk.now →
+        D.model.left _disk.now t (image_now (D.model.folder _disk.now)) }
 {}

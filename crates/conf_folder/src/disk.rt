@@ -391,15 +391,13 @@ impl<'r, R: Files<File = File>> Disk for FolderDisk<'r, R> {
     ghost use Rattle.std.specs.Prelude.{ℕ};
     ghost use Rattle.conf_disk.specs.Folder.{empty_folder};
 
-    ghost honest = { ⊥ };
-
-    ghost folder = { λ disk. empty_folder };
-
-    ghost moment = { λ disk. 0 };
-
-    ghost left = { λ disk t image. ⊥ };
-
-    ghost failure_count = { λ disk. disk.failures };
+    ghost model = { record {
+      honest = ⊥;
+      folder = λ disk. empty_folder;
+      moment = λ disk. 0;
+      left = λ disk t image. ⊥;
+      failure_count = λ disk. disk.failures;
+    } };
 
     ghost counts_now = { λ disk t image honest le is. honest };
 

@@ -26,15 +26,15 @@ pub fn salvage<R: Read, D: Disk + Drop>(
     reader: &mut R,
     disk: D,
 ) -> Result<(D, Findings), (D, SalvageFault)>
-    ensures saved { D.honest → IfOk result (λ r. Saves (R.remaining reader.old)
-        (R.remaining reader.new) (D.folder disk) (D.folder r.0) r.1) }
-    ensures refused { D.honest → IfErr result (λ r. RefusesSalvage (R.remaining reader.old)
-        (R.remaining reader.new) (D.folder disk) (D.folder r.0) r.1) }
+    ensures saved { D.model.honest → IfOk result (λ r. Saves (R.remaining reader.old)
+        (R.remaining reader.new) (D.model.folder disk) (D.model.folder r.0) r.1) }
+    ensures refused { D.model.honest → IfErr result (λ r. RefusesSalvage (R.remaining reader.old)
+        (R.remaining reader.new) (D.model.folder disk) (D.model.folder r.0) r.1) }
     // This holds also if the disk isn't honest.
     ensures unread { IfErr result (λ r. (fault : HistoryFault) → r.1 ≡ SalvageFault.History fault
         → IfSome (R.remaining reader.old) (λ bytes. RefusesSurvey bytes fault)) }
     // The number of failures never falls.
-    ensures risen { D.failure_count disk ≤ D.failure_count (disk_of result) }
+    ensures risen { D.model.failure_count disk ≤ D.model.failure_count (disk_of result) }
 {
     let found = match survey_store(alloc, reader) {
         Ok(found) => found,

@@ -1,7 +1,8 @@
 -- What a crash during an append leaves, from the images that it leaves.
 use Rattle.std.proofs.Common.{◌⊎◌, ℕ, List, option_map}
-use Rattle.conf_disk.specs.Folder.{Folder, Append, after, with_pending, bytes_under}
-use Rattle.conf_disk.specs.Image.{Image, IsImage, IsWhole}
+use Rattle.conf_disk.specs.Folder.{Append, after, with_pending, bytes_under}
+use Rattle.conf_disk.specs.Image.{IsImage, IsWhole}
+use Rattle.conf_disk.specs.Models.{DiskModel}
 use Rattle.conf_disk.specs.Moments.{LeavesOnly}
 use Rattle.conf_disk.specs.declared.disk.Name.TheVariants.{Store}
 use Rattle.conf_disk.proofs.Moments.{LeavesOnly-weaker}
@@ -12,16 +13,16 @@ use Rattle.conf_journal.proofs.Held.{held-left, with_pending-holds}
 use Rattle.conf_journal.proofs.Stores.{appended_store-leaves}
 
 -- a run that leaves only images of an append to the store leaves what an append may leave
-pub leaves-with_pending : {D : Type 0} (folder : D → Folder) (moment : D → ℕ) (left : D → ℕ → Image → Type 0) (bytes : List ℕ) (old new : D) → IsWhole (folder old)
-    → LeavesOnly moment left old new (IsImage (after (Append Store bytes) (folder old))) → LeavesAppended folder moment left bytes old new
-leaves-with_pending folder moment left bytes old new whole run =
-    let grown = after (Append Store bytes) (folder old) in
+pub leaves-with_pending : {D : Type 0} (model : DiskModel D) (bytes : List ℕ) (old new : D) → IsWhole (model.folder old)
+    → LeavesOnly model old new (IsImage (after (Append Store bytes) (model.folder old))) → LeavesAppended model bytes old new
+leaves-with_pending model bytes old new whole run =
+    let grown = after (Append Store bytes) (model.folder old) in
     record {
       any_moment = run;
-      store = λ synced. LeavesOnly-weaker moment left old new (IsImage grown)
-          (λ image. IsStoreOf (folder old) image.store ⊎ IsTail (bytes_under (folder old) Store) bytes image.store) run
-          (appended_store-leaves bytes (folder old) whole synced);
-      held = λ file holds. LeavesOnly-weaker moment left old new (IsImage grown)
+      store = λ synced. LeavesOnly-weaker model old new (IsImage grown)
+          (λ image. IsStoreOf (model.folder old) image.store ⊎ IsTail (bytes_under (model.folder old) Store) bytes image.store) run
+          (appended_store-leaves bytes (model.folder old) whole synced);
+      held = λ file holds. LeavesOnly-weaker model old new (IsImage grown)
           (λ image. IsLeftOf (option_map (with_pending bytes) file) image.store) run
-          (held-left grown (option_map (with_pending bytes) file) (with_pending-holds bytes (folder old) file whole holds));
+          (held-left grown (option_map (with_pending bytes) file) (with_pending-holds bytes (model.folder old) file whole holds));
     }

@@ -1,7 +1,7 @@
 -- How a procedure fails that makes one call after another.
 use Rattle.std.proofs.Common.{◌≡◌, ℕ, Result, Ok, Err, sym, ◌∙◌, subst}
-use Rattle.conf_disk.specs.Folder.{Folder, Step}
-use Rattle.conf_disk.specs.Image.{Image}
+use Rattle.conf_disk.specs.Folder.{Step}
+use Rattle.conf_disk.specs.Models.{DiskModel}
 use Rattle.conf_disk.specs.Moments.{CountsFailures, IsChange}
 use Rattle.conf_disk.specs.declared.disk.DiskFault.{DiskFault}
 use Rattle.conf_journal.specs.Fails.{FailsAsCalls}
@@ -17,13 +17,13 @@ counts-passed {U} {old} {new} counts same =
     (record { never_falls = counts.never_falls; within = counts.within; steady = tt; device = λ is. counts.device cc; spent = λ at. cc (counts.spent at) })
 
 -- a call of the disk fails as one
-pub fails-call : {D honest : Type 0} {folder : D → Folder} {moment : D → ℕ} {left : D → ℕ → Image → Type 0} {failure_count : D → ℕ} {step : Step} {old : D} {result : Result (Unit {0}) DiskFault} {new : D}
-    → IsChange honest folder moment left failure_count step old result new → FailsAsCalls honest folder failure_count old result new
+pub fails-call : {D : Type 0} {model : DiskModel D} {step : Step} {old : D} {result : Result (Unit {0}) DiskFault} {new : D}
+    → IsChange model step old result new → FailsAsCalls model old result new
 fails-call is = record { spent = is.spent; failures = is.failures; fault = is.fault }
 
 -- so does what comes after a success
-pub fails-then : {D honest : Type 0} {folder : D → Folder} {failure_count : D → ℕ} {old mid new : D} {done : Unit {0}} {result : Result (Unit {0}) DiskFault}
-    → FailsAsCalls honest folder failure_count old (Ok done) mid → FailsAsCalls honest folder failure_count mid result new → FailsAsCalls honest folder failure_count old result new
+pub fails-then : {D : Type 0} {model : DiskModel D} {old mid new : D} {done : Unit {0}} {result : Result (Unit {0}) DiskFault}
+    → FailsAsCalls model old (Ok done) mid → FailsAsCalls model mid result new → FailsAsCalls model old result new
 fails-then first later = record {
   spent = λ on at. later.spent on (first.failures.steady ∙ at) ∙ first.spent on at;
   failures = counts-then first.failures later.failures;
@@ -31,6 +31,6 @@ fails-then first later = record {
 }
 
 -- and a fault that is passed on
-pub fails-passed : {D honest : Type 0} {folder : D → Folder} {failure_count : D → ℕ} {old new : D} {fault : DiskFault} {result : Result (Unit {0}) DiskFault}
-    → FailsAsCalls honest folder failure_count old (Err fault) new → result ≡ Err fault → FailsAsCalls honest folder failure_count old result new
-fails-passed {D} {honest} {folder} {failure_count} {old} {new} fails same = subst (λ (r : Result (Unit {0}) DiskFault). FailsAsCalls honest folder failure_count old r new) (sym same) fails
+pub fails-passed : {D : Type 0} {model : DiskModel D} {old new : D} {fault : DiskFault} {result : Result (Unit {0}) DiskFault}
+    → FailsAsCalls model old (Err fault) new → result ≡ Err fault → FailsAsCalls model old result new
+fails-passed {D} {model} {old} {new} fails same = subst (λ (r : Result (Unit {0}) DiskFault). FailsAsCalls model old r new) (sym same) fails

@@ -1,28 +1,28 @@
 -- Runs of calls, one after the other, that leave old stores.
 use Rattle.std.proofs.Common.{◌≡◌, ◌≤◌, ◌⊎◌, inl, inr, ⊎_elim, ℕ, List, Option, subst}
-use Rattle.conf_disk.specs.Folder.{Folder}
 use Rattle.conf_disk.specs.Image.{Image, IsImage}
+use Rattle.conf_disk.specs.Models.{DiskModel}
 use Rattle.conf_disk.proofs.Moments.{LeavesOnly-joined, LeavesOnly-now}
 use Rattle.conf_journal.specs.Store.{IsStoreOf, LeavesOldStore, LeavesStoreOr}
 
-module _ {D : Type 0} (folder : D → Folder) (moment : D → ℕ) (left : D → ℕ → Image → Type 0)
-    (counts : (disk : D) (t : ℕ) (image : Image) → t ≤ moment disk → IsImage (folder disk) image → left disk t image)
-    (old between new : D) (first : LeavesOldStore folder moment left old between) where
+module _ {D : Type 0} (model : DiskModel D)
+    (counts : (disk : D) (t : ℕ) (image : Image) → t ≤ model.moment disk → IsImage (model.folder disk) image → model.left disk t image)
+    (old between new : D) (first : LeavesOldStore model old between) where
   -- a store of the folder between is an old one
-  was-old : (store : Option (List ℕ)) → IsStoreOf (folder between) store → IsStoreOf (folder old) store
+  was-old : (store : Option (List ℕ)) → IsStoreOf (model.folder between) store → IsStoreOf (model.folder old) store
   was-old store was =
-      subst (IsStoreOf (folder old)) was.same
-      (LeavesOnly-now folder moment left old between (λ image. IsStoreOf (folder old) image.store) (counts between) first was.image was.is)
+      subst (IsStoreOf (model.folder old)) was.same
+      (LeavesOnly-now model old between (λ image. IsStoreOf (model.folder old) image.store) (counts between) first was.image was.is)
 
   -- after a run that leaves an old store, another one that does so leaves it in all
-  pub old-joined : LeavesOldStore folder moment left between new → LeavesOldStore folder moment left old new
+  pub old-joined : LeavesOldStore model between new → LeavesOldStore model old new
   old-joined second =
-      LeavesOnly-joined moment left old between new _ _ (λ image. IsStoreOf (folder old) image.store) first second
+      LeavesOnly-joined model old between new _ _ (λ image. IsStoreOf (model.folder old) image.store) first second
       (λ image is. is) (λ image is. was-old image.store is)
 
   -- after a run that leaves an old store, one that leaves that or another store leaves one of the two in all
-  pub other-joined : (other : Option (List ℕ)) → LeavesStoreOr folder moment left other between new → LeavesStoreOr folder moment left other old new
+  pub other-joined : (other : Option (List ℕ)) → LeavesStoreOr model other between new → LeavesStoreOr model other old new
   other-joined other second =
-      LeavesOnly-joined moment left old between new (λ image. IsStoreOf (folder old) image.store)
-      (λ image. IsStoreOf (folder between) image.store ⊎ (image.store ≡ other)) (λ image. IsStoreOf (folder old) image.store ⊎ (image.store ≡ other)) first second
+      LeavesOnly-joined model old between new (λ image. IsStoreOf (model.folder old) image.store)
+      (λ image. IsStoreOf (model.folder between) image.store ⊎ (image.store ≡ other)) (λ image. IsStoreOf (model.folder old) image.store ⊎ (image.store ≡ other)) first second
       (λ image is. inl is) (λ image. ⊎_elim (λ was. inl (was-old image.store was)) (λ same. inr same))

@@ -103,37 +103,37 @@ grown-left (SyncFolder ∷ steps) last folder image is = inl (subst (λ (f : Fol
 
 -- A crash during these steps, from the one value of the disk to the other, leaves only such images.
 pub record IsRun {D : Type 0} (d : Ghosts D) (steps : List Step) (old new : D) : Type 0 where
-  pub leaves : LeavesOnly d.moment d.left old new (LeftDuring steps (d.folder old))
+  pub leaves : LeavesOnly d.model old new (LeftDuring steps (d.model.folder old))
 
 -- Runs are joined where the first has performed all its steps.
-pub run-then : {D : Type 0} (d : Ghosts D) {first second : List Step} {old between new : D} → d.folder between ≡ folder_after first (d.folder old)
+pub run-then : {D : Type 0} (d : Ghosts D) {first second : List Step} {old between new : D} → d.model.folder between ≡ folder_after first (d.model.folder old)
     → IsRun d first old between → IsRun d second between new → IsRun d (first ++ second) old new
 run-then d {first} {second} {old} {between} {new} done one two = record {
-  leaves = LeavesOnly-joined d.moment d.left old between new (LeftDuring first (d.folder old)) (LeftDuring second (d.folder between)) (LeftDuring (first ++ second) (d.folder old)) one.leaves two.leaves
-      (left_more first second (d.folder old))
-      (λ image is. left_later first second (d.folder old) image (subst (λ (f : Folder). LeftDuring second f image) done is));
+  leaves = LeavesOnly-joined d.model old between new (LeftDuring first (d.model.folder old)) (LeftDuring second (d.model.folder between)) (LeftDuring (first ++ second) (d.model.folder old)) one.leaves two.leaves
+      (left_more first second (d.model.folder old))
+      (λ image is. left_later first second (d.model.folder old) image (subst (λ (f : Folder). LeftDuring second f image) done is));
 }
 
 -- What a run leaves whose syncs come last.
-pub run-grown : {D : Type 0} (d : Ghosts D) {steps : List Step} {old new : D} → SyncsLast steps → IsRun d steps old new → LeavesOnly d.moment d.left old new (IsImage (grown_after steps (d.folder old)))
-run-grown d {steps} {old} {new} last run = LeavesOnly-weaker d.moment d.left old new _ _ run.leaves (left-grown steps last (d.folder old))
+pub run-grown : {D : Type 0} (d : Ghosts D) {steps : List Step} {old new : D} → SyncsLast steps → IsRun d steps old new → LeavesOnly d.model old new (IsImage (grown_after steps (d.model.folder old)))
+run-grown d {steps} {old} {new} last run = LeavesOnly-weaker d.model old new _ _ run.leaves (left-grown steps last (d.model.folder old))
 
 -- A procedure that leaves only this is such a run, with more steps that are not performed if it failed.
-pub run-known : {D : Type 0} (d : Ghosts D) (steps more : List Step) {old new : D} → SyncsLast steps → LeavesOnly d.moment d.left old new (IsImage (grown_after steps (d.folder old))) → IsRun d (steps ++ more) old new
+pub run-known : {D : Type 0} (d : Ghosts D) (steps more : List Step) {old new : D} → SyncsLast steps → LeavesOnly d.model old new (IsImage (grown_after steps (d.model.folder old))) → IsRun d (steps ++ more) old new
 run-known d steps more {old} {new} last leaves = record {
-  leaves = LeavesOnly-weaker d.moment d.left old new (IsImage (grown_after steps (d.folder old))) (LeftDuring (steps ++ more) (d.folder old)) leaves
-      (λ image is. left_more steps more (d.folder old) image (grown-left steps last (d.folder old) image is));
+  leaves = LeavesOnly-weaker d.model old new (IsImage (grown_after steps (d.model.folder old))) (LeftDuring (steps ++ more) (d.model.folder old)) leaves
+      (λ image is. left_more steps more (d.model.folder old) image (grown-left steps last (d.model.folder old) image is));
 }
 
-module _ {D : Type 0} (d : Ghosts D) (only : (disk : D) (image : Image) → d.honest → d.left disk (d.moment disk) image → IsImage (d.folder disk) image) (h : d.honest) where
+module _ {D : Type 0} (d : Ghosts D) (only : (disk : D) (image : Image) → d.model.honest → d.model.left disk (d.model.moment disk) image → IsImage (d.model.folder disk) image) (h : d.model.honest) where
   -- One call that changes something, with more steps that are not performed if it failed.
-  pub run-call : (more : List Step) {step : Step} {old new : D} {result : Result (Unit {0}) DiskFault} → IsChange d.honest d.folder d.moment d.left d.failure_count step old result new → IsRun d (step ∷ more) old new
+  pub run-call : (more : List Step) {step : Step} {old new : D} {result : Result (Unit {0}) DiskFault} → IsChange d.model step old result new → IsRun d (step ∷ more) old new
   run-call more {step} {old} {new} {result} goes = record {
-    leaves = LeavesOnly-weaker d.moment d.left old new (IsImage (grown step (d.folder old))) (LeftDuring (step ∷ more) (d.folder old))
-        (LeavesOnly-step d.folder d.moment d.left step old new result (λ image left. only old image h left) (goes.time h) (goes.change h))
-        (λ image is. ⊎_elim (λ was. inl was) (λ now. inr (left_before more (after step (d.folder old)) image now)) (grown-cases step (d.folder old) image is));
+    leaves = LeavesOnly-weaker d.model old new (IsImage (grown step (d.model.folder old))) (LeftDuring (step ∷ more) (d.model.folder old))
+        (LeavesOnly-step d.model step old new result (λ image left. only old image h left) (goes.time h) (goes.change h))
+        (λ image is. ⊎_elim (λ was. inl was) (λ now. inr (left_before more (after step (d.model.folder old)) image now)) (grown-cases step (d.model.folder old) image is));
   }
 
   -- one that changes nothing
-  pub run-read : {old new : D} → TimeGoesOn d.folder d.moment d.left old new → d.folder new ≡ d.folder old → IsRun d [] old new
-  run-read {old} {new} time same = record { leaves = LeavesOnly-same d.folder d.moment d.left old new (λ image left. only old image h left) time same }
+  pub run-read : {old new : D} → TimeGoesOn d.model old new → d.model.folder new ≡ d.model.folder old → IsRun d [] old new
+  run-read {old} {new} time same = record { leaves = LeavesOnly-same d.model old new (λ image left. only old image h left) time same }

@@ -113,10 +113,10 @@ staging-leaves (SyncFolder ∷ steps) staging folder whole image is =
     staged_rest folder _ (LeftDuring steps (after SyncFolder folder)) (λ i now. IsStoreOf-image folder i (after-grown SyncFolder folder i now)) (staging-leaves steps staging _ (after-whole SyncFolder folder whole)) image is
 
 -- So a run of them leaves an old store.
-pub staging-run : {D : Type 0} (d : Ghosts D) (steps : List Step) {old new : D} → SyncsLast steps → AreStaging steps → IsWhole (d.folder old)
-    → LeavesOnly d.moment d.left old new (IsImage (grown_after steps (d.folder old))) → LeavesOldStore d.folder d.moment d.left old new
+pub staging-run : {D : Type 0} (d : Ghosts D) (steps : List Step) {old new : D} → SyncsLast steps → AreStaging steps → IsWhole (d.model.folder old)
+    → LeavesOnly d.model old new (IsImage (grown_after steps (d.model.folder old))) → LeavesOldStore d.model old new
 staging-run d steps {old} {new} last staging whole leaves =
-    LeavesOnly-weaker d.moment d.left old new _ _ leaves (λ image is. staging-leaves steps staging (d.folder old) whole image (grown-left steps last (d.folder old) image is))
+    LeavesOnly-weaker d.model old new _ _ leaves (λ image is. staging-leaves steps staging (d.model.folder old) whole image (grown-left steps last (d.model.folder old) image is))
 
 staged_torn : (files : List File) (id : ℕ) (store : Option (List ℕ)) → (get_or files id empty_file).pending ≡ [] → IsTornAt files (Some id) store → store ≡ bytes_at files (Some id)
 staged_torn files id None none torn = absurd torn

@@ -2,6 +2,7 @@
 use Rattle.std.specs.Prelude.{◌≡◌, ◌⊎◌, ℕ, ◌+◌, ◌≤◌, List, [], ◌++◌, length, get_or, take, replicate, Option, Some, None, option_map}
 use Rattle.conf_disk.specs.Folder.{File, empty_file, Folder, under, bytes_under}
 use Rattle.conf_disk.specs.Image.{Image, IsImage, image_now}
+use Rattle.conf_disk.specs.Models.{DiskModel}
 use Rattle.conf_disk.specs.Moments.{LeavesOnly}
 use Rattle.conf_disk.specs.declared.disk.Name.{Name}
 use Rattle.conf_disk.specs.declared.disk.Name.TheVariants.{Store, Next}
@@ -17,19 +18,19 @@ pub record IsStoreOf (folder : Folder) (store : Option (List ℕ)) : Type 0 wher
   pub same : image.store ≡ store
 
 -- a crash at any moment since `old` leaves an old store
-abbrev pub LeavesOldStore : {D : Type 0} → (D → Folder) → (D → ℕ) → (D → ℕ → Image → Type 0) → D → D → Type 0
-LeavesOldStore folder moment left old new = LeavesOnly moment left old new (λ image. IsStoreOf (folder old) image.store)
+abbrev pub LeavesOldStore : {D : Type 0} → DiskModel D → D → D → Type 0
+LeavesOldStore model old new = LeavesOnly model old new (λ image. IsStoreOf (model.folder old) image.store)
 
 -- an old store, or this one
-abbrev pub LeavesStoreOr : {D : Type 0} → (D → Folder) → (D → ℕ) → (D → ℕ → Image → Type 0) → Option (List ℕ) → D → D
+abbrev pub LeavesStoreOr : {D : Type 0} → DiskModel D → Option (List ℕ) → D → D
     → Type 0
-LeavesStoreOr folder moment left other old new =
-    LeavesOnly moment left old new (λ image. IsStoreOf (folder old) image.store ⊎ (image.store ≡ other))
+LeavesStoreOr model other old new =
+    LeavesOnly model old new (λ image. IsStoreOf (model.folder old) image.store ⊎ (image.store ≡ other))
 
 -- an old store, or the staged file
-abbrev pub LeavesStoreOrStaged : {D : Type 0} → (D → Folder) → (D → ℕ) → (D → ℕ → Image → Type 0) → D → D → Type 0
-LeavesStoreOrStaged folder moment left old new =
-    LeavesStoreOr folder moment left (bytes_under (folder old) Next) old new
+abbrev pub LeavesStoreOrStaged : {D : Type 0} → DiskModel D → D → D → Type 0
+LeavesStoreOrStaged model old new =
+    LeavesStoreOr model (bytes_under (model.folder old) Next) old new
 
 -- the old bytes, a prefix of the new ones, and zeros; the prefix and the zeros are no longer than the new bytes
 pub record IsTail (old : Option (List ℕ)) (bytes : List ℕ) (store : Option (List ℕ)) : Type 0 where

@@ -29,16 +29,16 @@ pub fn held_store_is_the_only_one()
 /// the first run leaves an old store, and one during the second a store of the folder between them. Then a crash during
 /// both leaves an old store. If the second may leave another store as well, so may both.
 pub fn runs_of_calls_are_joined<D: Disk>()
-    ensures images { D.honest → (old between new : D) (folder : Folder)
-        → LeavesOnly D.moment D.left old between (IsImage folder)
-        → LeavesOnly D.moment D.left between new (IsImage folder)
-        → LeavesOnly D.moment D.left old new (IsImage folder) }
-    ensures old_store { D.honest → (old between new : D)
-        → LeavesOldStore D.folder D.moment D.left old between
-        → LeavesOldStore D.folder D.moment D.left between new
-        → LeavesOldStore D.folder D.moment D.left old new }
-    ensures other_store { D.honest → (old between new : D) (other : Option (List ℕ))
-        → LeavesOldStore D.folder D.moment D.left old between
-        → LeavesStoreOr D.folder D.moment D.left other between new
-        → LeavesStoreOr D.folder D.moment D.left other old new }
+    ensures images { D.model.honest → (old between new : D) (folder : Folder)
+        → LeavesOnly D.model old between (IsImage folder)
+        → LeavesOnly D.model between new (IsImage folder)
+        → LeavesOnly D.model old new (IsImage folder) }
+    ensures old_store { D.model.honest → (old between new : D)
+        → LeavesOldStore D.model old between
+        → LeavesOldStore D.model between new
+        → LeavesOldStore D.model old new }
+    ensures other_store { D.model.honest → (old between new : D) (other : Option (List ℕ))
+        → LeavesOldStore D.model old between
+        → LeavesStoreOr D.model other between new
+        → LeavesStoreOr D.model other old new }
 {}

@@ -15,24 +15,24 @@ use conf_disk::{Disk, DiskFault, Name};
 /// # Errors
 /// `Device`: `next.yaml` is the one from before, the new one, or missing.
 pub fn begin_next<D: Disk>(disk: &mut D) -> Result<(), DiskFault>
-    ensures folder { D.honest →
+    ensures folder { D.model.honest →
         OnOk result
-        (D.folder disk.new ≡ folder_after (RemoveNext ∷ CreateNext ∷ []) (D.folder disk.old)) }
-    ensures any_moment { D.honest →
-        LeavesOnly D.moment D.left disk.old disk.new
-        (IsImage (folder_after (RemoveNext ∷ CreateNext ∷ []) (D.folder disk.old))) }
-    ensures fails { FailsAsCalls D.honest D.folder D.failure_count disk.old result disk.new }
+        (D.model.folder disk.new ≡ folder_after (RemoveNext ∷ CreateNext ∷ []) (D.model.folder disk.old)) }
+    ensures any_moment { D.model.honest →
+        LeavesOnly D.model disk.old disk.new
+        (IsImage (folder_after (RemoveNext ∷ CreateNext ∷ []) (D.model.folder disk.old))) }
+    ensures fails { FailsAsCalls D.model disk.old result disk.new }
 
-    ensures reads { D.honest →
+    ensures reads { D.model.honest →
         OnOk result
-        (ReadsAs (D.folder disk.new) (bytes_under (D.folder disk.old) Name.Store) (Some [])) }
+        (ReadsAs (D.model.folder disk.new) (bytes_under (D.model.folder disk.old) Name.Store) (Some [])) }
     // Whatever it returns, `store.yaml` is read as before.
-    ensures left_alone { D.honest →
-        bytes_under (D.folder disk.new) Name.Store ≡ bytes_under (D.folder disk.old) Name.Store }
+    ensures left_alone { D.model.honest →
+        bytes_under (D.model.folder disk.new) Name.Store ≡ bytes_under (D.model.folder disk.old) Name.Store }
     // A crash leaves an old store.
-    ensures store { D.honest → LeavesOldStore D.folder D.moment D.left disk.old disk.new }
-    ensures holds { D.honest → (file : Option File) → HoldsStore (D.folder disk.old) file →
-        OnOk result (HoldsStore (D.folder disk.new) file) }
+    ensures store { D.model.honest → LeavesOldStore D.model disk.old disk.new }
+    ensures holds { D.model.honest → (file : Option File) → HoldsStore (D.model.folder disk.old) file →
+        OnOk result (HoldsStore (D.model.folder disk.new) file) }
 {
     disk.remove_next()?;
     disk.create_next()
@@ -44,25 +44,25 @@ pub fn begin_next<D: Disk>(disk: &mut D) -> Result<(), DiskFault>
 /// # Errors
 /// `Device`: a prefix of the bytes was appended, perhaps none or all of them.
 pub fn append_next<D: Disk>(disk: &mut D, bytes: &[u8]) -> Result<(), DiskFault>
-    requires { D.honest → IsSome (D.folder disk.old).now.next }
-    ensures folder { D.honest →
-        OnOk result (D.folder disk.new ≡ after (Append Name.Next bytes.now) (D.folder disk.old)) }
-    ensures any_moment { D.honest →
-        LeavesOnly D.moment D.left disk.old disk.new
-        (IsImage (after (Append Name.Next bytes.now) (D.folder disk.old))) }
-    ensures fails { FailsAsCalls D.honest D.folder D.failure_count disk.old result disk.new }
+    requires { D.model.honest → IsSome (D.model.folder disk.old).now.next }
+    ensures folder { D.model.honest →
+        OnOk result (D.model.folder disk.new ≡ after (Append Name.Next bytes.now) (D.model.folder disk.old)) }
+    ensures any_moment { D.model.honest →
+        LeavesOnly D.model disk.old disk.new
+        (IsImage (after (Append Name.Next bytes.now) (D.model.folder disk.old))) }
+    ensures fails { FailsAsCalls D.model disk.old result disk.new }
 
-    ensures reads { D.honest →
+    ensures reads { D.model.honest →
         OnOk result
-        (ReadsAs (D.folder disk.new) (bytes_under (D.folder disk.old) Name.Store)
-        (file_with_bytes (bytes_under (D.folder disk.old) Name.Next) bytes.now)) }
+        (ReadsAs (D.model.folder disk.new) (bytes_under (D.model.folder disk.old) Name.Store)
+        (file_with_bytes (bytes_under (D.model.folder disk.old) Name.Next) bytes.now)) }
     // Whatever it returns, `store.yaml` is read as before.
-    ensures left_alone { D.honest →
-        bytes_under (D.folder disk.new) Name.Store ≡ bytes_under (D.folder disk.old) Name.Store }
+    ensures left_alone { D.model.honest →
+        bytes_under (D.model.folder disk.new) Name.Store ≡ bytes_under (D.model.folder disk.old) Name.Store }
     // A crash leaves an old store.
-    ensures store { D.honest → LeavesOldStore D.folder D.moment D.left disk.old disk.new }
-    ensures holds { D.honest → (file : Option File) → HoldsStore (D.folder disk.old) file →
-        OnOk result (HoldsStore (D.folder disk.new) file) }
+    ensures store { D.model.honest → LeavesOldStore D.model disk.old disk.new }
+    ensures holds { D.model.honest → (file : Option File) → HoldsStore (D.model.folder disk.old) file →
+        OnOk result (HoldsStore (D.model.folder disk.new) file) }
 {
     disk.append(Name::Next, bytes)
 }
@@ -72,20 +72,20 @@ pub fn append_next<D: Disk>(disk: &mut D, bytes: &[u8]) -> Result<(), DiskFault>
 /// # Errors
 /// `Device`: bytes of `next.yaml` may still be pending. What is read is unchanged.
 pub fn sync_next<D: Disk>(disk: &mut D) -> Result<(), DiskFault>
-    ensures folder { D.honest →
-        OnOk result (D.folder disk.new ≡ after (Sync Name.Next) (D.folder disk.old)) }
-    ensures any_moment { D.honest →
-        LeavesOnly D.moment D.left disk.old disk.new (IsImage (D.folder disk.old)) }
-    ensures fails { FailsAsCalls D.honest D.folder D.failure_count disk.old result disk.new }
+    ensures folder { D.model.honest →
+        OnOk result (D.model.folder disk.new ≡ after (Sync Name.Next) (D.model.folder disk.old)) }
+    ensures any_moment { D.model.honest →
+        LeavesOnly D.model disk.old disk.new (IsImage (D.model.folder disk.old)) }
+    ensures fails { FailsAsCalls D.model disk.old result disk.new }
 
     // Whatever it returns, both files are read as before.
-    ensures reads { D.honest → image_now (D.folder disk.new) ≡ image_now (D.folder disk.old) }
-    ensures synced { D.honest → IsSome (D.folder disk.old).now.next →
-        OnOk result (IsSynced (D.folder disk.new) Name.Next) }
+    ensures reads { D.model.honest → image_now (D.model.folder disk.new) ≡ image_now (D.model.folder disk.old) }
+    ensures synced { D.model.honest → IsSome (D.model.folder disk.old).now.next →
+        OnOk result (IsSynced (D.model.folder disk.new) Name.Next) }
     // A crash leaves an old store.
-    ensures store { D.honest → LeavesOldStore D.folder D.moment D.left disk.old disk.new }
-    ensures holds { D.honest → (file : Option File) → HoldsStore (D.folder disk.old) file →
-        OnOk result (HoldsStore (D.folder disk.new) file) }
+    ensures store { D.model.honest → LeavesOldStore D.model disk.old disk.new }
+    ensures holds { D.model.honest → (file : Option File) → HoldsStore (D.model.folder disk.old) file →
+        OnOk result (HoldsStore (D.model.folder disk.new) file) }
 {
     disk.sync(Name::Next)
 }
@@ -96,30 +96,30 @@ pub fn sync_next<D: Disk>(disk: &mut D) -> Result<(), DiskFault>
 /// # Errors
 /// `Device`: `next.yaml` is the one from before, missing, or a new one with a prefix of the bytes.
 pub fn stage_next<D: Disk>(disk: &mut D, bytes: &[u8]) -> Result<(), DiskFault>
-    ensures folder { D.honest →
+    ensures folder { D.model.honest →
         OnOk result
-        (D.folder disk.new ≡ folder_after
+        (D.model.folder disk.new ≡ folder_after
         (RemoveNext ∷ CreateNext ∷ Append Name.Next bytes.now ∷ Sync Name.Next ∷ [])
-        (D.folder disk.old)) }
-    ensures any_moment { D.honest →
-        LeavesOnly D.moment D.left disk.old disk.new
+        (D.model.folder disk.old)) }
+    ensures any_moment { D.model.honest →
+        LeavesOnly D.model disk.old disk.new
         (IsImage
         (folder_after (RemoveNext ∷ CreateNext ∷ Append Name.Next bytes.now ∷ [])
-        (D.folder disk.old))) }
-    ensures fails { FailsAsCalls D.honest D.folder D.failure_count disk.old result disk.new }
+        (D.model.folder disk.old))) }
+    ensures fails { FailsAsCalls D.model disk.old result disk.new }
 
-    ensures reads { D.honest →
+    ensures reads { D.model.honest →
         OnOk result
-        (ReadsAs (D.folder disk.new) (bytes_under (D.folder disk.old) Name.Store)
+        (ReadsAs (D.model.folder disk.new) (bytes_under (D.model.folder disk.old) Name.Store)
         (Some bytes.now)) }
-    ensures synced { D.honest → OnOk result (IsSynced (D.folder disk.new) Name.Next) }
+    ensures synced { D.model.honest → OnOk result (IsSynced (D.model.folder disk.new) Name.Next) }
     // Whatever it returns, `store.yaml` is read as before.
-    ensures left_alone { D.honest →
-        bytes_under (D.folder disk.new) Name.Store ≡ bytes_under (D.folder disk.old) Name.Store }
+    ensures left_alone { D.model.honest →
+        bytes_under (D.model.folder disk.new) Name.Store ≡ bytes_under (D.model.folder disk.old) Name.Store }
     // A crash leaves an old store.
-    ensures store { D.honest → LeavesOldStore D.folder D.moment D.left disk.old disk.new }
-    ensures holds { D.honest → (file : Option File) → HoldsStore (D.folder disk.old) file →
-        OnOk result (HoldsStore (D.folder disk.new) file) }
+    ensures store { D.model.honest → LeavesOldStore D.model disk.old disk.new }
+    ensures holds { D.model.honest → (file : Option File) → HoldsStore (D.model.folder disk.old) file →
+        OnOk result (HoldsStore (D.model.folder disk.new) file) }
 {
     begin_next(disk)?;
     append_next(disk, bytes)?;
@@ -132,22 +132,22 @@ pub fn stage_next<D: Disk>(disk: &mut D, bytes: &[u8]) -> Result<(), DiskFault>
 /// # Errors
 /// `Device`: `store.yaml` is the old file or the new one.
 pub fn swap_next<D: Disk>(disk: &mut D) -> Result<(), DiskFault>
-    requires { D.honest → IsSynced (D.folder disk.old) Name.Next }
-    ensures folder { D.honest →
+    requires { D.model.honest → IsSynced (D.model.folder disk.old) Name.Next }
+    ensures folder { D.model.honest →
         OnOk result
-        (D.folder disk.new ≡ folder_after (RenameNext ∷ SyncFolder ∷ []) (D.folder disk.old)) }
-    ensures any_moment { D.honest →
-        LeavesOnly D.moment D.left disk.old disk.new
-        (IsImage (after RenameNext (D.folder disk.old))) }
-    ensures fails { FailsAsCalls D.honest D.folder D.failure_count disk.old result disk.new }
+        (D.model.folder disk.new ≡ folder_after (RenameNext ∷ SyncFolder ∷ []) (D.model.folder disk.old)) }
+    ensures any_moment { D.model.honest →
+        LeavesOnly D.model disk.old disk.new
+        (IsImage (after RenameNext (D.model.folder disk.old))) }
+    ensures fails { FailsAsCalls D.model disk.old result disk.new }
 
-    ensures reads { D.honest →
-        OnOk result (ReadsAs (D.folder disk.new) (bytes_under (D.folder disk.old) Name.Next) None) }
+    ensures reads { D.model.honest →
+        OnOk result (ReadsAs (D.model.folder disk.new) (bytes_under (D.model.folder disk.old) Name.Next) None) }
     // A crash leaves an old store, or the whole staged file.
-    ensures store { D.honest →
-        LeavesStoreOrStaged D.folder D.moment D.left disk.old disk.new }
-    ensures holds { D.honest →
-        OnOk result (HoldsStaged (D.folder disk.old) (D.folder disk.new)) }
+    ensures store { D.model.honest →
+        LeavesStoreOrStaged D.model disk.old disk.new }
+    ensures holds { D.model.honest →
+        OnOk result (HoldsStaged (D.model.folder disk.old) (D.model.folder disk.new)) }
 {
     disk.rename_next()?;
     disk.sync_folder()
@@ -158,25 +158,25 @@ pub fn swap_next<D: Disk>(disk: &mut D) -> Result<(), DiskFault>
 /// # Errors
 /// `Device`: `store.yaml` is the old file or the new one.
 pub fn finish_next<D: Disk>(disk: &mut D) -> Result<(), DiskFault>
-    requires { D.honest → IsSome (D.folder disk.old).now.next }
-    ensures folder { D.honest →
+    requires { D.model.honest → IsSome (D.model.folder disk.old).now.next }
+    ensures folder { D.model.honest →
         OnOk result
-        (D.folder disk.new ≡ folder_after (Sync Name.Next ∷ RenameNext ∷ SyncFolder ∷ [])
-        (D.folder disk.old)) }
-    ensures any_moment { D.honest →
-        LeavesOnly D.moment D.left disk.old disk.new
-        (λ image. IsImage (D.folder disk.old) image
+        (D.model.folder disk.new ≡ folder_after (Sync Name.Next ∷ RenameNext ∷ SyncFolder ∷ [])
+        (D.model.folder disk.old)) }
+    ensures any_moment { D.model.honest →
+        LeavesOnly D.model disk.old disk.new
+        (λ image. IsImage (D.model.folder disk.old) image
         ⊎ IsImage
-        (folder_after (Sync Name.Next ∷ RenameNext ∷ []) (D.folder disk.old)) image) }
-    ensures fails { FailsAsCalls D.honest D.folder D.failure_count disk.old result disk.new }
+        (folder_after (Sync Name.Next ∷ RenameNext ∷ []) (D.model.folder disk.old)) image) }
+    ensures fails { FailsAsCalls D.model disk.old result disk.new }
 
-    ensures reads { D.honest →
-        OnOk result (ReadsAs (D.folder disk.new) (bytes_under (D.folder disk.old) Name.Next) None) }
+    ensures reads { D.model.honest →
+        OnOk result (ReadsAs (D.model.folder disk.new) (bytes_under (D.model.folder disk.old) Name.Next) None) }
     // A crash leaves an old store, or the whole staged file.
-    ensures store { D.honest →
-        LeavesStoreOrStaged D.folder D.moment D.left disk.old disk.new }
-    ensures holds { D.honest →
-        OnOk result (HoldsStaged (D.folder disk.old) (D.folder disk.new)) }
+    ensures store { D.model.honest →
+        LeavesStoreOrStaged D.model disk.old disk.new }
+    ensures holds { D.model.honest →
+        OnOk result (HoldsStaged (D.model.folder disk.old) (D.model.folder disk.new)) }
 {
     sync_next(disk)?;
     swap_next(disk)

@@ -21,25 +21,25 @@ pub const STORE_LIMIT: u64 = 1_073_741_824;
 /// # Errors
 /// `Device`: the folder and the file may be synced or not. `OutOfMemory`: both are synced.
 pub fn load<D: Disk>(alloc: Global, disk: &mut D) -> Result<Content, DiskFault>
-    ensures content { D.honest → IfOk result (λ content.
-        Reads (D.folder disk.old) Name.Store store_limit content) }
-    ensures folder { D.honest →
+    ensures content { D.model.honest → IfOk result (λ content.
+        Reads (D.model.folder disk.old) Name.Store store_limit content) }
+    ensures folder { D.model.honest →
         OnOk result
-        (D.folder disk.new ≡ folder_after (SyncFolder ∷ Sync Name.Store ∷ [])
-        (D.folder disk.old)) }
-    ensures unread { D.honest → result ≡ Err DiskFault.OutOfMemory →
-        D.folder disk.new ≡ folder_after (SyncFolder ∷ Sync Name.Store ∷ []) (D.folder disk.old) }
-    ensures any_moment { D.honest → LeavesOnly D.moment D.left disk.old disk.new
-        (IsImage (D.folder disk.old)) }
-    ensures spent { D.honest → D.failure_count disk.old ≡ u64.MAX
-        → D.folder disk.new ≡ D.folder disk.old }
-    ensures failures { CountsFailures (D.failure_count disk.old) (D.failure_count disk.new) result }
+        (D.model.folder disk.new ≡ folder_after (SyncFolder ∷ Sync Name.Store ∷ [])
+        (D.model.folder disk.old)) }
+    ensures unread { D.model.honest → result ≡ Err DiskFault.OutOfMemory →
+        D.model.folder disk.new ≡ folder_after (SyncFolder ∷ Sync Name.Store ∷ []) (D.model.folder disk.old) }
+    ensures any_moment { D.model.honest → LeavesOnly D.model disk.old disk.new
+        (IsImage (D.model.folder disk.old)) }
+    ensures spent { D.model.honest → D.model.failure_count disk.old ≡ u64.MAX
+        → D.model.folder disk.new ≡ D.model.folder disk.old }
+    ensures failures { CountsFailures (D.model.failure_count disk.old) (D.model.failure_count disk.new) result }
 
-    ensures reads { D.honest → image_now (D.folder disk.new) ≡ image_now (D.folder disk.old) }
-    ensures holds { D.honest →
+    ensures reads { D.model.honest → image_now (D.model.folder disk.new) ≡ image_now (D.model.folder disk.old) }
+    ensures holds { D.model.honest →
         OnOk result
-        (HoldsStore (D.folder disk.new)
-        (option_map synced_file (bytes_under (D.folder disk.old) Name.Store))) }
+        (HoldsStore (D.model.folder disk.new)
+        (option_map synced_file (bytes_under (D.model.folder disk.old) Name.Store))) }
 {
     disk.sync_folder()?;
     disk.sync(Name::Store)?;

@@ -16,18 +16,18 @@ use conf_disk::{Disk, DiskFault, Name};
 /// # Errors
 /// `Device`: a prefix of the bytes was appended, perhaps none or all of them.
 pub fn append_store<D: Disk>(disk: &mut D, bytes: &[u8]) -> Result<(), DiskFault>
-    requires { D.honest → IsSome (D.folder disk.old).now.store }
-    ensures folder { D.honest →
-        OnOk result (D.folder disk.new ≡ after (Append Name.Store bytes.now) (D.folder disk.old)) }
+    requires { D.model.honest → IsSome (D.model.folder disk.old).now.store }
+    ensures folder { D.model.honest →
+        OnOk result (D.model.folder disk.new ≡ after (Append Name.Store bytes.now) (D.model.folder disk.old)) }
     // What a crash at any moment leaves, whatever this returns.
-    ensures leaves { D.honest
-        → LeavesAppended D.folder D.moment D.left bytes.now disk.old disk.new }
-    ensures fails { FailsAsCalls D.honest D.folder D.failure_count disk.old result disk.new }
+    ensures leaves { D.model.honest
+        → LeavesAppended D.model bytes.now disk.old disk.new }
+    ensures fails { FailsAsCalls D.model disk.old result disk.new }
 
-    ensures reads { D.honest →
-        OnOk result (ReadsAppended bytes.now (D.folder disk.old) (D.folder disk.new)) }
-    ensures holds { D.honest → (file : Option File) → HoldsStore (D.folder disk.old) file →
-        OnOk result (HoldsStore (D.folder disk.new) (option_map (with_pending bytes.now) file)) }
+    ensures reads { D.model.honest →
+        OnOk result (ReadsAppended bytes.now (D.model.folder disk.old) (D.model.folder disk.new)) }
+    ensures holds { D.model.honest → (file : Option File) → HoldsStore (D.model.folder disk.old) file →
+        OnOk result (HoldsStore (D.model.folder disk.new) (option_map (with_pending bytes.now) file)) }
 {
     disk.append(Name::Store, bytes)
 }
@@ -37,15 +37,15 @@ pub fn append_store<D: Disk>(disk: &mut D, bytes: &[u8]) -> Result<(), DiskFault
 /// # Errors
 /// `Device`: a crash may still take away pending bytes. What is read is unchanged.
 pub fn sync_store<D: Disk>(disk: &mut D) -> Result<(), DiskFault>
-    ensures folder { D.honest → OnOk result (D.folder disk.new
-        ≡ after (Sync Name.Store) (D.folder disk.old)) }
-    ensures any_moment { D.honest → LeavesOnly D.moment D.left disk.old disk.new
-        (IsImage (D.folder disk.old)) }
-    ensures fails { FailsAsCalls D.honest D.folder D.failure_count disk.old result disk.new }
+    ensures folder { D.model.honest → OnOk result (D.model.folder disk.new
+        ≡ after (Sync Name.Store) (D.model.folder disk.old)) }
+    ensures any_moment { D.model.honest → LeavesOnly D.model disk.old disk.new
+        (IsImage (D.model.folder disk.old)) }
+    ensures fails { FailsAsCalls D.model disk.old result disk.new }
 
-    ensures reads { D.honest → image_now (D.folder disk.new) ≡ image_now (D.folder disk.old) }
-    ensures holds { D.honest → (file : Option File) → HoldsStore (D.folder disk.old) file →
-        OnOk result (HoldsStore (D.folder disk.new) (option_map synced_whole file)) }
+    ensures reads { D.model.honest → image_now (D.model.folder disk.new) ≡ image_now (D.model.folder disk.old) }
+    ensures holds { D.model.honest → (file : Option File) → HoldsStore (D.model.folder disk.old) file →
+        OnOk result (HoldsStore (D.model.folder disk.new) (option_map synced_whole file)) }
 {
     disk.sync(Name::Store)
 }
@@ -55,21 +55,21 @@ pub fn sync_store<D: Disk>(disk: &mut D) -> Result<(), DiskFault>
 /// # Errors
 /// `Device`: a prefix of the bytes was appended, perhaps none or all of them. They may be synced or not.
 pub fn append_closed<D: Disk>(disk: &mut D, bytes: &[u8]) -> Result<(), DiskFault>
-    requires { D.honest → IsSome (D.folder disk.old).now.store }
-    ensures folder { D.honest →
+    requires { D.model.honest → IsSome (D.model.folder disk.old).now.store }
+    ensures folder { D.model.honest →
         OnOk result
-        (D.folder disk.new ≡ folder_after (Append Name.Store bytes.now ∷ Sync Name.Store ∷ [])
-        (D.folder disk.old)) }
+        (D.model.folder disk.new ≡ folder_after (Append Name.Store bytes.now ∷ Sync Name.Store ∷ [])
+        (D.model.folder disk.old)) }
     // What a crash at any moment leaves, whatever this returns.
-    ensures leaves { D.honest
-        → LeavesAppended D.folder D.moment D.left bytes.now disk.old disk.new }
-    ensures fails { FailsAsCalls D.honest D.folder D.failure_count disk.old result disk.new }
+    ensures leaves { D.model.honest
+        → LeavesAppended D.model bytes.now disk.old disk.new }
+    ensures fails { FailsAsCalls D.model disk.old result disk.new }
 
-    ensures reads { D.honest →
-        OnOk result (ReadsAppended bytes.now (D.folder disk.old) (D.folder disk.new)) }
-    ensures holds { D.honest → (file : Option File) → HoldsStore (D.folder disk.old) file →
+    ensures reads { D.model.honest →
+        OnOk result (ReadsAppended bytes.now (D.model.folder disk.old) (D.model.folder disk.new)) }
+    ensures holds { D.model.honest → (file : Option File) → HoldsStore (D.model.folder disk.old) file →
         OnOk result
-        (HoldsStore (D.folder disk.new)
+        (HoldsStore (D.model.folder disk.new)
         (option_map synced_whole (option_map (with_pending bytes.now) file))) }
 {
     append_store(disk, bytes)?;

@@ -11,6 +11,7 @@ use Rattle.std.proofs.lemmas.List.Elements.{All-nil}
 use Rattle.yaml_grammar.specs.Closings.{ClosesOnce}
 use Rattle.conf_disk.specs.Folder.{Folder, bytes_under}
 use Rattle.conf_disk.specs.Image.{Image, IsImage}
+use Rattle.conf_disk.specs.Models.{DiskModel}
 use Rattle.conf_disk.specs.Moments.{LeavesOnly}
 use Rattle.conf_disk.specs.declared.disk.Name.TheVariants.{Store}
 use Rattle.conf_disk.proofs.Moments.{LeavesOnly-joined}
@@ -85,9 +86,9 @@ shorter-piece was then advances =
     let piece = advances.piece.closes.ends in
     omega (arith, joined, sum, piece)
 
-module _ {D : Type 0} (honest : Type 0) (folder : D → Folder) (moment : D → ℕ) (since : D → ℕ → Image → Type 0) where
+module _ {D : Type 0} (model : DiskModel D) where
   -- a piece without an answer
-  pub fails-in-group : (old new : StoreView D) (piece : List ℕ) (f : SessionFault) → DidPiece false honest folder moment since old new piece (Err f) → FailsInGroup honest folder moment since old new piece f
+  pub fails-in-group : (old new : StoreView D) (piece : List ℕ) (f : SessionFault) → DidPiece false model old new piece (Err f) → FailsInGroup model old new piece f
   fails-in-group old new piece fault.OutOfMemory did = did
   fails-in-group old new piece fault.Device did = (did.0, did.1, did.2.0, did.2.1)
   fails-in-group old new piece fault.Read did = absurd did
@@ -97,27 +98,27 @@ module _ {D : Type 0} (honest : Type 0) (folder : D → Folder) (moment : D → 
   fails-in-group old new piece (fault.Write written) did = absurd did
 
   -- a piece with an answer
-  pub gathers : (old new : StoreView D) (piece : List ℕ) (before after : Unwritten) (reply : Reply) → DidPiece false honest folder moment since old new piece (Ok reply) → KeepsAnswer before after reply
-      → GathersPiece honest folder moment since old new piece before after
+  pub gathers : (old new : StoreView D) (piece : List ℕ) (before after : Unwritten) (reply : Reply) → DidPiece false model old new piece (Ok reply) → KeepsAnswer before after reply
+      → GathersPiece model old new piece before after
   gathers old new piece before after reply did keeps = record { request = did.0; asks = did.1; sound = did.2.1; performs = did.2.2; reply = reply; replies = did.2.0; keeps = keeps }
 
   -- ---- the loop over the pieces
 
   pub submits-none : (store : StoreView D) (bytes : List ℕ) (answers : Unwritten) → store.reopen ≡ false → length answers.text.items ≤ answers_limit
-      → ((image : Image) → honest → since store.disk (moment store.disk) image → IsImage (folder store.disk) image)
-      → (honest → LeavesPrefixes (folder store.disk) store.state)
-      → Submits honest folder moment since bytes bytes store store answers answers
+      → ((image : Image) → model.honest → model.left store.disk (model.moment store.disk) image → IsImage (model.folder store.disk) image)
+      → (model.honest → LeavesPrefixes (model.folder store.disk) store.state)
+      → Submits model bytes bytes store store answers answers
   submits-none store bytes answers off within only means = record {
     requests = [];
     takes = takes-none bytes;
-    performs = performs-none false honest folder moment since store off only (λ h on. means h);
+    performs = performs-none false model store off only (λ h on. means h);
     keeps = keeps-none (stored_of store) answers within;
   }
 
-  module _ (bytes piece rest : List ℕ) (old now : StoreView D) (before mid : Unwritten) (s : Submits honest folder moment since bytes (piece ++ rest) old now before mid)
+  module _ (bytes piece rest : List ℕ) (old now : StoreView D) (before mid : Unwritten) (s : Submits model bytes (piece ++ rest) old now before mid)
       (closes : ClosesOnce piece) (short : length piece ≤ piece_limit) (new : StoreView D) where
     -- one answer more is kept
-    keeps-more : (after : Unwritten) (one : GathersPiece honest folder moment since now new piece mid after) → KeepsAnswers (stored_of old) (s.requests ++ one.request ∷ []) before after
+    keeps-more : (after : Unwritten) (one : GathersPiece model now new piece mid after) → KeepsAnswers (stored_of old) (s.requests ++ one.request ∷ []) before after
     keeps-more after one =
         let start = stored_of old in
         let rs = s.requests in
@@ -140,33 +141,33 @@ module _ {D : Type 0} (honest : Type 0) (folder : D → Folder) (moment : D → 
         }
 
     -- the next piece is performed
-    pub submits-more : (after : Unwritten) → GathersPiece honest folder moment since now new piece mid after → Submits honest folder moment since bytes rest old new before after
+    pub submits-more : (after : Unwritten) → GathersPiece model now new piece mid after → Submits model bytes rest old new before after
     submits-more after one = record {
       requests = s.requests ++ one.request ∷ [];
       takes = takes-more bytes piece rest s.requests one.request s.takes closes short one.asks;
-      performs = performs-more false honest folder moment since old now new s.requests one.request s.performs one.performs one.sound;
+      performs = performs-more false model old now new s.requests one.request s.performs one.performs one.sound;
       keeps = keeps-more after one;
     }
 
     -- the device fails at the next piece
-    breaks-at : (r : Request) → Asks piece r → new.reopen ≡ true → Performs false honest folder moment since now new r → BreaksOff honest folder moment since bytes old new
+    breaks-at : (r : Request) → Asks piece r → new.reopen ≡ true → Performs false model now new r → BreaksOff model bytes old new
     breaks-at r asks broken does = record {
       broken = broken;
       requests = s.requests ++ r ∷ [];
       further = rest;
       takes = takes-more bytes piece rest s.requests r s.takes closes short asks;
-      state = state-more false honest folder moment since old now new s.requests r s.performs does;
-      any_moment = λ h. moments-more false honest folder moment since old now new s.requests r s.performs does h;
+      state = state-more false model old now new s.requests r s.performs does;
+      any_moment = λ h. moments-more false model old now new s.requests r s.performs does h;
     }
 
   -- the next piece has no answer
-  pub submits-failing : (bytes piece rest : List ℕ) (old now new : StoreView D) (before mid after : Unwritten) → Submits honest folder moment since bytes (piece ++ rest) old now before mid
-      → ClosesOnce piece → length piece ≤ piece_limit → after ≡ mid → (f : SessionFault) → FailsInGroup honest folder moment since now new piece f
-      → (input : Input) → SubmitsGroup honest folder moment since bytes input old new before after (Err f)
+  pub submits-failing : (bytes piece rest : List ℕ) (old now new : StoreView D) (before mid after : Unwritten) → Submits model bytes (piece ++ rest) old now before mid
+      → ClosesOnce piece → length piece ≤ piece_limit → after ≡ mid → (f : SessionFault) → FailsInGroup model now new piece f
+      → (input : Input) → SubmitsGroup model bytes input old new before after (Err f)
   submits-failing bytes piece rest old now new before mid after s closes short same fault.OutOfMemory fails input = (
     piece ++ rest,
-    subst (λ (a : Unwritten). Submits honest folder moment since bytes (piece ++ rest) old new before a) (sym same)
-        (subst (λ (t : StoreView D). Submits honest folder moment since bytes (piece ++ rest) old t before mid) (sym fails) s),
+    subst (λ (a : Unwritten). Submits model bytes (piece ++ rest) old new before a) (sym same)
+        (subst (λ (t : StoreView D). Submits model bytes (piece ++ rest) old t before mid) (sym fails) s),
   )
   submits-failing bytes piece rest old now new before mid after s closes short same fault.Device fails input =
       breaks-at bytes piece rest old now before mid s closes short new fails.0 fails.1 fails.2 fails.3
@@ -178,7 +179,7 @@ module _ {D : Type 0} (honest : Type 0) (folder : D → Folder) (moment : D → 
 
   -- one answer more has room
   pub room-more : (old new : StoreView D) (piece rest : List ℕ) (before after : Unwritten) (total : ℕ) → ClosesOnce piece → HasRoomFor before (length (piece ++ rest)) total
-      → GathersPiece honest folder moment since old new piece before after → HasRoomFor after (length rest) total
+      → GathersPiece model old new piece before after → HasRoomFor after (length rest) total
   room-more old new piece rest before after total closes room one =
       let keeps = one.keeps in
       record {
@@ -192,8 +193,8 @@ module _ {D : Type 0} (honest : Type 0) (folder : D → Folder) (moment : D → 
       }
 
   -- there is no memory for a further piece
-  pub submits-starved : (bytes further : List ℕ) (old new : StoreView D) (before after : Unwritten) → Submits honest folder moment since bytes further old new before after
-      → (was then : Input) (f : SessionFault) → AdvancesAhead was then (Err f) → (input : Input) → SubmitsGroup honest folder moment since bytes input old new before after (Err f)
+  pub submits-starved : (bytes further : List ℕ) (old new : StoreView D) (before after : Unwritten) → Submits model bytes further old new before after
+      → (was then : Input) (f : SessionFault) → AdvancesAhead was then (Err f) → (input : Input) → SubmitsGroup model bytes input old new before after (Err f)
   submits-starved bytes further old new before after s was then fault.OutOfMemory fails input = (further, s)
   submits-starved bytes further old new before after s was then fault.Device fails input = absurd fails
   submits-starved bytes further old new before after s was then fault.Read fails input = absurd fails
@@ -211,51 +212,51 @@ module _ {D : Type 0} (honest : Type 0) (folder : D → Folder) (moment : D → 
   -- a flush, or a slice, that fails
   pub stops-short : (old new : StoreView D) (f : StoreFault) → old.reopen ≡ false → (f ≡ why.Reopen → old.reopen ≡ true) → ((f ≡ why.Reopen) ⊎ (f ≡ why.Device)) → (f ≡ why.Device → new.reopen ≡ true)
       → new.state ≡ old.state
-      → (honest → (flushed : Contents) (waiting : List Command) → HasFlushed (folder old.disk) flushed waiting old.state → LeavesOnly moment since old.disk new.disk (λ image. AfterPrefix flushed waiting image.store))
-      → StopsShort honest folder moment since old new
+      → (model.honest → (flushed : Contents) (waiting : List Command) → HasFlushed (model.folder old.disk) flushed waiting old.state → LeavesOnly model old.disk new.disk (λ image. AfterPrefix flushed waiting image.store))
+      → StopsShort model old new
   stops-short old new f off reopen one device state run = record { broken = ⊎_elim (λ e. absurd (false≢true (sym off ∙ reopen e))) device one; state = state; any_moment = run }
 
   -- a flush that succeeds
   pub flush-done : (old new : StoreView D) → new.reopen ≡ false → StaysTheSame old new
-      → (honest → bytes_under (folder new.disk) Store ≡ bytes_under (folder old.disk) Store)
-      → (honest → staged_text (folder new.disk) new.staged ≡ staged_text (folder old.disk) old.staged)
-      → (honest → (flushed : Contents) (waiting : List Command) → HasFlushed (folder old.disk) flushed waiting old.state → LeavesOnly moment since old.disk new.disk (λ image. AfterPrefix flushed waiting image.store))
-      → (honest → HasFlushed (folder new.disk) new.state [] new.state) → (honest → AllImagesMean (folder new.disk) new.state)
-      → PerformsTurns honest folder moment since old new []
+      → (model.honest → bytes_under (model.folder new.disk) Store ≡ bytes_under (model.folder old.disk) Store)
+      → (model.honest → staged_text (model.folder new.disk) new.staged ≡ staged_text (model.folder old.disk) old.staged)
+      → (model.honest → (flushed : Contents) (waiting : List Command) → HasFlushed (model.folder old.disk) flushed waiting old.state → LeavesOnly model old.disk new.disk (λ image. AfterPrefix flushed waiting image.store))
+      → (model.honest → HasFlushed (model.folder new.disk) new.state [] new.state) → (model.honest → AllImagesMean (model.folder new.disk) new.state)
+      → PerformsTurns model old new []
   flush-done old new off same reads stages run flushes means = record {
     sound = off;
     stored = same-stored old new same;
-    files = λ h. files-asked folder old new [] (reads h) (stages h);
+    files = λ h. files-asked model.folder old new [] (reads h) (stages h);
     any_moment = λ h flushed waiting has.
-        subst (λ (l : List Command). LeavesOnly moment since old.disk new.disk (λ image. AfterPrefix flushed l image.store)) (sym (append-nil waiting)) (run h flushed waiting has);
+        subst (λ (l : List Command). LeavesOnly model old.disk new.disk (λ image. AfterPrefix flushed l image.store)) (sym (append-nil waiting)) (run h flushed waiting has);
     flushed = flushes;
     now = means;
   }
 
-  module _ (bytes further : List ℕ) (old mid : StoreView D) (before after : Unwritten) (s : Submits honest folder moment since bytes further old mid before after) (new : StoreView D) where
+  module _ (bytes further : List ℕ) (old mid : StoreView D) (before after : Unwritten) (s : Submits model bytes further old mid before after) (new : StoreView D) where
     -- what a crash leaves up to the flush's end
-    flush-moments : (honest → (flushed : Contents) (waiting : List Command) → HasFlushed (folder mid.disk) flushed waiting mid.state → LeavesOnly moment since mid.disk new.disk (λ image. AfterPrefix flushed waiting image.store))
-        → honest → (flushed : Contents) (waiting : List Command) → HasFlushed (folder old.disk) flushed waiting old.state
-        → LeavesOnly moment since old.disk new.disk (λ image. AfterPrefix flushed (waiting ++ accepted_commands (stored_of old) s.requests) image.store)
+    flush-moments : (model.honest → (flushed : Contents) (waiting : List Command) → HasFlushed (model.folder mid.disk) flushed waiting mid.state → LeavesOnly model mid.disk new.disk (λ image. AfterPrefix flushed waiting image.store))
+        → model.honest → (flushed : Contents) (waiting : List Command) → HasFlushed (model.folder old.disk) flushed waiting old.state
+        → LeavesOnly model old.disk new.disk (λ image. AfterPrefix flushed (waiting ++ accepted_commands (stored_of old) s.requests) image.store)
     flush-moments run h flushed waiting has =
         let f = flushed_after false (stored_of old) flushed s.requests in
         let w = waiting_after false (stored_of old) waiting s.requests in
-        LeavesOnly-joined moment since old.disk mid.disk new.disk _ _ _ (s.performs.any_moment h flushed waiting has) (run h f w (s.performs.waits h flushed waiting has))
+        LeavesOnly-joined model old.disk mid.disk new.disk _ _ _ (s.performs.any_moment h flushed waiting has) (run h f w (s.performs.waits h flushed waiting has))
         (λ image some. some)
         (λ image. prefix-whole flushed f (waiting ++ accepted_commands (stored_of old) s.requests) w image.store (continues false (stored_of old) flushed waiting s.requests has.journal.leads))
 
     -- the pieces that were submitted are flushed
-    pub answers-flushed : PerformsTurns honest folder moment since mid new [] → AnswersGroup honest folder moment since bytes further old new before after
+    pub answers-flushed : PerformsTurns model mid new [] → AnswersGroup model bytes further old new before after
     answers-flushed flush = record {
       requests = s.requests;
       takes = s.takes;
       performs = record {
         sound = flush.sound;
         stored = flush.stored ∙ s.performs.stored ∙ sym (asked-stored (stored_of old) s.requests);
-        files = λ h. files-asked folder old new s.requests (ap (λ f. f.store) (flush.files h) ∙ s.performs.reads h) (ap (λ f. f.staged) (flush.files h) ∙ s.performs.stages h);
+        files = λ h. files-asked model.folder old new s.requests (ap (λ f. f.store) (flush.files h) ∙ s.performs.reads h) (ap (λ f. f.staged) (flush.files h) ∙ s.performs.stages h);
         any_moment = λ h flushed waiting has.
-            subst (λ (l : List Command). LeavesOnly moment since old.disk new.disk (λ image. AfterPrefix flushed (waiting ++ l) image.store)) (sym (asked-accepted (stored_of old) s.requests))
-            (flush-moments (λ h f w there. subst (λ (l : List Command). LeavesOnly moment since mid.disk new.disk (λ image. AfterPrefix f l image.store)) (append-nil w) (flush.any_moment h f w there)) h flushed waiting has);
+            subst (λ (l : List Command). LeavesOnly model old.disk new.disk (λ image. AfterPrefix flushed (waiting ++ l) image.store)) (sym (asked-accepted (stored_of old) s.requests))
+            (flush-moments (λ h f w there. subst (λ (l : List Command). LeavesOnly model mid.disk new.disk (λ image. AfterPrefix f l image.store)) (append-nil w) (flush.any_moment h f w there)) h flushed waiting has);
         flushed = flush.flushed;
         now = flush.now;
       };
@@ -263,7 +264,7 @@ module _ {D : Type 0} (honest : Type 0) (folder : D → Folder) (moment : D → 
     }
 
     -- the flush fails
-    pub breaks-unflushed : StopsShort honest folder moment since mid new → BreaksOff honest folder moment since bytes old new
+    pub breaks-unflushed : StopsShort model mid new → BreaksOff model bytes old new
     breaks-unflushed stops = record {
       broken = stops.broken;
       requests = s.requests;
@@ -274,7 +275,7 @@ module _ {D : Type 0} (honest : Type 0) (folder : D → Folder) (moment : D → 
     }
 
     -- the flush fails, whatever the group would have returned
-    pub ends-unflushed : (input : Input) (f : SessionFault) → FlushesAll honest folder moment since mid new (Err f) → EndsGroup honest folder moment since bytes input old new before after (Err f)
+    pub ends-unflushed : (input : Input) (f : SessionFault) → FlushesAll model mid new (Err f) → EndsGroup model bytes input old new before after (Err f)
     ends-unflushed input fault.Device stops = breaks-unflushed stops
     ends-unflushed input fault.OutOfMemory stops = absurd stops
     ends-unflushed input fault.Read stops = absurd stops
@@ -284,14 +285,14 @@ module _ {D : Type 0} (honest : Type 0) (folder : D → Folder) (moment : D → 
     ends-unflushed input (fault.Write written) stops = absurd stops
 
   -- a group that was submitted whole ends as its flush does
-  pub ends-flushing : (bytes : List ℕ) (input : Input) (old mid new : StoreView D) (before after : Unwritten) → SubmitsGroup honest folder moment since bytes input old mid before after (Ok tt)
-      → (r : Result (Unit {0}) SessionFault) → FlushesAll honest folder moment since mid new r → EndsGroup honest folder moment since bytes input old new before after r
+  pub ends-flushing : (bytes : List ℕ) (input : Input) (old mid new : StoreView D) (before after : Unwritten) → SubmitsGroup model bytes input old mid before after (Ok tt)
+      → (r : Result (Unit {0}) SessionFault) → FlushesAll model mid new r → EndsGroup model bytes input old new before after r
   ends-flushing bytes input old mid new before after s (Ok done) flush = (s.0, answers-flushed bytes (ahead input) old mid before after s.1 new flush)
   ends-flushing bytes input old mid new before after s (Err f) stops = ends-unflushed bytes (ahead input) old mid before after s.1 new input f stops
 
   -- a group that breaks off is not flushed
   pub ends-broken : (bytes : List ℕ) (input : Input) (old new : StoreView D) (before after : Unwritten) (f : SessionFault) → (f ≡ fault.OutOfMemory → ⊥)
-      → SubmitsGroup honest folder moment since bytes input old new before after (Err f) → EndsGroup honest folder moment since bytes input old new before after (Err f)
+      → SubmitsGroup model bytes input old new before after (Err f) → EndsGroup model bytes input old new before after (Err f)
   ends-broken bytes input old new before after fault.OutOfMemory other s = absurd (other refl)
   ends-broken bytes input old new before after fault.Device other s = s
   ends-broken bytes input old new before after fault.Read other s = absurd s
@@ -301,8 +302,8 @@ module _ {D : Type 0} (honest : Type 0) (folder : D → Folder) (moment : D → 
   ends-broken bytes input old new before after (fault.Write written) other s = absurd s
 
   -- unless the device failed, whatever a crash leaves means the state
-  pub ends-meaning : (bytes : List ℕ) (input : Input) (old new : StoreView D) (before after : Unwritten) (r : Result (Unit {0}) SessionFault) → EndsGroup honest folder moment since bytes input old new before after r
-      → honest → new.reopen ≡ false → AllImagesMean (folder new.disk) new.state
+  pub ends-meaning : (bytes : List ℕ) (input : Input) (old new : StoreView D) (before after : Unwritten) (r : Result (Unit {0}) SessionFault) → EndsGroup model bytes input old new before after r
+      → model.honest → new.reopen ≡ false → AllImagesMean (model.folder new.disk) new.state
   ends-meaning bytes input old new before after (Ok done) ends h on = ends.1.performs.now h
   ends-meaning bytes input old new before after (Err fault.OutOfMemory) ends h on = ends.1.performs.now h
   ends-meaning bytes input old new before after (Err fault.Device) ends h on = absurd (cc (on, ends.broken))
@@ -315,12 +316,12 @@ module _ {D : Type 0} (honest : Type 0) (folder : D → Folder) (moment : D → 
   -- ---- the write
 
   module _ (held written : Option (List ℕ)) (bytes further : List ℕ) (old new : StoreView D) (before mid : Unwritten) (none : unwritten_bytes before ≡ [])
-      (s : AnswersGroup honest folder moment since bytes further old new before mid) where
+      (s : AnswersGroup model bytes further old new before mid) where
     -- only this group's answers are kept
     these : unwritten_bytes mid ≡ output (stored_of old) s.requests
     these = s.keeps.bytes ∙ ap (λ l. l ++ output (stored_of old) s.requests) none
 
-    pub passes : (after : Unwritten) → WritesAnswers held written mid after → PassesGroup honest folder moment since held written bytes further old new before after
+    pub passes : (after : Unwritten) → WritesAnswers held written mid after → PassesGroup model held written bytes further old new before after
     passes after writes = record {
       requests = s.requests;
       takes = s.takes;
@@ -333,7 +334,7 @@ module _ {D : Type 0} (honest : Type 0) (folder : D → Folder) (moment : D → 
       sent = (let long = ap length these in let kept = s.keeps.written in omega (arith, writes.sent, long, kept));
     }
 
-    cuts : (total : ℕ) → CutsAnswers held written mid total → CutsGroup honest folder moment since held written bytes old new before.written total
+    cuts : (total : ℕ) → CutsAnswers held written mid total → CutsGroup model held written bytes old new before.written total
     cuts total writes = record {
       requests = s.requests;
       further = further;
@@ -347,7 +348,7 @@ module _ {D : Type 0} (honest : Type 0) (folder : D → Folder) (moment : D → 
     }
 
     -- a write that fails
-    pub cuts-by : (input : Input) (after : Unwritten) (f : SessionFault) → FailsToWrite held written mid f → PerformsGroup honest folder moment since held written bytes input old new before after (Err f)
+    pub cuts-by : (input : Input) (after : Unwritten) (f : SessionFault) → FailsToWrite held written mid f → PerformsGroup model held written bytes input old new before after (Err f)
     cuts-by input after (fault.Write total) fails = cuts total fails
     cuts-by input after fault.Read fails = absurd fails
     cuts-by input after fault.TooLong fails = absurd fails
@@ -358,16 +359,16 @@ module _ {D : Type 0} (honest : Type 0) (folder : D → Folder) (moment : D → 
 
   -- a group that ends well is written as its answers are
   pub performs-writing : (held written : Option (List ℕ)) (bytes : List ℕ) (input : Input) (old new : StoreView D) (before mid after : Unwritten) → unwritten_bytes before ≡ []
-      → EndsGroup honest folder moment since bytes input old new before mid (Ok tt)
+      → EndsGroup model bytes input old new before mid (Ok tt)
       → (r : Result (Unit {0}) SessionFault) → OnOk r (WritesAnswers held written mid after) → IfErr r (FailsToWrite held written mid)
-      → PerformsGroup honest folder moment since held written bytes input old new before after r
+      → PerformsGroup model held written bytes input old new before after r
   performs-writing held written bytes input old new before mid after none s (Ok done) writes fails =
       (s.0, ap (λ l. l ++ last_bytes after.last) writes.empty ∙ ap last_bytes writes.none, writes.none, passes held written bytes (ahead input) old new before mid none s.1 after writes)
   performs-writing held written bytes input old new before mid after none s (Err f) writes fails = cuts-by held written bytes (ahead input) old new before mid none s.1 input after f fails
 
   -- nothing is written where the device failed
   pub performs-broken : (held : Option (List ℕ)) (bytes : List ℕ) (input : Input) (old new : StoreView D) (before after : Unwritten) (f : SessionFault) → (f ≡ fault.OutOfMemory → ⊥)
-      → EndsGroup honest folder moment since bytes input old new before after (Err f) → PerformsGroup honest folder moment since held held bytes input old new before after (Err f)
+      → EndsGroup model bytes input old new before after (Err f) → PerformsGroup model held held bytes input old new before after (Err f)
   performs-broken held bytes input old new before after fault.OutOfMemory other s = absurd (other refl)
   performs-broken held bytes input old new before after fault.Device other s = (s, Keeps-refl held)
   performs-broken held bytes input old new before after fault.Read other s = absurd s
@@ -378,7 +379,7 @@ module _ {D : Type 0} (honest : Type 0) (folder : D → Folder) (moment : D → 
 
   -- the store has to be opened again where the device failed, and only there
   pub reopens-after : (held written : Option (List ℕ)) (bytes : List ℕ) (input : Input) (old new : StoreView D) (before after : Unwritten) (f : SessionFault)
-      → PerformsGroup honest folder moment since held written bytes input old new before after (Err f) → (new.reopen ≡ true) ↔ (f ≡ fault.Device)
+      → PerformsGroup model held written bytes input old new before after (Err f) → (new.reopen ≡ true) ↔ (f ≡ fault.Device)
   reopens-after held written bytes input old new before after fault.Device s = (λ on. refl, λ e. s.0.broken)
   reopens-after held written bytes input old new before after fault.OutOfMemory s = (λ on. absurd (cc (on, s.1.performs.sound)), λ e. cc)
   reopens-after held written bytes input old new before after (fault.Write total) s = (λ on. absurd (cc (on, s.performs.sound)), λ e. cc)

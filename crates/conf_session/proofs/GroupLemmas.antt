@@ -11,6 +11,7 @@ use Rattle.std.proofs.lemmas.List.Elements.{All-nil, All-append}
 use Rattle.yaml_grammar.specs.Closings.{ClosesOnce}
 use Rattle.conf_disk.specs.Folder.{Folder}
 use Rattle.conf_disk.specs.Image.{Image, IsImage}
+use Rattle.conf_disk.specs.Models.{DiskModel}
 use Rattle.conf_disk.specs.Moments.{LeavesOnly}
 use Rattle.conf_state.specs.Commands.{Command}
 use Rattle.conf_state.specs.States.{Contents}
@@ -100,15 +101,15 @@ cut-at now (r ∷ rs) count short =
 -- ---- so far
 
 -- The bytes that were read are pieces, which are performed, flushed and answered, and further bytes.
-pub record GroupsSoFar {D : Type 0} (honest : Type 0) (folder : D → Folder) (moment : D → ℕ) (since : D → ℕ → Image → Type 0) (given left held written : Option (List ℕ)) (checkpoints : Checkpoints)
+pub record GroupsSoFar {D : Type 0} (model : DiskModel D) (given left held written : Option (List ℕ)) (checkpoints : Checkpoints)
     (old new : StoreView D) (further : List ℕ) (answers : Unwritten) (total : ℕ) : Type 0 where
   pub pieces : List (List ℕ)
   pub turns : List Turn
   pub taken : Consumes given left (concat pieces ++ further)
   pub are : ArePieces pieces (requests_of turns)
   pub only_asked : checkpoints ≡ Asked → turns ≡ all_asked (requests_of turns)
-  pub due : honest → (bytes : ℕ) → checkpoints ≡ After bytes → AreDue bytes (files_of folder old) (stored_of old) turns
-  pub performs : PerformsTurns honest folder moment since old new turns
+  pub due : model.honest → (bytes : ℕ) → checkpoints ≡ After bytes → AreDue bytes (files_of model.folder old) (stored_of old) turns
+  pub performs : PerformsTurns model old new turns
   pub out : Appends held written (turns_output (stored_of old) turns)
   pub documents : answers.tally.documents ≡ length (requests_of turns)
   pub accepted : answers.tally.accepted ≡ length (turns_accepted (stored_of old) turns)
@@ -116,14 +117,14 @@ pub record GroupsSoFar {D : Type 0} (honest : Type 0) (folder : D → Folder) (m
   pub sent : answers.written ≡ length (turns_output (stored_of old) turns)
   pub read : total ≡ length (concat pieces ++ further)
 
-module _ {D : Type 0} (honest : Type 0) (folder : D → Folder) (moment : D → ℕ) (since : D → ℕ → Image → Type 0) (checkpoints : Checkpoints) where
+module _ {D : Type 0} (model : DiskModel D) (checkpoints : Checkpoints) where
   -- ---- a session that ends
 
   -- all turns are performed and flushed
   runs-flushed : (given left held written : Option (List ℕ)) (old new : StoreView D) (result : Result Tally SessionFault) (answered : List Turn) (unanswered : List Request)
-      → PerformsTurns honest folder moment since old new (answered ++ all_asked unanswered) → (checkpoints ≡ Asked → answered ≡ all_asked (requests_of answered)) → (honest → (bytes : ℕ) → checkpoints ≡ After bytes → AreDue bytes (files_of folder old) (stored_of old) answered)
+      → PerformsTurns model old new (answered ++ all_asked unanswered) → (checkpoints ≡ Asked → answered ≡ all_asked (requests_of answered)) → (model.honest → (bytes : ℕ) → checkpoints ≡ After bytes → AreDue bytes (files_of model.folder old) (stored_of old) answered)
       → GroupedEnds given left held written (stored_of old) answered unanswered result
-      → RunsGrouped honest folder moment since given left held written checkpoints old new result
+      → RunsGrouped model given left held written checkpoints old new result
   runs-flushed given left held written old new result answered unanswered performs only due ends = record {
     answered = answered;
     unanswered = unanswered;
@@ -134,7 +135,7 @@ module _ {D : Type 0} (honest : Type 0) (folder : D → Folder) (moment : D → 
     stored = λ on. performs.stored;
     files = λ h on. performs.files h;
     any_moment = λ h on. performs.any_moment h;
-    kept = λ h on flushed waiting has. kept-after honest folder moment since old new (answered ++ all_asked unanswered) performs h flushed waiting has
+    kept = λ h on flushed waiting has. kept-after model old new (answered ++ all_asked unanswered) performs h flushed waiting has
         (acknowledged_turns (stored_of old) waiting answered) (few-acknowledged (stored_of old) waiting answered (all_asked unanswered));
     flushed = λ h on. performs.flushed h;
     now = λ h on. performs.now h;
@@ -142,21 +143,21 @@ module _ {D : Type 0} (honest : Type 0) (folder : D → Folder) (moment : D → 
 
   -- and none is unanswered
   runs-answered : (given left held written : Option (List ℕ)) (old new : StoreView D) (result : Result Tally SessionFault) (answered : List Turn)
-      → PerformsTurns honest folder moment since old new answered → (checkpoints ≡ Asked → answered ≡ all_asked (requests_of answered)) → (honest → (bytes : ℕ) → checkpoints ≡ After bytes → AreDue bytes (files_of folder old) (stored_of old) answered)
+      → PerformsTurns model old new answered → (checkpoints ≡ Asked → answered ≡ all_asked (requests_of answered)) → (model.honest → (bytes : ℕ) → checkpoints ≡ After bytes → AreDue bytes (files_of model.folder old) (stored_of old) answered)
       → GroupedEnds given left held written (stored_of old) answered [] result
-      → RunsGrouped honest folder moment since given left held written checkpoints old new result
+      → RunsGrouped model given left held written checkpoints old new result
   runs-answered given left held written old new result answered performs only due ends =
-      runs-flushed given left held written old new result answered [] (subst (PerformsTurns honest folder moment since old new) (sym (append-nil answered)) performs) only due ends
+      runs-flushed given left held written old new result answered [] (subst (PerformsTurns model old new) (sym (append-nil answered)) performs) only due ends
 
   -- the device failed at these requests
   runs-broken : (given left held written : Option (List ℕ)) (old mid new : StoreView D) (answered : List Turn) (unanswered : List Request)
-      → PerformsTurns honest folder moment since old mid answered → (checkpoints ≡ Asked → answered ≡ all_asked (requests_of answered)) → (honest → (bytes : ℕ) → checkpoints ≡ After bytes → AreDue bytes (files_of folder old) (stored_of old) answered)
+      → PerformsTurns model old mid answered → (checkpoints ≡ Asked → answered ≡ all_asked (requests_of answered)) → (model.honest → (bytes : ℕ) → checkpoints ≡ After bytes → AreDue bytes (files_of model.folder old) (stored_of old) answered)
       → new.reopen ≡ true → new.state ≡ (stored_after_all (stored_of mid) unanswered).state
-      → (honest → (flushed : Contents) (waiting : List Command) → HasFlushed (folder mid.disk) flushed waiting mid.state
-      → LeavesOnly moment since mid.disk new.disk (λ image. AfterPrefix flushed (waiting ++ accepted_commands (stored_of mid) unanswered) image.store))
-      → ((t : ℕ) (image : Image) → honest → t ≤ moment new.disk → IsImage (folder new.disk) image → since new.disk t image)
+      → (model.honest → (flushed : Contents) (waiting : List Command) → HasFlushed (model.folder mid.disk) flushed waiting mid.state
+      → LeavesOnly model mid.disk new.disk (λ image. AfterPrefix flushed (waiting ++ accepted_commands (stored_of mid) unanswered) image.store))
+      → ((t : ℕ) (image : Image) → model.honest → t ≤ model.moment new.disk → IsImage (model.folder new.disk) image → model.left new.disk t image)
       → GroupedEnds given left held written (stored_of old) answered unanswered (Err fault.Device)
-      → RunsGrouped honest folder moment since given left held written checkpoints old new (Err fault.Device)
+      → RunsGrouped model given left held written checkpoints old new (Err fault.Device)
   runs-broken given left held written old mid new answered unanswered performs only due broken state run counts_now ends =
       let start = stored_of old in
       let more = accepted_commands (stored_of mid) unanswered in
@@ -175,11 +176,11 @@ module _ {D : Type 0} (honest : Type 0) (folder : D → Folder) (moment : D → 
         stored = λ on. absurd (cc (on, broken));
         files = λ h on. absurd (cc (on, broken));
         any_moment = λ h on flushed waiting has.
-            subst (λ (l : List Command). LeavesOnly moment since old.disk new.disk (λ image. AfterPrefix flushed l image.store)) (grouped waiting)
-            (moments-after honest folder moment since old mid answered performs h flushed waiting has new.disk more (run h mid.state [] (performs.flushed h)));
+            subst (λ (l : List Command). LeavesOnly model old.disk new.disk (λ image. AfterPrefix flushed l image.store)) (grouped waiting)
+            (moments-after model old mid answered performs h flushed waiting has new.disk more (run h mid.state [] (performs.flushed h)));
         kept = λ h on flushed waiting has image is.
             subst (λ (l : List Command). AfterAtLeast flushed (acknowledged_turns start waiting answered) l image.store) (grouped waiting)
-            (kept-during honest folder moment since old mid answered performs h flushed waiting has new.disk more (run h mid.state [] (performs.flushed h)) (λ t image. counts_now t image h)
+            (kept-during model old mid answered performs h flushed waiting has new.disk more (run h mid.state [] (performs.flushed h)) (λ t image. counts_now t image h)
             (acknowledged_turns start waiting answered) (subst (λ l. acknowledged_turns start waiting answered ≤ length (waiting ++ turns_accepted start l)) (append-nil answered) (few-acknowledged start waiting answered [])) image is);
         flushed = λ h on. absurd (cc (on, broken));
         now = λ h on. absurd (cc (on, broken));
@@ -188,7 +189,7 @@ module _ {D : Type 0} (honest : Type 0) (folder : D → Folder) (moment : D → 
   -- ---- the start
 
   -- nothing is done
-  pub reopens : (given held : Option (List ℕ)) (store : StoreView D) → (store.reopen ≡ false → ⊥) → RunsGrouped honest folder moment since given given held held checkpoints store store (Err fault.Reopen)
+  pub reopens : (given held : Option (List ℕ)) (store : StoreView D) → (store.reopen ≡ false → ⊥) → RunsGrouped model given given held held checkpoints store store (Err fault.Reopen)
   reopens given held store broken = record {
     answered = [];
     unanswered = [];
@@ -208,9 +209,9 @@ module _ {D : Type 0} (honest : Type 0) (folder : D → Folder) (moment : D → 
   none-begins bytes = record { pieces = []; further = bytes; is = refl; are = record { closed = All-nil ClosesOnce; short = All-nil (λ (p : List ℕ). length p ≤ piece_limit); ask = tt } }
 
   -- the first flush fails
-  starts-broken : (given held : Option (List ℕ)) (old new : StoreView D) → StopsShort honest folder moment since old new
-      → ((t : ℕ) (image : Image) → honest → t ≤ moment new.disk → IsImage (folder new.disk) image → since new.disk t image)
-      → RunsGrouped honest folder moment since given given held held checkpoints old new (Err fault.Device)
+  starts-broken : (given held : Option (List ℕ)) (old new : StoreView D) → StopsShort model old new
+      → ((t : ℕ) (image : Image) → model.honest → t ≤ model.moment new.disk → IsImage (model.folder new.disk) image → model.left new.disk t image)
+      → RunsGrouped model given given held held checkpoints old new (Err fault.Device)
   starts-broken given held old new stops counts_now = record {
     answered = [];
     unanswered = [];
@@ -221,19 +222,19 @@ module _ {D : Type 0} (honest : Type 0) (folder : D → Folder) (moment : D → 
     stored = λ on. absurd (cc (on, stops.broken));
     files = λ h on. absurd (cc (on, stops.broken));
     any_moment = λ h on flushed waiting has.
-        subst (λ (l : List Command). LeavesOnly moment since old.disk new.disk (λ image. AfterPrefix flushed l image.store)) (sym (append-nil waiting)) (stops.any_moment h flushed waiting has);
+        subst (λ (l : List Command). LeavesOnly model old.disk new.disk (λ image. AfterPrefix flushed l image.store)) (sym (append-nil waiting)) (stops.any_moment h flushed waiting has);
     kept = λ h on flushed waiting has image is.
         (let run = stops.any_moment h flushed waiting has in
-        let some = run.each image (counts_now (moment old.disk) image h run.later is) in
+        let some = run.each image (counts_now (model.moment old.disk) image h run.later is) in
         subst (λ (l : List Command). AfterAtLeast flushed 0 l image.store) (sym (append-nil waiting))
         (record { count = some.count; enough = omega arith; state = some.state; leads = some.leads; means = some.means }));
     flushed = λ h on. absurd (cc (on, stops.broken));
     now = λ h on. absurd (cc (on, stops.broken));
   }
 
-  pub starts-failing : (given held : Option (List ℕ)) (old new : StoreView D) (f : SessionFault) → FlushesAll honest folder moment since old new (Err f)
-      → ((t : ℕ) (image : Image) → honest → t ≤ moment new.disk → IsImage (folder new.disk) image → since new.disk t image)
-      → RunsGrouped honest folder moment since given given held held checkpoints old new (Err f)
+  pub starts-failing : (given held : Option (List ℕ)) (old new : StoreView D) (f : SessionFault) → FlushesAll model old new (Err f)
+      → ((t : ℕ) (image : Image) → model.honest → t ≤ model.moment new.disk → IsImage (model.folder new.disk) image → model.left new.disk t image)
+      → RunsGrouped model given given held held checkpoints old new (Err f)
   starts-failing given held old new fault.Device stops counts_now = starts-broken given held old new stops counts_now
   starts-failing given held old new fault.OutOfMemory stops counts_now = absurd stops
   starts-failing given held old new fault.Read stops counts_now = absurd stops
@@ -243,16 +244,16 @@ module _ {D : Type 0} (honest : Type 0) (folder : D → Folder) (moment : D → 
   starts-failing given held old new (fault.Write written) stops counts_now = absurd stops
 
   -- there is no memory for the input
-  pub starts-without-memory : (given held : Option (List ℕ)) (old new : StoreView D) → PerformsTurns honest folder moment since old new []
-      → RunsGrouped honest folder moment since given given held held checkpoints old new (Err fault.OutOfMemory)
+  pub starts-without-memory : (given held : Option (List ℕ)) (old new : StoreView D) → PerformsTurns model old new []
+      → RunsGrouped model given given held held checkpoints old new (Err fault.OutOfMemory)
   starts-without-memory given held old new performs =
       runs-answered given given held held old new (Err fault.OutOfMemory) [] performs (λ e. refl) (λ h bytes e. tt)
       (refl, record { bytes = []; taken = Consumes-nil given; begins = none-begins []; out = Appends-nil held })
 
   -- before the first group
-  pub groups-none : (given held : Option (List ℕ)) (old now : StoreView D) (further : List ℕ) (answers : Unwritten) (total : ℕ) → PerformsTurns honest folder moment since old now [] → further ≡ []
+  pub groups-none : (given held : Option (List ℕ)) (old now : StoreView D) (further : List ℕ) (answers : Unwritten) (total : ℕ) → PerformsTurns model old now [] → further ≡ []
       → answers.tally.documents ≡ 0 → answers.tally.accepted ≡ 0 → answers.tally.refused ≡ 0 → answers.written ≡ 0 → total ≡ 0
-      → GroupsSoFar honest folder moment since given given held held checkpoints old now further answers total
+      → GroupsSoFar model given given held held checkpoints old now further answers total
   groups-none given held old now further answers total performs none d a r w t = record {
     pieces = [];
     turns = [];
@@ -270,12 +271,12 @@ module _ {D : Type 0} (honest : Type 0) (folder : D → Folder) (moment : D → 
   }
 
   module _ (given mid left held between : Option (List ℕ)) (old now : StoreView D) (was then : Input) (answers : Unwritten)
-      (s : GroupsSoFar honest folder moment since given mid held between checkpoints old now (ahead was) answers (bytes_read was)) where
+      (s : GroupsSoFar model given mid held between checkpoints old now (ahead was) answers (bytes_read was)) where
     -- ---- the exits that the input makes
 
     pub ends-well : (tally : Tally) → AdvancesToEnd mid left was then
         → tally.documents ≡ answers.tally.documents → tally.accepted ≡ answers.tally.accepted → tally.refused ≡ answers.tally.refused → tally.rest ≡ length (piece_of then)
-        → RunsGrouped honest folder moment since given left held between checkpoints old now (Ok tally)
+        → RunsGrouped model given left held between checkpoints old now (Ok tally)
     ends-well tally end d a r rest = runs-answered given left held between old now (Ok tally) s.turns s.performs s.only_asked s.due (
       refl,
       record {
@@ -299,7 +300,7 @@ module _ {D : Type 0} (honest : Type 0) (folder : D → Folder) (moment : D → 
       },
     )
 
-    ends-reading : FailsToRead mid left was → RunsGrouped honest folder moment since given left held between checkpoints old now (Err fault.Read)
+    ends-reading : FailsToRead mid left was → RunsGrouped model given left held between checkpoints old now (Err fault.Read)
     ends-reading fails = runs-answered given left held between old now (Err fault.Read) s.turns s.performs s.only_asked s.due (
       refl,
       record {
@@ -313,7 +314,7 @@ module _ {D : Type 0} (honest : Type 0) (folder : D → Folder) (moment : D → 
       },
     )
 
-    ends-too_long : FindsTooLong mid left was → RunsGrouped honest folder moment since given left held between checkpoints old now (Err fault.TooLong)
+    ends-too_long : FindsTooLong mid left was → RunsGrouped model given left held between checkpoints old now (Err fault.TooLong)
     ends-too_long finds = runs-answered given left held between old now (Err fault.TooLong) s.turns s.performs s.only_asked s.due (
       refl,
       record {
@@ -324,7 +325,7 @@ module _ {D : Type 0} (honest : Type 0) (folder : D → Folder) (moment : D → 
       },
     )
 
-    ends-session_long : FindsSessionLong mid left was → RunsGrouped honest folder moment since given left held between checkpoints old now (Err fault.SessionLong)
+    ends-session_long : FindsSessionLong mid left was → RunsGrouped model given left held between checkpoints old now (Err fault.SessionLong)
     ends-session_long finds =
         let rest = ahead was ++ finds.more in
         let prefix = concat s.pieces ++ rest in
@@ -354,7 +355,7 @@ module _ {D : Type 0} (honest : Type 0) (folder : D → Folder) (moment : D → 
     answered-begins : (further : List ℕ) → BeginsWith (concat s.pieces ++ further) (requests_of s.turns ++ [])
     answered-begins further = record { pieces = s.pieces; further = further; is = refl; are = subst (ArePieces s.pieces) (sym (append-nil (requests_of s.turns))) s.are }
 
-    ends-starved : RunsOutOfMemory mid left → RunsGrouped honest folder moment since given left held between checkpoints old now (Err fault.OutOfMemory)
+    ends-starved : RunsOutOfMemory mid left → RunsGrouped model given left held between checkpoints old now (Err fault.OutOfMemory)
     ends-starved out = runs-answered given left held between old now (Err fault.OutOfMemory) s.turns s.performs s.only_asked s.due (
       refl,
       record {
@@ -366,7 +367,7 @@ module _ {D : Type 0} (honest : Type 0) (folder : D → Folder) (moment : D → 
     )
 
     -- the input has no further piece for a reason
-    pub ends-in_input : (f : SessionFault) → Advances mid left was then (Err f) → RunsGrouped honest folder moment since given left held between checkpoints old now (Err f)
+    pub ends-in_input : (f : SessionFault) → Advances mid left was then (Err f) → RunsGrouped model given left held between checkpoints old now (Err f)
     ends-in_input fault.Read fails = ends-reading fails
     ends-in_input fault.TooLong fails = ends-too_long fails
     ends-in_input fault.SessionLong fails = ends-session_long fails
@@ -420,18 +421,18 @@ module _ {D : Type 0} (honest : Type 0) (folder : D → Folder) (moment : D → 
           ∙ ap (λ n. turns_refused (stored_of old) s.turns + n) (ap (λ t. turns_refused t (all_asked rs)) (sym s.performs.stored) ∙ asked-refused (stored_of now) rs)
 
       -- and is due
-      due-more : (rs : List Request) → honest → (bytes : ℕ) → checkpoints ≡ After bytes → AreDue bytes (files_of folder old) (stored_of old) (s.turns ++ all_asked rs)
+      due-more : (rs : List Request) → model.honest → (bytes : ℕ) → checkpoints ≡ After bytes → AreDue bytes (files_of model.folder old) (stored_of old) (s.turns ++ all_asked rs)
       due-more rs h bytes e =
-          due-joined bytes (files_of folder old) (stored_of old) s.turns (all_asked rs) (s.due h bytes e)
-          (asked-due bytes (files_after_turns (files_of folder old) (stored_of old) s.turns) (stored_after_turns (stored_of old) s.turns) rs)
+          due-joined bytes (files_of model.folder old) (stored_of old) s.turns (all_asked rs) (s.due h bytes e)
+          (asked-due bytes (files_after_turns (files_of model.folder old) (stored_of old) s.turns) (stored_after_turns (stored_of old) s.turns) rs)
 
       -- a group of requests brings no checkpoint that none asked for
       asked-more : (rs : List Request) → checkpoints ≡ Asked → s.turns ++ all_asked rs ≡ all_asked (requests_of (s.turns ++ all_asked rs))
       asked-more rs e = ap (λ l. l ++ all_asked rs) (s.only_asked e) ∙ sym (asked-joined (requests_of s.turns) rs) ∙ ap all_asked (sym (requests-more rs))
 
       pub groups-more : (written : Option (List ℕ)) (new : StoreView D) (after : Unwritten) (further : List ℕ)
-          → PassesGroup honest folder moment since between written group further now new answers after
-          → GroupsSoFar honest folder moment since given left held written checkpoints old new further after (bytes_read then)
+          → PassesGroup model between written group further now new answers after
+          → GroupsSoFar model given left held written checkpoints old new further after (bytes_read then)
       groups-more written new after further one =
           let start = stored_of old in
           let rs = one.requests in
@@ -442,7 +443,7 @@ module _ {D : Type 0} (honest : Type 0) (folder : D → Folder) (moment : D → 
             are = subst (ArePieces (s.pieces ++ one.takes.pieces)) (sym (requests-more rs)) (all-are further rs one.takes);
             only_asked = asked-more rs;
             due = due-more rs;
-            performs = performs-joined honest folder moment since old now new s.turns (all_asked rs) s.performs one.performs;
+            performs = performs-joined model old now new s.turns (all_asked rs) s.performs one.performs;
             out = subst (Appends held written) (sym (output-more rs)) (Appends-trans held between written (turns_output start s.turns) (output (stored_of now) rs) s.out one.out);
             documents = (let count = ap length (requests-more rs) in let sum = length-append (requests_of s.turns) rs in omega (arith, one.documents, s.documents, count, sum));
             accepted = (let count = ap length (accepted-more rs) in let sum = length-append (turns_accepted start s.turns) (accepted_commands (stored_of now) rs) in omega (arith, one.accepted, s.accepted, count, sum));
@@ -454,8 +455,8 @@ module _ {D : Type 0} (honest : Type 0) (folder : D → Folder) (moment : D → 
       -- ---- its exits
 
       ends-memory : (written : Option (List ℕ)) (new : StoreView D) (after : Unwritten) (further : List ℕ)
-          → PassesGroup honest folder moment since between written group further now new answers after
-          → RunsGrouped honest folder moment since given left held written checkpoints old new (Err fault.OutOfMemory)
+          → PassesGroup model between written group further now new answers after
+          → RunsGrouped model given left held written checkpoints old new (Err fault.OutOfMemory)
       ends-memory written new after further one =
           let all = groups-more written new after further one in
           runs-answered given left held written old new (Err fault.OutOfMemory) all.turns all.performs all.only_asked all.due (
@@ -468,9 +469,9 @@ module _ {D : Type 0} (honest : Type 0) (folder : D → Folder) (moment : D → 
             },
           )
 
-      ends-device : (written : Option (List ℕ)) (new : StoreView D) → BreaksOff honest folder moment since group now new → Keeps between written
-          → ((t : ℕ) (image : Image) → honest → t ≤ moment new.disk → IsImage (folder new.disk) image → since new.disk t image)
-          → RunsGrouped honest folder moment since given left held written checkpoints old new (Err fault.Device)
+      ends-device : (written : Option (List ℕ)) (new : StoreView D) → BreaksOff model group now new → Keeps between written
+          → ((t : ℕ) (image : Image) → model.honest → t ≤ model.moment new.disk → IsImage (model.folder new.disk) image → model.left new.disk t image)
+          → RunsGrouped model given left held written checkpoints old new (Err fault.Device)
       ends-device written new breaks keeps counts_now =
           runs-broken given left held written old now new s.turns breaks.requests s.performs s.only_asked s.due breaks.broken breaks.state breaks.any_moment counts_now (record {
             bytes = concat (s.pieces ++ breaks.takes.pieces) ++ breaks.further;
@@ -479,9 +480,9 @@ module _ {D : Type 0} (honest : Type 0) (folder : D → Folder) (moment : D → 
             out = Appends-kept held between written (turns_output (stored_of old) s.turns) s.out keeps;
           })
 
-      ends-write : (written : Option (List ℕ)) (new : StoreView D) (total : ℕ) → CutsGroup honest folder moment since between written group now new answers.written total
+      ends-write : (written : Option (List ℕ)) (new : StoreView D) (total : ℕ) → CutsGroup model between written group now new answers.written total
           → answers.written ≤ answers.tally.documents * answer_limit
-          → RunsGrouped honest folder moment since given left held written checkpoints old new (Err (fault.Write total))
+          → RunsGrouped model given left held written checkpoints old new (Err (fault.Write total))
       ends-write written new total cuts room =
           let start = stored_of old in
           let rs = cuts.requests in
@@ -500,7 +501,7 @@ module _ {D : Type 0} (honest : Type 0) (folder : D → Folder) (moment : D → 
           ap (take total) (ap (turns_output start) these ∙ output-more rs) ∙ ap (λ n. take n (before ++ output (stored_of now) rs)) (cuts.is ∙ ap (λ n. n + cuts.count) sum)
           ∙ take-beyond cuts.count before (output (stored_of now) rs) in
           runs-flushed given left held written old new (Err (fault.Write total)) answered unanswered
-          (subst (PerformsTurns honest folder moment since old new) (sym these) (performs-joined honest folder moment since old now new s.turns (all_asked rs) s.performs cuts.performs))
+          (subst (PerformsTurns model old new) (sym these) (performs-joined model old now new s.turns (all_asked rs) s.performs cuts.performs))
           (asked-more at.whole)
           (due-more at.whole)
           (record {
@@ -521,9 +522,9 @@ module _ {D : Type 0} (honest : Type 0) (folder : D → Folder) (moment : D → 
 
       -- a group that isn't answered whole
       pub ends-failing : (written : Option (List ℕ)) (new : StoreView D) (input : Input) (after : Unwritten) (f : SessionFault)
-          → PerformsGroup honest folder moment since between written group input now new answers after (Err f) → answers.written ≤ answers.tally.documents * answer_limit
-          → ((t : ℕ) (image : Image) → honest → t ≤ moment new.disk → IsImage (folder new.disk) image → since new.disk t image)
-          → RunsGrouped honest folder moment since given left held written checkpoints old new (Err f)
+          → PerformsGroup model between written group input now new answers after (Err f) → answers.written ≤ answers.tally.documents * answer_limit
+          → ((t : ℕ) (image : Image) → model.honest → t ≤ model.moment new.disk → IsImage (model.folder new.disk) image → model.left new.disk t image)
+          → RunsGrouped model given left held written checkpoints old new (Err f)
       ends-failing written new input after fault.OutOfMemory fails room counts_now = ends-memory written new after fails.0 fails.1
       ends-failing written new input after fault.Device fails room counts_now = ends-device written new fails.0 fails.1 counts_now
       ends-failing written new input after (fault.Write total) fails room counts_now = ends-write written new total fails room
@@ -534,9 +535,9 @@ module _ {D : Type 0} (honest : Type 0) (folder : D → Folder) (moment : D → 
 
     -- ---- a turn that no request asked for
 
-    pub groups-tended : (new : StoreView D) (us : List Turn) → requests_of us ≡ [] → (checkpoints ≡ Asked → us ≡ []) → (honest → (bytes : ℕ) → checkpoints ≡ After bytes → AreDue bytes (files_of folder now) (stored_of now) us)
-        → PerformsTurns honest folder moment since now new us
-        → GroupsSoFar honest folder moment since given mid held between checkpoints old new (ahead was) answers (bytes_read was)
+    pub groups-tended : (new : StoreView D) (us : List Turn) → requests_of us ≡ [] → (checkpoints ≡ Asked → us ≡ []) → (model.honest → (bytes : ℕ) → checkpoints ≡ After bytes → AreDue bytes (files_of model.folder now) (stored_of now) us)
+        → PerformsTurns model now new us
+        → GroupsSoFar model given mid held between checkpoints old new (ahead was) answers (bytes_read was)
     groups-tended new us quiet only due next =
         let start = stored_of old in
         let requests : requests_of (s.turns ++ us) ≡ requests_of s.turns = requests-joined s.turns us ∙ ap (λ l. requests_of s.turns ++ l) quiet ∙ append-nil (requests_of s.turns) in
@@ -549,11 +550,11 @@ module _ {D : Type 0} (honest : Type 0) (folder : D → Folder) (moment : D → 
           turns = s.turns ++ us;
           taken = s.taken;
           are = subst (ArePieces s.pieces) (sym requests) s.are;
-          due = λ h bytes e. due-joined bytes (files_of folder old) start s.turns us (s.due h bytes e)
-              (subst (λ (t : Stored). AreDue bytes (files_after_turns (files_of folder old) start s.turns) t us) s.performs.stored
+          due = λ h bytes e. due-joined bytes (files_of model.folder old) start s.turns us (s.due h bytes e)
+              (subst (λ (t : Stored). AreDue bytes (files_after_turns (files_of model.folder old) start s.turns) t us) s.performs.stored
               (subst (λ (f : Files). AreDue bytes f (stored_of now) us) (s.performs.files h) (due h bytes e)));
           only_asked = λ e. (ap (λ l. s.turns ++ l) (only e) ∙ append-nil s.turns) ∙ s.only_asked e ∙ ap all_asked (sym requests);
-          performs = performs-joined honest folder moment since old now new s.turns us s.performs next;
+          performs = performs-joined model old now new s.turns us s.performs next;
           out = subst (Appends held between) (sym out) s.out;
           documents = s.documents ∙ ap length (sym requests);
           accepted = s.accepted ∙ ap length (sym accepted);
@@ -563,12 +564,12 @@ module _ {D : Type 0} (honest : Type 0) (folder : D → Folder) (moment : D → 
         }
 
     -- the device fails in it
-    pub ends-tending : (new : StoreView D) (f : SessionFault) → Tends honest folder moment since checkpoints now new (Err f)
-        → ((t : ℕ) (image : Image) → honest → t ≤ moment new.disk → IsImage (folder new.disk) image → since new.disk t image)
-        → RunsGrouped honest folder moment since given mid held between checkpoints old new (Err f)
+    pub ends-tending : (new : StoreView D) (f : SessionFault) → Tends model checkpoints now new (Err f)
+        → ((t : ℕ) (image : Image) → model.honest → t ≤ model.moment new.disk → IsImage (model.folder new.disk) image → model.left new.disk t image)
+        → RunsGrouped model given mid held between checkpoints old new (Err f)
     ends-tending new fault.Device stops counts_now =
         runs-broken given mid held between old now new s.turns [] s.performs s.only_asked s.due stops.broken stops.state
-        (λ h flushed waiting has. subst (λ (l : List Command). LeavesOnly moment since now.disk new.disk (λ image. AfterPrefix flushed l image.store)) (sym (append-nil waiting)) (stops.any_moment h flushed waiting has))
+        (λ h flushed waiting has. subst (λ (l : List Command). LeavesOnly model now.disk new.disk (λ image. AfterPrefix flushed l image.store)) (sym (append-nil waiting)) (stops.any_moment h flushed waiting has))
         counts_now (record { bytes = concat s.pieces ++ ahead was; taken = s.taken; begins = answered-begins (ahead was); out = s.out })
     ends-tending new fault.OutOfMemory stops counts_now = absurd stops
     ends-tending new fault.Read stops counts_now = absurd stops

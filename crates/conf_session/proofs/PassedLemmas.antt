@@ -6,6 +6,7 @@ use Rattle.std.proofs.lemmas.List.Elements.{All-push}
 use Rattle.yaml_grammar.specs.Closings.{ClosesOnce}
 use Rattle.conf_disk.specs.Image.{Image, IsImage}
 use Rattle.conf_disk.specs.Folder.{Folder, bytes_under}
+use Rattle.conf_disk.specs.Models.{DiskModel}
 use Rattle.conf_disk.specs.Moments.{LeavesOnly}
 use Rattle.conf_disk.specs.declared.disk.Name.TheVariants.{Store}
 use Rattle.conf_disk.proofs.Moments.{LeavesOnly-start, LeavesOnly-joined}
@@ -273,23 +274,23 @@ prefix-whole start flushed commands waiting file c some =
 
 -- ---- requests that were performed
 
-module _ (at_once : Bool) {D : Type 0} (honest : Type 0) (folder : D → Folder) (moment : D → ℕ) (since : D → ℕ → Image → Type 0) where
+module _ (at_once : Bool) {D : Type 0} (model : DiskModel D) where
   -- before the first request, nothing was performed
   pub performs-none : (store : StoreView D) → store.reopen ≡ false
-      → ((image : Image) → honest → since store.disk (moment store.disk) image → IsImage (folder store.disk) image)
-      → (honest → store.reopen ≡ false → LeavesPrefixes (folder store.disk) store.state)
-      → PerformsAll at_once honest folder moment since store store []
+      → ((image : Image) → model.honest → model.left store.disk (model.moment store.disk) image → IsImage (model.folder store.disk) image)
+      → (model.honest → store.reopen ≡ false → LeavesPrefixes (model.folder store.disk) store.state)
+      → PerformsAll at_once model store store []
   performs-none store off only means = record {
     sound = off;
     stored = refl;
     reads = λ h. refl;
     stages = λ h. refl;
-    any_moment = λ h flushed waiting has. LeavesOnly-start moment since store.disk _
+    any_moment = λ h flushed waiting has. LeavesOnly-start model store.disk _
         (λ image is. prefix-longer flushed waiting [] image.store (means h off flushed waiting has image (only image h is)));
     waits = λ h flushed waiting has. has;
   }
 
-  module _ (old mid new : StoreView D) (rs : List Request) (r : Request) (before : PerformsAll at_once honest folder moment since old mid rs) (does : Performs at_once honest folder moment since mid new r) where
+  module _ (old mid new : StoreView D) (rs : List Request) (r : Request) (before : PerformsAll at_once model old mid rs) (does : Performs at_once model mid new r) where
     pub state-more : new.state ≡ (stored_after_all (stored_of old) (rs ++ r ∷ [])).state
     state-more = does.state ∙ ap (λ t. (stored_after t r).state) before.stored ∙ ap (λ (t : Stored). t.state) (sym (stored-last (stored_of old) rs r))
 
@@ -297,20 +298,20 @@ module _ (at_once : Bool) {D : Type 0} (honest : Type 0) (folder : D → Folder)
     stored-more off = does.stored off ∙ ap (λ t. stored_after t r) before.stored ∙ sym (stored-last (stored_of old) rs r)
 
     -- what `store.yaml` reads as after one request more
-    pub reads-more : honest → new.reopen ≡ false → bytes_under (folder new.disk) Store ≡ file_after_all (bytes_under (folder old.disk) Store) (stored_of old) (rs ++ r ∷ [])
+    pub reads-more : model.honest → new.reopen ≡ false → bytes_under (model.folder new.disk) Store ≡ file_after_all (bytes_under (model.folder old.disk) Store) (stored_of old) (rs ++ r ∷ [])
     reads-more h off =
-        let file = bytes_under (folder old.disk) Store in
+        let file = bytes_under (model.folder old.disk) Store in
         does.reads h off ∙ ap (λ f. file_after f (stored_of mid) r) (before.reads h) ∙ ap (λ t. file_after (file_after_all file (stored_of old) rs) t r) before.stored
         ∙ sym (file-last file (stored_of old) rs r)
 
     -- and the new file of a running checkpoint
-    pub stages-more : honest → new.reopen ≡ false → staged_text (folder new.disk) new.staged ≡ staged_after_all (staged_text (folder old.disk) old.staged) (stored_of old) (rs ++ r ∷ [])
+    pub stages-more : model.honest → new.reopen ≡ false → staged_text (model.folder new.disk) new.staged ≡ staged_after_all (staged_text (model.folder old.disk) old.staged) (stored_of old) (rs ++ r ∷ [])
     stages-more h off =
-        let file = staged_text (folder old.disk) old.staged in
+        let file = staged_text (model.folder old.disk) old.staged in
         does.stages h off ∙ ap (λ f. staged_after f (stored_of mid) r) (before.stages h) ∙ ap (λ t. staged_after (staged_after_all file (stored_of old) rs) t r) before.stored
         ∙ sym (staged-last file (stored_of old) rs r)
 
-    module _ (h : honest) (flushed : Contents) (waiting : List Command) (has : HasFlushed (folder old.disk) flushed waiting old.state) where
+    module _ (h : model.honest) (flushed : Contents) (waiting : List Command) (has : HasFlushed (model.folder old.disk) flushed waiting old.state) where
       -- what is flushed before the last request, and what waits
       continued : Continues flushed (waiting ++ accepted_commands (stored_of old) rs) (flushed_after at_once (stored_of old) flushed rs) (waiting_after at_once (stored_of old) waiting rs)
       continued = continues at_once (stored_of old) flushed waiting rs has.journal.leads
@@ -322,30 +323,30 @@ module _ (at_once : Bool) {D : Type 0} (honest : Type 0) (folder : D → Folder)
           ∙ ap (λ l. waiting ++ l) (ap (λ t. accepted_commands (stored_of old) rs ++ accepted_command t r) before.stored ∙ sym (accepted_commands-last (stored_of old) rs r))
 
       -- what a crash leaves during the last request
-      last-moments : LeavesOnly moment since mid.disk new.disk (λ image. AfterPrefix (flushed_after at_once (stored_of old) flushed rs) (waiting_after at_once (stored_of old) waiting rs ++ accepted_command (stored_of mid) r) image.store)
+      last-moments : LeavesOnly model mid.disk new.disk (λ image. AfterPrefix (flushed_after at_once (stored_of old) flushed rs) (waiting_after at_once (stored_of old) waiting rs ++ accepted_command (stored_of mid) r) image.store)
       last-moments = does.any_moment h (flushed_after at_once (stored_of old) flushed rs) (waiting_after at_once (stored_of old) waiting rs) (before.waits h flushed waiting has)
 
       -- and during all
-      pub moments-more : LeavesOnly moment since old.disk new.disk (λ image. AfterPrefix flushed (waiting ++ accepted_commands (stored_of old) (rs ++ r ∷ [])) image.store)
+      pub moments-more : LeavesOnly model old.disk new.disk (λ image. AfterPrefix flushed (waiting ++ accepted_commands (stored_of old) (rs ++ r ∷ [])) image.store)
       moments-more =
           let first = waiting ++ accepted_commands (stored_of old) rs in
           let second = accepted_command (stored_of mid) r in
-          subst (λ (l : List Command). LeavesOnly moment since old.disk new.disk (λ image. AfterPrefix flushed l image.store)) joined
-          (LeavesOnly-joined moment since old.disk mid.disk new.disk _ _ _ (before.any_moment h flushed waiting has) last-moments
+          subst (λ (l : List Command). LeavesOnly model old.disk new.disk (λ image. AfterPrefix flushed l image.store)) joined
+          (LeavesOnly-joined model old.disk mid.disk new.disk _ _ _ (before.any_moment h flushed waiting has) last-moments
           (λ image. prefix-longer flushed first second image.store)
           (λ image. prefix-continued flushed (flushed_after at_once (stored_of old) flushed rs) first (waiting_after at_once (stored_of old) waiting rs) second image.store continued))
 
       -- what waits after one request more
-      pub waits-more : new.reopen ≡ false → HasFlushed (folder new.disk) (flushed_after at_once (stored_of old) flushed (rs ++ r ∷ [])) (waiting_after at_once (stored_of old) waiting (rs ++ r ∷ [])) new.state
+      pub waits-more : new.reopen ≡ false → HasFlushed (model.folder new.disk) (flushed_after at_once (stored_of old) flushed (rs ++ r ∷ [])) (waiting_after at_once (stored_of old) waiting (rs ++ r ∷ [])) new.state
       waits-more off =
           let f = flushed_after at_once (stored_of old) flushed rs in
           let w = waiting_after at_once (stored_of old) waiting rs in
           let flushes = ap (λ t. flushed_after at_once t f (r ∷ [])) before.stored ∙ sym (flushed-last at_once (stored_of old) flushed rs r) in
           let waits = ap (λ t. waiting_after at_once t w (r ∷ [])) before.stored ∙ sym (waiting-last at_once (stored_of old) waiting rs r) in
-          subst (λ (l : List Command). HasFlushed (folder new.disk) (flushed_after at_once (stored_of old) flushed (rs ++ r ∷ [])) l new.state) waits
-          (subst (λ (s : Contents). HasFlushed (folder new.disk) s (waiting_after at_once (stored_of mid) w (r ∷ [])) new.state) flushes (does.waits h off f w (before.waits h flushed waiting has)))
+          subst (λ (l : List Command). HasFlushed (model.folder new.disk) (flushed_after at_once (stored_of old) flushed (rs ++ r ∷ [])) l new.state) waits
+          (subst (λ (s : Contents). HasFlushed (model.folder new.disk) s (waiting_after at_once (stored_of mid) w (r ∷ [])) new.state) flushes (does.waits h off f w (before.waits h flushed waiting has)))
 
-    pub performs-more : new.reopen ≡ false → PerformsAll at_once honest folder moment since old new (rs ++ r ∷ [])
+    pub performs-more : new.reopen ≡ false → PerformsAll at_once model old new (rs ++ r ∷ [])
     performs-more off = record {
       sound = off;
       stored = stored-more off;
@@ -357,25 +358,25 @@ module _ (at_once : Bool) {D : Type 0} (honest : Type 0) (folder : D → Folder)
 
 -- ---- what a session keeps, which flushes each command at once
 
-module _ {D : Type 0} (honest : Type 0) (folder : D → Folder) (moment : D → ℕ) (since : D → ℕ → Image → Type 0) where
+module _ {D : Type 0} (model : DiskModel D) where
   -- a crash after the last request, of which it isn't known how far it came
-  pub kept-most : (old mid new : StoreView D) (rs : List Request) (r : Request) → PerformsAll true honest folder moment since old mid rs → Performs true honest folder moment since mid new r
-      → (h : honest) (flushed : Contents) (waiting : List Command) → HasFlushed (folder old.disk) flushed waiting old.state
-      → ((t : ℕ) (image : Image) → honest → t ≤ moment new.disk → IsImage (folder new.disk) image → since new.disk t image)
-      → (image : Image) → IsImage (folder new.disk) image
+  pub kept-most : (old mid new : StoreView D) (rs : List Request) (r : Request) → PerformsAll true model old mid rs → Performs true model mid new r
+      → (h : model.honest) (flushed : Contents) (waiting : List Command) → HasFlushed (model.folder old.disk) flushed waiting old.state
+      → ((t : ℕ) (image : Image) → model.honest → t ≤ model.moment new.disk → IsImage (model.folder new.disk) image → model.left new.disk t image)
+      → (image : Image) → IsImage (model.folder new.disk) image
       → AfterAtLeast flushed (acknowledged (stored_of old) waiting rs) (waiting ++ accepted_commands (stored_of old) (rs ++ r ∷ [])) image.store
   kept-most old mid new rs r before does h flushed waiting has counts_now image is =
-      let run = last-moments true honest folder moment since old mid new rs r before does h flushed waiting has in
-      let some = run.each image (counts_now (moment mid.disk) image h run.later is) in
-      subst (λ (l : List Command). AfterAtLeast flushed (acknowledged (stored_of old) waiting rs) l image.store) (joined true honest folder moment since old mid new rs r before does h flushed waiting has)
+      let run = last-moments true model old mid new rs r before does h flushed waiting has in
+      let some = run.each image (counts_now (model.moment mid.disk) image h run.later is) in
+      subst (λ (l : List Command). AfterAtLeast flushed (acknowledged (stored_of old) waiting rs) l image.store) (joined true model old mid new rs r before does h flushed waiting has)
       (at-least flushed (flushed_after true (stored_of old) flushed rs) (waiting ++ accepted_commands (stored_of old) rs) (waiting_after true (stored_of old) waiting rs) (accepted_command (stored_of mid) r) image.store
       (continues true (stored_of old) flushed waiting rs has.journal.leads) some)
 
   -- a crash after requests that are all performed
-  pub kept-all : (old new : StoreView D) (rs : List Request) (least : ℕ) → new.reopen ≡ false → (honest → new.reopen ≡ false → LeavesPrefixes (folder new.disk) new.state)
-      → (h : honest) (flushed : Contents) (waiting : List Command) → HasFlushed (folder old.disk) flushed waiting old.state
-      → HasFlushed (folder new.disk) (flushed_after true (stored_of old) flushed rs) (waiting_after true (stored_of old) waiting rs) new.state
-      → least ≤ acknowledged (stored_of old) waiting rs → (image : Image) → IsImage (folder new.disk) image
+  pub kept-all : (old new : StoreView D) (rs : List Request) (least : ℕ) → new.reopen ≡ false → (model.honest → new.reopen ≡ false → LeavesPrefixes (model.folder new.disk) new.state)
+      → (h : model.honest) (flushed : Contents) (waiting : List Command) → HasFlushed (model.folder old.disk) flushed waiting old.state
+      → HasFlushed (model.folder new.disk) (flushed_after true (stored_of old) flushed rs) (waiting_after true (stored_of old) waiting rs) new.state
+      → least ≤ acknowledged (stored_of old) waiting rs → (image : Image) → IsImage (model.folder new.disk) image
       → AfterAtLeast flushed least (waiting ++ accepted_commands (stored_of old) rs) image.store
   kept-all old new rs least off means h flushed waiting has waits few image is =
       let f = flushed_after true (stored_of old) flushed rs in

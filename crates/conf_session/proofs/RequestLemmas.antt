@@ -9,6 +9,7 @@ use Rattle.yaml_grammar.specs.Trees.{text}
 use Rattle.yaml_recognizers.specs.Closings.{framed_text_bytes}
 use Rattle.conf_disk.specs.Folder.{Folder, bytes_under}
 use Rattle.conf_disk.specs.Image.{Image, IsImage}
+use Rattle.conf_disk.specs.Models.{DiskModel}
 use Rattle.conf_disk.specs.Moments.{LeavesOnly}
 use Rattle.conf_disk.specs.declared.disk.Name.TheVariants.{Store}
 use Rattle.conf_journal.specs.Store.{file_with_bytes}
@@ -81,9 +82,9 @@ synced-leaves folder s means flushed waiting has image is = record {
 }
 
 -- and so it does of a store that is as it was
-pub leaves-same : {D : Type 0} (honest : Type 0) (folder : D → Folder) (old new : StoreView D) → new ≡ old → (honest → old.reopen ≡ false → LeavesPrefixes (folder old.disk) old.state)
-    → honest → new.reopen ≡ false → LeavesPrefixes (folder new.disk) new.state
-leaves-same {D} honest folder old new same means = subst (λ (s : StoreView D). honest → s.reopen ≡ false → LeavesPrefixes (folder s.disk) s.state) (sym same) means
+pub leaves-same : {D : Type 0} (model : DiskModel D) (old new : StoreView D) → new ≡ old → (model.honest → old.reopen ≡ false → LeavesPrefixes (model.folder old.disk) old.state)
+    → model.honest → new.reopen ≡ false → LeavesPrefixes (model.folder new.disk) new.state
+leaves-same {D} model old new same means = subst (λ (s : StoreView D). model.honest → s.reopen ≡ false → LeavesPrefixes (model.folder s.disk) s.state) (sym same) means
 
 -- the state after all commands that wait, and one more
 all-after : (flushed s end : Contents) (waiting : List Command) (command : Command) (file : Option (List ℕ)) → after flushed waiting ≡ Ok s → after s (command ∷ []) ≡ Ok end → FileMeans file end
@@ -113,39 +114,39 @@ refused-waits : (at_once : Bool) (folder : Folder) (flushed s : Contents) (waiti
 refused-waits true folder flushed s waiting has = still folder flushed s waiting has
 refused-waits false folder flushed s waiting has = still folder flushed s waiting has
 
-module _ (at_once : Bool) {D : Type 0} (honest : Type 0) (folder : D → Folder) (moment : D → ℕ) (since : D → ℕ → Image → Type 0) where
+module _ (at_once : Bool) {D : Type 0} (model : DiskModel D) where
   -- a store that is as it was
-  unchanged : (store : StoreView D) → store.reopen ≡ false → (more : List Command) → ((image : Image) → honest → since store.disk (moment store.disk) image → IsImage (folder store.disk) image)
-      → (honest → store.reopen ≡ false → LeavesPrefixes (folder store.disk) store.state)
-      → honest → (flushed : Contents) (waiting : List Command) → HasFlushed (folder store.disk) flushed waiting store.state
-      → LeavesOnly moment since store.disk store.disk (λ image. AfterPrefix flushed (waiting ++ more) image.store)
+  unchanged : (store : StoreView D) → store.reopen ≡ false → (more : List Command) → ((image : Image) → model.honest → model.left store.disk (model.moment store.disk) image → IsImage (model.folder store.disk) image)
+      → (model.honest → store.reopen ≡ false → LeavesPrefixes (model.folder store.disk) store.state)
+      → model.honest → (flushed : Contents) (waiting : List Command) → HasFlushed (model.folder store.disk) flushed waiting store.state
+      → LeavesOnly model store.disk store.disk (λ image. AfterPrefix flushed (waiting ++ more) image.store)
   unchanged store off more only means h flushed waiting has =
-      LeavesOnly-start moment since store.disk _ (λ image is. prefix-longer flushed waiting more image.store (means h off flushed waiting has image (only image h is)))
+      LeavesOnly-start model store.disk _ (λ image is. prefix-longer flushed waiting more image.store (means h off flushed waiting has image (only image h is)))
 
   -- a request that only reads leaves the store as it is
   pub only-read : (store : StoreView D) → store.reopen ≡ false → (request : Request) → OnlyReads request
-      → ((image : Image) → honest → since store.disk (moment store.disk) image → IsImage (folder store.disk) image)
-      → (honest → store.reopen ≡ false → LeavesPrefixes (folder store.disk) store.state) → Performs at_once honest folder moment since store store request
+      → ((image : Image) → model.honest → model.left store.disk (model.moment store.disk) image → IsImage (model.folder store.disk) image)
+      → (model.honest → store.reopen ≡ false → LeavesPrefixes (model.folder store.disk) store.state) → Performs at_once model store store request
   only-read store off (changing command) is only means = absurd is
   only-read store off checkpointing is only means = absurd is
-  only-read store off (unread f) is only means = record { state = refl; stored = λ on. refl; reads = λ h on. refl; stages = λ h on. refl; any_moment = unchanged store off [] only means; waits = λ h on flushed waiting. still (folder store.disk) flushed store.state waiting }
-  only-read store off (getting name path) is only means = record { state = refl; stored = λ on. refl; reads = λ h on. refl; stages = λ h on. refl; any_moment = unchanged store off [] only means; waits = λ h on flushed waiting. still (folder store.disk) flushed store.state waiting }
-  only-read store off (exporting name) is only means = record { state = refl; stored = λ on. refl; reads = λ h on. refl; stages = λ h on. refl; any_moment = unchanged store off [] only means; waits = λ h on flushed waiting. still (folder store.disk) flushed store.state waiting }
-  only-read store off naming is only means = record { state = refl; stored = λ on. refl; reads = λ h on. refl; stages = λ h on. refl; any_moment = unchanged store off [] only means; waits = λ h on flushed waiting. still (folder store.disk) flushed store.state waiting }
-  only-read store off bad is only means = record { state = refl; stored = λ on. refl; reads = λ h on. refl; stages = λ h on. refl; any_moment = unchanged store off [] only means; waits = λ h on flushed waiting. still (folder store.disk) flushed store.state waiting }
+  only-read store off (unread f) is only means = record { state = refl; stored = λ on. refl; reads = λ h on. refl; stages = λ h on. refl; any_moment = unchanged store off [] only means; waits = λ h on flushed waiting. still (model.folder store.disk) flushed store.state waiting }
+  only-read store off (getting name path) is only means = record { state = refl; stored = λ on. refl; reads = λ h on. refl; stages = λ h on. refl; any_moment = unchanged store off [] only means; waits = λ h on flushed waiting. still (model.folder store.disk) flushed store.state waiting }
+  only-read store off (exporting name) is only means = record { state = refl; stored = λ on. refl; reads = λ h on. refl; stages = λ h on. refl; any_moment = unchanged store off [] only means; waits = λ h on flushed waiting. still (model.folder store.disk) flushed store.state waiting }
+  only-read store off naming is only means = record { state = refl; stored = λ on. refl; reads = λ h on. refl; stages = λ h on. refl; any_moment = unchanged store off [] only means; waits = λ h on flushed waiting. still (model.folder store.disk) flushed store.state waiting }
+  only-read store off bad is only means = record { state = refl; stored = λ on. refl; reads = λ h on. refl; stages = λ h on. refl; any_moment = unchanged store off [] only means; waits = λ h on flushed waiting. still (model.folder store.disk) flushed store.state waiting }
 
   -- ---- a command
 
   -- a command that is accepted is performed, its record appended and synced
   pub command-performed : (old new : StoreView D) (command : Command) → outcome (journal_length old) old.state command ≡ Ok new.state
       → (new.reopen ≡ false → Accepts old command new)
-      → (honest → new.reopen ≡ false → bytes_under (folder new.disk) Store ≡ file_with_bytes (bytes_under (folder old.disk) Store) (next_record old.state command))
-      → (honest → new.reopen ≡ false → staged_text (folder new.disk) new.staged ≡ file_with_bytes (staged_text (folder old.disk) old.staged) (next_record old.state command))
-      → (honest → (flushed : Contents) (waiting : List Command) → HasFlushed (folder old.disk) flushed waiting old.state
-      → LeavesOnly moment since old.disk new.disk (λ image. AfterPrefix flushed waiting image.store ⊎ FileMeans image.store new.state))
-      → (honest → new.reopen ≡ false → (flushed : Contents) (waiting : List Command) → HasFlushed (folder old.disk) flushed waiting old.state
-      → HasFlushed (folder new.disk) (if at_once then new.state else flushed) (if at_once then [] else waiting ++ command ∷ []) new.state)
-      → Performs at_once honest folder moment since old new (changing command)
+      → (model.honest → new.reopen ≡ false → bytes_under (model.folder new.disk) Store ≡ file_with_bytes (bytes_under (model.folder old.disk) Store) (next_record old.state command))
+      → (model.honest → new.reopen ≡ false → staged_text (model.folder new.disk) new.staged ≡ file_with_bytes (staged_text (model.folder old.disk) old.staged) (next_record old.state command))
+      → (model.honest → (flushed : Contents) (waiting : List Command) → HasFlushed (model.folder old.disk) flushed waiting old.state
+      → LeavesOnly model old.disk new.disk (λ image. AfterPrefix flushed waiting image.store ⊎ FileMeans image.store new.state))
+      → (model.honest → new.reopen ≡ false → (flushed : Contents) (waiting : List Command) → HasFlushed (model.folder old.disk) flushed waiting old.state
+      → HasFlushed (model.folder new.disk) (if at_once then new.state else flushed) (if at_once then [] else waiting ++ command ∷ []) new.state)
+      → Performs at_once model old new (changing command)
   command-performed old new command done accepts grown staged moments flushes =
       let now = stored_of old in
       let here : outcome (longest now) now.state command ≡ Ok new.state = ap (λ n. outcome n old.state command) (longest-of old) ∙ done in
@@ -155,19 +156,19 @@ module _ (at_once : Bool) {D : Type 0} (honest : Type 0) (folder : D → Folder)
       record {
         state = sym (ap (λ (t : Stored). t.state) goes);
         stored = λ on. stored-accepted old new command (accepts on) ∙ sym goes;
-        reads = λ h on. grown h on ∙ sym (ap (file_after_change (bytes_under (folder old.disk) Store) now command) here);
-        stages = λ h on. staged h on ∙ sym (ap (file_after_change (staged_text (folder old.disk) old.staged) now command) here);
-        any_moment = λ h flushed waiting has. subst (λ cs. LeavesOnly moment since old.disk new.disk (λ image. AfterPrefix flushed (waiting ++ cs) image.store)) (sym one)
-            (LeavesOnly-weaker moment since old.disk new.disk _ _ (moments h flushed waiting has)
+        reads = λ h on. grown h on ∙ sym (ap (file_after_change (bytes_under (model.folder old.disk) Store) now command) here);
+        stages = λ h on. staged h on ∙ sym (ap (file_after_change (staged_text (model.folder old.disk) old.staged) now command) here);
+        any_moment = λ h flushed waiting has. subst (λ cs. LeavesOnly model old.disk new.disk (λ image. AfterPrefix flushed (waiting ++ cs) image.store)) (sym one)
+            (LeavesOnly-weaker model old.disk new.disk _ _ (moments h flushed waiting has)
             (λ image. ⊎_elim (prefix-longer flushed waiting (command ∷ []) image.store) (all-after flushed old.state new.state waiting command image.store has.journal.leads leads)));
         waits = λ h on flushed waiting has.
-            subst (λ (r : Result Contents StoreFault). HasFlushed (folder new.disk) (if at_once && is_ok r then (stored_after_change now command r).state else flushed) (if at_once && is_ok r then [] else waiting ++ accepted_by r command) new.state) (sym here)
-            (accepted-waits at_once (folder new.disk) flushed new.state (waiting ++ command ∷ []) (flushes h on flushed waiting has));
+            subst (λ (r : Result Contents StoreFault). HasFlushed (model.folder new.disk) (if at_once && is_ok r then (stored_after_change now command r).state else flushed) (if at_once && is_ok r then [] else waiting ++ accepted_by r command) new.state) (sym here)
+            (accepted-waits at_once (model.folder new.disk) flushed new.state (waiting ++ command ∷ []) (flushes h on flushed waiting has));
       }
 
   pub command-refused : (store : StoreView D) → store.reopen ≡ false → (command : Command) (f : StoreFault) → outcome (journal_length store) store.state command ≡ Err f
-      → ((image : Image) → honest → since store.disk (moment store.disk) image → IsImage (folder store.disk) image)
-      → (honest → store.reopen ≡ false → LeavesPrefixes (folder store.disk) store.state) → Performs at_once honest folder moment since store store (changing command)
+      → ((image : Image) → model.honest → model.left store.disk (model.moment store.disk) image → IsImage (model.folder store.disk) image)
+      → (model.honest → store.reopen ≡ false → LeavesPrefixes (model.folder store.disk) store.state) → Performs at_once model store store (changing command)
   command-refused store off command f refused only means =
       let now = stored_of store in
       let here : outcome (longest now) now.state command ≡ Err f = ap (λ n. outcome n store.state command) (longest-of store) ∙ refused in
@@ -175,35 +176,35 @@ module _ (at_once : Bool) {D : Type 0} (honest : Type 0) (folder : D → Folder)
       record {
         state = sym (ap (λ (t : Stored). t.state) goes);
         stored = λ on. sym goes;
-        reads = λ h on. sym (ap (file_after_change (bytes_under (folder store.disk) Store) now command) here);
-        stages = λ h on. sym (ap (file_after_change (staged_text (folder store.disk) store.staged) now command) here);
+        reads = λ h on. sym (ap (file_after_change (bytes_under (model.folder store.disk) Store) now command) here);
+        stages = λ h on. sym (ap (file_after_change (staged_text (model.folder store.disk) store.staged) now command) here);
         any_moment = unchanged store off (accepted_command now (changing command)) only means;
         waits = λ h on flushed waiting has.
-            subst (λ (r : Result Contents StoreFault). HasFlushed (folder store.disk) (if at_once && is_ok r then (stored_after_change now command r).state else flushed) (if at_once && is_ok r then [] else waiting ++ accepted_by r command) store.state) (sym here)
-            (refused-waits at_once (folder store.disk) flushed store.state waiting has);
+            subst (λ (r : Result Contents StoreFault). HasFlushed (model.folder store.disk) (if at_once && is_ok r then (stored_after_change now command r).state else flushed) (if at_once && is_ok r then [] else waiting ++ accepted_by r command) store.state) (sym here)
+            (refused-waits at_once (model.folder store.disk) flushed store.state waiting has);
       }
 
   -- ---- a checkpoint
 
   pub checkpointed : (old new : StoreView D) → new.state ≡ old.state → (new.reopen ≡ false → (new.staged ≡ None) × (new.size ≡ length (base_bytes old.state)))
-      → (honest → new.reopen ≡ false → bytes_under (folder new.disk) Store ≡ Some (base_bytes old.state))
-      → (honest → (flushed : Contents) (waiting : List Command) → HasFlushed (folder old.disk) flushed waiting old.state
-      → LeavesOnly moment since old.disk new.disk (λ image. AfterPrefix flushed waiting image.store))
-      → (honest → new.reopen ≡ false → HasFlushed (folder new.disk) new.state [] new.state)
-      → Performs at_once honest folder moment since old new checkpointing
+      → (model.honest → new.reopen ≡ false → bytes_under (model.folder new.disk) Store ≡ Some (base_bytes old.state))
+      → (model.honest → (flushed : Contents) (waiting : List Command) → HasFlushed (model.folder old.disk) flushed waiting old.state
+      → LeavesOnly model old.disk new.disk (λ image. AfterPrefix flushed waiting image.store))
+      → (model.honest → new.reopen ≡ false → HasFlushed (model.folder new.disk) new.state [] new.state)
+      → Performs at_once model old new checkpointing
   checkpointed old new same long base moments flushes = record {
     state = same;
     stored = λ on. (λ i. record { state = same i; size = (long on).1 i; staged = option_map (λ (s : Staged). s.written + length s.left) ((long on).0 i) });
     reads = base;
-    stages = λ h on. ap (staged_text (folder new.disk)) (long on).0;
-    any_moment = λ h flushed waiting has. LeavesOnly-weaker moment since old.disk new.disk _ _ (moments h flushed waiting has) (λ image. prefix-longer flushed waiting [] image.store);
-    waits = λ h on flushed waiting has. subst (λ (s : Contents). HasFlushed (folder new.disk) s [] new.state) same (flushes h on);
+    stages = λ h on. ap (staged_text (model.folder new.disk)) (long on).0;
+    any_moment = λ h flushed waiting has. LeavesOnly-weaker model old.disk new.disk _ _ (moments h flushed waiting has) (λ image. prefix-longer flushed waiting [] image.store);
+    waits = λ h on flushed waiting has. subst (λ (s : Contents). HasFlushed (model.folder new.disk) s [] new.state) same (flushes h on);
   }
 
   -- ---- what is said, and the request that it means
 
   pub did-said : (old new : StoreView D) (said : Said) (request : Request) → MeansRequest said request → (r : Result Reply SessionFault)
-      → Did at_once honest folder moment since old new request r → DidSaid at_once honest folder moment since old new said r
+      → Did at_once model old new request r → DidSaid at_once model old new said r
   did-said old new said request means (Ok reply) did = (request, means, did)
   did-said old new said request means (Err fault.Device) did = (request, means, did)
   did-said old new said request means (Err fault.OutOfMemory) did = did
@@ -214,7 +215,7 @@ module _ (at_once : Bool) {D : Type 0} (honest : Type 0) (folder : D → Folder)
   did-said old new said request means (Err (fault.Write written)) did = absurd did
 
   pub did-piece : (old new : StoreView D) (piece : List ℕ) (said : Said) → Says piece said → (r : Result Reply SessionFault)
-      → DidSaid at_once honest folder moment since old new said r → DidPiece at_once honest folder moment since old new piece r
+      → DidSaid at_once model old new said r → DidPiece at_once model old new piece r
   did-piece old new piece said says (Ok reply) did = (did.0, (said, says, did.1), did.2)
   did-piece old new piece said says (Err fault.Device) did = (did.0, (said, says, did.1), did.2)
   did-piece old new piece said says (Err fault.OutOfMemory) did = did
@@ -224,27 +225,27 @@ module _ (at_once : Bool) {D : Type 0} (honest : Type 0) (folder : D → Folder)
   did-piece old new piece said says (Err fault.Reopen) did = absurd did
   did-piece old new piece said says (Err (fault.Write written)) did = absurd did
 
-  pub said-read : (store : StoreView D) → store.reopen ≡ false → ((image : Image) → honest → since store.disk (moment store.disk) image → IsImage (folder store.disk) image)
-      → (honest → store.reopen ≡ false → LeavesPrefixes (folder store.disk) store.state)
+  pub said-read : (store : StoreView D) → store.reopen ≡ false → ((image : Image) → model.honest → model.left store.disk (model.moment store.disk) image → IsImage (model.folder store.disk) image)
+      → (model.honest → store.reopen ≡ false → LeavesPrefixes (model.folder store.disk) store.state)
       → (said : Said) (request : Request) → MeansRequest said request → OnlyReads request → (reply : Reply) → Replies (stored_of store) request reply
-      → DidSaid at_once honest folder moment since store store said (Ok reply)
+      → DidSaid at_once model store store said (Ok reply)
   said-read store off only means said request asks is reply replies = (request, asks, (replies, off, only-read store off request is only means))
 
 -- a checkpoint is the same, whenever commands are flushed
-pub did-checkpoint : (at_once : Bool) {D : Type 0} (honest : Type 0) (folder : D → Folder) (moment : D → ℕ) (since : D → ℕ → Image → Type 0) (old new : StoreView D) (r : Result Reply SessionFault)
-    → Did true honest folder moment since old new checkpointing r → Did at_once honest folder moment since old new checkpointing r
-did-checkpoint at_once honest folder moment since old new (Ok reply) did =
+pub did-checkpoint : (at_once : Bool) {D : Type 0} (model : DiskModel D) (old new : StoreView D) (r : Result Reply SessionFault)
+    → Did true model old new checkpointing r → Did at_once model old new checkpointing r
+did-checkpoint at_once model old new (Ok reply) did =
     let p = did.2 in
     (did.0, did.1, record { state = p.state; stored = p.stored; reads = p.reads; stages = p.stages; any_moment = p.any_moment; waits = p.waits })
-did-checkpoint at_once honest folder moment since old new (Err fault.Device) did =
+did-checkpoint at_once model old new (Err fault.Device) did =
     let p = did.1 in
     (did.0, record { state = p.state; stored = p.stored; reads = p.reads; stages = p.stages; any_moment = p.any_moment; waits = p.waits })
-did-checkpoint at_once honest folder moment since old new (Err fault.OutOfMemory) did = did
-did-checkpoint at_once honest folder moment since old new (Err fault.Read) did = absurd did
-did-checkpoint at_once honest folder moment since old new (Err fault.TooLong) did = absurd did
-did-checkpoint at_once honest folder moment since old new (Err fault.SessionLong) did = absurd did
-did-checkpoint at_once honest folder moment since old new (Err fault.Reopen) did = absurd did
-did-checkpoint at_once honest folder moment since old new (Err (fault.Write written)) did = absurd did
+did-checkpoint at_once model old new (Err fault.OutOfMemory) did = did
+did-checkpoint at_once model old new (Err fault.Read) did = absurd did
+did-checkpoint at_once model old new (Err fault.TooLong) did = absurd did
+did-checkpoint at_once model old new (Err fault.SessionLong) did = absurd did
+did-checkpoint at_once model old new (Err fault.Reopen) did = absurd did
+did-checkpoint at_once model old new (Err (fault.Write written)) did = absurd did
 
 -- an `import` under a good name whose text gives a tree is the command
 pub text-given : (name bytes : List ℕ) (command : Command) → IsUtf8 bytes → IsImportOf name bytes command → MeansRequest (single_part (import_text name (chars bytes))) (changing command)
@@ -284,44 +285,44 @@ refused-reply now kept command f reason refused is = record {
 
 -- ---- requests that are refused, or end the session
 
-module _ (at_once : Bool) {D : Type 0} (honest : Type 0) (folder : D → Folder) (moment : D → ℕ) (since : D → ℕ → Image → Type 0) where
+module _ (at_once : Bool) {D : Type 0} (model : DiskModel D) where
   settled : (old new : StoreView D) (request : Request) (r : Result Refusal SessionFault) → OnlyMemory r → new ≡ old
-      → ((reason : Refusal) → r ≡ Ok reason → Did at_once honest folder moment since old new request (Ok (Refused reason)))
-      → Did at_once honest folder moment since old new request (refused_as r)
+      → ((reason : Refusal) → r ≡ Ok reason → Did at_once model old new request (Ok (Refused reason)))
+      → Did at_once model old new request (refused_as r)
   settled old new request (Ok reason) memory same reply = reply reason refl
-  settled old new request (Err end) memory same reply = subst (λ (e : SessionFault). Did at_once honest folder moment since old new request (Err e)) (sym memory) same
+  settled old new request (Err end) memory same reply = subst (λ (e : SessionFault). Did at_once model old new request (Err e)) (sym memory) same
 
   -- a command that is refused is answered by its refusal; the device may have failed
   pub did-refused : (old new : StoreView D) (request : Request) (f : StoreFault) → (f ≡ state.Reopen → ⊥)
-      → (f ≡ state.Device → Did at_once honest folder moment since old new request (Err fault.Device)) → (f ≢ state.Device → new ≡ old)
-      → ((reason : Refusal) → f ≢ state.Device → answered f ≡ Ok reason → Did at_once honest folder moment since old new request (Ok (Refused reason)))
-      → Did at_once honest folder moment since old new request (refused_as (answered f))
+      → (f ≡ state.Device → Did at_once model old new request (Err fault.Device)) → (f ≢ state.Device → new ≡ old)
+      → ((reason : Refusal) → f ≢ state.Device → answered f ≡ Ok reason → Did at_once model old new request (Ok (Refused reason)))
+      → Did at_once model old new request (refused_as (answered f))
   did-refused old new request f shut device same reply =
-      ⊎_elim (λ is. subst (λ (x : StoreFault). Did at_once honest folder moment since old new request (refused_as (answered x))) (sym is) (device is))
+      ⊎_elim (λ is. subst (λ (x : StoreFault). Did at_once model old new request (refused_as (answered x))) (sym is) (device is))
       (λ other. settled old new request (answered f) (answered-memory f shut other) (same other) (λ reason. reply reason other)) (is-device f)
 
   -- what is said asks for no command, and is answered by that refusal
-  pub said-unread : (store : StoreView D) → store.reopen ≡ false → ((image : Image) → honest → since store.disk (moment store.disk) image → IsImage (folder store.disk) image)
-      → (honest → store.reopen ≡ false → LeavesPrefixes (folder store.disk) store.state)
+  pub said-unread : (store : StoreView D) → store.reopen ≡ false → ((image : Image) → model.honest → model.left store.disk (model.moment store.disk) image → IsImage (model.folder store.disk) image)
+      → (model.honest → store.reopen ≡ false → LeavesPrefixes (model.folder store.disk) store.state)
       → (said : Said) (f : StoreFault) → ((reason : Refusal) → answered f ≡ Ok reason → MeansRequest said (unread f)) → OnlyMemory (answered f)
-      → DidSaid at_once honest folder moment since store store said (refused_as (answered f))
+      → DidSaid at_once model store store said (refused_as (answered f))
   said-unread store off only means said f asks memory = by (answered f) refl memory
     where
-      by : (r : Result Refusal SessionFault) → answered f ≡ r → OnlyMemory r → DidSaid at_once honest folder moment since store store said (refused_as r)
+      by : (r : Result Refusal SessionFault) → answered f ≡ r → OnlyMemory r → DidSaid at_once model store store said (refused_as r)
       by (Ok reason) is memory =
-          said-read at_once honest folder moment since store off only means said (unread f) (asks reason is) tt (Refused reason)
+          said-read at_once model store off only means said (unread f) (asks reason is) tt (Refused reason)
           (record { bytes = ap (λ a. document_bytes (refused_answer a)) (sym is); accepted = refl; refused = refl; short = refused-short (answered f) })
-      by (Err end) is memory = subst (λ (e : SessionFault). DidSaid at_once honest folder moment since store store said (Err e)) (sym memory) refl
+      by (Err end) is memory = subst (λ (e : SessionFault). DidSaid at_once model store store said (Err e)) (sym memory) refl
 
   -- what is said asks to read
-  pub said-reads : (store : StoreView D) → store.reopen ≡ false → ((image : Image) → honest → since store.disk (moment store.disk) image → IsImage (folder store.disk) image)
-      → (honest → store.reopen ≡ false → LeavesPrefixes (folder store.disk) store.state)
+  pub said-reads : (store : StoreView D) → store.reopen ≡ false → ((image : Image) → model.honest → model.left store.disk (model.moment store.disk) image → IsImage (model.folder store.disk) image)
+      → (model.honest → store.reopen ≡ false → LeavesPrefixes (model.folder store.disk) store.state)
       → (said : Said) (request : Request) → MeansRequest said request → OnlyReads request → (r : Result Reply SessionFault)
-      → IfOk r (Replies (stored_of store) request) → OnlyMemory r → DidSaid at_once honest folder moment since store store said r
+      → IfOk r (Replies (stored_of store) request) → OnlyMemory r → DidSaid at_once model store store said r
   said-reads store off only means said request asks is (Ok reply) replies memory =
-      said-read at_once honest folder moment since store off only means said request asks is reply replies
+      said-read at_once model store off only means said request asks is reply replies
   said-reads store off only means said request asks is (Err end) replies memory =
-      subst (λ (e : SessionFault). DidSaid at_once honest folder moment since store store said (Err e)) (sym memory) refl
+      subst (λ (e : SessionFault). DidSaid at_once model store store said (Err e)) (sym memory) refl
 
 -- why a command was refused that is answered by a refusal
 pub refused-outcome : {D : Type 0} (old new : StoreView D) (command : Command) (f : StoreFault) (reason : Refusal) → answered f ≡ Ok reason → RefusesCommand old command new f

@@ -8,6 +8,7 @@ use Rattle.yaml_grammar.specs.Closings.{ClosesAt, ClosesOnce}
 use Rattle.yaml_docs.specs.NextClosing.{IsNextClosing, NoClosingAfter}
 use Rattle.conf_disk.specs.Folder.{Folder, bytes_under}
 use Rattle.conf_disk.specs.Image.{Image, IsImage}
+use Rattle.conf_disk.specs.Models.{DiskModel}
 use Rattle.conf_disk.specs.Moments.{LeavesOnly}
 use Rattle.conf_disk.specs.declared.disk.Name.TheVariants.{Store}
 use Rattle.conf_disk.proofs.Moments.{LeavesOnly-joined}
@@ -79,9 +80,9 @@ one-more old new bytes e =
 
 -- ---- what became of one piece
 
-module _ {D : Type 0} (honest : Type 0) (folder : D → Folder) (moment : D → ℕ) (since : D → ℕ → Image → Type 0) (old new : StoreView D) where
+module _ {D : Type 0} (model : DiskModel D) (old new : StoreView D) where
   -- bytes that are closed once ask for what they ask for in a session
-  pub in-round : (piece : List ℕ) → ClosesOnce piece → (r : Result Reply SessionFault) → DidPiece false honest folder moment since old new piece r → DidInRound honest folder moment since old new piece r
+  pub in-round : (piece : List ℕ) → ClosesOnce piece → (r : Result Reply SessionFault) → DidPiece false model old new piece r → DidInRound model old new piece r
   in-round piece closes (Ok reply) did = (did.0, inl (closes, did.1), did.2)
   in-round piece closes (Err session.Device) did = (did.0, inl (closes, did.1), did.2)
   in-round piece closes (Err session.OutOfMemory) did = did
@@ -92,8 +93,8 @@ module _ {D : Type 0} (honest : Type 0) (folder : D → Folder) (moment : D → 
   in-round piece closes (Err (session.Write written)) did = absurd did
 
   -- a piece that was not performed, or whose command met the device's failure
-  pub fails-by : (piece : List ℕ) (f : SessionFault) (count performed : ℕ) → performed ≡ count → DidInRound honest folder moment since old new piece (Err f)
-      → FailsPiece honest folder moment since old new piece count (round_fault f performed)
+  pub fails-by : (piece : List ℕ) (f : SessionFault) (count performed : ℕ) → performed ≡ count → DidInRound model old new piece (Err f)
+      → FailsPiece model old new piece count (round_fault f performed)
   fails-by piece session.OutOfMemory count performed is did = inl (is, did)
   fails-by piece session.Device count performed is did = (did.2.0, record { request = did.0; asks = did.1; performs = did.2.1 })
   fails-by piece session.Read count performed is did = absurd did
@@ -103,8 +104,8 @@ module _ {D : Type 0} (honest : Type 0) (folder : D → Folder) (moment : D → 
   fails-by piece (session.Write written) count performed is did = absurd did
 
   -- a piece that was performed and answered
-  pub answered : (piece : List ℕ) (reply : Reply) (before after : List (List ℕ)) → DidInRound honest folder moment since old new piece (Ok reply) → after ≡ before ++ reply_bytes reply ∷ []
-      → AnswersPiece honest folder moment since old new piece before after
+  pub answered : (piece : List ℕ) (reply : Reply) (before after : List (List ℕ)) → DidInRound model old new piece (Ok reply) → after ≡ before ++ reply_bytes reply ∷ []
+      → AnswersPiece model old new piece before after
   answered piece reply before after did is = record {
     takes = record { request = did.0; asks = did.1; performs = did.2.2 };
     sound = did.2.1;
@@ -132,42 +133,42 @@ ask-count (p ∷ pieces) [] all = absurd all
 ask-count (p ∷ pieces) (x ∷ rs) all = let more = ask-count pieces rs all.1 in omega (arith, more)
 
 -- the pieces so far are performed and answered, and nothing was flushed but by a checkpoint
-pub record RoundSoFar {D : Type 0} (honest : Type 0) (folder : D → Folder) (moment : D → ℕ) (since : D → ℕ → Image → Type 0)
+pub record RoundSoFar {D : Type 0} (model : DiskModel D)
     (old now : StoreView D) (pieces written : List (List ℕ)) : Type 0 where
   pub requests : List Request
   pub ask : AllRoundAsk pieces requests
   pub answers : written ≡ answers (stored_of old) requests
-  pub performs : PerformsAll false honest folder moment since old now requests
+  pub performs : PerformsAll false model old now requests
 
-module _ {D : Type 0} (honest : Type 0) (folder : D → Folder) (moment : D → ℕ) (since : D → ℕ → Image → Type 0) where
+module _ {D : Type 0} (model : DiskModel D) where
   pub round-none : (store : StoreView D) → store.reopen ≡ false
-      → ((image : Image) → honest → since store.disk (moment store.disk) image → IsImage (folder store.disk) image)
-      → (honest → store.reopen ≡ false → LeavesPrefixes (folder store.disk) store.state) → RoundSoFar honest folder moment since store store [] []
-  round-none store off only means = record { requests = []; ask = tt; answers = refl; performs = performs-none false honest folder moment since store off only means }
+      → ((image : Image) → model.honest → model.left store.disk (model.moment store.disk) image → IsImage (model.folder store.disk) image)
+      → (model.honest → store.reopen ≡ false → LeavesPrefixes (model.folder store.disk) store.state) → RoundSoFar model store store [] []
+  round-none store off only means = record { requests = []; ask = tt; answers = refl; performs = performs-none false model store off only means }
 
-  module _ (old now : StoreView D) (pieces written : List (List ℕ)) (s : RoundSoFar honest folder moment since old now pieces written) where
+  module _ (old now : StoreView D) (pieces written : List (List ℕ)) (s : RoundSoFar model old now pieces written) where
     -- ---- one piece more
 
-    module _ (new : StoreView D) (piece : List ℕ) (r : Request) (asks : RoundAsks piece r) (does : Performs false honest folder moment since now new r) where
-      pub round-more : new.reopen ≡ false → RoundSoFar honest folder moment since old new (pieces ++ piece ∷ []) (written ++ answer_to (stored_of now) r ∷ [])
+    module _ (new : StoreView D) (piece : List ℕ) (r : Request) (asks : RoundAsks piece r) (does : Performs false model now new r) where
+      pub round-more : new.reopen ≡ false → RoundSoFar model old new (pieces ++ piece ∷ []) (written ++ answer_to (stored_of now) r ∷ [])
       round-more off = record {
         requests = s.requests ++ r ∷ [];
         ask = ask-last pieces s.requests piece r s.ask asks;
         answers = ap (λ l. l ++ answer_to (stored_of now) r ∷ []) s.answers
             ∙ ap (λ t. answers (stored_of old) s.requests ++ answer_to t r ∷ []) s.performs.stored
             ∙ sym (answers-last (stored_of old) s.requests r);
-        performs = performs-more false honest folder moment since old now new s.requests r s.performs does off;
+        performs = performs-more false model old now new s.requests r s.performs does off;
       }
 
     -- what a crash leaves up to a flush
     flush-moments : (new : StoreView D)
-        → (honest → (flushed : Contents) (waiting : List Command) → HasFlushed (folder now.disk) flushed waiting now.state → LeavesOnly moment since now.disk new.disk (λ image. AfterPrefix flushed waiting image.store))
-        → honest → (flushed : Contents) (waiting : List Command) → HasFlushed (folder old.disk) flushed waiting old.state
-        → LeavesOnly moment since old.disk new.disk (λ image. AfterPrefix flushed (waiting ++ accepted_commands (stored_of old) s.requests) image.store)
+        → (model.honest → (flushed : Contents) (waiting : List Command) → HasFlushed (model.folder now.disk) flushed waiting now.state → LeavesOnly model now.disk new.disk (λ image. AfterPrefix flushed waiting image.store))
+        → model.honest → (flushed : Contents) (waiting : List Command) → HasFlushed (model.folder old.disk) flushed waiting old.state
+        → LeavesOnly model old.disk new.disk (λ image. AfterPrefix flushed (waiting ++ accepted_commands (stored_of old) s.requests) image.store)
     flush-moments new run h flushed waiting has =
         let f = flushed_after false (stored_of old) flushed s.requests in
         let w = waiting_after false (stored_of old) waiting s.requests in
-        LeavesOnly-joined moment since old.disk now.disk new.disk _ _ _ (s.performs.any_moment h flushed waiting has) (run h f w (s.performs.waits h flushed waiting has))
+        LeavesOnly-joined model old.disk now.disk new.disk _ _ _ (s.performs.any_moment h flushed waiting has) (run h f w (s.performs.waits h flushed waiting has))
         (λ image some. some)
         (λ image. prefix-whole flushed f (waiting ++ accepted_commands (stored_of old) s.requests) w image.store (continues false (stored_of old) flushed waiting s.requests has.journal.leads))
 
@@ -188,7 +189,7 @@ module _ {D : Type 0} (honest : Type 0) (folder : D → Folder) (moment : D → 
       counted = ask-count pieces s.requests s.ask ∙ ap length first ∙ length-take-le i all few
 
       -- memory ran out
-      pub ends-memory : Rounds honest folder moment since old now all (Err (fault.OutOfMemory i))
+      pub ends-memory : Rounds model old now all (Err (fault.OutOfMemory i))
       ends-memory = record {
         requests = s.requests;
         ask = first-ask s.requests s.ask;
@@ -202,8 +203,8 @@ module _ {D : Type 0} (honest : Type 0) (folder : D → Folder) (moment : D → 
 
       -- the flush failed
       pub ends-unflushed : (new : StoreView D) → StaysTheSame now new
-          → (honest → (flushed : Contents) (waiting : List Command) → HasFlushed (folder now.disk) flushed waiting now.state → LeavesOnly moment since now.disk new.disk (λ image. AfterPrefix flushed waiting image.store))
-          → Rounds honest folder moment since old new all (Err fault.Device)
+          → (model.honest → (flushed : Contents) (waiting : List Command) → HasFlushed (model.folder now.disk) flushed waiting now.state → LeavesOnly model now.disk new.disk (λ image. AfterPrefix flushed waiting image.store))
+          → Rounds model old new all (Err fault.Device)
       ends-unflushed new same run = record {
         requests = s.requests;
         ask = first-ask s.requests s.ask;
@@ -213,11 +214,11 @@ module _ {D : Type 0} (honest : Type 0) (folder : D → Folder) (moment : D → 
 
       -- all is flushed
       pub ends-flushed : i ≡ length all → (new : StoreView D) (given : Vec (Vec ℕ Global) Global) → answer_bytes given.items ≡ written → StaysTheSame now new
-          → (honest → bytes_under (folder new.disk) Store ≡ bytes_under (folder now.disk) Store)
-          → (honest → staged_text (folder new.disk) new.staged ≡ staged_text (folder now.disk) now.staged)
-          → (honest → (flushed : Contents) (waiting : List Command) → HasFlushed (folder now.disk) flushed waiting now.state → LeavesOnly moment since now.disk new.disk (λ image. AfterPrefix flushed waiting image.store))
-          → (honest → HasFlushed (folder new.disk) new.state [] new.state) → (honest → AllImagesMean (folder new.disk) new.state)
-          → Rounds honest folder moment since old new all (Ok given)
+          → (model.honest → bytes_under (model.folder new.disk) Store ≡ bytes_under (model.folder now.disk) Store)
+          → (model.honest → staged_text (model.folder new.disk) new.staged ≡ staged_text (model.folder now.disk) now.staged)
+          → (model.honest → (flushed : Contents) (waiting : List Command) → HasFlushed (model.folder now.disk) flushed waiting now.state → LeavesOnly model now.disk new.disk (λ image. AfterPrefix flushed waiting image.store))
+          → (model.honest → HasFlushed (model.folder new.disk) new.state [] new.state) → (model.honest → AllImagesMean (model.folder new.disk) new.state)
+          → Rounds model old new all (Ok given)
       ends-flushed whole new given is same reads stages run flushes means = record {
         requests = s.requests;
         ask = first-ask s.requests s.ask;
@@ -232,35 +233,35 @@ module _ {D : Type 0} (honest : Type 0) (folder : D → Folder) (moment : D → 
       }
 
       -- the device failed at the next piece
-      pub ends-device : (new : StoreView D) (piece : List ℕ) (r : Request) → RoundAsks piece r → Performs false honest folder moment since now new r → i + 1 ≤ length all → take (i + 1) all ≡ take i all ++ piece ∷ []
-          → Rounds honest folder moment since old new all (Err fault.Device)
+      pub ends-device : (new : StoreView D) (piece : List ℕ) (r : Request) → RoundAsks piece r → Performs false model now new r → i + 1 ≤ length all → take (i + 1) all ≡ take i all ++ piece ∷ []
+          → Rounds model old new all (Err fault.Device)
       ends-device new piece r asks does more next =
           let ask : AllRoundAsk (take (i + 1) all) (s.requests ++ r ∷ []) = subst (λ ps. AllRoundAsk ps (s.requests ++ r ∷ [])) (ap (λ ps. ps ++ piece ∷ []) first ∙ sym next) (ask-last pieces s.requests piece r s.ask asks) in
           let count : length (s.requests ++ r ∷ []) ≡ i + 1 = ask-count (take (i + 1) all) (s.requests ++ r ∷ []) ask ∙ length-take-le (i + 1) all more in
           record {
             requests = s.requests ++ r ∷ [];
             ask = subst (λ n. AllRoundAsk (take n all) (s.requests ++ r ∷ [])) (sym count) ask;
-            ends = state-more false honest folder moment since old now new s.requests r s.performs does;
-            any_moment = λ h on. moments-more false honest folder moment since old now new s.requests r s.performs does h;
+            ends = state-more false model old now new s.requests r s.performs does;
+            any_moment = λ h on. moments-more false model old now new s.requests r s.performs does h;
           }
 
   -- a round that ends at the next piece
-  pub ends-failing : (old now new : StoreView D) (written : List (List ℕ)) (all : List (List ℕ)) (i : ℕ) (piece : List ℕ) (f : RoundFault) → RoundSoFar honest folder moment since old now (take i all) written
-      → i + 1 ≤ length all → take (i + 1) all ≡ take i all ++ piece ∷ [] → (count : ℕ) → count ≡ i → FailsPiece honest folder moment since now new piece count f
-      → Rounds honest folder moment since old new all (Err f)
+  pub ends-failing : (old now new : StoreView D) (written : List (List ℕ)) (all : List (List ℕ)) (i : ℕ) (piece : List ℕ) (f : RoundFault) → RoundSoFar model old now (take i all) written
+      → i + 1 ≤ length all → take (i + 1) all ≡ take i all ++ piece ∷ [] → (count : ℕ) → count ≡ i → FailsPiece model now new piece count f
+      → Rounds model old new all (Err f)
   ends-failing old now new written all i piece (fault.OutOfMemory performed) s more next count is (inl fails) =
       let here : i ≡ performed = sym (fails.0 ∙ is) in
-      subst (λ (t : StoreView D). Rounds honest folder moment since old t all (Err (fault.OutOfMemory performed))) (sym fails.1)
-      (subst (λ n. Rounds honest folder moment since old now all (Err (fault.OutOfMemory n))) here (ends-memory old now (take i all) written s all i (omega (arith, more)) refl))
+      subst (λ (t : StoreView D). Rounds model old t all (Err (fault.OutOfMemory performed))) (sym fails.1)
+      (subst (λ n. Rounds model old now all (Err (fault.OutOfMemory n))) here (ends-memory old now (take i all) written s all i (omega (arith, more)) refl))
   ends-failing old now new written all i piece (fault.OutOfMemory performed) s more next count is (inr fails) =
       let here : i + 1 ≡ performed = omega (arith, fails.0, is) in
       let takes = fails.2 in
-      subst (λ n. Rounds honest folder moment since old new all (Err (fault.OutOfMemory n))) here
+      subst (λ n. Rounds model old new all (Err (fault.OutOfMemory n))) here
       (ends-memory old new (take i all ++ piece ∷ []) _ (round-more old now (take i all) written s new piece takes.request takes.asks takes.performs fails.1) all (i + 1) more (sym next))
   ends-failing old now new written all i piece fault.Device s more next count is fails =
       ends-device old now (take i all) written s all i (omega (arith, more)) refl new piece fails.1.request fails.1.asks fails.1.performs more next
   ends-failing old now new written all i piece fault.Reopen s more next count is fails = absurd fails
 
   -- a store that has to be opened again
-  pub round-reopens : (store : StoreView D) (all : List (List ℕ)) → (store.reopen ≡ false → ⊥) → Rounds honest folder moment since store store all (Err fault.Reopen)
+  pub round-reopens : (store : StoreView D) (all : List (List ℕ)) → (store.reopen ≡ false → ⊥) → Rounds model store store all (Err fault.Reopen)
   round-reopens store all broken = record { requests = []; ask = tt; ends = refl; any_moment = λ h on. absurd (broken on) }

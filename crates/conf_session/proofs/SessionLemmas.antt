@@ -10,6 +10,7 @@ use Rattle.std.proofs.lemmas.List.Elements.{All-nil}
 use Rattle.yaml_grammar.specs.Closings.{ClosesOnce}
 use Rattle.conf_disk.specs.Image.{Image, IsImage}
 use Rattle.conf_disk.specs.Folder.{Folder}
+use Rattle.conf_disk.specs.Models.{DiskModel}
 use Rattle.conf_store.specs.View.{StoreView}
 use Rattle.conf_session.specs.Said.{piece_limit}
 use Rattle.conf_session.specs.Input.{session_limit, ahead, bytes_read, piece_or_rest as piece_of, AdvancesToPiece, AdvancesToEnd, FailsToRead, FindsTooLong, FindsSessionLong, RunsOutOfMemory, Advances}
@@ -26,13 +27,13 @@ use Rattle.conf_session.specs.declared.session.Tally.{Tally}
 use Rattle.conf_session.proofs.PassedLemmas.{pieces-last, performs-none, performs-more, moments-more, waits-more, state-more, stored-more, reads-more, stages-more, kept-all, kept-most, acknowledged-more, accepted_commands-last, output-last, refusals-last, take-beyond}
 
 -- The bytes that were read are pieces, whose requests are performed and answered, and further bytes.
-pub record SoFar {D : Type 0} (honest : Type 0) (folder : D → Folder) (moment : D → ℕ) (since : D → ℕ → Image → Type 0) (given left held written : Option (List ℕ)) (old new : StoreView D)
+pub record SoFar {D : Type 0} (model : DiskModel D) (given left held written : Option (List ℕ)) (old new : StoreView D)
     (further : List ℕ) (counts : Counts) (total : ℕ) : Type 0 where
   pub pieces : List (List ℕ)
   pub requests : List Request
   pub taken : Consumes given left (concat pieces ++ further)
   pub are : ArePieces pieces requests
-  pub passed : Passed honest folder moment since held written old new requests
+  pub passed : Passed model held written old new requests
   pub counted : AreCounted (stored_of old) requests counts
   pub read : total ≡ length (concat pieces ++ further)
 
@@ -41,29 +42,29 @@ taken-more : (given mid left : Option (List ℕ)) (prefix further more : List �
 taken-more given mid left prefix further more one two =
     subst (Consumes given left) (append_assoc prefix further more) (Consumes-trans given mid left (prefix ++ further) more one two)
 
-module _ {D : Type 0} (honest : Type 0) (folder : D → Folder) (moment : D → ℕ) (since : D → ℕ → Image → Type 0) where
+module _ {D : Type 0} (model : DiskModel D) where
   -- before the first piece, nothing was read, performed or written
   pub so_far-none : (given held : Option (List ℕ)) (store : StoreView D) (further : List ℕ) (counts : Counts) (total : ℕ) → store.reopen ≡ false
-      → ((image : Image) → honest → since store.disk (moment store.disk) image → IsImage (folder store.disk) image)
-      → (honest → store.reopen ≡ false → LeavesPrefixes (folder store.disk) store.state) → further ≡ []
+      → ((image : Image) → model.honest → model.left store.disk (model.moment store.disk) image → IsImage (model.folder store.disk) image)
+      → (model.honest → store.reopen ≡ false → LeavesPrefixes (model.folder store.disk) store.state) → further ≡ []
       → counts.tally.documents ≡ 0 → counts.tally.accepted ≡ 0 → counts.tally.refused ≡ 0 → counts.written ≡ 0 → total ≡ 0
-      → SoFar honest folder moment since given given held held store store further counts total
+      → SoFar model given given held held store store further counts total
   so_far-none given held store further counts total off only means none d a r w t = record {
     pieces = [];
     requests = [];
     taken = subst (Consumes given given) (sym none) (Consumes-nil given);
     are = record { closed = All-nil ClosesOnce; short = All-nil (λ (p : List ℕ). length p ≤ piece_limit); ask = tt };
-    passed = record { out = Appends-nil held; performs = performs-none true honest folder moment since store off only means };
+    passed = record { out = Appends-nil held; performs = performs-none true model store off only means };
     counted = record { documents = d; accepted = a; refused = r; written = w };
     read = t ∙ ap length (sym none);
   }
 
   module _ (given mid left held between : Option (List ℕ)) (old now : StoreView D) (was then : Input) (counts : Counts)
-      (s : SoFar honest folder moment since given mid held between old now (ahead was) counts (bytes_read was)) where
+      (s : SoFar model given mid held between old now (ahead was) counts (bytes_read was)) where
     -- a run that ends when all requests so far are performed and answered
-    stopped : (written : Option (List ℕ)) (result : Result Tally SessionFault) → (honest → now.reopen ≡ false → LeavesPrefixes (folder now.disk) now.state)
+    stopped : (written : Option (List ℕ)) (result : Result Tally SessionFault) → (model.honest → now.reopen ≡ false → LeavesPrefixes (model.folder now.disk) now.state)
         → Ends given left held written (stored_of old) s.requests s.requests result
-        → Runs honest folder moment since given left held written old now result
+        → Runs model given left held written old now result
     stopped written result means ends = record {
       answered = s.requests;
       performed = s.requests;
@@ -74,7 +75,7 @@ module _ {D : Type 0} (honest : Type 0) (folder : D → Folder) (moment : D → 
       stages = λ h on. s.passed.performs.stages h;
       any_moment = λ h on. s.passed.performs.any_moment h;
       kept = λ h on flushed waiting has.
-          kept-all honest folder moment since old now s.requests (acknowledged (stored_of old) waiting s.requests) s.passed.performs.sound means h flushed waiting has
+          kept-all model old now s.requests (acknowledged (stored_of old) waiting s.requests) s.passed.performs.sound means h flushed waiting has
           (s.passed.performs.waits h flushed waiting has) (omega arith);
       waits = λ h on. s.passed.performs.waits h;
     }
@@ -82,9 +83,9 @@ module _ {D : Type 0} (honest : Type 0) (folder : D → Folder) (moment : D → 
     -- ---- the exits that the input makes
 
     pub ends-well : (tally : Tally) → AdvancesToEnd mid left was then
-        → (honest → now.reopen ≡ false → LeavesPrefixes (folder now.disk) now.state)
+        → (model.honest → now.reopen ≡ false → LeavesPrefixes (model.folder now.disk) now.state)
         → tally.documents ≡ counts.tally.documents → tally.accepted ≡ counts.tally.accepted → tally.refused ≡ counts.tally.refused → tally.rest ≡ length (piece_of then)
-        → Runs honest folder moment since given left held between old now (Ok tally)
+        → Runs model given left held between old now (Ok tally)
     ends-well tally end means d a r rest = stopped between (Ok tally) means (
       refl,
       record {
@@ -108,8 +109,8 @@ module _ {D : Type 0} (honest : Type 0) (folder : D → Folder) (moment : D → 
       },
     )
 
-    ends-reading : FailsToRead mid left was → (honest → now.reopen ≡ false → LeavesPrefixes (folder now.disk) now.state)
-        → Runs honest folder moment since given left held between old now (Err fault.Read)
+    ends-reading : FailsToRead mid left was → (model.honest → now.reopen ≡ false → LeavesPrefixes (model.folder now.disk) now.state)
+        → Runs model given left held between old now (Err fault.Read)
     ends-reading fails means = stopped between (Err fault.Read) means (
       refl,
       record {
@@ -123,8 +124,8 @@ module _ {D : Type 0} (honest : Type 0) (folder : D → Folder) (moment : D → 
       },
     )
 
-    ends-too_long : FindsTooLong mid left was → (honest → now.reopen ≡ false → LeavesPrefixes (folder now.disk) now.state)
-        → Runs honest folder moment since given left held between old now (Err fault.TooLong)
+    ends-too_long : FindsTooLong mid left was → (model.honest → now.reopen ≡ false → LeavesPrefixes (model.folder now.disk) now.state)
+        → Runs model given left held between old now (Err fault.TooLong)
     ends-too_long finds means = stopped between (Err fault.TooLong) means (
       refl,
       record {
@@ -135,8 +136,8 @@ module _ {D : Type 0} (honest : Type 0) (folder : D → Folder) (moment : D → 
       },
     )
 
-    ends-session_long : FindsSessionLong mid left was → (honest → now.reopen ≡ false → LeavesPrefixes (folder now.disk) now.state)
-        → Runs honest folder moment since given left held between old now (Err fault.SessionLong)
+    ends-session_long : FindsSessionLong mid left was → (model.honest → now.reopen ≡ false → LeavesPrefixes (model.folder now.disk) now.state)
+        → Runs model given left held between old now (Err fault.SessionLong)
     ends-session_long finds means =
         let rest = ahead was ++ finds.more in
         let prefix = concat s.pieces ++ rest in
@@ -162,8 +163,8 @@ module _ {D : Type 0} (honest : Type 0) (folder : D → Folder) (moment : D → 
           },
         )
 
-    ends-starved : RunsOutOfMemory mid left → (honest → now.reopen ≡ false → LeavesPrefixes (folder now.disk) now.state)
-        → Runs honest folder moment since given left held between old now (Err fault.OutOfMemory)
+    ends-starved : RunsOutOfMemory mid left → (model.honest → now.reopen ≡ false → LeavesPrefixes (model.folder now.disk) now.state)
+        → Runs model given left held between old now (Err fault.OutOfMemory)
     ends-starved out means = stopped between (Err fault.OutOfMemory) means (
       refl,
       record {
@@ -175,8 +176,8 @@ module _ {D : Type 0} (honest : Type 0) (folder : D → Folder) (moment : D → 
     )
 
     -- the input has no further piece for a reason
-    pub ends-in_input : (f : SessionFault) → Advances mid left was then (Err f) → (honest → now.reopen ≡ false → LeavesPrefixes (folder now.disk) now.state)
-        → Runs honest folder moment since given left held between old now (Err f)
+    pub ends-in_input : (f : SessionFault) → Advances mid left was then (Err f) → (model.honest → now.reopen ≡ false → LeavesPrefixes (model.folder now.disk) now.state)
+        → Runs model given left held between old now (Err f)
     ends-in_input fault.Read fails means = ends-reading fails means
     ends-in_input fault.TooLong fails means = ends-too_long fails means
     ends-in_input fault.SessionLong fails means = ends-session_long fails means
@@ -197,8 +198,8 @@ module _ {D : Type 0} (honest : Type 0) (folder : D → Folder) (moment : D → 
       all-taken : Consumes given left (concat (s.pieces ++ piece_of then ∷ []) ++ ahead then)
       all-taken = subst (Consumes given left) joined-more (taken-more given mid left (concat s.pieces) (ahead was) advances.more s.taken advances.taken)
 
-      pub so_far-more : (written : Option (List ℕ)) (new : StoreView D) (after : Counts) → Answered honest folder moment since between written now new (piece_of then) counts after
-          → SoFar honest folder moment since given left held written old new (ahead then) after (bytes_read then)
+      pub so_far-more : (written : Option (List ℕ)) (new : StoreView D) (after : Counts) → Answered model between written now new (piece_of then) counts after
+          → SoFar model given left held written old new (ahead then) after (bytes_read then)
       so_far-more written new after one =
           let start = stored_of old in
           let rs = s.requests in
@@ -212,7 +213,7 @@ module _ {D : Type 0} (honest : Type 0) (folder : D → Folder) (moment : D → 
             passed = record {
               out = subst (Appends held written) (ap (λ t. output start rs ++ answer_bytes t r) here ∙ sym (output-last start rs r))
                   (Appends-trans held between written (output start rs) (answer_bytes (stored_of now) r) s.passed.out one.out);
-              performs = performs-more true honest folder moment since old now new rs r s.passed.performs one.performs one.sound;
+              performs = performs-more true model old now new rs r s.passed.performs one.performs one.sound;
             };
             counted = record {
               documents = one.documents ∙ ap (λ n. n + 1) s.counted.documents ∙ sym (length-append rs (r ∷ []));
@@ -239,10 +240,10 @@ module _ {D : Type 0} (honest : Type 0) (folder : D → Folder) (moment : D → 
         are = pieces-last s.pieces s.requests (piece_of then) r s.are advances.piece advances.short asks;
       }
 
-      ends-memory : (written : Option (List ℕ)) (new : StoreView D) → new ≡ now → Keeps between written → (honest → new.reopen ≡ false → LeavesPrefixes (folder new.disk) new.state)
-          → Runs honest folder moment since given left held written old new (Err fault.OutOfMemory)
+      ends-memory : (written : Option (List ℕ)) (new : StoreView D) → new ≡ now → Keeps between written → (model.honest → new.reopen ≡ false → LeavesPrefixes (model.folder new.disk) new.state)
+          → Runs model given left held written old new (Err fault.OutOfMemory)
       ends-memory written new same keeps means =
-          subst (λ (t : StoreView D). (honest → t.reopen ≡ false → LeavesPrefixes (folder t.disk) t.state) → Runs honest folder moment since given left held written old t (Err fault.OutOfMemory)) (sym same)
+          subst (λ (t : StoreView D). (model.honest → t.reopen ≡ false → LeavesPrefixes (model.folder t.disk) t.state) → Runs model given left held written old t (Err fault.OutOfMemory)) (sym same)
           (λ there. stopped written (Err fault.OutOfMemory) there (
             refl,
             record {
@@ -254,9 +255,9 @@ module _ {D : Type 0} (honest : Type 0) (folder : D → Folder) (moment : D → 
           ))
           means
 
-      ends-device : (written : Option (List ℕ)) (new : StoreView D) (r : Request) → Asks (piece_of then) r → new.reopen ≡ true → Performs true honest folder moment since now new r → Keeps between written
-          → ((t : ℕ) (image : Image) → honest → t ≤ moment new.disk → IsImage (folder new.disk) image → since new.disk t image)
-          → Runs honest folder moment since given left held written old new (Err fault.Device)
+      ends-device : (written : Option (List ℕ)) (new : StoreView D) (r : Request) → Asks (piece_of then) r → new.reopen ≡ true → Performs true model now new r → Keeps between written
+          → ((t : ℕ) (image : Image) → model.honest → t ≤ model.moment new.disk → IsImage (model.folder new.disk) image → model.left new.disk t image)
+          → Runs model given left held written old new (Err fault.Device)
       ends-device written new r asks broken does keeps counts_now = record {
         answered = s.requests;
         performed = s.requests ++ r ∷ [];
@@ -270,20 +271,20 @@ module _ {D : Type 0} (honest : Type 0) (folder : D → Folder) (moment : D → 
             out = Appends-kept held between written (output (stored_of old) s.requests) s.passed.out keeps;
           },
         );
-        state = state-more true honest folder moment since old now new s.requests r s.passed.performs does;
+        state = state-more true model old now new s.requests r s.passed.performs does;
         stored = λ on. absurd (cc (on, broken));
         reads = λ h on. absurd (cc (on, broken));
         stages = λ h on. absurd (cc (on, broken));
-        any_moment = λ h on. moments-more true honest folder moment since old now new s.requests r s.passed.performs does h;
-        kept = λ h on flushed waiting has. kept-most honest folder moment since old now new s.requests r s.passed.performs does h flushed waiting has counts_now;
+        any_moment = λ h on. moments-more true model old now new s.requests r s.passed.performs does h;
+        kept = λ h on flushed waiting has. kept-most model old now new s.requests r s.passed.performs does h flushed waiting has counts_now;
         waits = λ h on. absurd (cc (on, broken));
       }
 
-      ends-write : (written : Option (List ℕ)) (new : StoreView D) (r : Request) (count total : ℕ) → Asks (piece_of then) r → new.reopen ≡ false → Performs true honest folder moment since now new r
+      ends-write : (written : Option (List ℕ)) (new : StoreView D) (r : Request) (count total : ℕ) → Asks (piece_of then) r → new.reopen ≡ false → Performs true model now new r
           → total ≡ counts.written + count → count < length (answer_bytes (stored_of now) r) → Appends between written (take count (answer_bytes (stored_of now) r))
           → length (answer_bytes (stored_of now) r) ≤ answer_limit → counts.written ≤ counts.tally.documents * answer_limit
-          → (honest → new.reopen ≡ false → LeavesPrefixes (folder new.disk) new.state)
-          → Runs honest folder moment since given left held written old new (Err (fault.Write total))
+          → (model.honest → new.reopen ≡ false → LeavesPrefixes (model.folder new.disk) new.state)
+          → Runs model given left held written old new (Err (fault.Write total))
       ends-write written new r count total asks off does is short out small room means =
           let start = stored_of old in
           let rs = s.requests in
@@ -294,7 +295,7 @@ module _ {D : Type 0} (honest : Type 0) (folder : D → Folder) (moment : D → 
           let sum = s.counted.written in
           let prefix : take total (output start (rs ++ r ∷ [])) ≡ before ++ take count one =
           ap (take total) all ∙ ap (λ n. take n (before ++ one)) (is ∙ ap (λ n. n + count) sum) ∙ take-beyond count before one in
-          let stored = stored-more true honest folder moment since old now new rs r s.passed.performs does off in
+          let stored = stored-more true model old now new rs r s.passed.performs does off in
           record {
             answered = rs;
             performed = rs ++ r ∷ [];
@@ -311,21 +312,21 @@ module _ {D : Type 0} (honest : Type 0) (folder : D → Folder) (moment : D → 
             };
             state = ap (λ (t : Stored). t.state) stored;
             stored = λ on. stored;
-            reads = λ h on. reads-more true honest folder moment since old now new rs r s.passed.performs does h off;
-            stages = λ h on. stages-more true honest folder moment since old now new rs r s.passed.performs does h off;
-            any_moment = λ h on. moments-more true honest folder moment since old now new rs r s.passed.performs does h;
+            reads = λ h on. reads-more true model old now new rs r s.passed.performs does h off;
+            stages = λ h on. stages-more true model old now new rs r s.passed.performs does h off;
+            any_moment = λ h on. moments-more true model old now new rs r s.passed.performs does h;
             kept = λ h on flushed waiting has.
-                kept-all honest folder moment since old new (rs ++ r ∷ []) (acknowledged start waiting rs) off means h flushed waiting has
-                (waits-more true honest folder moment since old now new rs r s.passed.performs does h flushed waiting has off) (acknowledged-more start waiting rs r);
-            waits = λ h on flushed waiting has. waits-more true honest folder moment since old now new rs r s.passed.performs does h flushed waiting has off;
+                kept-all model old new (rs ++ r ∷ []) (acknowledged start waiting rs) off means h flushed waiting has
+                (waits-more true model old now new rs r s.passed.performs does h flushed waiting has off) (acknowledged-more start waiting rs r);
+            waits = λ h on flushed waiting has. waits-more true model old now new rs r s.passed.performs does h flushed waiting has off;
           }
 
       -- the piece has no answer that was written whole
-      pub ends-failing : (written : Option (List ℕ)) (new : StoreView D) (f : SessionFault) → Fails honest folder moment since between written now new (piece_of then) counts.written f
+      pub ends-failing : (written : Option (List ℕ)) (new : StoreView D) (f : SessionFault) → Fails model between written now new (piece_of then) counts.written f
           → counts.written ≤ counts.tally.documents * answer_limit
-          → (honest → new.reopen ≡ false → LeavesPrefixes (folder new.disk) new.state)
-          → ((t : ℕ) (image : Image) → honest → t ≤ moment new.disk → IsImage (folder new.disk) image → since new.disk t image)
-          → Runs honest folder moment since given left held written old new (Err f)
+          → (model.honest → new.reopen ≡ false → LeavesPrefixes (model.folder new.disk) new.state)
+          → ((t : ℕ) (image : Image) → model.honest → t ≤ model.moment new.disk → IsImage (model.folder new.disk) image → model.left new.disk t image)
+          → Runs model given left held written old new (Err f)
       ends-failing written new fault.OutOfMemory fails room means counts_now = ends-memory written new fails.0 fails.1 means
       ends-failing written new fault.Device fails room means counts_now = ends-device written new fails.0 fails.1 fails.2 fails.3 fails.4 counts_now
       ends-failing written new (fault.Write total) fails room means counts_now =
@@ -337,7 +338,7 @@ module _ {D : Type 0} (honest : Type 0) (folder : D → Folder) (moment : D → 
 
   -- ---- nothing is done
 
-  pub reopens : (given held : Option (List ℕ)) (store : StoreView D) → (store.reopen ≡ false → ⊥) → Runs honest folder moment since given given held held store store (Err fault.Reopen)
+  pub reopens : (given held : Option (List ℕ)) (store : StoreView D) → (store.reopen ≡ false → ⊥) → Runs model given given held held store store (Err fault.Reopen)
   reopens given held store broken = record {
     answered = [];
     performed = [];
@@ -352,11 +353,11 @@ module _ {D : Type 0} (honest : Type 0) (folder : D → Folder) (moment : D → 
   }
 
   pub starts-without-memory : (given held : Option (List ℕ)) (store : StoreView D) → store.reopen ≡ false
-      → ((image : Image) → honest → since store.disk (moment store.disk) image → IsImage (folder store.disk) image)
-      → (honest → store.reopen ≡ false → LeavesPrefixes (folder store.disk) store.state)
-      → Runs honest folder moment since given given held held store store (Err fault.OutOfMemory)
+      → ((image : Image) → model.honest → model.left store.disk (model.moment store.disk) image → IsImage (model.folder store.disk) image)
+      → (model.honest → store.reopen ≡ false → LeavesPrefixes (model.folder store.disk) store.state)
+      → Runs model given given held held store store (Err fault.OutOfMemory)
   starts-without-memory given held store off only means =
-      let none = performs-none true honest folder moment since store off only means in
+      let none = performs-none true model store off only means in
       record {
         answered = [];
         performed = [];
@@ -374,7 +375,7 @@ module _ {D : Type 0} (honest : Type 0) (folder : D → Folder) (moment : D → 
         reads = λ h on. refl;
         stages = λ h on. refl;
         any_moment = λ h on. none.any_moment h;
-        kept = λ h on flushed waiting has. kept-all honest folder moment since store store [] (acknowledged (stored_of store) waiting []) off means h flushed waiting has has (omega arith);
+        kept = λ h on flushed waiting has. kept-all model store store [] (acknowledged (stored_of store) waiting []) off means h flushed waiting has has (omega arith);
         waits = λ h on flushed waiting has. has;
       }
 

@@ -4,6 +4,7 @@ use Rattle.std.specs.Prelude.{ℕ, ◌+◌, List, [], ◌∷◌, ◌++◌, lengt
 use Rattle.std.proofs.lemmas.List.{append-nil, take_all}
 use Rattle.conf_disk.specs.Folder.{Folder}
 use Rattle.conf_disk.specs.Image.{Image, IsImage}
+use Rattle.conf_disk.specs.Models.{DiskModel}
 use Rattle.conf_disk.specs.Moments.{LeavesOnly}
 use Rattle.conf_disk.proofs.Moments.{LeavesOnly-joined}
 use Rattle.conf_state.specs.Commands.{Command}
@@ -147,14 +148,14 @@ few-acknowledged now waiting (t ∷ ts) us =
 
 -- ---- turns that were performed
 
-module _ {D : Type 0} (honest : Type 0) (folder : D → Folder) (moment : D → ℕ) (since : D → ℕ → Image → Type 0) where
+module _ {D : Type 0} (model : DiskModel D) where
   -- what a crash leaves, where the state is flushed and stays
-  pub quiet-now : (old new : D) (s : Contents) → LeavesOnly moment since old new (λ image. AfterPrefix s [] image.store)
-      → ((t : ℕ) (image : Image) → t ≤ moment new → IsImage (folder new) image → since new t image) → AllImagesMean (folder new) s
-  quiet-now old new s run counts_now image is = after-nothing s image.store (run.each image (counts_now (moment old) image run.later is))
+  pub quiet-now : (old new : D) (s : Contents) → LeavesOnly model old new (λ image. AfterPrefix s [] image.store)
+      → ((t : ℕ) (image : Image) → t ≤ model.moment new → IsImage (model.folder new) image → model.left new t image) → AllImagesMean (model.folder new) s
+  quiet-now old new s run counts_now image is = after-nothing s image.store (run.each image (counts_now (model.moment old) image run.later is))
 
-  module _ (old mid : StoreView D) (ts : List Turn) (before : PerformsTurns honest folder moment since old mid ts)
-      (h : honest) (flushed : Contents) (waiting : List Command) (has : HasFlushed (folder old.disk) flushed waiting old.state) where
+  module _ (old mid : StoreView D) (ts : List Turn) (before : PerformsTurns model old mid ts)
+      (h : model.honest) (flushed : Contents) (waiting : List Command) (has : HasFlushed (model.folder old.disk) flushed waiting old.state) where
     leads : after flushed (waiting ++ turns_accepted (stored_of old) ts) ≡ Ok mid.state
     leads =
         after-joined flushed old.state mid.state waiting (turns_accepted (stored_of old) ts) has.journal.leads
@@ -164,44 +165,44 @@ module _ {D : Type 0} (honest : Type 0) (folder : D → Folder) (moment : D → 
     continued = record { first = waiting ++ turns_accepted (stored_of old) ts; is = sym (append-nil (waiting ++ turns_accepted (stored_of old) ts)); leads = leads }
 
     -- what a crash leaves of the turns and of what comes after them
-    pub moments-after : (new : D) (more : List Command) → LeavesOnly moment since mid.disk new (λ image. AfterPrefix mid.state more image.store)
-        → LeavesOnly moment since old.disk new (λ image. AfterPrefix flushed ((waiting ++ turns_accepted (stored_of old) ts) ++ more) image.store)
+    pub moments-after : (new : D) (more : List Command) → LeavesOnly model mid.disk new (λ image. AfterPrefix mid.state more image.store)
+        → LeavesOnly model old.disk new (λ image. AfterPrefix flushed ((waiting ++ turns_accepted (stored_of old) ts) ++ more) image.store)
     moments-after new more run =
         let first = waiting ++ turns_accepted (stored_of old) ts in
-        LeavesOnly-joined moment since old.disk mid.disk new _ _ _ (before.any_moment h flushed waiting has) run
+        LeavesOnly-joined model old.disk mid.disk new _ _ _ (before.any_moment h flushed waiting has) run
         (λ image. prefix-longer flushed first more image.store)
         (λ image. prefix-continued flushed mid.state first [] more image.store continued)
 
     -- a crash after the turns
-    pub kept-after : (least : ℕ) → least ≤ length (waiting ++ turns_accepted (stored_of old) ts) → (image : Image) → IsImage (folder mid.disk) image
+    pub kept-after : (least : ℕ) → least ≤ length (waiting ++ turns_accepted (stored_of old) ts) → (image : Image) → IsImage (model.folder mid.disk) image
         → AfterAtLeast flushed least (waiting ++ turns_accepted (stored_of old) ts) image.store
     kept-after least few image is =
         let all = waiting ++ turns_accepted (stored_of old) ts in
         record { count = length all; enough = few; state = mid.state; leads = ap (after flushed) (take_all (length all) all (omega arith)) ∙ leads; means = before.now h image is }
 
     -- a crash during what comes after them
-    pub kept-during : (new : D) (more : List Command) → LeavesOnly moment since mid.disk new (λ image. AfterPrefix mid.state more image.store)
-        → ((t : ℕ) (image : Image) → t ≤ moment new → IsImage (folder new) image → since new t image)
-        → (least : ℕ) → least ≤ length (waiting ++ turns_accepted (stored_of old) ts) → (image : Image) → IsImage (folder new) image
+    pub kept-during : (new : D) (more : List Command) → LeavesOnly model mid.disk new (λ image. AfterPrefix mid.state more image.store)
+        → ((t : ℕ) (image : Image) → t ≤ model.moment new → IsImage (model.folder new) image → model.left new t image)
+        → (least : ℕ) → least ≤ length (waiting ++ turns_accepted (stored_of old) ts) → (image : Image) → IsImage (model.folder new) image
         → AfterAtLeast flushed least ((waiting ++ turns_accepted (stored_of old) ts) ++ more) image.store
     kept-during new more run counts_now least few image is =
         let first = waiting ++ turns_accepted (stored_of old) ts in
-        let some = run.each image (counts_now (moment mid.disk) image run.later is) in
+        let some = run.each image (counts_now (model.moment mid.disk) image run.later is) in
         let all = at-least flushed mid.state first [] more image.store continued some in
         let enough = all.enough in
         record { count = all.count; enough = omega (arith, few, enough); state = all.state; leads = all.leads; means = all.means }
 
   -- turns after turns
-  pub performs-joined : (old mid new : StoreView D) (ts us : List Turn) → PerformsTurns honest folder moment since old mid ts → PerformsTurns honest folder moment since mid new us
-      → PerformsTurns honest folder moment since old new (ts ++ us)
+  pub performs-joined : (old mid new : StoreView D) (ts us : List Turn) → PerformsTurns model old mid ts → PerformsTurns model mid new us
+      → PerformsTurns model old new (ts ++ us)
   performs-joined old mid new ts us before next = record {
     sound = next.sound;
     stored = next.stored ∙ ap (λ t. stored_after_turns t us) before.stored ∙ sym (stored-joined (stored_of old) ts us);
     files = λ h. next.files h ∙ ap (λ f. files_after_turns f (stored_of mid) us) (before.files h)
-        ∙ ap (λ t. files_after_turns (files_after_turns (files_of folder old) (stored_of old) ts) t us) before.stored
-        ∙ sym (files-joined (files_of folder old) (stored_of old) ts us);
+        ∙ ap (λ t. files_after_turns (files_after_turns (files_of model.folder old) (stored_of old) ts) t us) before.stored
+        ∙ sym (files-joined (files_of model.folder old) (stored_of old) ts us);
     any_moment = λ h flushed waiting has.
-        subst (λ (l : List Command). LeavesOnly moment since old.disk new.disk (λ image. AfterPrefix flushed l image.store))
+        subst (λ (l : List Command). LeavesOnly model old.disk new.disk (λ image. AfterPrefix flushed l image.store))
         (append_assoc waiting (turns_accepted (stored_of old) ts) (turns_accepted (stored_of mid) us)
         ∙ ap (λ l. waiting ++ l) (ap (λ t. turns_accepted (stored_of old) ts ++ turns_accepted t us) before.stored ∙ sym (accepted-joined (stored_of old) ts us)))
         (moments-after old mid ts before h flushed waiting has new.disk (turns_accepted (stored_of mid) us) (next.any_moment h mid.state [] (before.flushed h)));

@@ -5,6 +5,7 @@ use Rattle.std.specs.Io.KnownBytes.{Appends, Keeps}
 use Rattle.yaml_grammar.specs.Closings.{ClosesOnce}
 use Rattle.conf_disk.specs.Folder.{Folder}
 use Rattle.conf_disk.specs.Image.{Image}
+use Rattle.conf_disk.specs.Models.{DiskModel}
 use Rattle.conf_disk.specs.Moments.{LeavesOnly}
 use Rattle.conf_state.specs.Commands.{Command}
 use Rattle.conf_state.specs.States.{Contents}
@@ -84,87 +85,87 @@ FailsToWrite held written answers fault = ⊥
 -- ---- turns
 
 -- The turns are performed, one after the other, and all is flushed: whatever a crash leaves now means the state.
-pub record PerformsTurns {D : Type 0} (honest : Type 0) (folder : D → Folder) (moment : D → ℕ)
-    (since : D → ℕ → Image → Type 0) (old new : StoreView D) (turns : List Turn) : Type 0 where
+pub record PerformsTurns {D : Type 0} (model : DiskModel D) (old new : StoreView D) (turns : List Turn) : Type 0 where
   pub sound : new.reopen ≡ false
   pub stored : stored_of new ≡ stored_after_turns (stored_of old) turns
-  pub files : honest → files_of folder new ≡ files_after_turns (files_of folder old) (stored_of old) turns
-  pub any_moment : honest → (flushed : Contents) (waiting : List Command)
-      → HasFlushed (folder old.disk) flushed waiting old.state
-      → LeavesOnly moment since old.disk new.disk
+  pub files : model.honest
+      → files_of model.folder new ≡ files_after_turns (files_of model.folder old) (stored_of old) turns
+  pub any_moment : model.honest → (flushed : Contents) (waiting : List Command)
+      → HasFlushed (model.folder old.disk) flushed waiting old.state
+      → LeavesOnly model old.disk new.disk
       (λ image. AfterPrefix flushed (waiting ++ turns_accepted (stored_of old) turns) image.store)
-  pub flushed : honest → HasFlushed (folder new.disk) new.state [] new.state
-  pub now : honest → AllImagesMean (folder new.disk) new.state
+  pub flushed : model.honest → HasFlushed (model.folder new.disk) new.state [] new.state
+  pub now : model.honest → AllImagesMean (model.folder new.disk) new.state
 
 -- The device failed in a turn that no request asked for. A crash leaves what was flushed before.
-pub record StopsShort {D : Type 0} (honest : Type 0) (folder : D → Folder) (moment : D → ℕ)
-    (since : D → ℕ → Image → Type 0) (old new : StoreView D) : Type 0 where
+pub record StopsShort {D : Type 0} (model : DiskModel D) (old new : StoreView D) : Type 0 where
   pub broken : new.reopen ≡ true
   pub state : new.state ≡ old.state
-  pub any_moment : honest → (flushed : Contents) (waiting : List Command)
-      → HasFlushed (folder old.disk) flushed waiting old.state
-      → LeavesOnly moment since old.disk new.disk (λ image. AfterPrefix flushed waiting image.store)
+  pub any_moment : model.honest → (flushed : Contents) (waiting : List Command)
+      → HasFlushed (model.folder old.disk) flushed waiting old.state
+      → LeavesOnly model old.disk new.disk (λ image. AfterPrefix flushed waiting image.store)
 
 -- all that waited is flushed
-abbrev pub FlushesAll : {D : Type 0} → Type 0 → (D → Folder) → (D → ℕ) → (D → ℕ → Image → Type 0) → StoreView D
+abbrev pub FlushesAll : {D : Type 0} → DiskModel D → StoreView D
     → StoreView D → Result (Unit {0}) SessionFault → Type 0
-FlushesAll honest folder moment since old new (Ok done) = PerformsTurns honest folder moment since old new []
-FlushesAll honest folder moment since old new (Err fault.Device) = StopsShort honest folder moment since old new
-FlushesAll honest folder moment since old new (Err fault) = ⊥
+FlushesAll model old new (Ok done) = PerformsTurns model old new []
+FlushesAll model old new (Err fault.Device) = StopsShort model old new
+FlushesAll model old new (Err fault) = ⊥
 
 -- a slice is written: that is a turn if it is the last one
-abbrev pub TendsBySlice : {D : Type 0} → Type 0 → (D → Folder) → (D → ℕ) → (D → ℕ → Image → Type 0) → StoreView D
+abbrev pub TendsBySlice : {D : Type 0} → DiskModel D → StoreView D
     → StoreView D → Result (Unit {0}) SessionFault → Type 0
-TendsBySlice honest folder moment since old new (Ok done) =
+TendsBySlice model old new (Ok done) =
     (turns : List Turn) × (requests_of turns ≡ [])
-    × ((bytes : ℕ) → AreDue bytes (files_of folder old) (stored_of old) turns)
-    × PerformsTurns honest folder moment since old new turns
-TendsBySlice honest folder moment since old new (Err fault.Device) = StopsShort honest folder moment since old new
-TendsBySlice honest folder moment since old new (Err fault) = ⊥
+    × ((bytes : ℕ) → AreDue bytes (files_of model.folder old) (stored_of old) turns)
+    × PerformsTurns model old new turns
+TendsBySlice model old new (Err fault.Device) = StopsShort model old new
+TendsBySlice model old new (Err fault) = ⊥
 
 -- a checkpoint is begun, if there is memory for it
-abbrev pub TendsByBeginning : {D : Type 0} → Type 0 → (D → Folder) → (D → ℕ) → (D → ℕ → Image → Type 0) → StoreView D
+abbrev pub TendsByBeginning : {D : Type 0} → DiskModel D → StoreView D
     → StoreView D → Result (Unit {0}) SessionFault → Type 0
-TendsByBeginning honest folder moment since old new (Ok done) =
+TendsByBeginning model old new (Ok done) =
     (turns : List Turn) × (requests_of turns ≡ [])
-    × ((bytes grown : ℕ) → HasGrown (files_of folder old).store grown → bytes ≤ grown
-    → AreDue bytes (files_of folder old) (stored_of old) turns)
-    × PerformsTurns honest folder moment since old new turns
-TendsByBeginning honest folder moment since old new (Err fault.Device) = StopsShort honest folder moment since old new
-TendsByBeginning honest folder moment since old new (Err fault) = ⊥
+    × ((bytes grown : ℕ) → HasGrown (files_of model.folder old).store grown → bytes ≤ grown
+    → AreDue bytes (files_of model.folder old) (stored_of old) turns)
+    × PerformsTurns model old new turns
+TendsByBeginning model old new (Err fault.Device) = StopsShort model old new
+TendsByBeginning model old new (Err fault) = ⊥
 
 -- A turn that no request asked for, or none. None is made if only those are wanted that requests ask for, and a
 -- checkpoint is begun only when it is due.
-abbrev pub Tends : {D : Type 0} → Type 0 → (D → Folder) → (D → ℕ) → (D → ℕ → Image → Type 0) → Checkpoints
+abbrev pub Tends : {D : Type 0} → DiskModel D → Checkpoints
     → StoreView D → StoreView D → Result (Unit {0}) SessionFault → Type 0
-Tends honest folder moment since checkpoints old new (Ok done) =
+Tends model checkpoints old new (Ok done) =
     (turns : List Turn) × (requests_of turns ≡ []) × (checkpoints ≡ Asked → turns ≡ [])
-    × (honest → (bytes : ℕ) → checkpoints ≡ After bytes → AreDue bytes (files_of folder old) (stored_of old) turns)
-    × PerformsTurns honest folder moment since old new turns
-Tends honest folder moment since checkpoints old new (Err fault.Device) = StopsShort honest folder moment since old new
-Tends honest folder moment since checkpoints old new (Err fault) = ⊥
+    × (model.honest → (bytes : ℕ) → checkpoints ≡ After bytes
+    → AreDue bytes (files_of model.folder old) (stored_of old) turns)
+    × PerformsTurns model old new turns
+Tends model checkpoints old new (Err fault.Device) = StopsShort model old new
+Tends model checkpoints old new (Err fault) = ⊥
 
 -- ---- one piece
 
 -- the piece is performed, and its answer is kept
-pub record GathersPiece {D : Type 0} (honest : Type 0) (folder : D → Folder) (moment : D → ℕ)
-    (since : D → ℕ → Image → Type 0) (old new : StoreView D) (piece : List ℕ) (before after : Unwritten) : Type 0 where
+pub record GathersPiece {D : Type 0} (model : DiskModel D) (old new : StoreView D) (piece : List ℕ)
+    (before after : Unwritten) : Type 0 where
   pub request : Request
   pub asks : Asks piece request
   pub sound : new.reopen ≡ false
-  pub performs : Performs false honest folder moment since old new request
+  pub performs : Performs false model old new request
   pub reply : Reply
   pub replies : Replies (stored_of old) request reply
   pub keeps : KeepsAnswer before after reply
 
 -- What became of a piece that has no answer. If memory ran out, nothing was changed.
-abbrev pub FailsInGroup : {D : Type 0} → Type 0 → (D → Folder) → (D → ℕ) → (D → ℕ → Image → Type 0) → StoreView D
+abbrev pub FailsInGroup : {D : Type 0} → DiskModel D → StoreView D
     → StoreView D → List ℕ → SessionFault → Type 0
-FailsInGroup honest folder moment since old new piece fault.OutOfMemory = new ≡ old
-FailsInGroup honest folder moment since old new piece fault.Device =
+FailsInGroup model old new piece fault.OutOfMemory = new ≡ old
+FailsInGroup model old new piece fault.Device =
     (request : Request) × Asks piece request × (new.reopen ≡ true)
-    × Performs false honest folder moment since old new request
-FailsInGroup honest folder moment since old new piece fault = ⊥
+    × Performs false model old new request
+FailsInGroup model old new piece fault = ⊥
 
 -- ---- the pieces of a group
 
@@ -191,68 +192,65 @@ pub record KeepsAnswers (start : Stored) (requests : List Request) (before after
   pub written : after.written ≡ before.written
 
 -- pieces are performed, and their answers are kept; nothing was flushed but by a checkpoint
-pub record Submits {D : Type 0} (honest : Type 0) (folder : D → Folder) (moment : D → ℕ)
-    (since : D → ℕ → Image → Type 0) (bytes further : List ℕ) (old new : StoreView D)
+pub record Submits {D : Type 0} (model : DiskModel D) (bytes further : List ℕ) (old new : StoreView D)
     (before after : Unwritten) : Type 0 where
   pub requests : List Request
   pub takes : TakesUp bytes further requests
-  pub performs : PerformsAll false honest folder moment since old new requests
+  pub performs : PerformsAll false model old new requests
   pub keeps : KeepsAnswers (stored_of old) requests before after
 
 -- the same, and all is flushed
-pub record AnswersGroup {D : Type 0} (honest : Type 0) (folder : D → Folder) (moment : D → ℕ)
-    (since : D → ℕ → Image → Type 0) (bytes further : List ℕ) (old new : StoreView D)
+pub record AnswersGroup {D : Type 0} (model : DiskModel D) (bytes further : List ℕ) (old new : StoreView D)
     (before after : Unwritten) : Type 0 where
   pub requests : List Request
   pub takes : TakesUp bytes further requests
-  pub performs : PerformsTurns honest folder moment since old new (all_asked requests)
+  pub performs : PerformsTurns model old new (all_asked requests)
   pub keeps : KeepsAnswers (stored_of old) requests before after
 
 -- The device failed. The pieces are performed, maybe but for the last, and none is answered.
-pub record BreaksOff {D : Type 0} (honest : Type 0) (folder : D → Folder) (moment : D → ℕ)
-    (since : D → ℕ → Image → Type 0) (bytes : List ℕ) (old new : StoreView D) : Type 0 where
+pub record BreaksOff {D : Type 0} (model : DiskModel D) (bytes : List ℕ) (old new : StoreView D) : Type 0 where
   pub broken : new.reopen ≡ true
   pub requests : List Request
   pub further : List ℕ
   pub takes : TakesUp bytes further requests
   pub state : new.state ≡ (stored_after_all (stored_of old) requests).state
-  pub any_moment : honest → (flushed : Contents) (waiting : List Command)
-      → HasFlushed (folder old.disk) flushed waiting old.state
-      → LeavesOnly moment since old.disk new.disk
+  pub any_moment : model.honest → (flushed : Contents) (waiting : List Command)
+      → HasFlushed (model.folder old.disk) flushed waiting old.state
+      → LeavesOnly model old.disk new.disk
       (λ image. AfterPrefix flushed (waiting ++ accepted_commands (stored_of old) requests) image.store)
 
 -- What became of a group whose bytes are the piece in hand and those after it. If memory ran out, the pieces before are
 -- performed.
-abbrev pub SubmitsGroup : {D : Type 0} → Type 0 → (D → Folder) → (D → ℕ) → (D → ℕ → Image → Type 0) → List ℕ → Input
+abbrev pub SubmitsGroup : {D : Type 0} → DiskModel D → List ℕ → Input
     → StoreView D → StoreView D → Unwritten → Unwritten → Result (Unit {0}) SessionFault → Type 0
-SubmitsGroup honest folder moment since bytes input old new before after (Ok done) =
-    IsSound input × Submits honest folder moment since bytes (ahead input) old new before after
-SubmitsGroup honest folder moment since bytes input old new before after (Err fault.OutOfMemory) =
-    (further : List ℕ) × Submits honest folder moment since bytes further old new before after
-SubmitsGroup honest folder moment since bytes input old new before after (Err fault.Device) =
-    BreaksOff honest folder moment since bytes old new
-SubmitsGroup honest folder moment since bytes input old new before after (Err fault) = ⊥
+SubmitsGroup model bytes input old new before after (Ok done) =
+    IsSound input × Submits model bytes (ahead input) old new before after
+SubmitsGroup model bytes input old new before after (Err fault.OutOfMemory) =
+    (further : List ℕ) × Submits model bytes further old new before after
+SubmitsGroup model bytes input old new before after (Err fault.Device) =
+    BreaksOff model bytes old new
+SubmitsGroup model bytes input old new before after (Err fault) = ⊥
 
 -- the same once it is flushed
-abbrev pub EndsGroup : {D : Type 0} → Type 0 → (D → Folder) → (D → ℕ) → (D → ℕ → Image → Type 0) → List ℕ → Input
+abbrev pub EndsGroup : {D : Type 0} → DiskModel D → List ℕ → Input
     → StoreView D → StoreView D → Unwritten → Unwritten → Result (Unit {0}) SessionFault → Type 0
-EndsGroup honest folder moment since bytes input old new before after (Ok done) =
-    IsSound input × AnswersGroup honest folder moment since bytes (ahead input) old new before after
-EndsGroup honest folder moment since bytes input old new before after (Err fault.OutOfMemory) =
-    (further : List ℕ) × AnswersGroup honest folder moment since bytes further old new before after
-EndsGroup honest folder moment since bytes input old new before after (Err fault.Device) =
-    BreaksOff honest folder moment since bytes old new
-EndsGroup honest folder moment since bytes input old new before after (Err fault) = ⊥
+EndsGroup model bytes input old new before after (Ok done) =
+    IsSound input × AnswersGroup model bytes (ahead input) old new before after
+EndsGroup model bytes input old new before after (Err fault.OutOfMemory) =
+    (further : List ℕ) × AnswersGroup model bytes further old new before after
+EndsGroup model bytes input old new before after (Err fault.Device) =
+    BreaksOff model bytes old new
+EndsGroup model bytes input old new before after (Err fault) = ⊥
 
 -- ---- a group with its answers written
 
 -- the pieces are performed, flushed and answered
-pub record PassesGroup {D : Type 0} (honest : Type 0) (folder : D → Folder) (moment : D → ℕ)
-    (since : D → ℕ → Image → Type 0) (held written : Option (List ℕ)) (bytes further : List ℕ) (old new : StoreView D)
+pub record PassesGroup {D : Type 0} (model : DiskModel D) (held written : Option (List ℕ)) (bytes further : List ℕ)
+    (old new : StoreView D)
     (before after : Unwritten) : Type 0 where
   pub requests : List Request
   pub takes : TakesUp bytes further requests
-  pub performs : PerformsTurns honest folder moment since old new (all_asked requests)
+  pub performs : PerformsTurns model old new (all_asked requests)
   pub out : Appends held written (output (stored_of old) requests)
   pub short : length (output (stored_of old) requests) ≤ length requests * answer_limit
   pub documents : after.tally.documents ≡ before.tally.documents + length requests
@@ -261,29 +259,29 @@ pub record PassesGroup {D : Type 0} (honest : Type 0) (folder : D → Folder) (m
   pub sent : after.written ≡ before.written + length (output (stored_of old) requests)
 
 -- the pieces are performed and flushed, and so many bytes were written, with those of the answers before
-pub record CutsGroup {D : Type 0} (honest : Type 0) (folder : D → Folder) (moment : D → ℕ)
-    (since : D → ℕ → Image → Type 0) (held written : Option (List ℕ)) (bytes : List ℕ) (old new : StoreView D)
+pub record CutsGroup {D : Type 0} (model : DiskModel D) (held written : Option (List ℕ)) (bytes : List ℕ)
+    (old new : StoreView D)
     (sent total : ℕ) : Type 0 where
   pub requests : List Request
   pub further : List ℕ
   pub takes : TakesUp bytes further requests
-  pub performs : PerformsTurns honest folder moment since old new (all_asked requests)
+  pub performs : PerformsTurns model old new (all_asked requests)
   pub short : length (output (stored_of old) requests) ≤ length requests * answer_limit
   pub count : ℕ
   pub is : total ≡ sent + count
   pub cut : count < length (output (stored_of old) requests)
   pub out : Appends held written (take count (output (stored_of old) requests))
 
-abbrev pub PerformsGroup : {D : Type 0} → Type 0 → (D → Folder) → (D → ℕ) → (D → ℕ → Image → Type 0) → Option (List ℕ)
+abbrev pub PerformsGroup : {D : Type 0} → DiskModel D → Option (List ℕ)
     → Option (List ℕ) → List ℕ → Input → StoreView D → StoreView D → Unwritten → Unwritten
     → Result (Unit {0}) SessionFault → Type 0
-PerformsGroup honest folder moment since held written bytes input old new before after (Ok done) =
+PerformsGroup model held written bytes input old new before after (Ok done) =
     IsSound input × (unwritten_bytes after ≡ []) × (after.last ≡ None)
-    × PassesGroup honest folder moment since held written bytes (ahead input) old new before after
-PerformsGroup honest folder moment since held written bytes input old new before after (Err fault.OutOfMemory) =
-    (further : List ℕ) × PassesGroup honest folder moment since held written bytes further old new before after
-PerformsGroup honest folder moment since held written bytes input old new before after (Err fault.Device) =
-    BreaksOff honest folder moment since bytes old new × Keeps held written
-PerformsGroup honest folder moment since held written bytes input old new before after (Err (fault.Write total)) =
-    CutsGroup honest folder moment since held written bytes old new before.written total
-PerformsGroup honest folder moment since held written bytes input old new before after (Err fault) = ⊥
+    × PassesGroup model held written bytes (ahead input) old new before after
+PerformsGroup model held written bytes input old new before after (Err fault.OutOfMemory) =
+    (further : List ℕ) × PassesGroup model held written bytes further old new before after
+PerformsGroup model held written bytes input old new before after (Err fault.Device) =
+    BreaksOff model bytes old new × Keeps held written
+PerformsGroup model held written bytes input old new before after (Err (fault.Write total)) =
+    CutsGroup model held written bytes old new before.written total
+PerformsGroup model held written bytes input old new before after (Err fault) = ⊥

@@ -3,6 +3,7 @@ use Rattle.std.specs.Prelude.{◌≡◌, ℕ, ◌+◌, ◌*◌, ◌<◌, ◌≤�
 use Rattle.std.specs.Io.KnownBytes.{Consumes, Keeps, Appends}
 use Rattle.conf_disk.specs.Folder.{Folder, bytes_under}
 use Rattle.conf_disk.specs.Image.{Image, IsImage}
+use Rattle.conf_disk.specs.Models.{DiskModel}
 use Rattle.conf_disk.specs.Moments.{LeavesOnly}
 use Rattle.conf_disk.specs.declared.disk.Name.TheVariants.{Store}
 use Rattle.conf_state.specs.BaseTexts.{base_bytes}
@@ -167,33 +168,34 @@ acknowledged_turns now waiting (turn ∷ turns) = length (waiting ++ turns_accep
 
 -- A grouped session from one value of a store to the next. `flushed` is the state that is flushed at its start, and
 -- `waiting` are the commands that were submitted since.
-pub record RunsGrouped {D : Type 0} (honest : Type 0) (folder : D → Folder) (moment : D → ℕ)
-    (since : D → ℕ → Image → Type 0) (given left held written : Option (List ℕ)) (checkpoints : Checkpoints)
+pub record RunsGrouped {D : Type 0} (model : DiskModel D) (given left held written : Option (List ℕ))
+    (checkpoints : Checkpoints)
     (old new : StoreView D) (result : Result Tally SessionFault) : Type 0 where
   pub answered : List Turn
   pub unanswered : List Request
   pub ends : GroupedEnds given left held written (stored_of old) answered unanswered result
   -- a checkpoint that no request asks for is begun only if that is wanted, and only when it is due
   pub only_asked : checkpoints ≡ Asked → answered ≡ all_asked (requests_of answered)
-  pub due : honest → (bytes : ℕ) → checkpoints ≡ After bytes
-      → AreDue bytes (files_of folder old) (stored_of old) answered
+  pub due : model.honest → (bytes : ℕ) → checkpoints ≡ After bytes
+      → AreDue bytes (files_of model.folder old) (stored_of old) answered
   pub state : new.state ≡ (stored_after_turns (stored_of old) (answered ++ all_asked unanswered)).state
   pub stored : new.reopen ≡ false
       → stored_of new ≡ stored_after_turns (stored_of old) (answered ++ all_asked unanswered)
-  pub files : honest → new.reopen ≡ false
-      → files_of folder new
-      ≡ files_after_turns (files_of folder old) (stored_of old) (answered ++ all_asked unanswered)
+  pub files : model.honest → new.reopen ≡ false
+      → files_of model.folder new
+      ≡ files_after_turns (files_of model.folder old) (stored_of old) (answered ++ all_asked unanswered)
   -- a crash at any moment leaves the state after a prefix of the commands that waited and of the accepted ones
-  pub any_moment : honest → old.reopen ≡ false → (flushed : Contents) (waiting : List Command)
-      → HasFlushed (folder old.disk) flushed waiting old.state
-      → LeavesOnly moment since old.disk new.disk
+  pub any_moment : model.honest → old.reopen ≡ false → (flushed : Contents) (waiting : List Command)
+      → HasFlushed (model.folder old.disk) flushed waiting old.state
+      → LeavesOnly model old.disk new.disk
       (λ image. AfterPrefix flushed
       (waiting ++ turns_accepted (stored_of old) (answered ++ all_asked unanswered)) image.store)
   -- and a crash after the session leaves one that has every command that was answered
-  pub kept : honest → old.reopen ≡ false → (flushed : Contents) (waiting : List Command)
-      → HasFlushed (folder old.disk) flushed waiting old.state → (image : Image) → IsImage (folder new.disk) image
+  pub kept : model.honest → old.reopen ≡ false → (flushed : Contents) (waiting : List Command)
+      → HasFlushed (model.folder old.disk) flushed waiting old.state
+      → (image : Image) → IsImage (model.folder new.disk) image
       → AfterAtLeast flushed (acknowledged_turns (stored_of old) waiting answered)
       (waiting ++ turns_accepted (stored_of old) (answered ++ all_asked unanswered)) image.store
   -- after the session nothing waits
-  pub flushed : honest → new.reopen ≡ false → HasFlushed (folder new.disk) new.state [] new.state
-  pub now : honest → new.reopen ≡ false → AllImagesMean (folder new.disk) new.state
+  pub flushed : model.honest → new.reopen ≡ false → HasFlushed (model.folder new.disk) new.state [] new.state
+  pub now : model.honest → new.reopen ≡ false → AllImagesMean (model.folder new.disk) new.state

@@ -3,6 +3,7 @@ use Rattle.std.specs.Prelude.{◌≡◌, ◌≤◌, ◌<◌, ℕ, ◌+◌, ◌*�
 use Rattle.std.specs.Io.KnownBytes.{Appends, Keeps}
 use Rattle.conf_disk.specs.Folder.{Folder, bytes_under}
 use Rattle.conf_disk.specs.Image.{Image}
+use Rattle.conf_disk.specs.Models.{DiskModel}
 use Rattle.conf_disk.specs.Moments.{LeavesOnly}
 use Rattle.conf_disk.specs.declared.disk.Name.TheVariants.{Store}
 use Rattle.conf_state.specs.Commands.{Command}
@@ -26,38 +27,37 @@ pub record AreCounted (start : Stored) (requests : List Request) (counts : Count
   pub written : counts.written ≡ length (output start requests)
 
 -- The requests are performed, one after the other.
-pub record PerformsAll (at_once : Bool) {D : Type 0} (honest : Type 0) (folder : D → Folder) (moment : D → ℕ)
-    (since : D → ℕ → Image → Type 0) (old new : StoreView D) (requests : List Request) : Type 0 where
+pub record PerformsAll (at_once : Bool) {D : Type 0} (model : DiskModel D) (old new : StoreView D)
+    (requests : List Request) : Type 0 where
   pub sound : new.reopen ≡ false
   pub stored : stored_of new ≡ stored_after_all (stored_of old) requests
-  pub reads : honest → bytes_under (folder new.disk) Store
-      ≡ file_after_all (bytes_under (folder old.disk) Store) (stored_of old) requests
-  pub stages : honest → staged_text (folder new.disk) new.staged
-      ≡ staged_after_all (staged_text (folder old.disk) old.staged) (stored_of old) requests
-  pub any_moment : honest → (flushed : Contents) (waiting : List Command)
-      → HasFlushed (folder old.disk) flushed waiting old.state
-      → LeavesOnly moment since old.disk new.disk
+  pub reads : model.honest → bytes_under (model.folder new.disk) Store
+      ≡ file_after_all (bytes_under (model.folder old.disk) Store) (stored_of old) requests
+  pub stages : model.honest → staged_text (model.folder new.disk) new.staged
+      ≡ staged_after_all (staged_text (model.folder old.disk) old.staged) (stored_of old) requests
+  pub any_moment : model.honest → (flushed : Contents) (waiting : List Command)
+      → HasFlushed (model.folder old.disk) flushed waiting old.state
+      → LeavesOnly model old.disk new.disk
       (λ image. AfterPrefix flushed (waiting ++ accepted_commands (stored_of old) requests) image.store)
-  pub waits : honest → (flushed : Contents) (waiting : List Command)
-      → HasFlushed (folder old.disk) flushed waiting old.state
-      → HasFlushed (folder new.disk) (flushed_after at_once (stored_of old) flushed requests)
+  pub waits : model.honest → (flushed : Contents) (waiting : List Command)
+      → HasFlushed (model.folder old.disk) flushed waiting old.state
+      → HasFlushed (model.folder new.disk) (flushed_after at_once (stored_of old) flushed requests)
       (waiting_after at_once (stored_of old) waiting requests) new.state
 
 -- the requests are performed, and all their answers are written
-pub record Passed {D : Type 0} (honest : Type 0) (folder : D → Folder) (moment : D → ℕ) (since : D → ℕ → Image → Type 0)
+pub record Passed {D : Type 0} (model : DiskModel D)
     (held written : Option (List ℕ)) (old new : StoreView D) (requests : List Request) : Type 0 where
   pub out : Appends held written (output (stored_of old) requests)
-  pub performs : PerformsAll true honest folder moment since old new requests
+  pub performs : PerformsAll true model old new requests
 
 -- a piece is performed and its answer is written
-pub record Answered {D : Type 0} (honest : Type 0) (folder : D → Folder) (moment : D → ℕ)
-    (since : D → ℕ → Image → Type 0)
+pub record Answered {D : Type 0} (model : DiskModel D)
     (held written : Option (List ℕ)) (old new : StoreView D) (piece : List ℕ) (before after : Counts) : Type 0 where
   pub request : Request
   pub asks : Asks piece request
   pub out : Appends held written (answer_bytes (stored_of old) request)
   pub sound : new.reopen ≡ false
-  pub performs : Performs true honest folder moment since old new request
+  pub performs : Performs true model old new request
   pub documents : after.tally.documents ≡ before.tally.documents + 1
   pub accepted : after.tally.accepted ≡ before.tally.accepted + length (accepted_command (stored_of old) request)
   pub refused : after.tally.refused ≡ before.tally.refused + refused_of (stored_of old) request
@@ -65,19 +65,19 @@ pub record Answered {D : Type 0} (honest : Type 0) (folder : D → Folder) (mome
   pub short : length (answer_bytes (stored_of old) request) ≤ answer_limit
 
 -- what became of a piece whose answer is not written whole
-abbrev pub Fails : {D : Type 0} → Type 0 → (D → Folder) → (D → ℕ) → (D → ℕ → Image → Type 0) → Option (List ℕ)
+abbrev pub Fails : {D : Type 0} → DiskModel D → Option (List ℕ)
     → Option (List ℕ) → StoreView D → StoreView D → List ℕ → ℕ → SessionFault → Type 0
-Fails honest folder moment since held written old new piece sent fault.OutOfMemory = (new ≡ old) × Keeps held written
-Fails honest folder moment since held written old new piece sent fault.Device =
+Fails model held written old new piece sent fault.OutOfMemory = (new ≡ old) × Keeps held written
+Fails model held written old new piece sent fault.Device =
     (request : Request) × Asks piece request × (new.reopen ≡ true)
-    × Performs true honest folder moment since old new request × Keeps held written
-Fails honest folder moment since held written old new piece sent (fault.Write total) =
+    × Performs true model old new request × Keeps held written
+Fails model held written old new piece sent (fault.Write total) =
     (request : Request) × Asks piece request × (new.reopen ≡ false)
-    × Performs true honest folder moment since old new request
+    × Performs true model old new request
     × (count : ℕ) × (total ≡ sent + count) × (count < length (answer_bytes (stored_of old) request))
     × Appends held written (take count (answer_bytes (stored_of old) request))
     × (length (answer_bytes (stored_of old) request) ≤ answer_limit)
-Fails honest folder moment since held written old new piece sent fault = ⊥
+Fails model held written old new piece sent fault = ⊥
 
 -- What keeps the counts within their types: there are no more pieces than bytes of the input, and no answer is longer
 -- than the limit.

@@ -3,6 +3,7 @@ use Rattle.std.specs.Prelude.{◌≡◌, ◌≤◌, ℕ, Bool, true, false, List
 use Rattle.yaml_recognizers.specs.Closings.{framed_text_bytes}
 use Rattle.conf_disk.specs.Folder.{Folder, bytes_under}
 use Rattle.conf_disk.specs.Image.{Image}
+use Rattle.conf_disk.specs.Models.{DiskModel}
 use Rattle.conf_disk.specs.Moments.{LeavesOnly}
 use Rattle.conf_disk.specs.declared.disk.Name.TheVariants.{Store}
 use Rattle.conf_state.specs.Commands.{Command}
@@ -63,22 +64,23 @@ LeavesPrefixes folder s =
 
 -- A request is performed: the state, the lengths and the files are those after it. A crash leaves the state after a
 -- prefix of the commands that waited and of this one. `at_once` says whether an accepted command is flushed at once.
-pub record Performs (at_once : Bool) {D : Type 0} (honest : Type 0) (folder : D → Folder) (moment : D → ℕ)
-    (since : D → ℕ → Image → Type 0) (old new : StoreView D) (request : Request) : Type 0 where
+pub record Performs (at_once : Bool) {D : Type 0} (model : DiskModel D) (old new : StoreView D)
+    (request : Request) : Type 0 where
   pub state : new.state ≡ (stored_after (stored_of old) request).state
   pub stored : new.reopen ≡ false → stored_of new ≡ stored_after (stored_of old) request
-  pub reads : honest → new.reopen ≡ false
-      → bytes_under (folder new.disk) Store ≡ file_after (bytes_under (folder old.disk) Store) (stored_of old) request
-  pub stages : honest → new.reopen ≡ false
-      → staged_text (folder new.disk) new.staged
-      ≡ staged_after (staged_text (folder old.disk) old.staged) (stored_of old) request
-  pub any_moment : honest → (flushed : Contents) (waiting : List Command)
-      → HasFlushed (folder old.disk) flushed waiting old.state
-      → LeavesOnly moment since old.disk new.disk
+  pub reads : model.honest → new.reopen ≡ false
+      → bytes_under (model.folder new.disk) Store
+      ≡ file_after (bytes_under (model.folder old.disk) Store) (stored_of old) request
+  pub stages : model.honest → new.reopen ≡ false
+      → staged_text (model.folder new.disk) new.staged
+      ≡ staged_after (staged_text (model.folder old.disk) old.staged) (stored_of old) request
+  pub any_moment : model.honest → (flushed : Contents) (waiting : List Command)
+      → HasFlushed (model.folder old.disk) flushed waiting old.state
+      → LeavesOnly model old.disk new.disk
       (λ image. AfterPrefix flushed (waiting ++ accepted_command (stored_of old) request) image.store)
-  pub waits : honest → new.reopen ≡ false → (flushed : Contents) (waiting : List Command)
-      → HasFlushed (folder old.disk) flushed waiting old.state
-      → HasFlushed (folder new.disk) (flushed_after at_once (stored_of old) flushed (request ∷ []))
+  pub waits : model.honest → new.reopen ≡ false → (flushed : Contents) (waiting : List Command)
+      → HasFlushed (model.folder old.disk) flushed waiting old.state
+      → HasFlushed (model.folder new.disk) (flushed_after at_once (stored_of old) flushed (request ∷ []))
       (waiting_after at_once (stored_of old) waiting (request ∷ [])) new.state
 
 -- the answer to the request
@@ -89,33 +91,33 @@ pub record Replies (now : Stored) (request : Request) (reply : Reply) : Type 0 w
   pub short : length (answer_bytes now request) ≤ answer_limit
 
 -- What became of a request. If memory ran out, nothing was changed.
-abbrev pub Did : Bool → {D : Type 0} → Type 0 → (D → Folder) → (D → ℕ) → (D → ℕ → Image → Type 0) → StoreView D
+abbrev pub Did : Bool → {D : Type 0} → DiskModel D → StoreView D
     → StoreView D → Request → Result Reply SessionFault → Type 0
-Did at_once honest folder moment since old new request (Ok reply) =
+Did at_once model old new request (Ok reply) =
     Replies (stored_of old) request reply × (new.reopen ≡ false)
-    × Performs at_once honest folder moment since old new request
-Did at_once honest folder moment since old new request (Err Device) =
-    (new.reopen ≡ true) × Performs at_once honest folder moment since old new request
-Did at_once honest folder moment since old new request (Err OutOfMemory) = new ≡ old
-Did at_once honest folder moment since old new request (Err fault) = ⊥
+    × Performs at_once model old new request
+Did at_once model old new request (Err Device) =
+    (new.reopen ≡ true) × Performs at_once model old new request
+Did at_once model old new request (Err OutOfMemory) = new ≡ old
+Did at_once model old new request (Err fault) = ⊥
 
 -- The same of what a document says. If memory ran out, the request may be unknown.
-abbrev pub DidSaid : Bool → {D : Type 0} → Type 0 → (D → Folder) → (D → ℕ) → (D → ℕ → Image → Type 0) → StoreView D
+abbrev pub DidSaid : Bool → {D : Type 0} → DiskModel D → StoreView D
     → StoreView D → Said → Result Reply SessionFault → Type 0
-DidSaid at_once honest folder moment since old new said (Ok reply) =
-    (request : Request) × MeansRequest said request × Did at_once honest folder moment since old new request (Ok reply)
-DidSaid at_once honest folder moment since old new said (Err Device) =
+DidSaid at_once model old new said (Ok reply) =
+    (request : Request) × MeansRequest said request × Did at_once model old new request (Ok reply)
+DidSaid at_once model old new said (Err Device) =
     (request : Request) × MeansRequest said request
-    × Did at_once honest folder moment since old new request (Err Device)
-DidSaid at_once honest folder moment since old new said (Err OutOfMemory) = new ≡ old
-DidSaid at_once honest folder moment since old new said (Err fault) = ⊥
+    × Did at_once model old new request (Err Device)
+DidSaid at_once model old new said (Err OutOfMemory) = new ≡ old
+DidSaid at_once model old new said (Err fault) = ⊥
 
 -- The same of a piece. If memory ran out, what it asks for may be unknown.
-abbrev pub DidPiece : Bool → {D : Type 0} → Type 0 → (D → Folder) → (D → ℕ) → (D → ℕ → Image → Type 0) → StoreView D
+abbrev pub DidPiece : Bool → {D : Type 0} → DiskModel D → StoreView D
     → StoreView D → List ℕ → Result Reply SessionFault → Type 0
-DidPiece at_once honest folder moment since old new piece (Ok reply) =
-    (request : Request) × Asks piece request × Did at_once honest folder moment since old new request (Ok reply)
-DidPiece at_once honest folder moment since old new piece (Err Device) =
-    (request : Request) × Asks piece request × Did at_once honest folder moment since old new request (Err Device)
-DidPiece at_once honest folder moment since old new piece (Err OutOfMemory) = new ≡ old
-DidPiece at_once honest folder moment since old new piece (Err fault) = ⊥
+DidPiece at_once model old new piece (Ok reply) =
+    (request : Request) × Asks piece request × Did at_once model old new request (Ok reply)
+DidPiece at_once model old new piece (Err Device) =
+    (request : Request) × Asks piece request × Did at_once model old new request (Err Device)
+DidPiece at_once model old new piece (Err OutOfMemory) = new ≡ old
+DidPiece at_once model old new piece (Err fault) = ⊥

@@ -5,6 +5,7 @@ use Rattle.std.specs.declared.alloc.Global.{Global}
 use Rattle.yaml_grammar.specs.Closings.{ClosesOnce}
 use Rattle.conf_disk.specs.Folder.{Folder, bytes_under}
 use Rattle.conf_disk.specs.Image.{Image}
+use Rattle.conf_disk.specs.Models.{DiskModel}
 use Rattle.conf_disk.specs.Moments.{LeavesOnly}
 use Rattle.conf_disk.specs.declared.disk.Name.TheVariants.{Store}
 use Rattle.conf_state.specs.Commands.{Command}
@@ -42,71 +43,70 @@ AllRoundAsk (piece ∷ pieces) [] = ⊥
 AllRoundAsk (piece ∷ pieces) (request ∷ requests) = RoundAsks piece request × AllRoundAsk pieces requests
 
 -- these requests are performed, one after the other
-pub record RoundPerforms {D : Type 0} (honest : Type 0) (folder : D → Folder) (old new : StoreView D)
+pub record RoundPerforms {D : Type 0} (model : DiskModel D) (old new : StoreView D)
     (requests : List Request) : Type 0 where
   pub stored : stored_of new ≡ stored_after_all (stored_of old) requests
-  pub reads : honest → bytes_under (folder new.disk) Store
-      ≡ file_after_all (bytes_under (folder old.disk) Store) (stored_of old) requests
-  pub stages : honest → staged_text (folder new.disk) new.staged
-      ≡ staged_after_all (staged_text (folder old.disk) old.staged) (stored_of old) requests
+  pub reads : model.honest → bytes_under (model.folder new.disk) Store
+      ≡ file_after_all (bytes_under (model.folder old.disk) Store) (stored_of old) requests
+  pub stages : model.honest → staged_text (model.folder new.disk) new.staged
+      ≡ staged_after_all (staged_text (model.folder old.disk) old.staged) (stored_of old) requests
 
 -- all pieces are performed, answered and flushed
-pub record EndsFlushed {D : Type 0} (honest : Type 0) (folder : D → Folder) (old new : StoreView D) (count : ℕ)
+pub record EndsFlushed {D : Type 0} (model : DiskModel D) (old new : StoreView D) (count : ℕ)
     (requests : List Request) (written : List (List ℕ)) : Type 0 where
   pub all : length requests ≡ count
-  pub performs : RoundPerforms honest folder old new requests
+  pub performs : RoundPerforms model old new requests
   pub answers : written ≡ answers (stored_of old) requests
-  pub flushed : honest → HasFlushed (folder new.disk) new.state [] new.state
-  pub now : honest → AllImagesMean (folder new.disk) new.state
+  pub flushed : model.honest → HasFlushed (model.folder new.disk) new.state [] new.state
+  pub now : model.honest → AllImagesMean (model.folder new.disk) new.state
 
 -- So many pieces are performed, from the first. Those up to the last checkpoint among them are flushed.
-pub record EndsWaiting {D : Type 0} (honest : Type 0) (folder : D → Folder) (old new : StoreView D) (count : ℕ)
+pub record EndsWaiting {D : Type 0} (model : DiskModel D) (old new : StoreView D) (count : ℕ)
     (requests : List Request) : Type 0 where
   pub all : length requests ≡ count
-  pub performs : RoundPerforms honest folder old new requests
-  pub waits : honest → (flushed : Contents) (waiting : List Command)
-      → HasFlushed (folder old.disk) flushed waiting old.state
-      → HasFlushed (folder new.disk) (flushed_after false (stored_of old) flushed requests)
+  pub performs : RoundPerforms model old new requests
+  pub waits : model.honest → (flushed : Contents) (waiting : List Command)
+      → HasFlushed (model.folder old.disk) flushed waiting old.state
+      → HasFlushed (model.folder new.disk) (flushed_after false (stored_of old) flushed requests)
       (waiting_after false (stored_of old) waiting requests) new.state
 
 -- How a round of `count` pieces ends, by its result. `requests` are those of the pieces that were taken up, from the
 -- first. At Device the last of them may be the one in hand.
-abbrev pub RoundEnds : {D : Type 0} → Type 0 → (D → Folder) → StoreView D → StoreView D → ℕ → List Request
+abbrev pub RoundEnds : {D : Type 0} → DiskModel D → StoreView D → StoreView D → ℕ → List Request
     → Result (Vec (Vec ℕ Global) Global) RoundFault → Type 0
-RoundEnds honest folder old new count requests (Ok written) =
-    EndsFlushed honest folder old new count requests (answer_bytes written.items)
-RoundEnds honest folder old new count requests (Err (fault.OutOfMemory performed)) =
-    EndsWaiting honest folder old new performed requests
-RoundEnds honest folder old new count requests (Err fault.Device) =
+RoundEnds model old new count requests (Ok written) =
+    EndsFlushed model old new count requests (answer_bytes written.items)
+RoundEnds model old new count requests (Err (fault.OutOfMemory performed)) =
+    EndsWaiting model old new performed requests
+RoundEnds model old new count requests (Err fault.Device) =
     new.state ≡ (stored_after_all (stored_of old) requests).state
-RoundEnds honest folder old new count requests (Err fault.Reopen) = requests ≡ []
+RoundEnds model old new count requests (Err fault.Reopen) = requests ≡ []
 
 -- A round from one value of a store to the next. `flushed` is the state that is flushed at its start, and `waiting` are
 -- the commands that were submitted since.
-pub record Rounds {D : Type 0} (honest : Type 0) (folder : D → Folder) (moment : D → ℕ)
-    (since : D → ℕ → Image → Type 0) (old new : StoreView D) (pieces : List (List ℕ))
+pub record Rounds {D : Type 0} (model : DiskModel D) (old new : StoreView D) (pieces : List (List ℕ))
     (result : Result (Vec (Vec ℕ Global) Global) RoundFault) : Type 0 where
   pub requests : List Request
   pub ask : AllRoundAsk (take (length requests) pieces) requests
-  pub ends : RoundEnds honest folder old new (length pieces) requests result
+  pub ends : RoundEnds model old new (length pieces) requests result
   -- a crash at any moment leaves the state after a prefix of the commands that waited and of the accepted ones
-  pub any_moment : honest → old.reopen ≡ false → (flushed : Contents) (waiting : List Command)
-      → HasFlushed (folder old.disk) flushed waiting old.state
-      → LeavesOnly moment since old.disk new.disk
+  pub any_moment : model.honest → old.reopen ≡ false → (flushed : Contents) (waiting : List Command)
+      → HasFlushed (model.folder old.disk) flushed waiting old.state
+      → LeavesOnly model old.disk new.disk
       (λ image. AfterPrefix flushed (waiting ++ accepted_commands (stored_of old) requests) image.store)
 
 -- ---- one piece of a round
 
 -- What became of a piece. If memory ran out, nothing was changed, and what it asks for may be unknown.
-abbrev pub DidInRound : {D : Type 0} → Type 0 → (D → Folder) → (D → ℕ) → (D → ℕ → Image → Type 0) → StoreView D
+abbrev pub DidInRound : {D : Type 0} → DiskModel D → StoreView D
     → StoreView D → List ℕ → Result Reply SessionFault → Type 0
-DidInRound honest folder moment since old new piece (Ok reply) =
-    (request : Request) × RoundAsks piece request × Did false honest folder moment since old new request (Ok reply)
-DidInRound honest folder moment since old new piece (Err session.Device) =
+DidInRound model old new piece (Ok reply) =
+    (request : Request) × RoundAsks piece request × Did false model old new request (Ok reply)
+DidInRound model old new piece (Err session.Device) =
     (request : Request) × RoundAsks piece request
-    × Did false honest folder moment since old new request (Err session.Device)
-DidInRound honest folder moment since old new piece (Err session.OutOfMemory) = new ≡ old
-DidInRound honest folder moment since old new piece (Err fault) = ⊥
+    × Did false model old new request (Err session.Device)
+DidInRound model old new piece (Err session.OutOfMemory) = new ≡ old
+DidInRound model old new piece (Err fault) = ⊥
 
 -- why a round ends at a piece, where so many are performed
 abbrev pub round_fault : SessionFault → ℕ → RoundFault
@@ -115,26 +115,24 @@ round_fault session.Device performed = fault.Device
 round_fault other performed = fault.Reopen
 
 -- a piece is performed
-pub record TakesPiece {D : Type 0} (honest : Type 0) (folder : D → Folder) (moment : D → ℕ)
-    (since : D → ℕ → Image → Type 0) (old new : StoreView D) (piece : List ℕ) : Type 0 where
+pub record TakesPiece {D : Type 0} (model : DiskModel D) (old new : StoreView D) (piece : List ℕ) : Type 0 where
   pub request : Request
   pub asks : RoundAsks piece request
-  pub performs : Performs false honest folder moment since old new request
+  pub performs : Performs false model old new request
 
 -- a piece is performed, and its answer is appended to the others
-pub record AnswersPiece {D : Type 0} (honest : Type 0) (folder : D → Folder) (moment : D → ℕ)
-    (since : D → ℕ → Image → Type 0) (old new : StoreView D) (piece : List ℕ)
+pub record AnswersPiece {D : Type 0} (model : DiskModel D) (old new : StoreView D) (piece : List ℕ)
     (before after : List (List ℕ)) : Type 0 where
-  pub takes : TakesPiece honest folder moment since old new piece
+  pub takes : TakesPiece model old new piece
   pub sound : new.reopen ≡ false
   pub answered : after ≡ before ++ answer_to (stored_of old) takes.request ∷ []
 
 -- What became of a piece that has no answer, after so many others. Where memory ran out, it may be performed.
-abbrev pub FailsPiece : {D : Type 0} → Type 0 → (D → Folder) → (D → ℕ) → (D → ℕ → Image → Type 0) → StoreView D
+abbrev pub FailsPiece : {D : Type 0} → DiskModel D → StoreView D
     → StoreView D → List ℕ → ℕ → RoundFault → Type 0
-FailsPiece honest folder moment since old new piece count (fault.OutOfMemory performed) =
+FailsPiece model old new piece count (fault.OutOfMemory performed) =
     ((performed ≡ count) × (new ≡ old))
-    ⊎ ((performed ≡ count + 1) × (new.reopen ≡ false) × TakesPiece honest folder moment since old new piece)
-FailsPiece honest folder moment since old new piece count fault.Device =
-    (new.reopen ≡ true) × TakesPiece honest folder moment since old new piece
-FailsPiece honest folder moment since old new piece count fault.Reopen = ⊥
+    ⊎ ((performed ≡ count + 1) × (new.reopen ≡ false) × TakesPiece model old new piece)
+FailsPiece model old new piece count fault.Device =
+    (new.reopen ≡ true) × TakesPiece model old new piece
+FailsPiece model old new piece count fault.Reopen = ⊥

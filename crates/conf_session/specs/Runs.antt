@@ -5,6 +5,7 @@ use Rattle.std.specs.Io.KnownBytes.{Consumes, IsAtEnd, Keeps, Appends}
 use Rattle.yaml_grammar.specs.Closings.{ClosesOnce, Pieces}
 use Rattle.conf_disk.specs.Folder.{Folder, bytes_under}
 use Rattle.conf_disk.specs.Image.{Image, IsImage}
+use Rattle.conf_disk.specs.Models.{DiskModel}
 use Rattle.conf_disk.specs.Moments.{LeavesOnly}
 use Rattle.conf_disk.specs.declared.disk.Name.TheVariants.{Store}
 use Rattle.conf_state.specs.Commands.{Command}
@@ -150,7 +151,7 @@ pub record AfterAtLeast (s : Contents) (least : ℕ) (commands : List Command) (
 
 -- A run from one value of a store to the next. `flushed` is the state that is flushed at its start, and `waiting` are
 -- the commands that were submitted since.
-pub record Runs {D : Type 0} (honest : Type 0) (folder : D → Folder) (moment : D → ℕ) (since : D → ℕ → Image → Type 0)
+pub record Runs {D : Type 0} (model : DiskModel D)
     (given left held written : Option (List ℕ)) (old new : StoreView D)
     (result : Result Tally SessionFault) : Type 0 where
   pub answered : List Request
@@ -159,25 +160,26 @@ pub record Runs {D : Type 0} (honest : Type 0) (folder : D → Folder) (moment :
   pub state : new.state ≡ (stored_after_all (stored_of old) performed).state
   pub stored : new.reopen ≡ false → stored_of new ≡ stored_after_all (stored_of old) performed
   -- each accepted command appended its record to `store.yaml`, and each checkpoint put a base in its place
-  pub reads : honest → new.reopen ≡ false
-      → bytes_under (folder new.disk) Store
-      ≡ file_after_all (bytes_under (folder old.disk) Store) (stored_of old) performed
+  pub reads : model.honest → new.reopen ≡ false
+      → bytes_under (model.folder new.disk) Store
+      ≡ file_after_all (bytes_under (model.folder old.disk) Store) (stored_of old) performed
   -- the records were appended to the new file of a running checkpoint too
-  pub stages : honest → new.reopen ≡ false
-      → staged_text (folder new.disk) new.staged
-      ≡ staged_after_all (staged_text (folder old.disk) old.staged) (stored_of old) performed
+  pub stages : model.honest → new.reopen ≡ false
+      → staged_text (model.folder new.disk) new.staged
+      ≡ staged_after_all (staged_text (model.folder old.disk) old.staged) (stored_of old) performed
   -- a crash at any moment leaves the state after a prefix of the commands that waited and of the accepted ones
-  pub any_moment : honest → old.reopen ≡ false → (flushed : Contents) (waiting : List Command)
-      → HasFlushed (folder old.disk) flushed waiting old.state
-      → LeavesOnly moment since old.disk new.disk
+  pub any_moment : model.honest → old.reopen ≡ false → (flushed : Contents) (waiting : List Command)
+      → HasFlushed (model.folder old.disk) flushed waiting old.state
+      → LeavesOnly model old.disk new.disk
       (λ image. AfterPrefix flushed (waiting ++ accepted_commands (stored_of old) performed) image.store)
   -- and a crash after the run leaves one that has every command that was answered
-  pub kept : honest → old.reopen ≡ false → (flushed : Contents) (waiting : List Command)
-      → HasFlushed (folder old.disk) flushed waiting old.state → (image : Image) → IsImage (folder new.disk) image
+  pub kept : model.honest → old.reopen ≡ false → (flushed : Contents) (waiting : List Command)
+      → HasFlushed (model.folder old.disk) flushed waiting old.state
+      → (image : Image) → IsImage (model.folder new.disk) image
       → AfterAtLeast flushed (acknowledged (stored_of old) waiting answered)
       (waiting ++ accepted_commands (stored_of old) performed) image.store
   -- what is flushed after the run, and what waits
-  pub waits : honest → new.reopen ≡ false → (flushed : Contents) (waiting : List Command)
-      → HasFlushed (folder old.disk) flushed waiting old.state
-      → HasFlushed (folder new.disk) (flushed_after true (stored_of old) flushed performed)
+  pub waits : model.honest → new.reopen ≡ false → (flushed : Contents) (waiting : List Command)
+      → HasFlushed (model.folder old.disk) flushed waiting old.state
+      → HasFlushed (model.folder new.disk) (flushed_after true (stored_of old) flushed performed)
       (waiting_after true (stored_of old) waiting performed) new.state

@@ -34,10 +34,10 @@ pub enum Checkpoints {
 /// `Device`: a crash may still take back commands that waited, and the store has to be opened again.
 fn flush_all<D: Disk>(store: &mut Store<D>) -> Result<(), SessionFault>
     requires { store.old.reopen ≡ false }
-    ensures flushes { FlushesAll D.honest D.folder D.moment D.left store.old store.new result }
+    ensures flushes { FlushesAll D.model store.old store.new result }
     ensures cause { IsErrOf result SessionFault.Device →
-        HasFailed (D.failure_count store.old.disk) (D.failure_count store.new.disk) }
-    ensures risen { D.failure_count store.old.disk ≤ D.failure_count store.new.disk }
+        HasFailed (D.model.failure_count store.old.disk) (D.model.failure_count store.new.disk) }
+    ensures risen { D.model.failure_count store.old.disk ≤ D.model.failure_count store.new.disk }
 {
     match store.flush() {
         Ok(()) => Ok(()),
@@ -59,14 +59,14 @@ fn submit_piece<D: Disk>(
     requires no_last { answers.old.last ≡ None }
     requires room { HasRoomFor answers.old (length piece.now) session_limit }
     ensures ok { store.old.reopen ≡ false → OnOk result
-        (GathersPiece D.honest D.folder D.moment D.left store.old store.new
+        (GathersPiece D.model store.old store.new
         piece.now answers.old answers.new) }
     ensures fails { store.old.reopen ≡ false → IfErr result
-        (FailsInGroup D.honest D.folder D.moment D.left store.old store.new piece.now) }
+        (FailsInGroup D.model store.old store.new piece.now) }
     ensures kept { IfErr result (λ _. answers.new ≡ answers.old) }
     ensures cause { IsErrOf result SessionFault.Device →
-        HasFailed (D.failure_count store.old.disk) (D.failure_count store.new.disk) }
-    ensures risen { D.failure_count store.old.disk ≤ D.failure_count store.new.disk }
+        HasFailed (D.model.failure_count store.old.disk) (D.model.failure_count store.new.disk) }
+    ensures risen { D.model.failure_count store.old.disk ≤ D.model.failure_count store.new.disk }
 {
     if store.needs_reopen() {
         return Err(SessionFault::Reopen);
@@ -89,12 +89,12 @@ fn submit_group<D: Disk>(
     answers: &mut Unwritten,
 ) -> Result<(), SessionFault>
     requires sound { store.old.reopen ≡ false }
-    requires means { D.honest → LeavesPrefixes (D.folder store.old.disk) store.old.state }
+    requires means { D.model.honest → LeavesPrefixes (D.model.folder store.old.disk) store.old.state }
     requires piece { IsAtPiece input.old }
     requires no_last { answers.old.last ≡ None }
     requires room { HasRoomFor answers.old
         (length (piece_or_rest input.old ++ ahead input.old)) (bytes_read input.old) }
-    ensures submits { SubmitsGroup D.honest D.folder D.moment D.left
+    ensures submits { SubmitsGroup D.model
         (piece_or_rest input.old ++ ahead input.old) input.new store.old store.new
         answers.old answers.new result }
     ensures small { answers.new.written + length (unwritten_bytes answers.new) < 2 ^ 64 }
@@ -103,8 +103,8 @@ fn submit_group<D: Disk>(
     ensures room { OnOk result
         (HasRoomFor answers.new (length (ahead input.new)) (bytes_read input.new)) }
     ensures cause { IsErrOf result SessionFault.Device →
-        HasFailed (D.failure_count store.old.disk) (D.failure_count store.new.disk) }
-    ensures risen { D.failure_count store.old.disk ≤ D.failure_count store.new.disk }
+        HasFailed (D.model.failure_count store.old.disk) (D.model.failure_count store.new.disk) }
+    ensures risen { D.model.failure_count store.old.disk ≤ D.model.failure_count store.new.disk }
 {
     'pieces: loop {
         submit_piece(alloc, store, input.piece(), answers)?;
@@ -129,24 +129,24 @@ fn answer_group<D: Disk>(
     answers: &mut Unwritten,
 ) -> Result<(), SessionFault>
     requires sound { store.old.reopen ≡ false }
-    requires means { D.honest → LeavesPrefixes (D.folder store.old.disk) store.old.state }
+    requires means { D.model.honest → LeavesPrefixes (D.model.folder store.old.disk) store.old.state }
     requires piece { IsAtPiece input.old }
     requires no_last { answers.old.last ≡ None }
     requires room { HasRoomFor answers.old
         (length (piece_or_rest input.old ++ ahead input.old)) (bytes_read input.old) }
-    ensures ends { EndsGroup D.honest D.folder D.moment D.left
+    ensures ends { EndsGroup D.model
         (piece_or_rest input.old ++ ahead input.old) input.new store.old store.new
         answers.old answers.new result }
-    ensures now { D.honest → store.new.reopen ≡ false →
-        AllImagesMean (D.folder store.new.disk) store.new.state }
+    ensures now { D.model.honest → store.new.reopen ≡ false →
+        AllImagesMean (D.model.folder store.new.disk) store.new.state }
     ensures small { answers.new.written + length (unwritten_bytes answers.new) < 2 ^ 64 }
     ensures read { OnOk result (bytes_read input.new ≡ bytes_read input.old) }
     ensures less { OnOk result (length (ahead input.new) ≤ length (ahead input.old)) }
     ensures room { OnOk result
         (HasRoomFor answers.new (length (ahead input.new)) (bytes_read input.new)) }
     ensures cause { IsErrOf result SessionFault.Device →
-        HasFailed (D.failure_count store.old.disk) (D.failure_count store.new.disk) }
-    ensures risen { D.failure_count store.old.disk ≤ D.failure_count store.new.disk }
+        HasFailed (D.model.failure_count store.old.disk) (D.model.failure_count store.new.disk) }
+    ensures risen { D.model.failure_count store.old.disk ≤ D.model.failure_count store.new.disk }
 {
     match submit_group(alloc, store, input, answers) {
         Ok(()) => flush_all(store),
@@ -172,13 +172,13 @@ fn perform_group<D: Disk, W: Write>(
     answers: &mut Unwritten,
 ) -> Result<(), SessionFault>
     requires sound { store.old.reopen ≡ false }
-    requires means { D.honest → LeavesPrefixes (D.folder store.old.disk) store.old.state }
+    requires means { D.model.honest → LeavesPrefixes (D.model.folder store.old.disk) store.old.state }
     requires piece { IsAtPiece input.old }
     requires no_last { answers.old.last ≡ None }
     requires room { HasRoomFor answers.old
         (length (piece_or_rest input.old ++ ahead input.old)) (bytes_read input.old) }
     requires none { unwritten_bytes answers.old ≡ [] }
-    ensures performs { PerformsGroup D.honest D.folder D.moment D.left
+    ensures performs { PerformsGroup D.model
         (W.contents writer.old) (W.contents writer.new)
         (piece_or_rest input.old ++ ahead input.old) input.new store.old store.new
         answers.old answers.new result }
@@ -187,8 +187,8 @@ fn perform_group<D: Disk, W: Write>(
     ensures room { OnOk result
         (HasRoomFor answers.new (length (ahead input.new)) (bytes_read input.new)) }
     ensures cause { IsErrOf result SessionFault.Device →
-        HasFailed (D.failure_count store.old.disk) (D.failure_count store.new.disk) }
-    ensures risen { D.failure_count store.old.disk ≤ D.failure_count store.new.disk }
+        HasFailed (D.model.failure_count store.old.disk) (D.model.failure_count store.new.disk) }
+    ensures risen { D.model.failure_count store.old.disk ≤ D.model.failure_count store.new.disk }
 {
     match answer_group(alloc, store, input, answers) {
         Ok(()) => answers.write(writer),
@@ -207,14 +207,14 @@ fn perform_group<D: Disk, W: Write>(
 fn begin_checkpoint<D: Disk>(store: &mut Store<D>) -> Result<(), SessionFault>
     requires sound { store.old.reopen ≡ false }
     requires none { store.old.staged ≡ None }
-    requires flushed { D.honest →
-        HasFlushed (D.folder store.old.disk) store.old.state [] store.old.state }
-    requires now { D.honest → AllImagesMean (D.folder store.old.disk) store.old.state }
-    ensures tends { TendsByBeginning D.honest D.folder D.moment D.left
+    requires flushed { D.model.honest →
+        HasFlushed (D.model.folder store.old.disk) store.old.state [] store.old.state }
+    requires now { D.model.honest → AllImagesMean (D.model.folder store.old.disk) store.old.state }
+    ensures tends { TendsByBeginning D.model
         store.old store.new result }
     ensures cause { IsErrOf result SessionFault.Device →
-        HasFailed (D.failure_count store.old.disk) (D.failure_count store.new.disk) }
-    ensures risen { D.failure_count store.old.disk ≤ D.failure_count store.new.disk }
+        HasFailed (D.model.failure_count store.old.disk) (D.model.failure_count store.new.disk) }
+    ensures risen { D.model.failure_count store.old.disk ≤ D.model.failure_count store.new.disk }
 {
     let Err(fault) = store.begin_checkpoint() else {
         return Ok(());
@@ -232,14 +232,14 @@ fn begin_checkpoint<D: Disk>(store: &mut Store<D>) -> Result<(), SessionFault>
 fn write_slice<D: Disk>(store: &mut Store<D>) -> Result<(), SessionFault>
     requires sound { store.old.reopen ≡ false }
     requires runs { IsSome store.old.staged }
-    requires flushed { D.honest →
-        HasFlushed (D.folder store.old.disk) store.old.state [] store.old.state }
-    requires now { D.honest → AllImagesMean (D.folder store.old.disk) store.old.state }
-    ensures tends { TendsBySlice D.honest D.folder D.moment D.left
+    requires flushed { D.model.honest →
+        HasFlushed (D.model.folder store.old.disk) store.old.state [] store.old.state }
+    requires now { D.model.honest → AllImagesMean (D.model.folder store.old.disk) store.old.state }
+    ensures tends { TendsBySlice D.model
         store.old store.new result }
     ensures cause { IsErrOf result SessionFault.Device →
-        HasFailed (D.failure_count store.old.disk) (D.failure_count store.new.disk) }
-    ensures risen { D.failure_count store.old.disk ≤ D.failure_count store.new.disk }
+        HasFailed (D.model.failure_count store.old.disk) (D.model.failure_count store.new.disk) }
+    ensures risen { D.model.failure_count store.old.disk ≤ D.model.failure_count store.new.disk }
 {
     match store.slice() {
         Ok(_) => Ok(()),
@@ -256,14 +256,14 @@ fn tend_checkpoint<D: Disk>(
     checkpoints: Checkpoints,
 ) -> Result<(), SessionFault>
     requires sound { store.old.reopen ≡ false }
-    requires flushed { D.honest →
-        HasFlushed (D.folder store.old.disk) store.old.state [] store.old.state }
-    requires now { D.honest → AllImagesMean (D.folder store.old.disk) store.old.state }
-    ensures tends { Tends D.honest D.folder D.moment D.left checkpoints
+    requires flushed { D.model.honest →
+        HasFlushed (D.model.folder store.old.disk) store.old.state [] store.old.state }
+    requires now { D.model.honest → AllImagesMean (D.model.folder store.old.disk) store.old.state }
+    ensures tends { Tends D.model checkpoints
         store.old store.new result }
     ensures cause { IsErrOf result SessionFault.Device →
-        HasFailed (D.failure_count store.old.disk) (D.failure_count store.new.disk) }
-    ensures risen { D.failure_count store.old.disk ≤ D.failure_count store.new.disk }
+        HasFailed (D.model.failure_count store.old.disk) (D.model.failure_count store.new.disk) }
+    ensures risen { D.model.failure_count store.old.disk ≤ D.model.failure_count store.new.disk }
 {
     let Checkpoints::After { bytes } = checkpoints else {
         return Ok(());
@@ -315,7 +315,7 @@ pub fn run_grouped<D: Disk, R: Read, W: Write>(
     writer: &mut W,
     checkpoints: Checkpoints,
 ) -> Result<Tally, SessionFault>
-    ensures runs { RunsGrouped D.honest D.folder D.moment D.left
+    ensures runs { RunsGrouped D.model
         (R.remaining reader.old) (R.remaining reader.new) (W.contents writer.old)
         (W.contents writer.new)
         checkpoints store.old store.new result }
@@ -324,7 +324,7 @@ pub fn run_grouped<D: Disk, R: Read, W: Write>(
     ensures device { (store.new.reopen ≡ true)
         ↔ ((store.old.reopen ≡ true) ⊎ IsErrOf result SessionFault.Device) }
     ensures cause { IsErrOf result SessionFault.Device →
-        HasFailed (D.failure_count store.old.disk) (D.failure_count store.new.disk) }
+        HasFailed (D.model.failure_count store.old.disk) (D.model.failure_count store.new.disk) }
 {
     if store.needs_reopen() {
         return Err(SessionFault::Reopen);

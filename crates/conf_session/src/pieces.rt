@@ -86,19 +86,19 @@ pub fn perform_piece<D: Disk, W: Write>(
     counts: Counts,
 ) -> Result<Counts, SessionFault>
     requires room { HasRoom counts }
-    requires means { D.honest → store.old.reopen ≡ false →
-        LeavesPrefixes (D.folder store.old.disk) store.old.state }
+    requires means { D.model.honest → store.old.reopen ≡ false →
+        LeavesPrefixes (D.model.folder store.old.disk) store.old.state }
     ensures ok { store.old.reopen ≡ false → IfOk result
-        (Answered D.honest D.folder D.moment D.left (W.contents writer.old) (W.contents writer.new)
+        (Answered D.model (W.contents writer.old) (W.contents writer.new)
         store.old store.new piece.now counts) }
     ensures fails { store.old.reopen ≡ false → IfErr result
-        (Fails D.honest D.folder D.moment D.left (W.contents writer.old) (W.contents writer.new)
+        (Fails D.model (W.contents writer.old) (W.contents writer.new)
         store.old store.new piece.now counts.written) }
     ensures cause { IsErrOf result SessionFault.Device →
-        HasFailed (D.failure_count store.old.disk) (D.failure_count store.new.disk) }
-    ensures risen { D.failure_count store.old.disk ≤ D.failure_count store.new.disk }
-    ensures now { D.honest → store.new.reopen ≡ false →
-        LeavesPrefixes (D.folder store.new.disk) store.new.state }
+        HasFailed (D.model.failure_count store.old.disk) (D.model.failure_count store.new.disk) }
+    ensures risen { D.model.failure_count store.old.disk ≤ D.model.failure_count store.new.disk }
+    ensures now { D.model.honest → store.new.reopen ≡ false →
+        LeavesPrefixes (D.model.folder store.new.disk) store.new.state }
 {
     let reply = answer_piece(alloc, store, piece, Way::AtOnce)?;
     let accepted = count_accepted(&reply);

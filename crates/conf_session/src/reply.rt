@@ -69,31 +69,31 @@ fn perform<D: Disk>(store: &mut Store<D>, command: Command, way: Way) -> Result<
         fault ≢ StoreFault.Device → store.new ≡ store.old) }
     ensures device { IsErrOf result StoreFault.Device → store.new.reopen ≡ true }
     ensures cause { IsErrOf result StoreFault.Device →
-        HasFailed (D.failure_count store.old.disk) (D.failure_count store.new.disk) }
-    ensures risen { D.failure_count store.old.disk ≤ D.failure_count store.new.disk }
-    ensures reads { D.honest → store.old.reopen ≡ false →
-        OnOk result (bytes_under (D.folder store.new.disk) Name.Store
-        ≡ file_with_bytes (bytes_under (D.folder store.old.disk) Name.Store)
+        HasFailed (D.model.failure_count store.old.disk) (D.model.failure_count store.new.disk) }
+    ensures risen { D.model.failure_count store.old.disk ≤ D.model.failure_count store.new.disk }
+    ensures reads { D.model.honest → store.old.reopen ≡ false →
+        OnOk result (bytes_under (D.model.folder store.new.disk) Name.Store
+        ≡ file_with_bytes (bytes_under (D.model.folder store.old.disk) Name.Store)
         (next_record store.old.state (command_of command))) }
-    ensures stages { D.honest → store.old.reopen ≡ false →
-        OnOk result (staged_text (D.folder store.new.disk) store.new.staged
-        ≡ file_with_bytes (staged_text (D.folder store.old.disk) store.old.staged)
+    ensures stages { D.model.honest → store.old.reopen ≡ false →
+        OnOk result (staged_text (D.model.folder store.new.disk) store.new.staged
+        ≡ file_with_bytes (staged_text (D.model.folder store.old.disk) store.old.staged)
         (next_record store.old.state (command_of command))) }
-    ensures any_moment { D.honest → store.old.reopen ≡ false →
+    ensures any_moment { D.model.honest → store.old.reopen ≡ false →
         (flushed : Contents) (waiting : List GivenCommand)
-        → HasFlushed (D.folder store.old.disk) flushed waiting store.old.state →
-        LeavesOnly D.moment D.left store.old.disk store.new.disk
+        → HasFlushed (D.model.folder store.old.disk) flushed waiting store.old.state →
+        LeavesOnly D.model store.old.disk store.new.disk
         (λ image. AfterPrefix flushed waiting image.store
         ⊎ FileMeans image.store store.new.state) }
-    ensures waits { D.honest → store.old.reopen ≡ false →
+    ensures waits { D.model.honest → store.old.reopen ≡ false →
         (flushed : Contents) (waiting : List GivenCommand)
-        → HasFlushed (D.folder store.old.disk) flushed waiting store.old.state →
-        OnOk result (HasFlushed (D.folder store.new.disk)
+        → HasFlushed (D.model.folder store.old.disk) flushed waiting store.old.state →
+        OnOk result (HasFlushed (D.model.folder store.new.disk)
         (if is_at_once way then store.new.state else flushed)
         (if is_at_once way then [] else waiting ++ command_of command ∷ [])
         store.new.state) }
-    ensures now { is_at_once way ≡ true → D.honest →
-        OnOk result (AllImagesMean (D.folder store.new.disk) store.new.state) }
+    ensures now { is_at_once way ≡ true → D.model.honest →
+        OnOk result (AllImagesMean (D.model.folder store.new.disk) store.new.state) }
 {
     match way {
         Way::AtOnce => store.apply(command),
@@ -108,16 +108,16 @@ fn change<D: Disk>(
     command: Command,
     way: Way,
 ) -> Result<Reply, SessionFault>
-    requires means { D.honest → store.old.reopen ≡ false →
-        LeavesPrefixes (D.folder store.old.disk) store.old.state }
+    requires means { D.model.honest → store.old.reopen ≡ false →
+        LeavesPrefixes (D.model.folder store.old.disk) store.old.state }
     ensures did { store.old.reopen ≡ false →
-        Did (is_at_once way) D.honest D.folder D.moment D.left store.old store.new
+        Did (is_at_once way) D.model store.old store.new
         (changing (command_of command)) result }
     ensures cause { IsErrOf result SessionFault.Device →
-        HasFailed (D.failure_count store.old.disk) (D.failure_count store.new.disk) }
-    ensures risen { D.failure_count store.old.disk ≤ D.failure_count store.new.disk }
-    ensures now { is_at_once way ≡ true → D.honest → store.new.reopen ≡ false →
-        LeavesPrefixes (D.folder store.new.disk) store.new.state }
+        HasFailed (D.model.failure_count store.old.disk) (D.model.failure_count store.new.disk) }
+    ensures risen { D.model.failure_count store.old.disk ≤ D.model.failure_count store.new.disk }
+    ensures now { is_at_once way ≡ true → D.model.honest → store.new.reopen ≡ false →
+        LeavesPrefixes (D.model.folder store.new.disk) store.new.state }
 {
     let next = store.count().saturating_add(1);
     let answer = count_answer(alloc, next)?;
@@ -129,15 +129,15 @@ fn change<D: Disk>(
 
 /// Makes a checkpoint. The memory for its answer is taken first.
 fn checkpoint<D: Disk>(alloc: Global, store: &mut Store<D>) -> Result<Reply, SessionFault>
-    requires means { D.honest → store.old.reopen ≡ false →
-        LeavesPrefixes (D.folder store.old.disk) store.old.state }
+    requires means { D.model.honest → store.old.reopen ≡ false →
+        LeavesPrefixes (D.model.folder store.old.disk) store.old.state }
     ensures did { store.old.reopen ≡ false →
-        Did true D.honest D.folder D.moment D.left store.old store.new checkpointing result }
+        Did true D.model store.old store.new checkpointing result }
     ensures cause { IsErrOf result SessionFault.Device →
-        HasFailed (D.failure_count store.old.disk) (D.failure_count store.new.disk) }
-    ensures risen { D.failure_count store.old.disk ≤ D.failure_count store.new.disk }
-    ensures now { D.honest → store.new.reopen ≡ false →
-        LeavesPrefixes (D.folder store.new.disk) store.new.state }
+        HasFailed (D.model.failure_count store.old.disk) (D.model.failure_count store.new.disk) }
+    ensures risen { D.model.failure_count store.old.disk ≤ D.model.failure_count store.new.disk }
+    ensures now { D.model.honest → store.new.reopen ≡ false →
+        LeavesPrefixes (D.model.folder store.new.disk) store.new.state }
 {
     let answer = count_answer(alloc, store.count())?;
     match store.checkpoint() {
@@ -156,16 +156,16 @@ fn import<D: Disk>(
     source: &str,
     way: Way,
 ) -> Result<Reply, SessionFault>
-    requires means { D.honest → store.old.reopen ≡ false →
-        LeavesPrefixes (D.folder store.old.disk) store.old.state }
+    requires means { D.model.honest → store.old.reopen ≡ false →
+        LeavesPrefixes (D.model.folder store.old.disk) store.old.state }
     ensures did { store.old.reopen ≡ false →
-        DidSaid (is_at_once way) D.honest D.folder D.moment D.left store.old store.new
+        DidSaid (is_at_once way) D.model store.old store.new
         (single_part (import_text (chars name.now) (chars source.now))) result }
     ensures cause { IsErrOf result SessionFault.Device →
-        HasFailed (D.failure_count store.old.disk) (D.failure_count store.new.disk) }
-    ensures risen { D.failure_count store.old.disk ≤ D.failure_count store.new.disk }
-    ensures now { is_at_once way ≡ true → D.honest → store.new.reopen ≡ false →
-        LeavesPrefixes (D.folder store.new.disk) store.new.state }
+        HasFailed (D.model.failure_count store.old.disk) (D.model.failure_count store.new.disk) }
+    ensures risen { D.model.failure_count store.old.disk ≤ D.model.failure_count store.new.disk }
+    ensures now { is_at_once way ≡ true → D.model.honest → store.new.reopen ≡ false →
+        LeavesPrefixes (D.model.folder store.new.disk) store.new.state }
 {
     match import_command(alloc, name, source.as_bytes()) {
         Ok(command) => change(alloc, store, command, way),
@@ -180,16 +180,16 @@ fn change_single<D: Disk>(
     part: Part,
     way: Way,
 ) -> Result<Reply, SessionFault>
-    requires means { D.honest → store.old.reopen ≡ false →
-        LeavesPrefixes (D.folder store.old.disk) store.old.state }
+    requires means { D.model.honest → store.old.reopen ≡ false →
+        LeavesPrefixes (D.model.folder store.old.disk) store.old.state }
     ensures did { store.old.reopen ≡ false →
-        DidSaid (is_at_once way) D.honest D.folder D.moment D.left store.old store.new
+        DidSaid (is_at_once way) D.model store.old store.new
         (single_part (part_seen part)) result }
     ensures cause { IsErrOf result SessionFault.Device →
-        HasFailed (D.failure_count store.old.disk) (D.failure_count store.new.disk) }
-    ensures risen { D.failure_count store.old.disk ≤ D.failure_count store.new.disk }
-    ensures now { is_at_once way ≡ true → D.honest → store.new.reopen ≡ false →
-        LeavesPrefixes (D.folder store.new.disk) store.new.state }
+        HasFailed (D.model.failure_count store.old.disk) (D.model.failure_count store.new.disk) }
+    ensures risen { D.model.failure_count store.old.disk ≤ D.model.failure_count store.new.disk }
+    ensures now { is_at_once way ≡ true → D.model.honest → store.new.reopen ≡ false →
+        LeavesPrefixes (D.model.folder store.new.disk) store.new.state }
 {
     match part {
         Part::Import { name, text } => import(alloc, store, &name, &text, way),
@@ -204,16 +204,16 @@ fn change_batch<D: Disk>(
     parts: Vec<Part>,
     way: Way,
 ) -> Result<Reply, SessionFault>
-    requires means { D.honest → store.old.reopen ≡ false →
-        LeavesPrefixes (D.folder store.old.disk) store.old.state }
+    requires means { D.model.honest → store.old.reopen ≡ false →
+        LeavesPrefixes (D.model.folder store.old.disk) store.old.state }
     ensures did { store.old.reopen ≡ false →
-        DidSaid (is_at_once way) D.honest D.folder D.moment D.left store.old store.new
+        DidSaid (is_at_once way) D.model store.old store.new
         (batch_of_parts (parts_seen parts.items)) result }
     ensures cause { IsErrOf result SessionFault.Device →
-        HasFailed (D.failure_count store.old.disk) (D.failure_count store.new.disk) }
-    ensures risen { D.failure_count store.old.disk ≤ D.failure_count store.new.disk }
-    ensures now { is_at_once way ≡ true → D.honest → store.new.reopen ≡ false →
-        LeavesPrefixes (D.folder store.new.disk) store.new.state }
+        HasFailed (D.model.failure_count store.old.disk) (D.model.failure_count store.new.disk) }
+    ensures risen { D.model.failure_count store.old.disk ≤ D.model.failure_count store.new.disk }
+    ensures now { is_at_once way ≡ true → D.model.honest → store.new.reopen ≡ false →
+        LeavesPrefixes (D.model.folder store.new.disk) store.new.state }
 {
     match read_parts(alloc, parts) {
         Ok(edits) => change(alloc, store, Command::Batch { edits }, way),
@@ -228,15 +228,15 @@ fn answer_said<D: Disk>(
     said: Said,
     way: Way,
 ) -> Result<Reply, SessionFault>
-    requires means { D.honest → store.old.reopen ≡ false →
-        LeavesPrefixes (D.folder store.old.disk) store.old.state }
+    requires means { D.model.honest → store.old.reopen ≡ false →
+        LeavesPrefixes (D.model.folder store.old.disk) store.old.state }
     ensures did { store.old.reopen ≡ false →
-        DidSaid (is_at_once way) D.honest D.folder D.moment D.left store.old store.new (said_of said) result }
+        DidSaid (is_at_once way) D.model store.old store.new (said_of said) result }
     ensures cause { IsErrOf result SessionFault.Device →
-        HasFailed (D.failure_count store.old.disk) (D.failure_count store.new.disk) }
-    ensures risen { D.failure_count store.old.disk ≤ D.failure_count store.new.disk }
-    ensures now { is_at_once way ≡ true → D.honest → store.new.reopen ≡ false →
-        LeavesPrefixes (D.folder store.new.disk) store.new.state }
+        HasFailed (D.model.failure_count store.old.disk) (D.model.failure_count store.new.disk) }
+    ensures risen { D.model.failure_count store.old.disk ≤ D.model.failure_count store.new.disk }
+    ensures now { is_at_once way ≡ true → D.model.honest → store.new.reopen ≡ false →
+        LeavesPrefixes (D.model.folder store.new.disk) store.new.state }
 {
     match said {
         Said::Single(part) => change_single(alloc, store, part, way),
@@ -256,15 +256,15 @@ pub fn answer_piece<D: Disk>(
     piece: &[u8],
     way: Way,
 ) -> Result<Reply, SessionFault>
-    requires means { D.honest → store.old.reopen ≡ false →
-        LeavesPrefixes (D.folder store.old.disk) store.old.state }
+    requires means { D.model.honest → store.old.reopen ≡ false →
+        LeavesPrefixes (D.model.folder store.old.disk) store.old.state }
     ensures did { store.old.reopen ≡ false →
-        DidPiece (is_at_once way) D.honest D.folder D.moment D.left store.old store.new piece.now result }
+        DidPiece (is_at_once way) D.model store.old store.new piece.now result }
     ensures cause { IsErrOf result SessionFault.Device →
-        HasFailed (D.failure_count store.old.disk) (D.failure_count store.new.disk) }
-    ensures risen { D.failure_count store.old.disk ≤ D.failure_count store.new.disk }
-    ensures now { is_at_once way ≡ true → D.honest → store.new.reopen ≡ false →
-        LeavesPrefixes (D.folder store.new.disk) store.new.state }
+        HasFailed (D.model.failure_count store.old.disk) (D.model.failure_count store.new.disk) }
+    ensures risen { D.model.failure_count store.old.disk ≤ D.model.failure_count store.new.disk }
+    ensures now { is_at_once way ≡ true → D.model.honest → store.new.reopen ≡ false →
+        LeavesPrefixes (D.model.folder store.new.disk) store.new.state }
 {
     let said = read_said(alloc, piece)?;
     answer_said(alloc, store, said, way)

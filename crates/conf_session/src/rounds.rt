@@ -65,14 +65,14 @@ fn submit_piece<D: Disk>(
     store: &mut Store<D>,
     piece: &Piece,
 ) -> Result<Reply, SessionFault>
-    requires means { D.honest → store.old.reopen ≡ false →
-        LeavesPrefixes (D.folder store.old.disk) store.old.state }
+    requires means { D.model.honest → store.old.reopen ≡ false →
+        LeavesPrefixes (D.model.folder store.old.disk) store.old.state }
     ensures did { store.old.reopen ≡ false →
-        DidInRound D.honest D.folder D.moment D.left store.old store.new
+        DidInRound D.model store.old store.new
         piece.now.bytes.items result }
     ensures cause { IsErrOf result SessionFault.Device →
-        HasFailed (D.failure_count store.old.disk) (D.failure_count store.new.disk) }
-    ensures risen { D.failure_count store.old.disk ≤ D.failure_count store.new.disk }
+        HasFailed (D.model.failure_count store.old.disk) (D.model.failure_count store.new.disk) }
+    ensures risen { D.model.failure_count store.old.disk ≤ D.model.failure_count store.new.disk }
 {
     if !closes_once(&piece.bytes) {
         return Ok(Reply::NoCommand);
@@ -116,14 +116,14 @@ fn take_piece<D: Disk>(
     answers: &mut Vec<Vec<u8>>,
 ) -> Result<(), RoundFault>
     ensures ok { store.old.reopen ≡ false → OnOk result
-        (AnswersPiece D.honest D.folder D.moment D.left store.old store.new
+        (AnswersPiece D.model store.old store.new
         piece.now.bytes.items (answer_bytes answers.old.items) (answer_bytes answers.new.items)) }
     ensures fails { store.old.reopen ≡ false → IfErr result
-        (FailsPiece D.honest D.folder D.moment D.left store.old store.new
+        (FailsPiece D.model store.old store.new
         piece.now.bytes.items (length answers.old.items)) }
     ensures cause { IsErrOf result RoundFault.Device →
-        HasFailed (D.failure_count store.old.disk) (D.failure_count store.new.disk) }
-    ensures risen { D.failure_count store.old.disk ≤ D.failure_count store.new.disk }
+        HasFailed (D.model.failure_count store.old.disk) (D.model.failure_count store.new.disk) }
+    ensures risen { D.model.failure_count store.old.disk ≤ D.model.failure_count store.new.disk }
 {
     if store.needs_reopen() {
         return Err(RoundFault::Reopen);
@@ -163,14 +163,14 @@ pub fn round<D: Disk>(
     store: &mut Store<D>,
     pieces: &[Piece],
 ) -> Result<Vec<Vec<u8>>, RoundFault>
-    ensures rounds { Rounds D.honest D.folder D.moment D.left store.old store.new
+    ensures rounds { Rounds D.model store.old store.new
         (piece_bytes pieces.now) result }
     ensures reopen { IsErrOf result RoundFault.Reopen ↔ (store.old.reopen ≡ true) }
     ensures unchanged { IsErrOf result RoundFault.Reopen → store.new ≡ store.old }
     ensures device { (store.new.reopen ≡ true)
         ↔ ((store.old.reopen ≡ true) ⊎ IsErrOf result RoundFault.Device) }
     ensures cause { IsErrOf result RoundFault.Device →
-        HasFailed (D.failure_count store.old.disk) (D.failure_count store.new.disk) }
+        HasFailed (D.model.failure_count store.old.disk) (D.model.failure_count store.new.disk) }
 {
     if store.needs_reopen() {
         return Err(RoundFault::Reopen);

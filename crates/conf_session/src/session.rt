@@ -52,7 +52,7 @@ pub fn run<D: Disk, R: Read, W: Write>(
     reader: &mut R,
     writer: &mut W,
 ) -> Result<Tally, SessionFault>
-    ensures runs { Runs D.honest D.folder D.moment D.left
+    ensures runs { Runs D.model
         (R.remaining reader.old) (R.remaining reader.new) (W.contents writer.old)
         (W.contents writer.new)
         store.old store.new result }
@@ -61,7 +61,7 @@ pub fn run<D: Disk, R: Read, W: Write>(
     ensures device { (store.new.reopen ≡ true)
         ↔ ((store.old.reopen ≡ true) ⊎ IsErrOf result SessionFault.Device) }
     ensures cause { IsErrOf result SessionFault.Device →
-        HasFailed (D.failure_count store.old.disk) (D.failure_count store.new.disk) }
+        HasFailed (D.model.failure_count store.old.disk) (D.model.failure_count store.new.disk) }
 {
     if store.needs_reopen() {
         return Err(SessionFault::Reopen);

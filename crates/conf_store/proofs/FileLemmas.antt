@@ -5,6 +5,7 @@ use Rattle.std.proofs.lemmas.Bool.{false≢true}
 use Rattle.conf_disk.specs.Folder.{File, empty_file, file_bytes, Folder, bytes_at, bytes_under}
 use Rattle.conf_disk.specs.Image.{Image, IsImage, image_now, synced_file}
 use Rattle.conf_disk.specs.Laws.{ReadingIsAnImage}
+use Rattle.conf_disk.specs.Models.{DiskModel}
 use Rattle.conf_disk.specs.Moments.{LeavesOnly, TimeGoesOn}
 use Rattle.conf_disk.specs.declared.disk.DiskFault.{DiskFault}
 use Rattle.conf_disk.specs.declared.disk.DiskFault.TheVariants as disk
@@ -48,28 +49,28 @@ staging-length folder s (Some staged) is some =
 -- ---- nothing is written
 
 -- a run that leaves only old images and reads as before
-pub files-stay : {D : Type 0} (folder : D → Folder) (moment : D → ℕ) (left : D → ℕ → Image → Type 0) (old new : D)
-    → ((t : ℕ) (image : Image) → t ≤ moment new → IsImage (folder new) image → left new t image)
-    → image_now (folder new) ≡ image_now (folder old) → LeavesOnly moment left old new (IsImage (folder old)) → FilesStay folder moment left old new
-files-stay folder moment left old new counts reads run = record {
+pub files-stay : {D : Type 0} (model : DiskModel D) (old new : D)
+    → ((t : ℕ) (image : Image) → t ≤ model.moment new → IsImage (model.folder new) image → model.left new t image)
+    → image_now (model.folder new) ≡ image_now (model.folder old) → LeavesOnly model old new (IsImage (model.folder old)) → FilesStay model old new
+files-stay model old new counts reads run = record {
   reads = reads;
-  now = LeavesOnly-now folder moment left old new (IsImage (folder old)) counts run;
+  now = LeavesOnly-now model old new (IsImage (model.folder old)) counts run;
   any_moment = run;
 }
 
 -- a read, which changes nothing
-pub read-stays : {D : Type 0} (folder : D → Folder) (moment : D → ℕ) (left : D → ℕ → Image → Type 0) (old new : D)
-    → ((t : ℕ) (image : Image) → t ≤ moment new → IsImage (folder new) image → left new t image) → ((image : Image) → left old (moment old) image → IsImage (folder old) image)
-    → TimeGoesOn folder moment left old new → folder new ≡ folder old → FilesStay folder moment left old new
-read-stays folder moment left old new counts only time same =
-    files-stay folder moment left old new counts (ap image_now same) (LeavesOnly-same folder moment left old new only time same)
+pub read-stays : {D : Type 0} (model : DiskModel D) (old new : D)
+    → ((t : ℕ) (image : Image) → t ≤ model.moment new → IsImage (model.folder new) image → model.left new t image) → ((image : Image) → model.left old (model.moment old) image → IsImage (model.folder old) image)
+    → TimeGoesOn model old new → model.folder new ≡ model.folder old → FilesStay model old new
+read-stays model old new counts only time same =
+    files-stay model old new counts (ap image_now same) (LeavesOnly-same model old new only time same)
 
 -- it leaves an old store
-pub images-old : {D : Type 0} (folder : D → Folder) (moment : D → ℕ) (left : D → ℕ → Image → Type 0) (old new : D)
-    → LeavesOnly moment left old new (IsImage (folder old)) → LeavesOldOrBase folder moment left old new
-images-old folder moment left old new run =
-    LeavesOnly-weaker moment left old new (IsImage (folder old))
-    (λ image. IsStoreOf (folder old) image.store ⊎ IsNewBase (bytes_under (folder old) Store) image.store) run
+pub images-old : {D : Type 0} (model : DiskModel D) (old new : D)
+    → LeavesOnly model old new (IsImage (model.folder old)) → LeavesOldOrBase model old new
+images-old model old new run =
+    LeavesOnly-weaker model old new (IsImage (model.folder old))
+    (λ image. IsStoreOf (model.folder old) image.store ⊎ IsNewBase (bytes_under (model.folder old) Store) image.store) run
     (λ image is. inl (record { image = image; is = is; same = refl }))
 
 -- where a base is written, the file is missing or has bytes after its last closing line
@@ -109,24 +110,24 @@ loaded-old reading only entry now holds store is = record {
   same = sym (only now (bytes_under entry Store) store holds is);
 }
 
-module _ {D : Type 0} (folder : D → Folder) (moment : D → ℕ) (left : D → ℕ → Image → Type 0) (old mid new : D)
+module _ {D : Type 0} (model : DiskModel D) (old mid new : D)
     (reading : ReadingIsAnImage) (only : OnlyHeldIsLeft)
-    (s : Contents) (records dropped : ℕ) (size : Option ℕ) (found : IsFound (bytes_under (folder old) Store) s records dropped size) (is : size ≡ None)
-    (holds : HoldsStore (folder mid) (option_map synced_file (bytes_under (folder old) Store)))
-    (writes : LeavesStoreOr folder moment left (Some (base_bytes s)) mid new) where
+    (s : Contents) (records dropped : ℕ) (size : Option ℕ) (found : IsFound (bytes_under (model.folder old) Store) s records dropped size) (is : size ≡ None)
+    (holds : HoldsStore (model.folder mid) (option_map synced_file (bytes_under (model.folder old) Store)))
+    (writes : LeavesStoreOr model (Some (base_bytes s)) mid new) where
   -- after `old` was loaded, a run that leaves the store or the base
-  pub base-leaves : LeavesOnly moment left old mid (IsImage (folder old)) → LeavesOldOrBase folder moment left old new
+  pub base-leaves : LeavesOnly model old mid (IsImage (model.folder old)) → LeavesOldOrBase model old new
   base-leaves loads =
-      LeavesOnly-joined moment left old mid new (IsImage (folder old)) (λ image. IsStoreOf (folder mid) image.store ⊎ (image.store ≡ Some (base_bytes s)))
-      (λ image. IsStoreOf (folder old) image.store ⊎ IsNewBase (bytes_under (folder old) Store) image.store) loads writes
+      LeavesOnly-joined model old mid new (IsImage (model.folder old)) (λ image. IsStoreOf (model.folder mid) image.store ⊎ (image.store ≡ Some (base_bytes s)))
+      (λ image. IsStoreOf (model.folder old) image.store ⊎ IsNewBase (bytes_under (model.folder old) Store) image.store) loads writes
       (λ image was. inl (record { image = image; is = was; same = refl }))
-      (λ image. ⊎_elim (λ was. inl (loaded-old reading only (folder old) (folder mid) holds image.store was))
-      (λ same. inr (new-base (bytes_under (folder old) Store) image.store s records dropped size found is same)))
+      (λ image. ⊎_elim (λ was. inl (loaded-old reading only (model.folder old) (model.folder mid) holds image.store was))
+      (λ same. inr (new-base (bytes_under (model.folder old) Store) image.store s records dropped size found is same)))
 
   -- what is read then
-  pub base-reads : ((t : ℕ) (image : Image) → t ≤ moment new → IsImage (folder new) image → left new t image) → IsOldOrBase (bytes_under (folder old) Store) (bytes_under (folder new) Store)
+  pub base-reads : ((t : ℕ) (image : Image) → t ≤ model.moment new → IsImage (model.folder new) image → model.left new t image) → IsOldOrBase (bytes_under (model.folder old) Store) (bytes_under (model.folder new) Store)
   base-reads counts =
-      let image = image_now (folder new) in
-      ⊎_elim (λ was. inl (only (folder mid) (bytes_under (folder old) Store) image.store holds was))
-      (λ same. inr (new-base (bytes_under (folder old) Store) image.store s records dropped size found is same))
-      (LeavesOnly-now folder moment left mid new (λ (i : Image). IsStoreOf (folder mid) i.store ⊎ (i.store ≡ Some (base_bytes s))) counts writes image (reading (folder new)))
+      let image = image_now (model.folder new) in
+      ⊎_elim (λ was. inl (only (model.folder mid) (bytes_under (model.folder old) Store) image.store holds was))
+      (λ same. inr (new-base (bytes_under (model.folder old) Store) image.store s records dropped size found is same))
+      (LeavesOnly-now model mid new (λ (i : Image). IsStoreOf (model.folder mid) i.store ⊎ (i.store ≡ Some (base_bytes s))) counts writes image (reading (model.folder new)))

@@ -1,6 +1,6 @@
 -- What an open store has on its disk, with commands that wait for a flush, and what a crash leaves of it.
 use Rattle.std.proofs.Common.{◌≡◌, ◌⊎◌, inl, inr, refl, sym, ◌∙◌, ap, subst, arith, ◌≤◌, append_assoc, length-append}
-use Rattle.std.specs.Prelude.{ℕ, zero, suc, true, false, ◌+◌, Bool, List, [], ◌∷◌, ◌++◌, length, take, Option, Some, None, option_map, Ok}
+use Rattle.std.specs.Prelude.{ℕ, zero, suc, false, ◌+◌, Bool, List, [], ◌∷◌, ◌++◌, length, take, Option, Some, None, option_map, Ok}
 use Rattle.std.proofs.lemmas.List.{append-nil, take-append-le, take_all}
 use Rattle.std.proofs.lemmas.List.Elements.{All-nil}
 use Rattle.std.proofs.lemmas.Bool.{cases_lt}

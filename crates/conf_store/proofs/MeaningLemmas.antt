@@ -1,6 +1,6 @@
 -- What bytes mean: at most one state. After a crash it is the state after the records that are whole.
 use Rattle.std.proofs.Common.{◌≡◌, ◌⊎◌, inl, inr, refl, sym, ◌∙◌, ap, subst, arith, ◌≤◌, append_assoc, length-append, length-take}
-use Rattle.std.specs.Prelude.{ℕ, true, zero, suc, ◌+◌, List, [], ◌∷◌, ◌++◌, length, take, replicate, Option, Some, Result, Ok}
+use Rattle.std.specs.Prelude.{ℕ, zero, suc, ◌+◌, List, [], ◌∷◌, ◌++◌, length, take, replicate, Option, Some, Result, Ok}
 use Rattle.std.proofs.lemmas.List.{length-replicate}
 use Rattle.yaml_grammar.specs.Closings.{ClosesOnce, Pieces}
 use Rattle.yaml_recognizers.specs.Closings.{OnePieces}

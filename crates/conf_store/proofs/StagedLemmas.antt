@@ -1,6 +1,6 @@
 -- A running checkpoint beside what is under `store.yaml`.
 use Rattle.std.proofs.Common.{◌≡◌, refl, sym, ◌∙◌, ap, subst, arith, ◌≤◌, append_assoc, length-append, take-append-drop}
-use Rattle.std.specs.Prelude.{ℕ, true, ◌+◌, min, List, [], ◌∷◌, ◌++◌, length, take, Option, Some, None, IsSome, option_map, Ok}
+use Rattle.std.specs.Prelude.{ℕ, ◌+◌, min, List, [], ◌∷◌, ◌++◌, length, take, Option, Some, None, IsSome, option_map, Ok}
 use Rattle.std.proofs.lemmas.Bool.{false≢true}
 use Rattle.std.proofs.lemmas.List.{length-take-le}
 use Rattle.yaml_grammar.specs.Closings.{ClosesOnce}

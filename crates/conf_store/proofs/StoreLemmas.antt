@@ -7,6 +7,7 @@ use Rattle.yaml_grammar.specs.Texts.{byte_len}
 use Rattle.yaml_writer.proofs.ByteLemmas.{byte_len-encoded}
 use Rattle.conf_disk.specs.Folder.{Folder, with_pending}
 use Rattle.conf_disk.specs.Image.{Image, IsImage, synced_file}
+use Rattle.conf_disk.specs.Models.{DiskModel}
 use Rattle.conf_disk.specs.Moments.{LeavesOnly, greatest}
 use Rattle.conf_disk.proofs.Moments.{LeavesOnly-start, LeavesOnly-weaker}
 use Rattle.conf_journal.specs.Held.{HoldsStore, IsLeftOf, HeldIsLeft, SyncedIsLeft}
@@ -69,18 +70,18 @@ base-file-means s bytes base file same =
 
 -- ---- before any call of the disk
 
-pub start-prefix : {D : Type 0} (folder : D → Folder) (moment : D → ℕ) (left : D → ℕ → Image → Type 0) (disk : D) (s : Contents) (size : ℕ) (waits : Bool) → HeldIsLeft → RecordsTear
-    → ((image : Image) → left disk (moment disk) image → IsImage (folder disk) image) → IsHeld (folder disk) s size waits → (flushed : Contents) (since : List Command) → HasFlushed (folder disk) flushed since s
-    → LeavesOnly moment left disk disk (λ image. AfterPrefix flushed since image.store)
-start-prefix folder moment left disk s size waits held_left tear only held flushed since has =
-    LeavesOnly-start moment left disk (λ image. AfterPrefix flushed since image.store)
-    (λ image is. held-images held_left tear (folder disk) s size waits held flushed since has image (only image is))
+pub start-prefix : {D : Type 0} (model : DiskModel D) (disk : D) (s : Contents) (size : ℕ) (waits : Bool) → HeldIsLeft → RecordsTear
+    → ((image : Image) → model.left disk (model.moment disk) image → IsImage (model.folder disk) image) → IsHeld (model.folder disk) s size waits → (flushed : Contents) (since : List Command) → HasFlushed (model.folder disk) flushed since s
+    → LeavesOnly model disk disk (λ image. AfterPrefix flushed since image.store)
+start-prefix model disk s size waits held_left tear only held flushed since has =
+    LeavesOnly-start model disk (λ image. AfterPrefix flushed since image.store)
+    (λ image is. held-images held_left tear (model.folder disk) s size waits held flushed since has image (only image is))
 
 -- what may also mean another state
-pub or-means : {D : Type 0} (moment : D → ℕ) (left : D → ℕ → Image → Type 0) (old new : D) (flushed end : Contents) (since : List Command) → LeavesOnly moment left old new (λ image. AfterPrefix flushed since image.store)
-    → LeavesOnly moment left old new (λ image. AfterPrefix flushed since image.store ⊎ FileMeans image.store end)
-or-means moment left old new flushed end since leaves =
-    LeavesOnly-weaker moment left old new (λ image. AfterPrefix flushed since image.store) (λ image. AfterPrefix flushed since image.store ⊎ FileMeans image.store end) leaves (λ image is. inl is)
+pub or-means : {D : Type 0} (model : DiskModel D) (old new : D) (flushed end : Contents) (since : List Command) → LeavesOnly model old new (λ image. AfterPrefix flushed since image.store)
+    → LeavesOnly model old new (λ image. AfterPrefix flushed since image.store ⊎ FileMeans image.store end)
+or-means model old new flushed end since leaves =
+    LeavesOnly-weaker model old new (λ image. AfterPrefix flushed since image.store) (λ image. AfterPrefix flushed since image.store ⊎ FileMeans image.store end) leaves (λ image is. inl is)
 
 -- ---- a command that is accepted
 
@@ -196,12 +197,12 @@ append-flushed old new s end command size longest waits more held within ok hold
 }
 
 -- a crash while it is appended leaves the state after a prefix of what waits, or after it
-pub append-leaves : {D : Type 0} (moment : D → ℕ) (left : D → ℕ → Image → Type 0) (old new : D) (folder : Folder) (s end : Contents) (command : Command) (size longest : ℕ) (waits : Bool) (more : List ℕ) → RecordsTear
+pub append-leaves : {D : Type 0} (model : DiskModel D) (old new : D) (folder : Folder) (s end : Contents) (command : Command) (size longest : ℕ) (waits : Bool) (more : List ℕ) → RecordsTear
     → (held : IsHeld folder s size waits) → size ≤ longest → IsAccepted s command end longest more → (flushed : Contents) (since : List Command) → HasFlushed folder flushed since s
-    → LeavesOnly moment left old new (λ image. IsLeftOf (option_map (with_pending more) (Some held.file)) image.store)
-    → LeavesOnly moment left old new (λ image. AfterPrefix flushed since image.store ⊎ FileMeans image.store end)
-append-leaves moment left old new folder s end command size longest waits more tear held within ok flushed since has run =
-    LeavesOnly-weaker moment left old new (λ image. IsLeftOf (option_map (with_pending more) (Some held.file)) image.store)
+    → LeavesOnly model old new (λ image. IsLeftOf (option_map (with_pending more) (Some held.file)) image.store)
+    → LeavesOnly model old new (λ image. AfterPrefix flushed since image.store ⊎ FileMeans image.store end)
+append-leaves model old new folder s end command size longest waits more tear held within ok flushed since has run =
+    LeavesOnly-weaker model old new (λ image. IsLeftOf (option_map (with_pending more) (Some held.file)) image.store)
     (λ image. AfterPrefix flushed since image.store ⊎ FileMeans image.store end) run
     (λ image. appended-left tear held.file flushed s end since command more (held-journal folder s size waits held flushed since has) (accepted-record s end command longest more ok) ok.reads ok.done
     (accepted-short folder s end command size longest waits more held within ok) image.store)
@@ -209,20 +210,20 @@ append-leaves moment left old new folder s end command size longest waits more t
 -- ---- calls that change no meaning
 
 -- a crash leaves an old store, so the state after a prefix of what waits
-pub old-prefix : {D : Type 0} (moment : D → ℕ) (left : D → ℕ → Image → Type 0) (old new : D) (folder : Folder) (s : Contents) (size : ℕ) (waits : Bool) → HeldIsLeft → RecordsTear → IsHeld folder s size waits
-    → (flushed : Contents) (since : List Command) → HasFlushed folder flushed since s → LeavesOnly moment left old new (λ image. IsStoreOf folder image.store)
-    → LeavesOnly moment left old new (λ image. AfterPrefix flushed since image.store)
-old-prefix moment left old new folder s size waits held_left tear held flushed since has run =
-    LeavesOnly-weaker moment left old new (λ image. IsStoreOf folder image.store) (λ image. AfterPrefix flushed since image.store) run
+pub old-prefix : {D : Type 0} (model : DiskModel D) (old new : D) (folder : Folder) (s : Contents) (size : ℕ) (waits : Bool) → HeldIsLeft → RecordsTear → IsHeld folder s size waits
+    → (flushed : Contents) (since : List Command) → HasFlushed folder flushed since s → LeavesOnly model old new (λ image. IsStoreOf folder image.store)
+    → LeavesOnly model old new (λ image. AfterPrefix flushed since image.store)
+old-prefix model old new folder s size waits held_left tear held flushed since has run =
+    LeavesOnly-weaker model old new (λ image. IsStoreOf folder image.store) (λ image. AfterPrefix flushed since image.store) run
     (λ image. held-stores held_left tear folder s size waits held flushed since has image.store)
 
 -- or another file that means the state
-pub other-prefix : {D : Type 0} (moment : D → ℕ) (left : D → ℕ → Image → Type 0) (old new : D) (folder : Folder) (s : Contents) (size : ℕ) (waits : Bool) (P : Image → Type 0) → HeldIsLeft → RecordsTear → IsHeld folder s size waits
+pub other-prefix : {D : Type 0} (model : DiskModel D) (old new : D) (folder : Folder) (s : Contents) (size : ℕ) (waits : Bool) (P : Image → Type 0) → HeldIsLeft → RecordsTear → IsHeld folder s size waits
     → (flushed : Contents) (since : List Command) → HasFlushed folder flushed since s → ((image : Image) → P image → FileMeans image.store s)
-    → LeavesOnly moment left old new (λ image. IsStoreOf folder image.store ⊎ P image)
-    → LeavesOnly moment left old new (λ image. AfterPrefix flushed since image.store)
-other-prefix moment left old new folder s size waits P held_left tear held flushed since has means run =
-    LeavesOnly-weaker moment left old new (λ image. IsStoreOf folder image.store ⊎ P image) (λ image. AfterPrefix flushed since image.store) run
+    → LeavesOnly model old new (λ image. IsStoreOf folder image.store ⊎ P image)
+    → LeavesOnly model old new (λ image. AfterPrefix flushed since image.store)
+other-prefix model old new folder s size waits P held_left tear held flushed since has means run =
+    LeavesOnly-weaker model old new (λ image. IsStoreOf folder image.store ⊎ P image) (λ image. AfterPrefix flushed since image.store) run
     (λ image. ⊎_elim (held-stores held_left tear folder s size waits held flushed since has image.store)
     (λ other. means-waiting held.file flushed s since image.store (held-journal folder s size waits held flushed since has) (means image other)))
 

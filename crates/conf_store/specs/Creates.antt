@@ -1,5 +1,5 @@
 -- Why no store was made of a state.
-use Rattle.std.specs.Prelude.{◌≡◌, ◌≢◌, ◌⊎◌, Option, None, Some, Result, Ok, Err}
+use Rattle.std.specs.Prelude.{◌≡◌, ◌≢◌, ◌⊎◌, None, Some, Result, Ok, Err}
 use Rattle.conf_disk.specs.Folder.{Folder, bytes_under}
 use Rattle.conf_disk.specs.Image.{image_now}
 use Rattle.conf_disk.specs.declared.disk.Name.TheVariants.{Store}

@@ -1,7 +1,8 @@
 -- What the files of a folder read as, and what opening makes of them.
 use Rattle.std.specs.Prelude.{◌≡◌, ◌≢◌, ◌⊎◌, ℕ, List, length, Option, Some, None}
-use Rattle.conf_disk.specs.Folder.{Folder, bytes_under}
+use Rattle.conf_disk.specs.Folder.{bytes_under}
 use Rattle.conf_disk.specs.Image.{Image, IsImage, image_now}
+use Rattle.conf_disk.specs.Models.{DiskModel}
 use Rattle.conf_disk.specs.Moments.{LeavesOnly}
 use Rattle.conf_disk.specs.declared.disk.Name.TheVariants.{Store}
 use Rattle.conf_journal.specs.Store.{IsStoreOf}
@@ -17,11 +18,11 @@ HasLength (Some bytes) size = length bytes ≡ size
 
 -- No file and no name has changed. Both names read as before. What a crash leaves of both files, now and at any moment
 -- since `old`, it could leave at `old`.
-pub record FilesStay {D : Type 0} (folder : D → Folder) (moment : D → ℕ) (left : D → ℕ → Image → Type 0)
+pub record FilesStay {D : Type 0} (model : DiskModel D)
     (old new : D) : Type 0 where
-  pub reads : image_now (folder new) ≡ image_now (folder old)
-  pub now : (image : Image) → IsImage (folder new) image → IsImage (folder old) image
-  pub any_moment : LeavesOnly moment left old new (IsImage (folder old))
+  pub reads : image_now (model.folder new) ≡ image_now (model.folder old)
+  pub now : (image : Image) → IsImage (model.folder new) image → IsImage (model.folder old) image
+  pub any_moment : LeavesOnly model old new (IsImage (model.folder old))
 
 -- `file` is the whole new base that opening writes over `old`. The old file means this state, and is missing or has
 -- bytes after its last closing line.
@@ -39,7 +40,7 @@ abbrev pub IsOldOrBase : Option (List ℕ) → Option (List ℕ) → Type 0
 IsOldOrBase old file = (file ≡ old) ⊎ IsNewBase old file
 
 -- a crash at any moment since `old` leaves an old `store.yaml`, or the whole new base
-abbrev pub LeavesOldOrBase : {D : Type 0} → (D → Folder) → (D → ℕ) → (D → ℕ → Image → Type 0) → D → D → Type 0
-LeavesOldOrBase folder moment left old new =
-    LeavesOnly moment left old new
-    (λ image. IsStoreOf (folder old) image.store ⊎ IsNewBase (bytes_under (folder old) Store) image.store)
+abbrev pub LeavesOldOrBase : {D : Type 0} → DiskModel D → D → D → Type 0
+LeavesOldOrBase model old new =
+    LeavesOnly model old new
+    (λ image. IsStoreOf (model.folder old) image.store ⊎ IsNewBase (bytes_under (model.folder old) Store) image.store)

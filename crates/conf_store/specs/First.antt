@@ -7,7 +7,7 @@ use Rattle.yaml_grammar.specs.Closings.{Pieces}
 use Rattle.yaml_grammar.specs.Reads.{Limits, Good, Gives}
 use Rattle.yaml_grammar.specs.Style.{style_text}
 use Rattle.yaml_grammar.specs.Texts.{byte_len, same_text}
-use Rattle.yaml_grammar.specs.Trees.{Tree, depth, text, sequence, mapping, Members, no_member, member}
+use Rattle.yaml_grammar.specs.Trees.{Tree, depth, text, sequence, mapping, no_member, member}
 use Rattle.json_pointer.specs.Pointers.{path_of}
 use Rattle.tree_path.specs.Paths.{set, delete}
 use Rattle.conf_journal.specs.Store.{store_limit}

@@ -2,6 +2,7 @@
 use Rattle.std.specs.Prelude.{◌≡◌, ℕ, ◌<◌, true, false, List, [], length, Option, Some, None}
 use Rattle.conf_disk.specs.Folder.{File, Folder, bytes_under}
 use Rattle.conf_disk.specs.Image.{synced_file}
+use Rattle.conf_disk.specs.Models.{DiskModel}
 use Rattle.conf_disk.specs.declared.disk.Name.TheVariants.{Store, Next}
 use Rattle.conf_journal.specs.Held.{HoldsStore}
 use Rattle.conf_journal.specs.Store.{IsSynced, file_with_bytes}
@@ -20,32 +21,33 @@ SyncedWhenDue folder None = Unit {0}
 SyncedWhenDue folder (Some staged) = is_sync_due staged ≡ true → IsSynced folder Next
 
 -- The next slice is in `next.yaml`, and something is left.
-pub record WritesPart {D : Type 0} (honest : Type 0) (folder : D → Folder) (old : D) (staged : Staged) (bytes : ℕ)
+pub record WritesPart {D : Type 0} (model : DiskModel D) (old : D) (staged : Staged) (bytes : ℕ)
     (new : D) (after : Option Staged) : Type 0 where
   pub passed : after ≡ Some (after_slice staged)
   pub left : bytes ≡ length (after_slice staged).left
   pub some : 0 < bytes
   pub fewer : bytes < length staged.left
-  pub next : honest
-      → bytes_under (folder new) Next ≡ file_with_bytes (bytes_under (folder old) Next) (next_slice staged)
-  pub store : honest → bytes_under (folder new) Store ≡ bytes_under (folder old) Store
-  pub holds : honest → (file : Option File) → HoldsStore (folder old) file → HoldsStore (folder new) file
-  pub synced : honest → SyncedWhenDue (folder new) after
+  pub next : model.honest
+      → bytes_under (model.folder new) Next ≡ file_with_bytes (bytes_under (model.folder old) Next) (next_slice staged)
+  pub store : model.honest → bytes_under (model.folder new) Store ≡ bytes_under (model.folder old) Store
+  pub holds : model.honest → (file : Option File) → HoldsStore (model.folder old) file
+      → HoldsStore (model.folder new) file
+  pub synced : model.honest → SyncedWhenDue (model.folder new) after
 
 -- All that was left is in the file, which is synced and in the place of `store.yaml`.
-pub record WritesLast {D : Type 0} (honest : Type 0) (folder : D → Folder) (old : D) (staged : Staged)
+pub record WritesLast {D : Type 0} (model : DiskModel D) (old : D) (staged : Staged)
     (new : D) : Type 0 where
   pub none : (after_slice staged).left ≡ []
-  pub store : honest → bytes_under (folder new) Store ≡ staged_text (folder old) (Some staged)
-  pub holds : honest → (bytes : List ℕ) → staged_text (folder old) (Some staged) ≡ Some bytes
-      → HoldsStore (folder new) (Some (synced_file bytes))
+  pub store : model.honest → bytes_under (model.folder new) Store ≡ staged_text (model.folder old) (Some staged)
+  pub holds : model.honest → (bytes : List ℕ) → staged_text (model.folder old) (Some staged) ≡ Some bytes
+      → HoldsStore (model.folder new) (Some (synced_file bytes))
 
-abbrev pub WritesSlice : {D : Type 0} → Type 0 → (D → Folder) → D → Option Staged → Progress → D → Option Staged
+abbrev pub WritesSlice : {D : Type 0} → DiskModel D → D → Option Staged → Progress → D → Option Staged
     → Type 0
-WritesSlice honest folder old staged (Left bytes) new after =
-    (s : Staged) × (staged ≡ Some s) × WritesPart honest folder old s bytes new after
-WritesSlice honest folder old staged Done new after =
-    (s : Staged) × (staged ≡ Some s) × WritesLast honest folder old s new
+WritesSlice model old staged (Left bytes) new after =
+    (s : Staged) × (staged ≡ Some s) × WritesPart model old s bytes new after
+WritesSlice model old staged Done new after =
+    (s : Staged) × (staged ≡ Some s) × WritesLast model old s new
 
 -- ---- a store
 

@@ -50,27 +50,27 @@ pub fn create_store<D: Disk + Drop>(
     state: &State,
 ) -> Result<D, (D, CreateFault)>
     requires { IsState state.now }
-    ensures missing { D.honest → OnOk result (bytes_under (D.folder disk) Name.Store ≡ None) }
-    ensures reads { D.honest → IfOk result (λ made.
-        bytes_under (D.folder made) Name.Store ≡ Some (base_bytes state.now)) }
-    ensures gone { D.honest → IfOk result (λ made.
-        bytes_under (D.folder made) Name.Next ≡ None) }
-    ensures means { D.honest → IfOk result (λ made.
-        FileMeans (bytes_under (D.folder made) Name.Store) state.now) }
+    ensures missing { D.model.honest → OnOk result (bytes_under (D.model.folder disk) Name.Store ≡ None) }
+    ensures reads { D.model.honest → IfOk result (λ made.
+        bytes_under (D.model.folder made) Name.Store ≡ Some (base_bytes state.now)) }
+    ensures gone { D.model.honest → IfOk result (λ made.
+        bytes_under (D.model.folder made) Name.Next ≡ None) }
+    ensures means { D.model.honest → IfOk result (λ made.
+        FileMeans (bytes_under (D.model.folder made) Name.Store) state.now) }
     // After Ok, a crash leaves the new file, and so what means the state.
-    ensures synced { D.honest → IfOk result (λ made. (image : Image) →
-        IsImage (D.folder made) image → image.store ≡ Some (base_bytes state.now)) }
-    ensures now { D.honest → IfOk result (λ made. AllImagesMean (D.folder made) state.now) }
-    ensures refused { D.honest → IfErr result (λ r.
-        RefusesCreation (D.folder disk) state.now r.1 (D.folder r.0)) }
+    ensures synced { D.model.honest → IfOk result (λ made. (image : Image) →
+        IsImage (D.model.folder made) image → image.store ≡ Some (base_bytes state.now)) }
+    ensures now { D.model.honest → IfOk result (λ made. AllImagesMean (D.model.folder made) state.now) }
+    ensures refused { D.model.honest → IfErr result (λ r.
+        RefusesCreation (D.model.folder disk) state.now r.1 (D.model.folder r.0)) }
     // A crash at any moment of the call leaves an old store, or the whole new one, whatever it returns.
-    ensures leaves { D.honest →
-        LeavesStoreOr D.folder D.moment D.left (Some (base_bytes state.now))
+    ensures leaves { D.model.honest →
+        LeavesStoreOr D.model (Some (base_bytes state.now))
         disk (disk_behind result) }
     ensures cause { IfErr result (λ r. r.1 ≡ CreateFault.Device →
-        HasFailed (D.failure_count disk) (D.failure_count r.0)) }
+        HasFailed (D.model.failure_count disk) (D.model.failure_count r.0)) }
     // The number of failures never falls.
-    ensures risen { D.failure_count disk ≤ D.failure_count (disk_behind result) }
+    ensures risen { D.model.failure_count disk ≤ D.model.failure_count (disk_behind result) }
 {
     documents_are_read();
     documents_close();
@@ -94,18 +94,18 @@ pub fn create_store<D: Disk + Drop>(
 /// # Errors
 /// `StoreExists` if there is one: nothing has changed. `Device` and `OutOfMemory`: both files read as before.
 fn find_none<D: Disk>(alloc: Global, disk: &mut D) -> Result<(), CreateFault>
-    ensures missing { D.honest → OnOk result (bytes_under (D.folder disk.old) Name.Store ≡ None) }
-    ensures holds { D.honest → OnOk result (HoldsStore (D.folder disk.new) None) }
-    ensures exists { D.honest → result ≡ Err CreateFault.StoreExists →
-        (bytes_under (D.folder disk.old) Name.Store ≢ None)
-        × (D.folder disk.new ≡ D.folder disk.old) }
+    ensures missing { D.model.honest → OnOk result (bytes_under (D.model.folder disk.old) Name.Store ≡ None) }
+    ensures holds { D.model.honest → OnOk result (HoldsStore (D.model.folder disk.new) None) }
+    ensures exists { D.model.honest → result ≡ Err CreateFault.StoreExists →
+        (bytes_under (D.model.folder disk.old) Name.Store ≢ None)
+        × (D.model.folder disk.new ≡ D.model.folder disk.old) }
     // Whatever it returns, both files read as before.
-    ensures reads { D.honest → image_now (D.folder disk.new) ≡ image_now (D.folder disk.old) }
-    ensures any_moment { D.honest → LeavesOnly D.moment D.left disk.old disk.new
-        (IsImage (D.folder disk.old)) }
+    ensures reads { D.model.honest → image_now (D.model.folder disk.new) ≡ image_now (D.model.folder disk.old) }
+    ensures any_moment { D.model.honest → LeavesOnly D.model disk.old disk.new
+        (IsImage (D.model.folder disk.old)) }
     ensures cause { IsErrOf result CreateFault.Device →
-        HasFailed (D.failure_count disk.old) (D.failure_count disk.new) }
-    ensures risen { D.failure_count disk.old ≤ D.failure_count disk.new }
+        HasFailed (D.model.failure_count disk.old) (D.model.failure_count disk.new) }
+    ensures risen { D.model.failure_count disk.old ≤ D.model.failure_count disk.new }
 {
     held_store_is_the_only_one();
     match disk.read(alloc, Name::Store, 0) {

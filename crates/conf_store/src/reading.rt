@@ -28,25 +28,25 @@ use std::alloc::Global;
 /// `NotAStore` and `Damaged` if `store.yaml` means nothing, as an opening returns them. `Device` if the read failed,
 /// and `OutOfMemory`. Both files are as they were, whatever this returns.
 pub fn read_state<D: Disk>(alloc: Global, disk: &mut D) -> Result<(State, Opened), OpenFault>
-    ensures found { D.honest → IfOk result (λ r.
-        FileRecoversTo (bytes_under (D.folder disk.old) Name.Store) r.0 r.1.commands r.1.dropped) }
+    ensures found { D.model.honest → IfOk result (λ r.
+        FileRecoversTo (bytes_under (D.model.folder disk.old) Name.Store) r.0 r.1.commands r.1.dropped) }
     // The state is what `store.yaml` means.
-    ensures means { D.honest → IfOk result (λ r.
-        FileMeans (bytes_under (D.folder disk.old) Name.Store) r.0) }
+    ensures means { D.model.honest → IfOk result (λ r.
+        FileMeans (bytes_under (D.model.folder disk.old) Name.Store) r.0) }
     ensures limits { IfOk result (λ r. IsState r.0) }
-    ensures refused { D.honest → IfErr result (λ fault.
-        RefusesOpening fault (bytes_under (D.folder disk.old) Name.Store)) }
+    ensures refused { D.model.honest → IfErr result (λ fault.
+        RefusesOpening fault (bytes_under (D.model.folder disk.old) Name.Store)) }
     // A file that is refused means nothing.
-    ensures no_meaning { D.honest → IfErr result (λ fault.
-        RefusalMeans fault (bytes_under (D.folder disk.old) Name.Store)) }
+    ensures no_meaning { D.model.honest → IfErr result (λ fault.
+        RefusalMeans fault (bytes_under (D.model.folder disk.old) Name.Store)) }
     ensures cause { IsErrOf result OpenFault.Device →
-        HasFailed (D.failure_count disk.old) (D.failure_count disk.new) }
+        HasFailed (D.model.failure_count disk.old) (D.model.failure_count disk.new) }
     // The number of failures never falls.
-    ensures risen { D.failure_count disk.old ≤ D.failure_count disk.new }
+    ensures risen { D.model.failure_count disk.old ≤ D.model.failure_count disk.new }
     // Whatever it returns, nothing has changed, and what was to be synced still is.
-    ensures same { D.honest → D.folder disk.new ≡ D.folder disk.old }
+    ensures same { D.model.honest → D.model.folder disk.new ≡ D.model.folder disk.old }
     // What a crash leaves, now and at any moment of the call, it could leave before.
-    ensures stays { D.honest → FilesStay D.folder D.moment D.left disk.old disk.new }
+    ensures stays { D.model.honest → FilesStay D.model disk.old disk.new }
 {
     bytes_mean_one_state();
     let content = match disk.read(alloc, Name::Store, STORE_LIMIT) {

@@ -29,15 +29,15 @@ pub enum Progress {
 /// `Device`: `store.yaml` is the old file or the whole new one.
 pub fn write_slice<D: Disk>(disk: &mut D, staging: &mut Staging) -> Result<Progress, DiskFault>
     requires running { IsSome staging.old }
-    requires there { D.honest → IsSome (D.folder disk.old).now.next }
-    ensures ok { IfOk result (λ progress. WritesSlice D.honest D.folder disk.old staging.old
+    requires there { D.model.honest → IsSome (D.model.folder disk.old).now.next }
+    ensures ok { IfOk result (λ progress. WritesSlice D.model disk.old staging.old
         progress disk.new staging.new) }
     ensures running { IsSome staging.new }
     ensures long { staged_length staging.new ≡ staged_length staging.old }
     // A crash leaves an old store, or the whole new file.
-    ensures any_moment { D.honest → LeavesStoreOr D.folder D.moment D.left
-        (staged_text (D.folder disk.old) staging.old) disk.old disk.new }
-    ensures failures { CountsFailures (D.failure_count disk.old) (D.failure_count disk.new) result }
+    ensures any_moment { D.model.honest → LeavesStoreOr D.model
+        (staged_text (D.model.folder disk.old) staging.old) disk.old disk.new }
+    ensures failures { CountsFailures (D.model.failure_count disk.old) (D.model.failure_count disk.new) result }
     ensures fault { result ≢ Err DiskFault.OutOfMemory }
 {
     runs_of_calls_are_joined::<D>();
@@ -57,15 +57,15 @@ pub fn write_slice<D: Disk>(disk: &mut D, staging: &mut Staging) -> Result<Progr
 /// # Errors
 /// `Device`. Whatever it returns, both files are read as before, and `store.yaml` is unchanged.
 fn sync_if_due<D: Disk>(disk: &mut D, staging: &Staging) -> Result<(), DiskFault>
-    ensures reads { D.honest → image_now (D.folder disk.new) ≡ image_now (D.folder disk.old) }
-    ensures holds { D.honest → (file : Option File) → HoldsStore (D.folder disk.old) file →
-        OnOk result (HoldsStore (D.folder disk.new) file) }
+    ensures reads { D.model.honest → image_now (D.model.folder disk.new) ≡ image_now (D.model.folder disk.old) }
+    ensures holds { D.model.honest → (file : Option File) → HoldsStore (D.model.folder disk.old) file →
+        OnOk result (HoldsStore (D.model.folder disk.new) file) }
     // A crash leaves an old store.
-    ensures any_moment { D.honest → LeavesOldStore D.folder D.moment D.left disk.old disk.new }
-    ensures synced { D.honest → IsSome (D.folder disk.old).now.next →
-        OnOk result (SyncedWhenDue (D.folder disk.new) staging.now) }
-    ensures failures { D.failure_count disk.old < greatest →
-        CountsFailures (D.failure_count disk.old) (D.failure_count disk.new) result }
+    ensures any_moment { D.model.honest → LeavesOldStore D.model disk.old disk.new }
+    ensures synced { D.model.honest → IsSome (D.model.folder disk.old).now.next →
+        OnOk result (SyncedWhenDue (D.model.folder disk.new) staging.now) }
+    ensures failures { D.model.failure_count disk.old < greatest →
+        CountsFailures (D.model.failure_count disk.old) (D.model.failure_count disk.new) result }
     ensures fault { result ≢ Err DiskFault.OutOfMemory }
 {
     if staging.is_sync_due() {

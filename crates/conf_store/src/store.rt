@@ -90,12 +90,12 @@ impl<D: Disk> Model for Store<D> {
 
     ghost invariant = { λ s. (s.size ≤ store_limit) × IsState s.state
         × (staged_length s.staging ≤ store_limit)
-        × (D.honest → s.reopen ≡ false → IsHeld (D.folder s.disk) s.state s.size s.waits
-        × IsStaging (D.folder s.disk) s.state s.staging)
+        × (D.model.honest → s.reopen ≡ false → IsHeld (D.model.folder s.disk) s.state s.size s.waits
+        × IsStaging (D.model.folder s.disk) s.state s.staging)
         × (s.base ≤ s.size) × (s.staged_base ≤ staged_length s.staging)
-        × (D.honest → s.reopen ≡ false →
-        FileStartsWithBase (bytes_under (D.folder s.disk) Store) s.base
-        × StagedStartsWithBase (D.folder s.disk) s.staging s.staged_base) };
+        × (D.model.honest → s.reopen ≡ false →
+        FileStartsWithBase (bytes_under (D.model.folder s.disk) Store) s.base
+        × StagedStartsWithBase (D.model.folder s.disk) s.staging s.staged_base) };
 }
 
 impl<D: Disk> Store<D> {
@@ -114,54 +114,54 @@ impl<D: Disk> Store<D> {
     /// `store.yaml` means nothing; both files stay as they were. `OutOfMemory`: so do they, since all memory is taken
     /// before the first change. `Device`: `store.yaml` is the old file or the whole new base.
     pub fn open(alloc: Global, disk: D) -> Result<(Store<D>, Opened), (D, OpenFault)>
-        ensures found { D.honest → IfOk result (λ r.
-            FileRecoversTo (bytes_under (D.folder disk) Name.Store)
+        ensures found { D.model.honest → IfOk result (λ r.
+            FileRecoversTo (bytes_under (D.model.folder disk) Name.Store)
             r.0.state r.1.commands r.1.dropped) }
         // The state is what `store.yaml` means.
-        ensures means { D.honest → IfOk result (λ r.
-            FileMeans (bytes_under (D.folder disk) Name.Store) r.0.state) }
+        ensures means { D.model.honest → IfOk result (λ r.
+            FileMeans (bytes_under (D.model.folder disk) Name.Store) r.0.state) }
         ensures no_reopen { IfOk result (λ r. r.0.reopen ≡ false) }
         ensures no_checkpoint { IfOk result (λ r. r.0.staged ≡ None) }
-        ensures reads { D.honest → IfOk result (λ r.
-            ReadsAfterOpening (bytes_under (D.folder disk) Name.Store) r.0.state r.1.dropped
-            (bytes_under (D.folder r.0.disk) Name.Store)) }
-        ensures refused { D.honest → IfErr result (λ r.
-            RefusesOpening r.1 (bytes_under (D.folder disk) Name.Store)) }
+        ensures reads { D.model.honest → IfOk result (λ r.
+            ReadsAfterOpening (bytes_under (D.model.folder disk) Name.Store) r.0.state r.1.dropped
+            (bytes_under (D.model.folder r.0.disk) Name.Store)) }
+        ensures refused { D.model.honest → IfErr result (λ r.
+            RefusesOpening r.1 (bytes_under (D.model.folder disk) Name.Store)) }
         // A file that is refused means nothing.
-        ensures no_meaning { D.honest → IfErr result (λ r.
-            RefusalMeans r.1 (bytes_under (D.folder disk) Name.Store)) }
+        ensures no_meaning { D.model.honest → IfErr result (λ r.
+            RefusalMeans r.1 (bytes_under (D.model.folder disk) Name.Store)) }
         ensures cause { IfErr result (λ r.
-            r.1 ≡ OpenFault.Device → HasFailed (D.failure_count disk) (D.failure_count r.0)) }
+            r.1 ≡ OpenFault.Device → HasFailed (D.model.failure_count disk) (D.model.failure_count r.0)) }
         // The number of failures never falls.
-        ensures risen { D.failure_count disk ≤ D.failure_count (disk_after result) }
+        ensures risen { D.model.failure_count disk ≤ D.model.failure_count (disk_after result) }
         // A crash at any moment of the call leaves what some image at its start meant, whatever it returns.
-        ensures any_moment { D.honest → LeavesOnly D.moment D.left disk (disk_after result)
-            (λ image. MeantAtEntry (D.folder disk) image.store) }
+        ensures any_moment { D.model.honest → LeavesOnly D.model disk (disk_after result)
+            (λ image. MeantAtEntry (D.model.folder disk) image.store) }
         // After Ok, whatever a crash leaves means the state.
-        ensures now { D.honest → IfOk result (λ r. AllImagesMean (D.folder r.0.disk) r.0.state) }
+        ensures now { D.model.honest → IfOk result (λ r. AllImagesMean (D.model.folder r.0.disk) r.0.state) }
         // The state is flushed, and nothing waits.
-        ensures flushed { D.honest → IfOk result (λ r.
-            HasFlushed (D.folder r.0.disk) r.0.state [] r.0.state) }
+        ensures flushed { D.model.honest → IfOk result (λ r.
+            HasFlushed (D.model.folder r.0.disk) r.0.state [] r.0.state) }
         // A refusal other than Device changes no file.
-        ensures refused_stays { D.honest → IfErr result (λ r. r.1 ≢ OpenFault.Device →
-            FilesStay D.folder D.moment D.left disk r.0) }
+        ensures refused_stays { D.model.honest → IfErr result (λ r. r.1 ≢ OpenFault.Device →
+            FilesStay D.model disk r.0) }
         // Nor does Ok, if `store.yaml` was there and no bytes were dropped.
-        ensures whole_stays { D.honest → IfOk result (λ r. r.1.dropped ≡ 0 →
-            IsSome (bytes_under (D.folder disk) Name.Store) →
-            FilesStay D.folder D.moment D.left disk r.0.disk) }
+        ensures whole_stays { D.model.honest → IfOk result (λ r. r.1.dropped ≡ 0 →
+            IsSome (bytes_under (D.model.folder disk) Name.Store) →
+            FilesStay D.model disk r.0.disk) }
         // If a base was written, `next.yaml` is gone.
-        ensures gone { D.honest → IfOk result (λ r.
-            ((bytes_under (D.folder disk) Name.Store ≡ None) ⊎ (r.1.dropped ≢ 0)) →
-            bytes_under (D.folder r.0.disk) Name.Next ≡ None) }
+        ensures gone { D.model.honest → IfOk result (λ r.
+            ((bytes_under (D.model.folder disk) Name.Store ≡ None) ⊎ (r.1.dropped ≢ 0)) →
+            bytes_under (D.model.folder r.0.disk) Name.Next ≡ None) }
         // Whatever it returns, `store.yaml` reads as before, or as the whole new base.
-        ensures old_or_base { D.honest → IsOldOrBase (bytes_under (D.folder disk) Name.Store)
-            (bytes_under (D.folder (disk_after result)) Name.Store) }
+        ensures old_or_base { D.model.honest → IsOldOrBase (bytes_under (D.model.folder disk) Name.Store)
+            (bytes_under (D.model.folder (disk_after result)) Name.Store) }
         // A crash at any moment of the call leaves an old `store.yaml`, or the whole new base.
-        ensures leaves { D.honest →
-            LeavesOldOrBase D.folder D.moment D.left disk (disk_after result) }
+        ensures leaves { D.model.honest →
+            LeavesOldOrBase D.model disk (disk_after result) }
         // The kept length is that of `store.yaml`.
-        ensures size { D.honest → IfOk result (λ r.
-            HasLength (bytes_under (D.folder r.0.disk) Name.Store) r.0.size) }
+        ensures size { D.model.honest → IfOk result (λ r.
+            HasLength (bytes_under (D.model.folder r.0.disk) Name.Store) r.0.size) }
     {
         documents_are_read();
         documents_close();
@@ -222,31 +222,31 @@ impl<D: Disk> Store<D> {
             fault ≢ StoreFault.Device → self.new ≡ self.old) }
         ensures device { IsErrOf result StoreFault.Device → self.new.reopen ≡ true }
         ensures cause { IsErrOf result StoreFault.Device →
-            HasFailed (D.failure_count self.old.disk) (D.failure_count self.new.disk) }
+            HasFailed (D.model.failure_count self.old.disk) (D.model.failure_count self.new.disk) }
         // The number of failures never falls.
-        ensures risen { D.failure_count self.old.disk ≤ D.failure_count self.new.disk }
-        ensures reads { D.honest → self.old.reopen ≡ false →
-            OnOk result (bytes_under (D.folder self.new.disk) Name.Store
-            ≡ file_with_bytes (bytes_under (D.folder self.old.disk) Name.Store)
+        ensures risen { D.model.failure_count self.old.disk ≤ D.model.failure_count self.new.disk }
+        ensures reads { D.model.honest → self.old.reopen ≡ false →
+            OnOk result (bytes_under (D.model.folder self.new.disk) Name.Store
+            ≡ file_with_bytes (bytes_under (D.model.folder self.old.disk) Name.Store)
             (next_record self.old.state (command_of command))) }
         // So does the new file of a running checkpoint.
-        ensures stages { D.honest → self.old.reopen ≡ false →
-            OnOk result (staged_text (D.folder self.new.disk) self.new.staged
-            ≡ file_with_bytes (staged_text (D.folder self.old.disk) self.old.staged)
+        ensures stages { D.model.honest → self.old.reopen ≡ false →
+            OnOk result (staged_text (D.model.folder self.new.disk) self.new.staged
+            ≡ file_with_bytes (staged_text (D.model.folder self.old.disk) self.old.staged)
             (next_record self.old.state (command_of command))) }
         // A crash at any moment of the call leaves the state after a prefix of the commands that wait, or after this
         // one.
-        ensures any_moment { D.honest → self.old.reopen ≡ false →
+        ensures any_moment { D.model.honest → self.old.reopen ≡ false →
             (flushed : Contents) (since : List GivenCommand)
-            → HasFlushed (D.folder self.old.disk) flushed since self.old.state →
-            LeavesOnly D.moment D.left self.old.disk self.new.disk
+            → HasFlushed (D.model.folder self.old.disk) flushed since self.old.state →
+            LeavesOnly D.model self.old.disk self.new.disk
             (λ image. AfterPrefix flushed since image.store
             ⊎ FileMeans image.store self.new.state) }
         // The command waits, behind those that wait.
-        ensures waits { D.honest → self.old.reopen ≡ false →
+        ensures waits { D.model.honest → self.old.reopen ≡ false →
             (flushed : Contents) (since : List GivenCommand)
-            → HasFlushed (D.folder self.old.disk) flushed since self.old.state →
-            OnOk result (HasFlushed (D.folder self.new.disk) flushed
+            → HasFlushed (D.model.folder self.old.disk) flushed since self.old.state →
+            OnOk result (HasFlushed (D.model.folder self.new.disk) flushed
             (since ++ command_of command ∷ []) self.new.state) }
     {
         documents_close();
@@ -293,24 +293,24 @@ impl<D: Disk> Store<D> {
             fault ≢ StoreFault.Device → self.new ≡ self.old) }
         ensures device { IsErrOf result StoreFault.Device → self.new.reopen ≡ true }
         ensures cause { IsErrOf result StoreFault.Device →
-            HasFailed (D.failure_count self.old.disk) (D.failure_count self.new.disk) }
+            HasFailed (D.model.failure_count self.old.disk) (D.model.failure_count self.new.disk) }
         // The number of failures never falls.
-        ensures risen { D.failure_count self.old.disk ≤ D.failure_count self.new.disk }
-        ensures reads { D.honest → bytes_under (D.folder self.new.disk) Name.Store
-            ≡ bytes_under (D.folder self.old.disk) Name.Store }
-        ensures stages { D.honest → staged_text (D.folder self.new.disk) self.new.staged
-            ≡ staged_text (D.folder self.old.disk) self.old.staged }
+        ensures risen { D.model.failure_count self.old.disk ≤ D.model.failure_count self.new.disk }
+        ensures reads { D.model.honest → bytes_under (D.model.folder self.new.disk) Name.Store
+            ≡ bytes_under (D.model.folder self.old.disk) Name.Store }
+        ensures stages { D.model.honest → staged_text (D.model.folder self.new.disk) self.new.staged
+            ≡ staged_text (D.model.folder self.old.disk) self.old.staged }
         // A crash at any moment of the call leaves the state after a prefix of the commands that wait.
-        ensures any_moment { D.honest → self.old.reopen ≡ false →
+        ensures any_moment { D.model.honest → self.old.reopen ≡ false →
             (flushed : Contents) (since : List GivenCommand)
-            → HasFlushed (D.folder self.old.disk) flushed since self.old.state →
-            LeavesOnly D.moment D.left self.old.disk self.new.disk
+            → HasFlushed (D.model.folder self.old.disk) flushed since self.old.state →
+            LeavesOnly D.model self.old.disk self.new.disk
             (λ image. AfterPrefix flushed since image.store) }
         // After Ok none waits, and whatever a crash leaves means the state.
-        ensures flushed { D.honest → OnOk result
-            (HasFlushed (D.folder self.new.disk) self.new.state [] self.new.state) }
-        ensures now { D.honest → OnOk result
-            (AllImagesMean (D.folder self.new.disk) self.new.state) }
+        ensures flushed { D.model.honest → OnOk result
+            (HasFlushed (D.model.folder self.new.disk) self.new.state [] self.new.state) }
+        ensures now { D.model.honest → OnOk result
+            (AllImagesMean (D.model.folder self.new.disk) self.new.state) }
     {
         documents_close();
         held_store_is_left();
@@ -355,31 +355,31 @@ impl<D: Disk> Store<D> {
             fault ≢ StoreFault.Device → self.new ≡ self.old) }
         ensures device { IsErrOf result StoreFault.Device → self.new.reopen ≡ true }
         ensures cause { IsErrOf result StoreFault.Device →
-            HasFailed (D.failure_count self.old.disk) (D.failure_count self.new.disk) }
+            HasFailed (D.model.failure_count self.old.disk) (D.model.failure_count self.new.disk) }
         // The number of failures never falls.
-        ensures risen { D.failure_count self.old.disk ≤ D.failure_count self.new.disk }
-        ensures reads { D.honest → self.old.reopen ≡ false →
-            OnOk result (bytes_under (D.folder self.new.disk) Name.Store
-            ≡ file_with_bytes (bytes_under (D.folder self.old.disk) Name.Store)
+        ensures risen { D.model.failure_count self.old.disk ≤ D.model.failure_count self.new.disk }
+        ensures reads { D.model.honest → self.old.reopen ≡ false →
+            OnOk result (bytes_under (D.model.folder self.new.disk) Name.Store
+            ≡ file_with_bytes (bytes_under (D.model.folder self.old.disk) Name.Store)
             (next_record self.old.state (command_of command))) }
         // So does the new file of a running checkpoint.
-        ensures stages { D.honest → self.old.reopen ≡ false →
-            OnOk result (staged_text (D.folder self.new.disk) self.new.staged
-            ≡ file_with_bytes (staged_text (D.folder self.old.disk) self.old.staged)
+        ensures stages { D.model.honest → self.old.reopen ≡ false →
+            OnOk result (staged_text (D.model.folder self.new.disk) self.new.staged
+            ≡ file_with_bytes (staged_text (D.model.folder self.old.disk) self.old.staged)
             (next_record self.old.state (command_of command))) }
         // A crash at any moment of the call leaves the state after a prefix of the commands that waited, or after this
         // one.
-        ensures any_moment { D.honest → self.old.reopen ≡ false →
+        ensures any_moment { D.model.honest → self.old.reopen ≡ false →
             (flushed : Contents) (since : List GivenCommand)
-            → HasFlushed (D.folder self.old.disk) flushed since self.old.state →
-            LeavesOnly D.moment D.left self.old.disk self.new.disk
+            → HasFlushed (D.model.folder self.old.disk) flushed since self.old.state →
+            LeavesOnly D.model self.old.disk self.new.disk
             (λ image. AfterPrefix flushed since image.store
             ⊎ FileMeans image.store self.new.state) }
         // After Ok none waits, and whatever a crash leaves means the state.
-        ensures flushed { D.honest → OnOk result
-            (HasFlushed (D.folder self.new.disk) self.new.state [] self.new.state) }
-        ensures now { D.honest → OnOk result
-            (AllImagesMean (D.folder self.new.disk) self.new.state) }
+        ensures flushed { D.model.honest → OnOk result
+            (HasFlushed (D.model.folder self.new.disk) self.new.state [] self.new.state) }
+        ensures now { D.model.honest → OnOk result
+            (AllImagesMean (D.model.folder self.new.disk) self.new.state) }
     {
         match self.submit(0, command) {
             Ok(count) => match self.flush() {
@@ -410,31 +410,31 @@ impl<D: Disk> Store<D> {
             fault ≢ StoreFault.Device → self.new ≡ self.old) }
         ensures device { IsErrOf result StoreFault.Device → self.new.reopen ≡ true }
         ensures cause { IsErrOf result StoreFault.Device →
-            HasFailed (D.failure_count self.old.disk) (D.failure_count self.new.disk) }
+            HasFailed (D.model.failure_count self.old.disk) (D.model.failure_count self.new.disk) }
         // The number of failures never falls.
-        ensures risen { D.failure_count self.old.disk ≤ D.failure_count self.new.disk }
-        ensures reads { D.honest → self.old.reopen ≡ false →
+        ensures risen { D.model.failure_count self.old.disk ≤ D.model.failure_count self.new.disk }
+        ensures reads { D.model.honest → self.old.reopen ≡ false →
             OnOk result (AppendsImport self.old (chars name.now) text.now
-            (bytes_under (D.folder self.old.disk) Name.Store)
-            (bytes_under (D.folder self.new.disk) Name.Store)) }
+            (bytes_under (D.model.folder self.old.disk) Name.Store)
+            (bytes_under (D.model.folder self.new.disk) Name.Store)) }
         // So does the new file of a running checkpoint.
-        ensures stages { D.honest → self.old.reopen ≡ false →
+        ensures stages { D.model.honest → self.old.reopen ≡ false →
             OnOk result (AppendsImport self.old (chars name.now) text.now
-            (staged_text (D.folder self.old.disk) self.old.staged)
-            (staged_text (D.folder self.new.disk) self.new.staged)) }
+            (staged_text (D.model.folder self.old.disk) self.old.staged)
+            (staged_text (D.model.folder self.new.disk) self.new.staged)) }
         // A crash at any moment of the call leaves the state after a prefix of the commands that waited, or after this
         // one.
-        ensures any_moment { D.honest → self.old.reopen ≡ false →
+        ensures any_moment { D.model.honest → self.old.reopen ≡ false →
             (flushed : Contents) (since : List GivenCommand)
-            → HasFlushed (D.folder self.old.disk) flushed since self.old.state →
-            LeavesOnly D.moment D.left self.old.disk self.new.disk
+            → HasFlushed (D.model.folder self.old.disk) flushed since self.old.state →
+            LeavesOnly D.model self.old.disk self.new.disk
             (λ image. AfterPrefix flushed since image.store
             ⊎ FileMeans image.store self.new.state) }
         // After Ok none waits, and whatever a crash leaves means the state.
-        ensures flushed { D.honest → OnOk result
-            (HasFlushed (D.folder self.new.disk) self.new.state [] self.new.state) }
-        ensures now { D.honest → OnOk result
-            (AllImagesMean (D.folder self.new.disk) self.new.state) }
+        ensures flushed { D.model.honest → OnOk result
+            (HasFlushed (D.model.folder self.new.disk) self.new.state [] self.new.state) }
+        ensures now { D.model.honest → OnOk result
+            (AllImagesMean (D.model.folder self.new.disk) self.new.state) }
     {
         if self.needs_reopen() {
             return Err(StoreFault::Reopen);
@@ -466,26 +466,26 @@ impl<D: Disk> Store<D> {
         ensures state { self.new.state ≡ self.old.state }
         ensures device { IsErrOf result StoreFault.Device → self.new.reopen ≡ true }
         ensures cause { IsErrOf result StoreFault.Device →
-            HasFailed (D.failure_count self.old.disk) (D.failure_count self.new.disk) }
+            HasFailed (D.model.failure_count self.old.disk) (D.model.failure_count self.new.disk) }
         // The number of failures never falls.
-        ensures risen { D.failure_count self.old.disk ≤ D.failure_count self.new.disk }
-        ensures reads { D.honest →
-            OnOk result (bytes_under (D.folder self.new.disk) Name.Store
+        ensures risen { D.model.failure_count self.old.disk ≤ D.model.failure_count self.new.disk }
+        ensures reads { D.model.honest →
+            OnOk result (bytes_under (D.model.folder self.new.disk) Name.Store
             ≡ Some (base_bytes self.old.state)) }
         // After Ok there is no `next.yaml`.
-        ensures gone { D.honest →
-            OnOk result (bytes_under (D.folder self.new.disk) Name.Next ≡ None) }
+        ensures gone { D.model.honest →
+            OnOk result (bytes_under (D.model.folder self.new.disk) Name.Next ≡ None) }
         // A crash at any moment of the call leaves the state after a prefix of the commands that waited.
-        ensures any_moment { D.honest → self.old.reopen ≡ false →
+        ensures any_moment { D.model.honest → self.old.reopen ≡ false →
             (flushed : Contents) (since : List GivenCommand)
-            → HasFlushed (D.folder self.old.disk) flushed since self.old.state →
-            LeavesOnly D.moment D.left self.old.disk self.new.disk
+            → HasFlushed (D.model.folder self.old.disk) flushed since self.old.state →
+            LeavesOnly D.model self.old.disk self.new.disk
             (λ image. AfterPrefix flushed since image.store) }
         // After Ok none waits, and whatever a crash leaves means the state.
-        ensures flushed { D.honest → OnOk result
-            (HasFlushed (D.folder self.new.disk) self.new.state [] self.new.state) }
-        ensures now { D.honest → OnOk result
-            (AllImagesMean (D.folder self.new.disk) self.new.state) }
+        ensures flushed { D.model.honest → OnOk result
+            (HasFlushed (D.model.folder self.new.disk) self.new.state [] self.new.state) }
+        ensures now { D.model.honest → OnOk result
+            (AllImagesMean (D.model.folder self.new.disk) self.new.state) }
     {
         documents_close();
         held_store_is_left();
@@ -529,25 +529,25 @@ impl<D: Disk> Store<D> {
             fault ≢ StoreFault.Device → self.new ≡ self.old) }
         ensures device { IsErrOf result StoreFault.Device → self.new.reopen ≡ true }
         ensures cause { IsErrOf result StoreFault.Device →
-            HasFailed (D.failure_count self.old.disk) (D.failure_count self.new.disk) }
+            HasFailed (D.model.failure_count self.old.disk) (D.model.failure_count self.new.disk) }
         // The number of failures never falls.
-        ensures risen { D.failure_count self.old.disk ≤ D.failure_count self.new.disk }
-        ensures reads { D.honest → bytes_under (D.folder self.new.disk) Name.Store
-            ≡ bytes_under (D.folder self.old.disk) Name.Store }
-        ensures stages { D.honest → OnOk result
-            (staged_text (D.folder self.new.disk) self.new.staged
+        ensures risen { D.model.failure_count self.old.disk ≤ D.model.failure_count self.new.disk }
+        ensures reads { D.model.honest → bytes_under (D.model.folder self.new.disk) Name.Store
+            ≡ bytes_under (D.model.folder self.old.disk) Name.Store }
+        ensures stages { D.model.honest → OnOk result
+            (staged_text (D.model.folder self.new.disk) self.new.staged
             ≡ Some (base_bytes self.old.state)) }
         // A crash at any moment of the call leaves the state after a prefix of the commands that wait.
-        ensures any_moment { D.honest → self.old.reopen ≡ false →
+        ensures any_moment { D.model.honest → self.old.reopen ≡ false →
             (flushed : Contents) (since : List GivenCommand)
-            → HasFlushed (D.folder self.old.disk) flushed since self.old.state →
-            LeavesOnly D.moment D.left self.old.disk self.new.disk
+            → HasFlushed (D.model.folder self.old.disk) flushed since self.old.state →
+            LeavesOnly D.model self.old.disk self.new.disk
             (λ image. AfterPrefix flushed since image.store) }
         // The same commands wait.
-        ensures waits { D.honest → self.old.reopen ≡ false →
+        ensures waits { D.model.honest → self.old.reopen ≡ false →
             (flushed : Contents) (since : List GivenCommand)
-            → HasFlushed (D.folder self.old.disk) flushed since self.old.state →
-            OnOk result (HasFlushed (D.folder self.new.disk) flushed since self.new.state) }
+            → HasFlushed (D.model.folder self.old.disk) flushed since self.old.state →
+            OnOk result (HasFlushed (D.model.folder self.new.disk) flushed since self.new.state) }
     {
         documents_are_read();
         documents_close();
@@ -592,26 +592,26 @@ impl<D: Disk> Store<D> {
             fault ≢ StoreFault.Device → self.new ≡ self.old) }
         ensures device { IsErrOf result StoreFault.Device → self.new.reopen ≡ true }
         ensures cause { IsErrOf result StoreFault.Device →
-            HasFailed (D.failure_count self.old.disk) (D.failure_count self.new.disk) }
+            HasFailed (D.model.failure_count self.old.disk) (D.model.failure_count self.new.disk) }
         // The number of failures never falls.
-        ensures risen { D.failure_count self.old.disk ≤ D.failure_count self.new.disk }
-        ensures reads { D.honest → self.old.reopen ≡ false → IfOk result
-            (SliceReads D.folder self.old self.new) }
+        ensures risen { D.model.failure_count self.old.disk ≤ D.model.failure_count self.new.disk }
+        ensures reads { D.model.honest → self.old.reopen ≡ false → IfOk result
+            (SliceReads D.model.folder self.old self.new) }
         // After each 1,048,576 bytes of `next.yaml` none of them is pending.
-        ensures synced { D.honest → self.old.reopen ≡ false → OnOk result
-            (SyncedWhenDue (D.folder self.new.disk) self.new.staged) }
+        ensures synced { D.model.honest → self.old.reopen ≡ false → OnOk result
+            (SyncedWhenDue (D.model.folder self.new.disk) self.new.staged) }
         // A crash at any moment of the call leaves the state after a prefix of the commands that wait.
-        ensures any_moment { D.honest → self.old.reopen ≡ false →
+        ensures any_moment { D.model.honest → self.old.reopen ≡ false →
             (flushed : Contents) (since : List GivenCommand)
-            → HasFlushed (D.folder self.old.disk) flushed since self.old.state →
-            LeavesOnly D.moment D.left self.old.disk self.new.disk
+            → HasFlushed (D.model.folder self.old.disk) flushed since self.old.state →
+            LeavesOnly D.model self.old.disk self.new.disk
             (λ image. AfterPrefix flushed since image.store) }
         // If something is left, the same commands wait. Once it is done none waits, and whatever a crash leaves means
         // the state.
-        ensures waits { D.honest → self.old.reopen ≡ false →
+        ensures waits { D.model.honest → self.old.reopen ≡ false →
             (flushed : Contents) (since : List GivenCommand)
-            → HasFlushed (D.folder self.old.disk) flushed since self.old.state →
-            IfOk result (SliceFlushes D.folder flushed since self.new) }
+            → HasFlushed (D.model.folder self.old.disk) flushed since self.old.state →
+            IfOk result (SliceFlushes D.model.folder flushed since self.new) }
     {
         documents_close();
         held_store_is_left();
@@ -723,8 +723,8 @@ impl<D: Disk> Store<D> {
     /// again, nothing is known of the file.
     pub fn grown(&self) -> u64
         // Unless the store has to be opened again, so many bytes follow the base.
-        ensures grown { D.honest → self.now.reopen ≡ false →
-            HasGrown (bytes_under (D.folder self.now.disk) Name.Store) result }
+        ensures grown { D.model.honest → self.now.reopen ≡ false →
+            HasGrown (bytes_under (D.model.folder self.now.disk) Name.Store) result }
         ensures within { result ≤ self.now.size }
     {
         self.size - self.base
@@ -734,20 +734,20 @@ impl<D: Disk> Store<D> {
     pub fn needs_reopen(&self) -> bool
         ensures reopen { result ≡ self.now.reopen }
         // Unless it has to be, a state is flushed and some commands wait, and they lead to the state.
-        ensures waits { D.honest → self.now.reopen ≡ false →
+        ensures waits { D.model.honest → self.now.reopen ≡ false →
             (flushed : Contents) × ((since : List GivenCommand)
-            × HasFlushed (D.folder self.now.disk) flushed since self.now.state) }
+            × HasFlushed (D.model.folder self.now.disk) flushed since self.now.state) }
         // Whatever a crash leaves means the state after a prefix of these commands.
-        ensures now { D.honest → self.now.reopen ≡ false →
+        ensures now { D.model.honest → self.now.reopen ≡ false →
             (flushed : Contents) (since : List GivenCommand)
-            → HasFlushed (D.folder self.now.disk) flushed since self.now.state →
-            AllImagesAfterPrefix (D.folder self.now.disk) flushed since }
+            → HasFlushed (D.model.folder self.now.disk) flushed since self.now.state →
+            AllImagesAfterPrefix (D.model.folder self.now.disk) flushed since }
         // Unless it has to be, the kept length is that of `store.yaml`.
-        ensures size { D.honest → self.now.reopen ≡ false →
-            HasLength (bytes_under (D.folder self.now.disk) Name.Store) self.now.size }
+        ensures size { D.model.honest → self.now.reopen ≡ false →
+            HasLength (bytes_under (D.model.folder self.now.disk) Name.Store) self.now.size }
         // So is that of a running checkpoint's new file.
-        ensures staged_size { D.honest → self.now.reopen ≡ false → IsSome self.now.staged →
-            HasLength (staged_text (D.folder self.now.disk) self.now.staged)
+        ensures staged_size { D.model.honest → self.now.reopen ≡ false → IsSome self.now.staged →
+            HasLength (staged_text (D.model.folder self.now.disk) self.now.staged)
             (staged_length self.now.staged) }
     {
         documents_close();

@@ -3,6 +3,7 @@ use Rattle.std.proofs.Common.{◌≡◌, ◌≤◌, ℕ, Bool, true, false, if�
 use Rattle.conf_disk.specs.Folder.{Folder, bytes_under}
 use Rattle.conf_disk.specs.Image.{Image, IsImage, image_now}
 use Rattle.conf_disk.specs.Laws.{ReadingIsAnImage}
+use Rattle.conf_disk.specs.Models.{DiskModel}
 use Rattle.conf_disk.specs.Moments.{LeavesOnly}
 use Rattle.conf_disk.specs.declared.disk.Name.TheVariants.{Store}
 use Rattle.conf_state.specs.Commands.{Command}
@@ -57,21 +58,21 @@ kept-prefix P ending s accepted answered file holds prefix enough = record {
   means = prefix.means;
 }
 
-module _ {D : Type 0} (folder : D → Folder) (moment : D → ℕ) (since : D → ℕ → Image → Type 0)
-    (one : OneMeaning) (reading : ReadingIsAnImage) (counts : (disk : D) (t : ℕ) (image : Image) → t ≤ moment disk → IsImage (folder disk) image → since disk t image) where
+module _ {D : Type 0} (model : DiskModel D)
+    (one : OneMeaning) (reading : ReadingIsAnImage) (counts : (disk : D) (t : ℕ) (image : Image) → t ≤ model.moment disk → IsImage (model.folder disk) image → model.left disk t image) where
   -- whatever a crash leaves of the disk means a state of which P holds
   abbrev Stands : D → (Contents → Type 0) → Type 0
-  Stands disk P = (image : Image) → IsImage (folder disk) image → (s : Contents) × P s × FileMeans image.store s
+  Stands disk P = (image : Image) → IsImage (model.folder disk) image → (s : Contents) × P s × FileMeans image.store s
 
   -- so does what is read
-  reads : (P : Contents → Type 0) (disk : D) (s : Contents) → Stands disk P → FileMeans (bytes_under (folder disk) Store) s → P s
+  reads : (P : Contents → Type 0) (disk : D) (s : Contents) → Stands disk P → FileMeans (bytes_under (model.folder disk) Store) s → P s
   reads P disk s stands means =
-      let now = stands (image_now (folder disk)) (reading (folder disk)) in
-      subst P (file-one one (bytes_under (folder disk) Store) now.0 s now.2 means) now.1
+      let now = stands (image_now (model.folder disk)) (reading (model.folder disk)) in
+      subst P (file-one one (bytes_under (model.folder disk) Store) now.0 s now.2 means) now.1
 
   -- what was meant at entry: nothing is kept
   kept-entry : (P : Contents → Type 0) (old : D) (ending : Ending) (accepted : List Command) (answered : ℕ) (image : Image) → Stands old P
-      → (ending ≡ returned → answered ≤ 0) → MeantAtEntry (folder old) image.store → Kept P ending accepted answered image.store
+      → (ending ≡ returned → answered ≤ 0) → MeantAtEntry (model.folder old) image.store → Kept P ending accepted answered image.store
   kept-entry P old ending accepted answered image stands none meant =
       let entry = stands meant.entry meant.is in record {
         kept = [];
@@ -85,15 +86,15 @@ module _ {D : Type 0} (folder : D → Folder) (moment : D → ℕ) (since : D �
 
   -- a call that accepts nothing
   kept-unchanged : (P : Contents → Type 0) (old new : D) (ending : Ending) (image : Image) → Stands old P
-      → LeavesOnly moment since old new (λ image. MeantAtEntry (folder old) image.store) → MayLeave folder moment since ending old new image
+      → LeavesOnly model old new (λ image. MeantAtEntry (model.folder old) image.store) → MayLeave model ending old new image
       → Kept P ending [] 0 image.store
   kept-unchanged P old new returned image stands leaves is =
-      kept-entry P old returned [] 0 image stands (λ _. omega arith) (leaves.each image (counts new (moment old) image leaves.later is))
+      kept-entry P old returned [] 0 image stands (λ _. omega arith) (leaves.each image (counts new (model.moment old) image leaves.later is))
   kept-unchanged P old new cut_off image stands leaves is = kept-entry P old cut_off [] 0 image stands (none-owed 0 0) (leaves.each image is)
 
   -- a session
   kept-session : (P : Contents → Type 0) (given left held written : Option (List ℕ)) (grouping : Grouping) (old new : D) (result : Result Tally SessionFault) (ending : Ending) (image : Image) → Stands old P
-      → (keeps : KeepsAnswered folder moment since given left held written grouping old new result) → MayLeave folder moment since ending old new image
+      → (keeps : KeepsAnswered model given left held written grouping old new result) → MayLeave model ending old new image
       → Kept P ending keeps.work.accepted keeps.work.answered image.store
   kept-session P given left held written grouping old new result returned image stands keeps is =
       let s = keeps.start.state in
@@ -105,11 +106,11 @@ module _ {D : Type 0} (folder : D → Folder) (moment : D → ℕ) (since : D �
       ⊎_elim
       (λ was. kept-entry P old cut_off keeps.work.accepted keeps.work.answered image stands (none-owed keeps.work.answered 0) (keeps.while_opening.each image was))
       (λ now. kept-prefix P cut_off s keeps.work.accepted keeps.work.answered image.store (reads P old s stands keeps.opens.means) now (none-owed keeps.work.answered now.count))
-      (keeps.once_open.before (moment old) image keeps.while_opening.later is)
+      (keeps.once_open.before (model.moment old) image keeps.while_opening.later is)
 
   -- a change
   kept-change : (P : Contents → Type 0) (change : Change) (old new : D) (is_done : Bool) (ending : Ending) (image : Image) → Stands old P
-      → (keeps : KeepsChange folder moment since old change new is_done) → MayLeave folder moment since ending old new image
+      → (keeps : KeepsChange model old change new is_done) → MayLeave model ending old new image
       → Kept P ending keeps.accepted (if is_done then length keeps.accepted else 0) image.store
   kept-change P change old new is_done returned image stands keeps is =
       let least = keeps.returned image is in
@@ -120,12 +121,12 @@ module _ {D : Type 0} (folder : D → Folder) (moment : D → ℕ) (since : D �
       ⊎_elim
       (λ was. kept-entry P old cut_off keeps.accepted owed image stands (none-owed owed 0) (keeps.while_opening.each image was))
       (λ now. kept-prefix P cut_off keeps.start keeps.accepted owed image.store (reads P old keeps.start stands keeps.means) now (none-owed owed now.count))
-      (keeps.once_open.before (moment old) image keeps.while_opening.later is)
+      (keeps.once_open.before (model.moment old) image keeps.while_opening.later is)
 
   -- any call
-  kept-call : (P : Contents → Type 0) (ending : Ending) (call : Call folder moment since) (image : Image) → Stands (disk_before folder moment since call) P
-      → MayLeave folder moment since ending (disk_before folder moment since call) (disk_behind folder moment since call) image
-      → Kept P ending (accepted folder moment since call) (answered folder moment since call) image.store
+  kept-call : (P : Contents → Type 0) (ending : Ending) (call : Call model) (image : Image) → Stands (disk_before model call) P
+      → MayLeave model ending (disk_before model call) (disk_behind model call) image
+      → Kept P ending (accepted model call) (answered model call) image.store
   kept-call P ending (running given left held written grouping old (Ok (new, tally)) keeps) image stands is =
       kept-session P given left held written grouping old new (Ok tally) ending image stands keeps is
   kept-call P ending (running given left held written grouping old (Err (new, Session fault)) keeps) image stands is =
@@ -147,25 +148,25 @@ module _ {D : Type 0} (folder : D → Folder) (moment : D → ℕ) (since : D �
   kept-call P ending (exporting old new leaves) image stands is = kept-unchanged P old new ending image stands leaves is
 
   -- What is kept of all calls, from a state of which P holds.
-  record KeptOfAll (P : Contents → Type 0) (events : List (Event folder moment since)) (file : Option (List ℕ)) : Type 0 where
+  record KeptOfAll (P : Contents → Type 0) (events : List (Event model)) (file : Option (List ℕ)) : Type 0 where
     kept : List (List Command)
-    each : EachKept folder moment since events kept
+    each : EachKept model events kept
     from : Contents
     holds : P from
     to : Contents
     leads : after from (all_commands kept) ≡ Ok to
     means : FileMeans file to
 
-  kept-calls : (events : List (Event folder moment since)) (P : Contents → Type 0) (first last : D) → Stands first P → AreCalls folder moment since first events last
-      → (image : Image) → IsImage (folder last) image → KeptOfAll P events image.store
+  kept-calls : (events : List (Event model)) (P : Contents → Type 0) (first last : D) → Stands first P → AreCalls model first events last
+      → (image : Image) → IsImage (model.folder last) image → KeptOfAll P events image.store
   kept-calls [] P first last stands same image is =
-      let here = stands image (subst (λ (disk : D). IsImage (folder disk) image) same is) in
+      let here = stands image (subst (λ (disk : D). IsImage (model.folder disk) image) same is) in
       record { kept = []; each = tt; from = here.0; holds = here.1; to = here.0; leads = refl; means = here.2 }
   kept-calls (event ∷ events) P first last stands (same, next, follows, further) image is =
       let stood = subst (λ (disk : D). Stands disk P) (sym same) stands in
-      let came = λ (image : Image) (is : IsImage (folder next) image). kept-call P event.ending event.call image stood
-      (subst (λ (disk : D). MayLeave folder moment since event.ending disk (disk_behind folder moment since event.call) image) (sym same) (follows image is)) in
-      let Reached : Contents → Type 0 = λ to. (kept : List Command) × KeptOf event.ending (accepted folder moment since event.call) (answered folder moment since event.call) kept
+      let came = λ (image : Image) (is : IsImage (model.folder next) image). kept-call P event.ending event.call image stood
+      (subst (λ (disk : D). MayLeave model event.ending disk (disk_behind model event.call) image) (sym same) (follows image is)) in
+      let Reached : Contents → Type 0 = λ to. (kept : List Command) × KeptOf event.ending (accepted model event.call) (answered model event.call) kept
       × (from : Contents) × P from × (after from kept ≡ Ok to) in
       let rest = kept-calls events Reached next last (λ image is. let k = came image is in (k.to, (k.kept, k.of, k.from, k.holds, k.leads), k.means)) further image is in
       let here = rest.holds in record {
@@ -179,7 +180,7 @@ module _ {D : Type 0} (folder : D → Folder) (moment : D → ℕ) (since : D �
       }
 
   -- no answered command is lost, and none is kept that was not accepted
-  pub calls-hold : CallsHold folder moment since
+  pub calls-hold : CallsHold model
   calls-hold s first last events all are image is =
       let kept = kept-calls events (λ t. t ≡ s) first last (λ image is. (s, refl, all image is)) are image is in record {
         kept = kept.kept;

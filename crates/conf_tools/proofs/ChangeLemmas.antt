@@ -6,6 +6,7 @@ use Rattle.std.proofs.lemmas.Bool.{false≢true}
 use Rattle.yaml_grammar.specs.Trees.{Tree}
 use Rattle.conf_disk.specs.Folder.{Folder, bytes_under}
 use Rattle.conf_disk.specs.Image.{Image, IsImage}
+use Rattle.conf_disk.specs.Models.{DiskModel}
 use Rattle.conf_disk.specs.Moments.{LeavesOnly, TimeGoesOn}
 use Rattle.conf_disk.proofs.Moments.{LeavesOnly-joined, LeavesOnly-now, LeavesOnly-weaker}
 use Rattle.conf_state.specs.Commands.{Command as GivenCommand, command_of, import_as, single, text_of}
@@ -96,19 +97,19 @@ one-of-prefix before end commands leads file (inr means) = record {
 }
 
 -- what a crash leaves of a command, where nothing waited
-pub command-leaves : NothingWaits → {D : Type 0} (moment : D → ℕ) (since : D → ℕ → Image → Type 0) (old new : StoreView D)
-    → LeavesOnly moment since old.disk new.disk (λ image. AfterPrefix old.state [] image.store ⊎ FileMeans image.store new.state)
-    → LeavesOnly moment since old.disk new.disk (λ image. MeansOneOf old.state new.state image.store)
-command-leaves nothing moment since old new leaves =
-    LeavesOnly-weaker moment since old.disk new.disk (λ image. AfterPrefix old.state [] image.store ⊎ FileMeans image.store new.state) (λ image. MeansOneOf old.state new.state image.store)
+pub command-leaves : NothingWaits → {D : Type 0} (model : DiskModel D) (old new : StoreView D)
+    → LeavesOnly model old.disk new.disk (λ image. AfterPrefix old.state [] image.store ⊎ FileMeans image.store new.state)
+    → LeavesOnly model old.disk new.disk (λ image. MeansOneOf old.state new.state image.store)
+command-leaves nothing model old new leaves =
+    LeavesOnly-weaker model old.disk new.disk (λ image. AfterPrefix old.state [] image.store ⊎ FileMeans image.store new.state) (λ image. MeansOneOf old.state new.state image.store)
     leaves (λ image one. ⊎_elim (λ prefix. inl (nothing old.state image.store prefix)) (λ means. inr means) one)
 
 -- and of a checkpoint
-pub checkpoint-leaves : NothingWaits → {D : Type 0} (moment : D → ℕ) (since : D → ℕ → Image → Type 0) (old new : StoreView D)
-    → LeavesOnly moment since old.disk new.disk (λ image. AfterPrefix old.state [] image.store)
-    → LeavesOnly moment since old.disk new.disk (λ image. MeansOneOf old.state new.state image.store)
-checkpoint-leaves nothing moment since old new leaves =
-    LeavesOnly-weaker moment since old.disk new.disk (λ image. AfterPrefix old.state [] image.store) (λ image. MeansOneOf old.state new.state image.store)
+pub checkpoint-leaves : NothingWaits → {D : Type 0} (model : DiskModel D) (old new : StoreView D)
+    → LeavesOnly model old.disk new.disk (λ image. AfterPrefix old.state [] image.store)
+    → LeavesOnly model old.disk new.disk (λ image. MeansOneOf old.state new.state image.store)
+checkpoint-leaves nothing model old new leaves =
+    LeavesOnly-weaker model old.disk new.disk (λ image. AfterPrefix old.state [] image.store) (λ image. MeansOneOf old.state new.state image.store)
     leaves (λ image prefix. inl (nothing old.state image.store prefix))
 
 -- a store that needn't be opened again never says that it has to be
@@ -116,28 +117,28 @@ pub never-reopen : (before : Bool) (fault : StoreFault) → before ≡ false →
 never-reopen before fault off reopen is = false≢true (sym off ∙ reopen is)
 
 -- what a crash leaves of a look at a file and an opening after it
-pub looked-leaves : {D : Type 0} (folder : D → Folder) (moment : D → ℕ) (since : D → ℕ → Image → Type 0) (old mid new : D)
-    → ((t : ℕ) (image : Image) → t ≤ moment mid → IsImage (folder mid) image → since mid t image) → ((image : Image) → since old (moment old) image → IsImage (folder old) image)
-    → TimeGoesOn folder moment since old mid → folder mid ≡ folder old → LeavesOnly moment since mid new (λ image. MeantAtEntry (folder mid) image.store)
-    → LeavesOnly moment since old new (λ image. MeantAtEntry (folder old) image.store)
-looked-leaves folder moment since old mid new counts only time same leaves =
-    LeavesOnly-joined moment since old mid new (IsImage (folder old)) (λ image. MeantAtEntry (folder mid) image.store) (λ image. MeantAtEntry (folder old) image.store)
-    (read-stays folder moment since old mid counts only time same).any_moment leaves
-    (λ image is. image-meant (folder old) image is)
+pub looked-leaves : {D : Type 0} (model : DiskModel D) (old mid new : D)
+    → ((t : ℕ) (image : Image) → t ≤ model.moment mid → IsImage (model.folder mid) image → model.left mid t image) → ((image : Image) → model.left old (model.moment old) image → IsImage (model.folder old) image)
+    → TimeGoesOn model old mid → model.folder mid ≡ model.folder old → LeavesOnly model mid new (λ image. MeantAtEntry (model.folder mid) image.store)
+    → LeavesOnly model old new (λ image. MeantAtEntry (model.folder old) image.store)
+looked-leaves model old mid new counts only time same leaves =
+    LeavesOnly-joined model old mid new (IsImage (model.folder old)) (λ image. MeantAtEntry (model.folder mid) image.store) (λ image. MeantAtEntry (model.folder old) image.store)
+    (read-stays model old mid counts only time same).any_moment leaves
+    (λ image is. image-meant (model.folder old) image is)
     (λ image meant. subst (λ (f : Folder). MeantAtEntry f image.store) same meant)
 
-module _ {D : Type 0} (honest : Type 0) (folder : D → Folder) (moment : D → ℕ) (since : D → ℕ → Image → Type 0)
-    (old : D) (opened closed : StoreView D) (opens : OpensOn honest folder moment since old opened) (change : Change)
-    (leaves : LeavesOnly moment since opened.disk closed.disk (λ image. MeansOneOf opened.state closed.state image.store)) where
+module _ {D : Type 0} (model : DiskModel D)
+    (old : D) (opened closed : StoreView D) (opens : OpensOn model old opened) (change : Change)
+    (leaves : LeavesOnly model opened.disk closed.disk (λ image. MeansOneOf opened.state closed.state image.store)) where
   once-open : (commands : List GivenCommand) → after opened.state commands ≡ Ok closed.state
-      → LeavesOnly moment since opened.disk closed.disk (λ image. AfterPrefix opened.state commands image.store)
+      → LeavesOnly model opened.disk closed.disk (λ image. AfterPrefix opened.state commands image.store)
   once-open commands leads =
-      LeavesOnly-weaker moment since opened.disk closed.disk (λ image. MeansOneOf opened.state closed.state image.store) (λ image. AfterPrefix opened.state commands image.store)
+      LeavesOnly-weaker model opened.disk closed.disk (λ image. MeansOneOf opened.state closed.state image.store) (λ image. AfterPrefix opened.state commands image.store)
       leaves (λ image. one-of-prefix opened.state closed.state commands leads image.store)
 
   -- a change that was made is on the disk
-  pub keeps-made : StepsNeedRoom → Makes opened change closed → honest → AllImagesMean (folder closed.disk) closed.state
-      → KeepsChange folder moment since old change closed.disk true
+  pub keeps-made : StepsNeedRoom → Makes opened change closed → model.honest → AllImagesMean (model.folder closed.disk) closed.state
+      → KeepsChange model old change closed.disk true
   keeps-made room made h images =
       let led = made-led room opened closed change made in record {
         start = opened.state;
@@ -157,9 +158,9 @@ module _ {D : Type 0} (honest : Type 0) (folder : D → Folder) (moment : D → 
         };
       }
 
-  keeps-some : ((t : ℕ) (image : Image) → t ≤ moment closed.disk → IsImage (folder closed.disk) image → since closed.disk t image) → honest
+  keeps-some : ((t : ℕ) (image : Image) → t ≤ model.moment closed.disk → IsImage (model.folder closed.disk) image → model.left closed.disk t image) → model.honest
       → (commands : List GivenCommand) → (commands ≡ []) ⊎ Performs change commands → after opened.state commands ≡ Ok closed.state
-      → KeepsChange folder moment since old change closed.disk false
+      → KeepsChange model old change closed.disk false
   keeps-some counts h commands of leads = record {
     start = opened.state;
     means = (opens.opens h).means;
@@ -170,13 +171,13 @@ module _ {D : Type 0} (honest : Type 0) (folder : D → Folder) (moment : D → 
     while_opening = opens.at_any_moment h;
     once_open = once-open commands leads;
     returned = λ image is.
-        (let prefix = LeavesOnly-now folder moment since opened.disk closed.disk (λ image. AfterPrefix opened.state commands image.store) counts (once-open commands leads) image is in
+        (let prefix = LeavesOnly-now model opened.disk closed.disk (λ image. AfterPrefix opened.state commands image.store) counts (once-open commands leads) image is in
         record { count = prefix.count; enough = omega arith; state = prefix.state; leads = prefix.leads; means = prefix.means });
   }
 
   -- a change that was refused keeps the state before it, or after it where the device failed
-  pub keeps-refused : StepsNeedRoom → ((t : ℕ) (image : Image) → t ≤ moment closed.disk → IsImage (folder closed.disk) image → since closed.disk t image) → honest
-      → (fault : StoreFault) → RefusesChange opened change closed fault → (fault ≢ Device → closed ≡ opened) → KeepsChange folder moment since old change closed.disk false
+  pub keeps-refused : StepsNeedRoom → ((t : ℕ) (image : Image) → t ≤ model.moment closed.disk → IsImage (model.folder closed.disk) image → model.left closed.disk t image) → model.honest
+      → (fault : StoreFault) → RefusesChange opened change closed fault → (fault ≢ Device → closed ≡ opened) → KeepsChange model old change closed.disk false
   keeps-refused room counts h fault refuses same = elim (is-device fault) [
     | inl device ↦ (let led = device-led room opened closed change (subst (λ (f : StoreFault). RefusesChange opened change closed f) device refuses) in keeps-some counts h led.commands (inr led.of) led.leads)
     | inr other ↦ keeps-some counts h [] (inl refl) (ap (λ (s : StoreView D). Ok s.state) (sym (same other)))

@@ -9,6 +9,7 @@ use Rattle.tree_path.specs.Paths.{at}
 use Rattle.json_pointer.specs.Pointers.{path_of}
 use Rattle.json_pointer.specs.declared.fault.PathFault.{PathFault}
 use Rattle.conf_disk.specs.Folder.{Folder}
+use Rattle.conf_disk.specs.Models.{DiskModel}
 use Rattle.conf_state.specs.States.{Contents}
 use Rattle.conf_state.specs.Steps.{and_then, by_path}
 use Rattle.conf_state.specs.declared.fault.StoreFault.{StoreFault}
@@ -113,11 +114,11 @@ cannot_write given held written state findings is (reading.Value fault) cannot =
 cannot_write given held written state findings is (reading.Salvage fault) cannot = absurd cannot
 
 -- why the findings of a store that was made were not written whole
-pub not_written : {D : Type 0} (honest : Type 0) (folder : D → Folder) (given left held written : Option (List ℕ)) (old new : D) (findings : Findings)
-    → SavesOn honest folder given left old new findings → (fault : ReadingFault) → CannotWrite held written fault
-    → RefusesSaving honest folder given left held written old new fault
-not_written honest folder given left held written old new findings saves (reading.Folder fault) cannot = (findings, saves, cannot)
-not_written honest folder given left held written old new findings saves (reading.History fault) cannot = (findings, saves, cannot)
-not_written honest folder given left held written old new findings saves (reading.Value fault) cannot = (findings, saves, cannot)
-not_written honest folder given left held written old new findings saves (reading.Salvage fault) cannot = absurd cannot
-not_written honest folder given left held written old new findings saves reading.Output cannot = (findings, saves, cannot)
+pub not_written : {D : Type 0} (model : DiskModel D) (given left held written : Option (List ℕ)) (old new : D) (findings : Findings)
+    → SavesOn model given left old new findings → (fault : ReadingFault) → CannotWrite held written fault
+    → RefusesSaving model given left held written old new fault
+not_written model given left held written old new findings saves (reading.Folder fault) cannot = (findings, saves, cannot)
+not_written model given left held written old new findings saves (reading.History fault) cannot = (findings, saves, cannot)
+not_written model given left held written old new findings saves (reading.Value fault) cannot = (findings, saves, cannot)
+not_written model given left held written old new findings saves (reading.Salvage fault) cannot = absurd cannot
+not_written model given left held written old new findings saves reading.Output cannot = (findings, saves, cannot)

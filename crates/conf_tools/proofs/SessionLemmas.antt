@@ -4,6 +4,7 @@ use Rattle.std.proofs.lemmas.Bool.{false≢true}
 use Rattle.std.specs.Prelude.{Option, None, Result, Err, IsErrOf}
 use Rattle.conf_disk.specs.Folder.{Folder, bytes_under}
 use Rattle.conf_disk.specs.Image.{Image}
+use Rattle.conf_disk.specs.Models.{DiskModel}
 use Rattle.conf_disk.specs.declared.disk.Name.TheVariants.{Store}
 use Rattle.conf_store.specs.Durable.{staged_text}
 use Rattle.conf_store.specs.View.{StoreView}
@@ -33,15 +34,15 @@ all-acknowledged : (now : Stored) (turns : List Turn) → acknowledged_turns now
 all-acknowledged now [] = refl
 all-acknowledged now (turn ∷ turns) = refl
 
-module _ {D : Type 0} (honest : Type 0) (folder : D → Folder) (moment : D → ℕ) (since : D → ℕ → Image → Type 0) (given left held written : Option (List ℕ))
-    (old : D) (store new : StoreView D) (result : Result Tally SessionFault) (opens : OpensOn honest folder moment since old store) where
+module _ {D : Type 0} (model : DiskModel D) (given left held written : Option (List ℕ))
+    (old : D) (store new : StoreView D) (result : Result Tally SessionFault) (opens : OpensOn model old store) where
   -- what `store.yaml` reads as when the store is open
   abbrev file : Option (List ℕ)
-  file = bytes_under (folder store.disk) Store
+  file = bytes_under (model.folder store.disk) Store
 
   -- ---- each command by itself
 
-  module _ (runs : Runs honest folder moment since given left held written store new result) where
+  module _ (runs : Runs model given left held written store new result) where
     abbrev each-work : Work
     each-work = record {
       accepted = accepted_commands (stored_of store) runs.performed;
@@ -52,7 +53,7 @@ module _ {D : Type 0} (honest : Type 0) (folder : D → Folder) (moment : D → 
     abbrev each-answers : Answers given left held written (stored_of store) file Single result each-work
     each-answers = record { answered = runs.answered; performed = runs.performed; ends = runs.ends; does = refl }
 
-    each-on : ((new.reopen ≡ true) ↔ ((store.reopen ≡ true) ⊎ IsErrOf result Device)) → AnswersOn honest folder given left held written Single old new.disk result
+    each-on : ((new.reopen ≡ true) ↔ ((store.reopen ≡ true) ⊎ IsErrOf result Device)) → AnswersOn model given left held written Single old new.disk result
     each-on device = record {
       start = stored_of store;
       file = file;
@@ -63,7 +64,7 @@ module _ {D : Type 0} (honest : Type 0) (folder : D → Folder) (moment : D → 
       reads = λ h other. runs.reads h (in-order store.reopen new.reopen result opens.no_reopen device other);
     }
 
-    each-kept : AllAreAcknowledged → honest → KeepsAnswered folder moment since given left held written Single old new.disk result
+    each-kept : AllAreAcknowledged → model.honest → KeepsAnswered model given left held written Single old new.disk result
     each-kept all h = record {
       start = stored_of store;
       opened = store.disk;
@@ -79,7 +80,7 @@ module _ {D : Type 0} (honest : Type 0) (folder : D → Folder) (moment : D → 
 
   -- ---- in groups
 
-  module _ (checkpoints : Checkpoints) (runs : RunsGrouped honest folder moment since given left held written checkpoints store new result) where
+  module _ (checkpoints : Checkpoints) (runs : RunsGrouped model given left held written checkpoints store new result) where
     abbrev turns : List Turn
     turns = runs.answered ++ all_asked runs.unanswered
 
@@ -96,12 +97,12 @@ module _ {D : Type 0} (honest : Type 0) (folder : D → Folder) (moment : D → 
     abbrev groups-answers : Answers given left held written (stored_of store) file (Grouped checkpoints) result groups-work
     groups-answers = record { answered = runs.answered; unanswered = runs.unanswered; ends = runs.ends; only_asked = runs.only_asked; does = refl }
 
-    groups-due : (wanted : Checkpoints) → checkpoints ≡ wanted → honest → BeginsWhenDue wanted (stored_of store) file runs.answered
+    groups-due : (wanted : Checkpoints) → checkpoints ≡ wanted → model.honest → BeginsWhenDue wanted (stored_of store) file runs.answered
     groups-due Asked is h = tt
     groups-due (After bytes) is h =
-        subst (λ staged. AreDue bytes (record { store = file; staged = staged_text (folder store.disk) staged }) (stored_of store) runs.answered) opens.no_checkpoint (runs.due h bytes is)
+        subst (λ staged. AreDue bytes (record { store = file; staged = staged_text (model.folder store.disk) staged }) (stored_of store) runs.answered) opens.no_checkpoint (runs.due h bytes is)
 
-    groups-on : ((new.reopen ≡ true) ↔ ((store.reopen ≡ true) ⊎ IsErrOf result Device)) → AnswersOn honest folder given left held written (Grouped checkpoints) old new.disk result
+    groups-on : ((new.reopen ≡ true) ↔ ((store.reopen ≡ true) ⊎ IsErrOf result Device)) → AnswersOn model given left held written (Grouped checkpoints) old new.disk result
     groups-on device = record {
       start = stored_of store;
       file = file;
@@ -110,10 +111,10 @@ module _ {D : Type 0} (honest : Type 0) (folder : D → Folder) (moment : D → 
       due = λ h. groups-due checkpoints refl h;
       opens = opens.opens;
       reads = λ h other. ap (λ files. files.store) (runs.files h (in-order store.reopen new.reopen result opens.no_reopen device other))
-          ∙ ap (λ staged. file-after (staged_text (folder store.disk) staged)) opens.no_checkpoint;
+          ∙ ap (λ staged. file-after (staged_text (model.folder store.disk) staged)) opens.no_checkpoint;
     }
 
-    groups-kept : honest → KeepsAnswered folder moment since given left held written (Grouped checkpoints) old new.disk result
+    groups-kept : model.honest → KeepsAnswered model given left held written (Grouped checkpoints) old new.disk result
     groups-kept h = record {
       start = stored_of store;
       opened = store.disk;
@@ -130,13 +131,13 @@ module _ {D : Type 0} (honest : Type 0) (folder : D → Folder) (moment : D → 
   -- ---- either
 
   -- what was answered, and what `store.yaml` reads as
-  pub answers-on : (grouping : Grouping) → SessionRuns honest folder moment since given left held written grouping store new result
-      → ((new.reopen ≡ true) ↔ ((store.reopen ≡ true) ⊎ IsErrOf result Device)) → AnswersOn honest folder given left held written grouping old new.disk result
+  pub answers-on : (grouping : Grouping) → SessionRuns model given left held written grouping store new result
+      → ((new.reopen ≡ true) ↔ ((store.reopen ≡ true) ⊎ IsErrOf result Device)) → AnswersOn model given left held written grouping old new.disk result
   answers-on Single runs device = each-on runs device
   answers-on (Grouped checkpoints) runs device = groups-on checkpoints runs device
 
   -- what a crash leaves: opening first, and then the session, at whose start nothing waits
-  pub keeps-answered : (grouping : Grouping) → SessionRuns honest folder moment since given left held written grouping store new result
-      → AllAreAcknowledged → honest → KeepsAnswered folder moment since given left held written grouping old new.disk result
+  pub keeps-answered : (grouping : Grouping) → SessionRuns model given left held written grouping store new result
+      → AllAreAcknowledged → model.honest → KeepsAnswered model given left held written grouping old new.disk result
   keeps-answered Single runs all h = each-kept runs all h
   keeps-answered (Grouped checkpoints) runs all h = groups-kept checkpoints runs h

@@ -3,6 +3,7 @@ use Rattle.std.proofs.Common.{◌≡◌, ◌⊎◌, ⊎_elim, ◌≤◌, ℕ, Li
 use Rattle.std.specs.Io.KnownBytes.{Keeps}
 use Rattle.conf_disk.specs.Folder.{Folder}
 use Rattle.conf_disk.specs.Image.{Image}
+use Rattle.conf_disk.specs.Models.{DiskModel}
 use Rattle.conf_store.specs.declared.fault.OpenFault.TheVariants as OpenFault
 use Rattle.conf_tools.specs.ReadingStatuses.{TellsOfStore}
 use Rattle.conf_tools.specs.Stores.{RunsOn}
@@ -33,25 +34,25 @@ at_one why = record {
 }
 
 -- a fault of a run on a store has its status, and what that says of the output
-pub performs_refused : {D : Type 0} (honest : Type 0) (folder : D → Folder) (moment : D → ℕ) (since : D → ℕ → Image → Type 0) (failures : D → ℕ) (grouping : Grouping) (old new : D) {given left held written : Option (List ℕ)}
-    → (fault : StoreToolFault) → RunsOn honest folder moment since failures given left held written grouping old (Err (new, fault))
+pub performs_refused : {D : Type 0} (model : DiskModel D) (grouping : Grouping) (old new : D) {given left held written : Option (List ℕ)}
+    → (fault : StoreToolFault) → RunsOn model given left held written grouping old (Err (new, fault))
     → Performs given left held written (code_of (status_of_store fault))
-performs_refused honest folder moment since failures grouping old new (InFolder fault) runs = absurd runs
-performs_refused honest folder moment since failures grouping old new (Open OpenFault.NotAStore) runs = at_one (inr (inr (inl runs.1)))
-performs_refused honest folder moment since failures grouping old new (Open (OpenFault.Damaged number)) runs = at_one (inr (inr (inl runs.1)))
-performs_refused honest folder moment since failures grouping old new (Open OpenFault.Device) runs = at_three
-performs_refused honest folder moment since failures grouping old new (Open OpenFault.OutOfMemory) runs = at_one (inr (inr (inl runs.1)))
-performs_refused honest folder moment since failures grouping old new (Session SessionFaults.Read) runs = at_three
-performs_refused honest folder moment since failures grouping old new (Session (SessionFaults.Write count)) runs = at_three
-performs_refused honest folder moment since failures grouping old new (Session SessionFaults.TooLong) runs = at_one (inr (inl (runs.start, runs.file, grouping, SessionFaults.TooLong, runs.work, runs.answers)))
-performs_refused honest folder moment since failures grouping old new (Session SessionFaults.SessionLong) runs = at_one (inr (inl (runs.start, runs.file, grouping, SessionFaults.SessionLong, runs.work, runs.answers)))
-performs_refused honest folder moment since failures grouping old new (Session SessionFaults.OutOfMemory) runs = at_one (inr (inl (runs.start, runs.file, grouping, SessionFaults.OutOfMemory, runs.work, runs.answers)))
-performs_refused honest folder moment since failures grouping old new (Session SessionFaults.Device) runs = at_three
-performs_refused honest folder moment since failures grouping old new (Session SessionFaults.Reopen) runs = at_three
-performs_refused honest folder moment since failures grouping old new (Export fault) runs = absurd runs
-performs_refused honest folder moment since failures grouping old new StoreOutput runs = absurd runs
-performs_refused honest folder moment since failures grouping old new (Refused fault) runs = absurd runs
-performs_refused honest folder moment since failures grouping old new StoreExists runs = absurd runs
+performs_refused model grouping old new (InFolder fault) runs = absurd runs
+performs_refused model grouping old new (Open OpenFault.NotAStore) runs = at_one (inr (inr (inl runs.1)))
+performs_refused model grouping old new (Open (OpenFault.Damaged number)) runs = at_one (inr (inr (inl runs.1)))
+performs_refused model grouping old new (Open OpenFault.Device) runs = at_three
+performs_refused model grouping old new (Open OpenFault.OutOfMemory) runs = at_one (inr (inr (inl runs.1)))
+performs_refused model grouping old new (Session SessionFaults.Read) runs = at_three
+performs_refused model grouping old new (Session (SessionFaults.Write count)) runs = at_three
+performs_refused model grouping old new (Session SessionFaults.TooLong) runs = at_one (inr (inl (runs.start, runs.file, grouping, SessionFaults.TooLong, runs.work, runs.answers)))
+performs_refused model grouping old new (Session SessionFaults.SessionLong) runs = at_one (inr (inl (runs.start, runs.file, grouping, SessionFaults.SessionLong, runs.work, runs.answers)))
+performs_refused model grouping old new (Session SessionFaults.OutOfMemory) runs = at_one (inr (inl (runs.start, runs.file, grouping, SessionFaults.OutOfMemory, runs.work, runs.answers)))
+performs_refused model grouping old new (Session SessionFaults.Device) runs = at_three
+performs_refused model grouping old new (Session SessionFaults.Reopen) runs = at_three
+performs_refused model grouping old new (Export fault) runs = absurd runs
+performs_refused model grouping old new StoreOutput runs = absurd runs
+performs_refused model grouping old new (Refused fault) runs = absurd runs
+performs_refused model grouping old new StoreExists runs = absurd runs
 
 -- a change, of which the text may have been taken from the input
 pub performs_change : {given left held written : Option (List ℕ)} (status : ℕ) → status ≤ 3 → TakesSome given left → Keeps held written → Performs given left held written status

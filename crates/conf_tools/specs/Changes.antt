@@ -5,6 +5,7 @@ use Rattle.yaml_tree.specs.Reading.{IsRead}
 use Rattle.yaml_config.specs.Limits.{config_limits}
 use Rattle.conf_disk.specs.Folder.{Folder, bytes_under}
 use Rattle.conf_disk.specs.Image.{Image, IsImage}
+use Rattle.conf_disk.specs.Models.{DiskModel}
 use Rattle.conf_disk.specs.Moments.{LeavesOnly}
 use Rattle.conf_disk.specs.declared.disk.Name.TheVariants.{Store}
 use Rattle.conf_state.specs.BaseTexts.{base_bytes}
@@ -48,20 +49,19 @@ MeansOneOf before after file = FileMeans file before ⊎ FileMeans file after
 -- ---- a disk
 
 -- The change was made on the store that opening made of the disk, and it is on the disk that is handed back.
-pub record ChangesOn {D : Type 0} (honest : Type 0) (folder : D → Folder) (moment : D → ℕ)
-    (since : D → ℕ → Image → Type 0) (old : D) (change : Change) (new : D) : Type 0 where
+pub record ChangesOn {D : Type 0} (model : DiskModel D) (old : D) (change : Change) (new : D) : Type 0 where
   pub opened : StoreView D
-  pub opens : OpensOn honest folder moment since old opened
+  pub opens : OpensOn model old opened
   pub closed : StoreView D
   pub makes : Makes opened change closed
   pub back : new ≡ closed.disk
-  pub images : honest → AllImagesMean (folder new) closed.state
+  pub images : model.honest → AllImagesMean (model.folder new) closed.state
 
 -- The store that opening made of the disk refused the change. Unless the device failed, that changed nothing.
-pub record RefusesOn {D : Type 0} (honest : Type 0) (folder : D → Folder) (moment : D → ℕ)
-    (since : D → ℕ → Image → Type 0) (old : D) (change : Change) (new : D) (fault : StoreFault) : Type 0 where
+pub record RefusesOn {D : Type 0} (model : DiskModel D) (old : D) (change : Change) (new : D)
+    (fault : StoreFault) : Type 0 where
   pub opened : StoreView D
-  pub opens : OpensOn honest folder moment since old opened
+  pub opens : OpensOn model old opened
   pub closed : StoreView D
   pub refuses : RefusesChange opened change closed fault
   pub not_reopen : fault ≢ Reopen
@@ -69,13 +69,13 @@ pub record RefusesOn {D : Type 0} (honest : Type 0) (folder : D → Folder) (mom
   pub same : fault ≢ Device → closed ≡ opened
 
 -- why a change of the store on a disk was not made
-abbrev pub CannotChange : {D : Type 0} → Type 0 → (D → Folder) → (D → ℕ) → (D → ℕ → Image → Type 0) → (D → ℕ) → D
+abbrev pub CannotChange : {D : Type 0} → DiskModel D → D
     → Change → D → StoreToolFault → Type 0
-CannotChange honest folder moment since failures old change new (Open fault) =
-    CannotOpen honest folder moment since failures old new fault
-CannotChange honest folder moment since failures old change new (Refused fault) =
-    RefusesOn honest folder moment since old change new fault
-CannotChange honest folder moment since failures old change new fault = ⊥
+CannotChange model old change new (Open fault) =
+    CannotOpen model old new fault
+CannotChange model old change new (Refused fault) =
+    RefusesOn model old change new fault
+CannotChange model old change new fault = ⊥
 
 -- ---- what a crash leaves
 
@@ -89,26 +89,27 @@ Performs Checkpoint commands = commands ≡ []
 -- What a change promises. `opened` is the disk once the store is open. Until then a crash leaves what the disk might
 -- have left before the call; from then on, the state that `store.yaml` meant, or the one after the accepted command. Where
 -- the call returned that the change is made, its command is on the disk.
-pub record KeepsChange {D : Type 0} (folder : D → Folder) (moment : D → ℕ) (since : D → ℕ → Image → Type 0)
+pub record KeepsChange {D : Type 0} (model : DiskModel D)
     (old : D) (change : Change) (new : D) (is_done : Bool) : Type 0 where
   pub start : Contents
-  pub means : FileMeans (bytes_under (folder old) Store) start
+  pub means : FileMeans (bytes_under (model.folder old) Store) start
   pub opened : D
   pub accepted : List GivenCommand
   pub of : (accepted ≡ []) ⊎ Performs change accepted
   pub all : is_done ≡ true → Performs change accepted
-  pub while_opening : LeavesOnly moment since old opened (λ image. MeantAtEntry (folder old) image.store)
-  pub once_open : LeavesOnly moment since opened new (λ image. AfterPrefix start accepted image.store)
-  pub returned : (image : Image) → IsImage (folder new) image → AfterAtLeast start (if is_done then length accepted else 0) accepted image.store
+  pub while_opening : LeavesOnly model old opened (λ image. MeantAtEntry (model.folder old) image.store)
+  pub once_open : LeavesOnly model opened new (λ image. AfterPrefix start accepted image.store)
+  pub returned : (image : Image) → IsImage (model.folder new) image
+      → AfterAtLeast start (if is_done then length accepted else 0) accepted image.store
 
 -- the same of a call that may not have opened the store
-abbrev pub ChangeSurvives : {D : Type 0} → (D → Folder) → (D → ℕ) → (D → ℕ → Image → Type 0) → D → Change
+abbrev pub ChangeSurvives : {D : Type 0} → DiskModel D → D → Change
     → Result D (D × StoreToolFault) → Type 0
-ChangeSurvives folder moment since old change (Ok new) = KeepsChange folder moment since old change new true
-ChangeSurvives folder moment since old change (Err (new, Refused fault)) =
-    KeepsChange folder moment since old change new false
-ChangeSurvives folder moment since old change (Err (new, fault)) =
-    LeavesOnly moment since old new (λ image. MeantAtEntry (folder old) image.store)
+ChangeSurvives model old change (Ok new) = KeepsChange model old change new true
+ChangeSurvives model old change (Err (new, Refused fault)) =
+    KeepsChange model old change new false
+ChangeSurvives model old change (Err (new, fault)) =
+    LeavesOnly model old new (λ image. MeantAtEntry (model.folder old) image.store)
 
 -- ---- a new store
 
@@ -120,9 +121,9 @@ pub record MakesStore {D : Type 0} (folder : D → Folder) (old new : D) : Type 
 
 -- Why no store was made: there is a `store.yaml`, and nothing has changed; or a call failed, and there is none, or a
 -- whole base of the empty state.
-abbrev pub CannotMake : {D : Type 0} → Type 0 → (D → Folder) → D → D → StoreToolFault → Type 0
-CannotMake honest folder old new (Open fault) =
-    honest → IsOldOrBase (bytes_under (folder old) Store) (bytes_under (folder new) Store)
-CannotMake honest folder old new StoreExists =
-    (honest → bytes_under (folder old) Store ≢ None) × (honest → folder new ≡ folder old)
-CannotMake honest folder old new fault = ⊥
+abbrev pub CannotMake : {D : Type 0} → DiskModel D → D → D → StoreToolFault → Type 0
+CannotMake model old new (Open fault) =
+    model.honest → IsOldOrBase (bytes_under (model.folder old) Store) (bytes_under (model.folder new) Store)
+CannotMake model old new StoreExists =
+    (model.honest → bytes_under (model.folder old) Store ≢ None) × (model.honest → model.folder new ≡ model.folder old)
+CannotMake model old new fault = ⊥

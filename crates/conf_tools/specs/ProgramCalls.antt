@@ -2,6 +2,7 @@
 use Rattle.std.specs.Prelude.{◌≡◌, ◌≤◌, ℕ, List, [], ◌∷◌, length, take, Option, Result, Ok, Err}
 use Rattle.conf_disk.specs.Folder.{Folder}
 use Rattle.conf_disk.specs.Image.{Image, IsImage}
+use Rattle.conf_disk.specs.Models.{DiskModel}
 use Rattle.conf_disk.specs.Moments.{LeavesOnly}
 use Rattle.conf_state.specs.Commands.{Command}
 use Rattle.conf_state.specs.States.{Contents}
@@ -23,25 +24,25 @@ use Rattle.conf_tools.specs.declared.stores.StoreToolFault.TheVariants.{Session,
 -- A call on a disk that is honest, with what its clause `crashes` says: of `run_store`, of `change_store`, or of
 -- `export_store` or `make_store`. A call that was cut off is given by what it would have returned: an image that it left
 -- is one that this clause allows.
-pub data Call {D : Type 0} (folder : D → Folder) (moment : D → ℕ) (since : D → ℕ → Image → Type 0) : Type 0 where
+pub data Call {D : Type 0} (model : DiskModel D) : Type 0 where
   running : (given left held written : Option (List ℕ)) (grouping : Grouping) (old : D)
       (result : Result (D × Tally) (D × StoreToolFault))
-      (crashes : SurvivesCrashes folder moment since given left held written grouping old result)
-      → Call folder moment since
+      (crashes : SurvivesCrashes model given left held written grouping old result)
+      → Call model
   changing : (change : Change) (old : D) (result : Result D (D × StoreToolFault))
-      (crashes : ChangeSurvives folder moment since old change result) → Call folder moment since
+      (crashes : ChangeSurvives model old change result) → Call model
   exporting : (old new : D)
-      (crashes : LeavesOnly moment since old new (λ image. MeantAtEntry (folder old) image.store))
-      → Call folder moment since
+      (crashes : LeavesOnly model old new (λ image. MeantAtEntry (model.folder old) image.store))
+      → Call model
 
 -- Whether a call returned, or was cut off by a crash, or by the end of its process.
 pub data Ending : Type 0 where
   returned : Ending
   cut_off : Ending
 
-module _ {D : Type 0} (folder : D → Folder) (moment : D → ℕ) (since : D → ℕ → Image → Type 0) where
+module _ {D : Type 0} (model : DiskModel D) where
   -- the disk before a call
-  abbrev pub disk_before : Call folder moment since → D
+  abbrev pub disk_before : Call model → D
   disk_before (running given left held written grouping old result crashes) = old
   disk_before (changing change old result crashes) = old
   disk_before (exporting old new crashes) = old
@@ -57,7 +58,7 @@ module _ {D : Type 0} (folder : D → Folder) (moment : D → ℕ) (since : D �
   disk_back (Err r) = r.0
 
   -- the disk after a call
-  abbrev pub disk_behind : Call folder moment since → D
+  abbrev pub disk_behind : Call model → D
   disk_behind (running given left held written grouping old result crashes) = disk_handed_back result
   disk_behind (changing change old result crashes) = disk_back result
   disk_behind (exporting old new crashes) = new
@@ -65,7 +66,7 @@ module _ {D : Type 0} (folder : D → Folder) (moment : D → ℕ) (since : D �
   -- the commands that a session accepted
   abbrev pub accepted_by_run : (given left held written : Option (List ℕ)) (grouping : Grouping) (old : D)
       (result : Result (D × Tally) (D × StoreToolFault))
-      → SurvivesCrashes folder moment since given left held written grouping old result → List Command
+      → SurvivesCrashes model given left held written grouping old result → List Command
   accepted_by_run given left held written grouping old (Ok (new, tally)) keeps = keeps.work.accepted
   accepted_by_run given left held written grouping old (Err (new, Session fault)) keeps = keeps.work.accepted
   accepted_by_run given left held written grouping old (Err (new, fault)) refused = []
@@ -73,33 +74,33 @@ module _ {D : Type 0} (folder : D → Folder) (moment : D → ℕ) (since : D �
   -- how many of them it answered
   abbrev pub answered_by_run : (given left held written : Option (List ℕ)) (grouping : Grouping) (old : D)
       (result : Result (D × Tally) (D × StoreToolFault))
-      → SurvivesCrashes folder moment since given left held written grouping old result → ℕ
+      → SurvivesCrashes model given left held written grouping old result → ℕ
   answered_by_run given left held written grouping old (Ok (new, tally)) keeps = keeps.work.answered
   answered_by_run given left held written grouping old (Err (new, Session fault)) keeps = keeps.work.answered
   answered_by_run given left held written grouping old (Err (new, fault)) refused = 0
 
   -- the commands that a change accepted, one at most
   abbrev pub accepted_by_change : (change : Change) (old : D) (result : Result D (D × StoreToolFault))
-      → ChangeSurvives folder moment since old change result → List Command
+      → ChangeSurvives model old change result → List Command
   accepted_by_change change old (Ok new) keeps = keeps.accepted
   accepted_by_change change old (Err (new, Refused fault)) keeps = keeps.accepted
   accepted_by_change change old (Err (new, fault)) refused = []
 
   -- how many of them are made once it has returned
   abbrev pub made_by_change : (change : Change) (old : D) (result : Result D (D × StoreToolFault))
-      → ChangeSurvives folder moment since old change result → ℕ
+      → ChangeSurvives model old change result → ℕ
   made_by_change change old (Ok new) keeps = length keeps.accepted
   made_by_change change old (Err r) refused = 0
 
   -- the commands that a call accepted
-  abbrev pub accepted : Call folder moment since → List Command
+  abbrev pub accepted : Call model → List Command
   accepted (running given left held written grouping old result crashes) =
       accepted_by_run given left held written grouping old result crashes
   accepted (changing change old result crashes) = accepted_by_change change old result crashes
   accepted (exporting old new crashes) = []
 
   -- how many of them it answered
-  abbrev pub answered : Call folder moment since → ℕ
+  abbrev pub answered : Call model → ℕ
   answered (running given left held written grouping old result crashes) =
       answered_by_run given left held written grouping old result crashes
   answered (changing change old result crashes) = made_by_change change old result crashes
@@ -107,25 +108,25 @@ module _ {D : Type 0} (folder : D → Folder) (moment : D → ℕ) (since : D �
 
   -- what a call leaves that ended so: what a crash may leave once it returned, or at any moment of it
   abbrev pub MayLeave : Ending → D → D → Image → Type 0
-  MayLeave returned old new image = IsImage (folder new) image
-  MayLeave cut_off old new image = since new (moment old) image
+  MayLeave returned old new image = IsImage (model.folder new) image
+  MayLeave cut_off old new image = model.left new (model.moment old) image
 
 -- ---- calls one after the other
 
 -- a call, and how it ended
-pub record Event {D : Type 0} (folder : D → Folder) (moment : D → ℕ) (since : D → ℕ → Image → Type 0) : Type 0 where
-  pub call : Call folder moment since
+pub record Event {D : Type 0} (model : DiskModel D) : Type 0 where
+  pub call : Call model
   pub ending : Ending
 
-module _ {D : Type 0} (folder : D → Folder) (moment : D → ℕ) (since : D → ℕ → Image → Type 0) where
+module _ {D : Type 0} (model : DiskModel D) where
   -- The first call finds the folder of the disk `first`. Each next one finds a folder of which a crash leaves no more
   -- than what the call before may have left, and so does the disk `last`.
-  abbrev pub AreCalls : D → List (Event folder moment since) → D → Type 0
+  abbrev pub AreCalls : D → List (Event model) → D → Type 0
   AreCalls first [] last = last ≡ first
   AreCalls first (event ∷ events) last =
-      (disk_before folder moment since event.call ≡ first) × (next : D)
-      × ((image : Image) → IsImage (folder next) image
-      → MayLeave folder moment since event.ending first (disk_behind folder moment since event.call) image)
+      (disk_before model event.call ≡ first) × (next : D)
+      × ((image : Image) → IsImage (model.folder next) image
+      → MayLeave model event.ending first (disk_behind model event.call) image)
       × AreCalls next events last
 
 -- ---- what they keep
@@ -136,17 +137,17 @@ pub record KeptOf (ending : Ending) (accepted : List Command) (answered : ℕ) (
   pub are : kept ≡ take count accepted
   pub all_answered : ending ≡ returned → answered ≤ count
 
-module _ {D : Type 0} (folder : D → Folder) (moment : D → ℕ) (since : D → ℕ → Image → Type 0) where
-  abbrev pub EachKept : List (Event folder moment since) → List (List Command) → Type 0
+module _ {D : Type 0} (model : DiskModel D) where
+  abbrev pub EachKept : List (Event model) → List (List Command) → Type 0
   EachKept [] [] = Unit {0}
   EachKept [] (kept ∷ others) = ⊥
   EachKept (event ∷ events) [] = ⊥
   EachKept (event ∷ events) (kept ∷ others) =
-      KeptOf event.ending (accepted folder moment since event.call) (answered folder moment since event.call) kept
+      KeptOf event.ending (accepted model event.call) (answered model event.call) kept
       × EachKept events others
 
   -- the file means the first state after what was kept of each call
-  pub record Holds (s : Contents) (events : List (Event folder moment since)) (file : Option (List ℕ)) : Type 0 where
+  pub record Holds (s : Contents) (events : List (Event model)) (file : Option (List ℕ)) : Type 0 where
     pub kept : List (List Command)
     pub each : EachKept events kept
     pub state : Contents
@@ -155,6 +156,6 @@ module _ {D : Type 0} (folder : D → Folder) (moment : D → ℕ) (since : D �
 
   -- Where whatever a crash leaves of the first folder means `s`, each image of the last one holds what was kept.
   abbrev pub CallsHold : Type 0
-  CallsHold = (s : Contents) (first last : D) (events : List (Event folder moment since))
-      → AllImagesMean (folder first) s → AreCalls folder moment since first events last
-      → (image : Image) → IsImage (folder last) image → Holds s events image.store
+  CallsHold = (s : Contents) (first last : D) (events : List (Event model))
+      → AllImagesMean (model.folder first) s → AreCalls model first events last
+      → (image : Image) → IsImage (model.folder last) image → Holds s events image.store

@@ -3,6 +3,7 @@ use Rattle.std.specs.Prelude.{◌≡◌, ◌≢◌, ℕ, false, List, [], ◌++�
 use Rattle.std.specs.Io.KnownBytes.{Keeps}
 use Rattle.conf_disk.specs.Folder.{Folder, bytes_under}
 use Rattle.conf_disk.specs.Image.{Image, IsImage}
+use Rattle.conf_disk.specs.Models.{DiskModel}
 use Rattle.conf_disk.specs.Moments.{LeavesOnly}
 use Rattle.conf_disk.specs.declared.disk.Name.TheVariants.{Store}
 use Rattle.conf_state.specs.Commands.{Command}
@@ -98,62 +99,62 @@ pub record OpensTo (before : Option (List ℕ)) (start : Stored) (after : Option
   pub no_checkpoint : start.staged ≡ None
 
 -- The store on a disk was opened, and nothing waits. A crash during it leaves what the disk might have left before.
-pub record OpensOn {D : Type 0} (honest : Type 0) (folder : D → Folder) (moment : D → ℕ)
-    (since : D → ℕ → Image → Type 0) (old : D) (store : StoreView D) : Type 0 where
+pub record OpensOn {D : Type 0} (model : DiskModel D) (old : D) (store : StoreView D) : Type 0 where
   pub no_reopen : store.reopen ≡ false
   pub no_checkpoint : store.staged ≡ None
-  pub opens : honest
-      → OpensTo (bytes_under (folder old) Store) (stored_of store) (bytes_under (folder store.disk) Store)
-  pub at_any_moment : honest → LeavesOnly moment since old store.disk (λ image. MeantAtEntry (folder old) image.store)
-  pub flushed : honest → HasFlushed (folder store.disk) store.state [] store.state
-  pub images : honest → AllImagesMean (folder store.disk) store.state
+  pub opens : model.honest
+      → OpensTo (bytes_under (model.folder old) Store) (stored_of store) (bytes_under (model.folder store.disk) Store)
+  pub at_any_moment : model.honest
+      → LeavesOnly model old store.disk (λ image. MeantAtEntry (model.folder old) image.store)
+  pub flushed : model.honest → HasFlushed (model.folder store.disk) store.state [] store.state
+  pub images : model.honest → AllImagesMean (model.folder store.disk) store.state
 
 -- The store on a disk can't be opened. But for Device no file has changed, and at Device `store.yaml` may be a base of
 -- the state that it meant. A crash during it leaves what the disk might have left before.
-pub record CannotOpen {D : Type 0} (honest : Type 0) (folder : D → Folder) (moment : D → ℕ)
-    (since : D → ℕ → Image → Type 0) (failures : D → ℕ) (old new : D) (fault : OpenFault) : Type 0 where
-  pub refuses : honest → RefusesOpening fault (bytes_under (folder old) Store)
-  pub no_meaning : honest → RefusalMeans fault (bytes_under (folder old) Store)
-  pub stays : honest → fault ≢ OpenFaults.Device → FilesStay folder moment since old new
-  pub cause : fault ≡ OpenFaults.Device → HasFailed (failures old) (failures new)
-  pub old_or_base : honest → IsOldOrBase (bytes_under (folder old) Store) (bytes_under (folder new) Store)
-  pub at_any_moment : honest → LeavesOnly moment since old new (λ image. MeantAtEntry (folder old) image.store)
+pub record CannotOpen {D : Type 0} (model : DiskModel D) (old new : D) (fault : OpenFault) : Type 0 where
+  pub refuses : model.honest → RefusesOpening fault (bytes_under (model.folder old) Store)
+  pub no_meaning : model.honest → RefusalMeans fault (bytes_under (model.folder old) Store)
+  pub stays : model.honest → fault ≢ OpenFaults.Device → FilesStay model old new
+  pub cause : fault ≡ OpenFaults.Device → HasFailed (model.failure_count old) (model.failure_count new)
+  pub old_or_base : model.honest
+      → IsOldOrBase (bytes_under (model.folder old) Store) (bytes_under (model.folder new) Store)
+  pub at_any_moment : model.honest → LeavesOnly model old new (λ image. MeantAtEntry (model.folder old) image.store)
 
 -- ---- a session on a disk
 
 -- A session from one value of a store to the next, as the call for its grouping says.
-abbrev pub SessionRuns : {D : Type 0} → Type 0 → (D → Folder) → (D → ℕ) → (D → ℕ → Image → Type 0) → Option (List ℕ)
+abbrev pub SessionRuns : {D : Type 0} → DiskModel D → Option (List ℕ)
     → Option (List ℕ) → Option (List ℕ) → Option (List ℕ) → Grouping → StoreView D → StoreView D
     → Result Tally SessionFault → Type 0
-SessionRuns honest folder moment since given left held written Single old new result =
-    Runs honest folder moment since given left held written old new result
-SessionRuns honest folder moment since given left held written (Grouped checkpoints) old new result =
-    RunsGrouped honest folder moment since given left held written checkpoints old new result
+SessionRuns model given left held written Single old new result =
+    Runs model given left held written old new result
+SessionRuns model given left held written (Grouped checkpoints) old new result =
+    RunsGrouped model given left held written checkpoints old new result
 
 -- A session ran on the store that opening made of the disk, whose `store.yaml` read as `file` then.
-pub record AnswersOn {D : Type 0} (honest : Type 0) (folder : D → Folder)
+pub record AnswersOn {D : Type 0} (model : DiskModel D)
     (given left held written : Option (List ℕ)) (grouping : Grouping) (old new : D)
     (result : Result Tally SessionFault) : Type 0 where
   pub start : Stored
   pub file : Option (List ℕ)
   pub work : Work
   pub answers : Answers given left held written start file grouping result work
-  pub due : honest → CheckpointsAreDue given left held written start file grouping result work answers
-  pub opens : honest → OpensTo (bytes_under (folder old) Store) start file
-  pub reads : honest → result ≢ Err SessionFaults.Device → bytes_under (folder new) Store ≡ work.file
+  pub due : model.honest → CheckpointsAreDue given left held written start file grouping result work answers
+  pub opens : model.honest → OpensTo (bytes_under (model.folder old) Store) start file
+  pub reads : model.honest → result ≢ Err SessionFaults.Device → bytes_under (model.folder new) Store ≡ work.file
 
 -- How a session on a disk ends, and what its files read as then. Nothing is read or written if the store can't be
 -- opened.
-abbrev pub RunsOn : {D : Type 0} → Type 0 → (D → Folder) → (D → ℕ) → (D → ℕ → Image → Type 0) → (D → ℕ)
+abbrev pub RunsOn : {D : Type 0} → DiskModel D → (D → ℕ)
     → Option (List ℕ) → Option (List ℕ) → Option (List ℕ) → Option (List ℕ) → Grouping → D
     → Result (D × Tally) (D × StoreToolFault) → Type 0
-RunsOn honest folder moment since failures given left held written grouping old (Ok (new, tally)) =
-    AnswersOn honest folder given left held written grouping old new (Ok tally)
-RunsOn honest folder moment since failures given left held written grouping old (Err (new, Session fault)) =
-    AnswersOn honest folder given left held written grouping old new (Err fault)
-RunsOn honest folder moment since failures given left held written grouping old (Err (new, Open fault)) =
-    Keeps given left × Keeps held written × CannotOpen honest folder moment since failures old new fault
-RunsOn honest folder moment since failures given left held written grouping old (Err (new, fault)) = ⊥
+RunsOn model failures given left held written grouping old (Ok (new, tally)) =
+    AnswersOn model given left held written grouping old new (Ok tally)
+RunsOn model failures given left held written grouping old (Err (new, Session fault)) =
+    AnswersOn model given left held written grouping old new (Err fault)
+RunsOn model failures given left held written grouping old (Err (new, Open fault)) =
+    Keeps given left × Keeps held written × CannotOpen model failures old new fault
+RunsOn model failures given left held written grouping old (Err (new, fault)) = ⊥
 
 -- ---- what a crash leaves of a session
 
@@ -161,27 +162,27 @@ RunsOn honest folder moment since failures given left held written grouping old 
 -- crash leaves what the disk might have left before the call; from then on, the state after a prefix of the accepted
 -- commands, from the state that `store.yaml` meant. Once the call has returned, that prefix has every command whose
 -- answer was written.
-pub record KeepsAnswered {D : Type 0} (folder : D → Folder) (moment : D → ℕ) (since : D → ℕ → Image → Type 0)
+pub record KeepsAnswered {D : Type 0} (model : DiskModel D)
     (given left held written : Option (List ℕ)) (grouping : Grouping) (old new : D)
     (result : Result Tally SessionFault) : Type 0 where
   pub start : Stored
   pub opened : D
   pub work : Work
-  pub answers : Answers given left held written start (bytes_under (folder opened) Store) grouping result work
-  pub opens : OpensTo (bytes_under (folder old) Store) start (bytes_under (folder opened) Store)
-  pub nothing_waits : HasFlushed (folder opened) start.state [] start.state
-  pub while_opening : LeavesOnly moment since old opened (λ image. MeantAtEntry (folder old) image.store)
-  pub once_open : LeavesOnly moment since opened new (λ image. AfterPrefix start.state work.accepted image.store)
-  pub returned : (image : Image) → IsImage (folder new) image
+  pub answers : Answers given left held written start (bytes_under (model.folder opened) Store) grouping result work
+  pub opens : OpensTo (bytes_under (model.folder old) Store) start (bytes_under (model.folder opened) Store)
+  pub nothing_waits : HasFlushed (model.folder opened) start.state [] start.state
+  pub while_opening : LeavesOnly model old opened (λ image. MeantAtEntry (model.folder old) image.store)
+  pub once_open : LeavesOnly model opened new (λ image. AfterPrefix start.state work.accepted image.store)
+  pub returned : (image : Image) → IsImage (model.folder new) image
       → AfterAtLeast start.state work.answered work.accepted image.store
 
 -- the same of a call that may not have opened the store
-abbrev pub SurvivesCrashes : {D : Type 0} → (D → Folder) → (D → ℕ) → (D → ℕ → Image → Type 0) → Option (List ℕ)
+abbrev pub SurvivesCrashes : {D : Type 0} → DiskModel D → Option (List ℕ)
     → Option (List ℕ) → Option (List ℕ) → Option (List ℕ) → Grouping → D
     → Result (D × Tally) (D × StoreToolFault) → Type 0
-SurvivesCrashes folder moment since given left held written grouping old (Ok (new, tally)) =
-    KeepsAnswered folder moment since given left held written grouping old new (Ok tally)
-SurvivesCrashes folder moment since given left held written grouping old (Err (new, Session fault)) =
-    KeepsAnswered folder moment since given left held written grouping old new (Err fault)
-SurvivesCrashes folder moment since given left held written grouping old (Err (new, fault)) =
-    LeavesOnly moment since old new (λ image. MeantAtEntry (folder old) image.store)
+SurvivesCrashes model given left held written grouping old (Ok (new, tally)) =
+    KeepsAnswered model given left held written grouping old new (Ok tally)
+SurvivesCrashes model given left held written grouping old (Err (new, Session fault)) =
+    KeepsAnswered model given left held written grouping old new (Err fault)
+SurvivesCrashes model given left held written grouping old (Err (new, fault)) =
+    LeavesOnly model old new (λ image. MeantAtEntry (model.folder old) image.store)

@@ -9,6 +9,7 @@ use Rattle.conf_state.specs.States.{Contents}
 use Rattle.conf_state.specs.declared.fault.StoreFault.{StoreFault}
 use Rattle.conf_state.specs.declared.fault.StoreFault.TheVariants as store
 use Rattle.conf_disk.specs.Folder.{Folder}
+use Rattle.conf_disk.specs.Models.{DiskModel}
 use Rattle.conf_history.specs.Histories.{IsSurvey, RefusesSurvey}
 use Rattle.conf_history.specs.Salvages.{RefusesSalvage, Saves}
 use Rattle.conf_history.specs.declared.fault.HistoryFault.TheVariants.{OutOfMemory}
@@ -126,28 +127,29 @@ RefusesWriting given held written fault = ⊥
 -- ---- a store of what stands before the damage
 
 -- The store was made of what stands in the file before its first bad piece, if the disk is honest.
-abbrev pub SavesOn : {D : Type 0} → Type 0 → (D → Folder) → Option (List ℕ) → Option (List ℕ) → D → D → Findings → Type 0
-SavesOn honest folder given left old new findings = honest → Saves given left (folder old) (folder new) findings
+abbrev pub SavesOn : {D : Type 0} → DiskModel D → Option (List ℕ) → Option (List ℕ) → D → D → Findings → Type 0
+SavesOn model given left old new findings =
+    model.honest → Saves given left (model.folder old) (model.folder new) findings
 
 -- the store was made, and what stands in the file was written
-abbrev pub SavesStore : {D : Type 0} → Type 0 → (D → Folder) → Option (List ℕ) → Option (List ℕ) → Option (List ℕ)
+abbrev pub SavesStore : {D : Type 0} → DiskModel D → Option (List ℕ) → Option (List ℕ) → Option (List ℕ)
     → Option (List ℕ) → D → D → Type 0
-SavesStore honest folder given left held written old new =
-    (findings : Findings) × SavesOn honest folder given left old new findings
+SavesStore model given left held written old new =
+    (findings : Findings) × SavesOn model given left old new findings
     × Appends held written (findings_text findings)
 
 -- Why no store was made, and nothing was written; or the store was made, and what stands in the file was not written
 -- whole.
-abbrev pub RefusesSaving : {D : Type 0} → Type 0 → (D → Folder) → Option (List ℕ) → Option (List ℕ) → Option (List ℕ)
+abbrev pub RefusesSaving : {D : Type 0} → DiskModel D → Option (List ℕ) → Option (List ℕ) → Option (List ℕ)
     → Option (List ℕ) → D → D → ReadingFault → Type 0
-RefusesSaving honest folder given left held written old new (Salvage fault) =
-    (honest → RefusesSalvage given left (folder old) (folder new) fault) × Keeps held written
-RefusesSaving honest folder given left held written old new fault =
-    (findings : Findings) × SavesOn honest folder given left old new findings × CannotWrite held written fault
+RefusesSaving model given left held written old new (Salvage fault) =
+    (model.honest → RefusesSalvage given left (model.folder old) (model.folder new) fault) × Keeps held written
+RefusesSaving model given left held written old new fault =
+    (findings : Findings) × SavesOn model given left old new findings × CannotWrite held written fault
 
 -- What was made and written, or why not, where the disk was let go before anything was written.
-pub record SavesAndLetsGo {D : Type 0} (honest : Type 0) (folder : D → Folder)
+pub record SavesAndLetsGo {D : Type 0} (model : DiskModel D)
     (given left held written : Option (List ℕ)) (old : D) (result : Result Unit ReadingFault) : Type 0 where
   pub new : D
-  pub saves : MatchResult result (λ done. SavesStore honest folder given left held written old new)
-      (RefusesSaving honest folder given left held written old new)
+  pub saves : MatchResult result (λ done. SavesStore model given left held written old new)
+      (RefusesSaving model given left held written old new)

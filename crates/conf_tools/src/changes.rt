@@ -38,12 +38,12 @@ fn make<D: Disk>(store: &mut Store<D>, change: Change) -> Result<(), StoreFault>
     ensures refused { IfErr result (RefusesChange store.old change store.new) }
     ensures unchanged { IfErr result (λ fault.
         fault ≢ StoreFault.Device → store.new ≡ store.old) }
-    ensures any_moment { D.honest → store.old.reopen ≡ false →
-        HasFlushed (D.folder store.old.disk) store.old.state [] store.old.state →
-        LeavesOnly D.moment D.left store.old.disk store.new.disk
+    ensures any_moment { D.model.honest → store.old.reopen ≡ false →
+        HasFlushed (D.model.folder store.old.disk) store.old.state [] store.old.state →
+        LeavesOnly D.model store.old.disk store.new.disk
         (λ image. MeansOneOf store.old.state store.new.state image.store) }
-    ensures now { D.honest → OnOk result
-        (AllImagesMean (D.folder store.new.disk) store.new.state) }
+    ensures now { D.model.honest → OnOk result
+        (AllImagesMean (D.model.folder store.new.disk) store.new.state) }
 {
     one_state_is_flushed();
     match change {
@@ -75,13 +75,13 @@ pub fn change_store<D: Disk + Drop, E: Write>(
     change: Change,
     errors: &mut E,
 ) -> Result<D, (D, StoreToolFault)>
-    ensures made { IfOk result (ChangesOn D.honest D.folder D.moment D.left disk change) }
+    ensures made { IfOk result (ChangesOn D.model disk change) }
     ensures refused { IfErr result (λ r.
-        CannotChange D.honest D.folder D.moment D.left D.failure_count disk change r.0 r.1) }
+        CannotChange D.model disk change r.0 r.1) }
     // No crash loses a change that was made, or keeps one that was refused.
-    ensures crashes { D.honest → ChangeSurvives D.folder D.moment D.left disk change result }
+    ensures crashes { D.model.honest → ChangeSurvives D.model disk change result }
     // Nothing is written to `errors` if no bytes are dropped.
-    ensures quiet { D.honest → HasNoRest (bytes_under (D.folder disk) Name.Store)
+    ensures quiet { D.model.honest → HasNoRest (bytes_under (D.model.folder disk) Name.Store)
         → Keeps (E.contents errors.old) (E.contents errors.new) }
 {
     steps_are_counted_or_refused();
@@ -107,14 +107,14 @@ pub fn make_store<D: Disk + Drop, E: Write>(
     disk: D,
     errors: &mut E,
 ) -> Result<D, (D, StoreToolFault)>
-    ensures made { IfOk result (λ disk_behind. D.honest → MakesStore D.folder disk disk_behind) }
+    ensures made { IfOk result (λ disk_behind. D.model.honest → MakesStore D.model.folder disk disk_behind) }
     ensures refused { IfErr result (λ r.
-        CannotMake D.honest D.folder disk r.0 r.1) }
+        CannotMake D.model disk r.0 r.1) }
     // No crash leaves anything else than what was there, or an empty store.
-    ensures crashes { D.honest → LeavesOnly D.moment D.left disk (disk_handed_back result)
-        (λ image. MeantAtEntry (D.folder disk) image.store) }
+    ensures crashes { D.model.honest → LeavesOnly D.model disk (disk_handed_back result)
+        (λ image. MeantAtEntry (D.model.folder disk) image.store) }
     // A new store has nothing to drop.
-    ensures quiet { D.honest → Keeps (E.contents errors.old) (E.contents errors.new) }
+    ensures quiet { D.model.honest → Keeps (E.contents errors.old) (E.contents errors.new) }
 {
     let mut disk = disk;
     match disk.read(alloc, Name::Store, 0) {

@@ -49,13 +49,13 @@ fn read_text<D: Disk + Drop>(
     disk: D,
     name: &str,
 ) -> Result<(D, String), (D, StoreToolFault)>
-    ensures ok { IfOk result (λ r. HasText D.honest D.folder D.failure_count disk r.0
+    ensures ok { IfOk result (λ r. HasText D.model disk r.0
         (chars name.now) (string_bytes r.1)) }
-    ensures refused { IfErr result (λ r. LacksText D.honest D.folder D.failure_count disk r.0
+    ensures refused { IfErr result (λ r. LacksText D.model disk r.0
         (chars name.now) r.1) }
-    ensures same { D.honest → D.folder (disk_back result) ≡ D.folder disk }
-    ensures stays { D.honest → FilesStay D.folder D.moment D.left disk (disk_back result) }
-    ensures risen { D.failure_count disk ≤ D.failure_count (disk_back result) }
+    ensures same { D.model.honest → D.model.folder (disk_back result) ≡ D.model.folder disk }
+    ensures stays { D.model.honest → FilesStay D.model disk (disk_back result) }
+    ensures risen { D.model.failure_count disk ≤ D.model.failure_count (disk_back result) }
 {
     let mut disk = disk;
     let state = match read_state(alloc, &mut disk) {
@@ -86,15 +86,15 @@ pub fn export_text<D: Disk + Drop, E: Write>(
     name: &str,
     errors: &mut E,
 ) -> Result<(D, String), (D, StoreToolFault)>
-    ensures ok { IfOk result (λ r. HasText D.honest D.folder D.failure_count disk r.0
+    ensures ok { IfOk result (λ r. HasText D.model disk r.0
         (chars name.now) (string_bytes r.1)) }
-    ensures refused { IfErr result (λ r. LacksText D.honest D.folder D.failure_count disk r.0
+    ensures refused { IfErr result (λ r. LacksText D.model disk r.0
         (chars name.now) r.1) }
     // No crash loses a command that was accepted.
-    ensures crashes { D.honest → LeavesOnly D.moment D.left disk (disk_back result)
-        (λ image. MeantAtEntry (D.folder disk) image.store) }
+    ensures crashes { D.model.honest → LeavesOnly D.model disk (disk_back result)
+        (λ image. MeantAtEntry (D.model.folder disk) image.store) }
     // Nothing is written to `errors` if no bytes are dropped.
-    ensures quiet { D.honest → HasNoRest (bytes_under (D.folder disk) Name.Store)
+    ensures quiet { D.model.honest → HasNoRest (bytes_under (D.model.folder disk) Name.Store)
         → Keeps (E.contents errors.old) (E.contents errors.new) }
 {
     reading_is_an_image();
@@ -124,9 +124,9 @@ pub fn export_store<D: Disk + Drop, W: Write, E: Write>(
     errors: &mut E,
 ) -> Result<(), StoreToolFault>
     // What was written, of the disk that was let go, and what a crash leaves of that.
-    ensures exports { ExportsAndLetsGo D.honest D.folder D.moment D.left D.failure_count disk
+    ensures exports { ExportsAndLetsGo D.model disk
         (chars name.now) (W.contents writer.old) (W.contents writer.new) result }
-    ensures quiet { D.honest → HasNoRest (bytes_under (D.folder disk) Name.Store)
+    ensures quiet { D.model.honest → HasNoRest (bytes_under (D.model.folder disk) Name.Store)
         → Keeps (E.contents errors.old) (E.contents errors.new) }
 {
     let (disk, text) = match export_text(alloc, disk, name, errors) {

@@ -16,7 +16,7 @@ use conf_store::bytes_mean_one_state;
 /// each call in turn, a prefix of the commands that it accepted. If the call returned, the prefix has every command
 /// whose answer was written, and that of a change that was made.
 pub fn calls_hold<D: Disk>()
-    ensures { D.honest → CallsHold D.folder D.moment D.left }
+    ensures { D.model.honest → CallsHold D.model }
 {
     bytes_mean_one_state();
     reading_is_an_image();

@@ -57,10 +57,10 @@ pub(crate) fn open_store<D: Disk + Drop, E: Write>(
     disk: D,
     errors: &mut E,
 ) -> Result<Store<D>, (D, OpenFault)>
-    ensures opens { IfOk result (OpensOn D.honest D.folder D.moment D.left disk) }
+    ensures opens { IfOk result (OpensOn D.model disk) }
     ensures refused { IfErr result (λ r.
-        CannotOpen D.honest D.folder D.moment D.left D.failure_count disk r.0 r.1) }
-    ensures quiet { D.honest → HasNoRest (bytes_under (D.folder disk) Name.Store)
+        CannotOpen D.model disk r.0 r.1) }
+    ensures quiet { D.model.honest → HasNoRest (bytes_under (D.model.folder disk) Name.Store)
         → Keeps (E.contents errors.old) (E.contents errors.new) }
 {
     match Store::open(alloc, disk) {
@@ -83,7 +83,7 @@ fn run_session<D: Disk, R: Read, W: Write>(
     reader: &mut R,
     writer: &mut W,
 ) -> Result<Tally, SessionFault>
-    ensures runs { SessionRuns D.honest D.folder D.moment D.left (R.remaining reader.old)
+    ensures runs { SessionRuns D.model (R.remaining reader.old)
         (R.remaining reader.new) (W.contents writer.old) (W.contents writer.new)
         grouping store.old store.new result }
     ensures device { (store.new.reopen ≡ true)
@@ -113,16 +113,16 @@ pub fn run_store<D: Disk + Drop, R: Read, W: Write, E: Write>(
     writer: &mut W,
     errors: &mut E,
 ) -> Result<(D, Tally), (D, StoreToolFault)>
-    ensures runs { RunsOn D.honest D.folder D.moment D.left D.failure_count
+    ensures runs { RunsOn D.model
         (R.remaining reader.old) (R.remaining reader.new)
         (W.contents writer.old) (W.contents writer.new)
         grouping disk result }
     // No crash loses a command that was answered, or keeps one that was not accepted.
-    ensures crashes { D.honest → SurvivesCrashes D.folder D.moment D.left (R.remaining reader.old)
+    ensures crashes { D.model.honest → SurvivesCrashes D.model (R.remaining reader.old)
         (R.remaining reader.new) (W.contents writer.old) (W.contents writer.new)
         grouping disk result }
     // Nothing is written to `errors` if no bytes are dropped.
-    ensures quiet { D.honest → HasNoRest (bytes_under (D.folder disk) Name.Store)
+    ensures quiet { D.model.honest → HasNoRest (bytes_under (D.model.folder disk) Name.Store)
         → Keeps (E.contents errors.old) (E.contents errors.new) }
 {
     answers_acknowledge();

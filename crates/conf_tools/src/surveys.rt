@@ -70,7 +70,7 @@ pub fn salvage_store<R: Read, D: Disk + Drop, W: Write>(
     disk: D,
     writer: &mut W,
 ) -> Result<(), ReadingFault>
-    ensures { SavesAndLetsGo D.honest D.folder
+    ensures { SavesAndLetsGo D.model
         (R.remaining reader.old) (R.remaining reader.new)
         (W.contents writer.old) (W.contents writer.new) disk result }
 {

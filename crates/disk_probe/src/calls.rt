@@ -13,7 +13,7 @@ pub(crate) fn call<D: Disk>(
     disk: &mut D,
     words: &[&str],
 ) -> Result<String, AllocError>
-    requires { D.honest → ⊥ }
+    requires { D.model.honest → ⊥ }
 {
     match words {
         ["failures"] => failures_of(alloc, disk),
@@ -33,7 +33,7 @@ pub(crate) fn call<D: Disk>(
 
 /// The answer of a disk to a procedure that changes it.
 fn change<D: Disk>(alloc: Global, disk: &mut D, words: &[&str]) -> Result<String, AllocError>
-    requires { D.honest → ⊥ }
+    requires { D.model.honest → ⊥ }
 {
     match words {
         ["append_store", bytes] => outcome_of(alloc, append_store(disk, bytes.as_bytes())),

@@ -1,6 +1,7 @@
 -- A disk with a fuse: which calls pass to the disk below, and what becomes of the others.
 use Rattle.std.specs.Prelude.{◌≡◌, ◌≢◌, ℕ, ◌+◌, ◌-◌, min, Result, Err, ◌==◌, nat_lt, if◌then◌else◌}
 use Rattle.conf_disk.specs.Folder.{Folder, Step, CreateNext, Append, Sync, RenameNext, RemoveNext, SyncFolder, Performs}
+use Rattle.conf_disk.specs.Models.{DiskModel}
 use Rattle.conf_disk.specs.Moments.{CountsFailures, greatest}
 use Rattle.conf_disk.specs.declared.disk.Name.{Name}
 use Rattle.conf_disk.specs.declared.disk.Content.{Content}
@@ -75,11 +76,11 @@ failed_after Fails failed = failed + 1
 failed_after FailsDone failed = failed + 1
 
 -- what the trait's clauses say of a call of the disk below that changes something
-pub record IsCall {D : Type 0} (honest : Type 0) (folder : D → Folder) (failure_count : D → ℕ)
+pub record IsCall {D : Type 0} (model : DiskModel D)
     (also_changes : D → Step → Result (Unit {0}) DiskFault → D → Type 0)
     (old : D) (step : Step) (result : Result (Unit {0}) DiskFault) (new : D) : Type 0 where
-  pub change : honest → Performs step (folder old) (folder new) result
-  pub failures : CountsFailures (failure_count old) (failure_count new) result
+  pub change : model.honest → Performs step (model.folder old) (model.folder new) result
+  pub failures : CountsFailures (model.failure_count old) (model.failure_count new) result
   pub fault : result ≢ Err OutOfMemory
   pub also : also_changes old step result new
 
@@ -110,13 +111,23 @@ passed_count disk = passed_calls (fuse_of disk)
 abbrev pub fused_failures : {D : Type 0} → (D → ℕ) → FusedDisk D → ℕ
 fused_failures failure_count disk = min (failure_count disk.inner + failed_calls (fuse_of disk)) greatest
 
+-- the disk below as contracts see it through the fuse
+abbrev pub fused_model : {D : Type 0} → DiskModel D → DiskModel (FusedDisk D)
+fused_model model = record {
+  honest = model.honest;
+  folder = λ disk. model.folder disk.inner;
+  moment = λ disk. model.moment disk.inner;
+  left = λ disk. model.left disk.inner;
+  failure_count = fused_failures model.failure_count;
+}
+
 -- what becomes of a call that changes something
-pub record FusesChange {D : Type 0} (honest : Type 0) (folder : D → Folder) (failure_count : D → ℕ)
+pub record FusesChange {D : Type 0} (model : DiskModel D)
     (also_changes : D → Step → Result (Unit {0}) DiskFault → D → Type 0)
     (old : FusedDisk D) (step : Step) (result : Result (Unit {0}) DiskFault) (new : FusedDisk D) : Type 0 where
-  pub fuse : fuse_of new ≡ state_after (fused_failures failure_count old) (fuse_of old)
-  pub outcome : Goes (outcome_of (fused_failures failure_count old) (fuse_of old))
-      (λ answer. IsCall honest folder failure_count also_changes (fused_inner old) step answer (fused_inner new))
+  pub fuse : fuse_of new ≡ state_after (fused_failures model.failure_count old) (fuse_of old)
+  pub outcome : Goes (outcome_of (fused_failures model.failure_count old) (fuse_of old))
+      (λ answer. IsCall model also_changes (fused_inner old) step answer (fused_inner new))
       (fused_inner new ≡ fused_inner old) result
 
 -- a read has no effect, so one that fails after its effect is one that fails

@@ -1,7 +1,7 @@
 // A disk that fails from a call on, or once.
 ghost use Rattle.std.specs.Prelude.{◌≡◌, ◌≢◌, ◌≤◌, ℕ, min};
 ghost use Rattle.conf_disk.specs.Folder.{MayBeMade};
-ghost use Rattle.test_disks.specs.Fused.{outcome_of, outcome_of_number, failed_below, failed_calls, passed_calls, state_after, failed_after, counter_state, call_step};
+ghost use Rattle.test_disks.specs.Fused.{call_step, counter_state, failed_after, failed_below, failed_calls, fused_model, outcome_of, outcome_of_number, passed_calls, state_after};
 ghost use Rattle.conf_disk.specs.Moments.{IsChange, greatest};
 
 use conf_disk::{Content, Disk, DiskFault, Name};
@@ -61,8 +61,8 @@ pub(crate) enum Call<'a> {
 
 impl Call<'_> {
     fn make<D: Disk>(self, disk: &mut D) -> Result<(), DiskFault>
-        requires { D.honest → MayBeMade (call_step self) (D.folder disk.old) }
-        ensures goes { IsChange D.honest D.folder D.moment D.left D.failure_count
+        requires { D.model.honest → MayBeMade (call_step self) (D.model.folder disk.old) }
+        ensures goes { IsChange D.model
             (call_step self.entry) disk.old result disk.new }
         ensures also { D.also_changes disk.old (call_step self.entry) result disk.new }
     {
@@ -182,11 +182,11 @@ impl<D: Disk> FusedDisk<D> {
     }
 
     fn next_outcome(&mut self) -> Outcome
-        ensures outcome { result ≡ outcome_of (fused_failures D.failure_count self.old)
+        ensures outcome { result ≡ outcome_of (fused_failures D.model.failure_count self.old)
             (fuse_of self.old) }
-        ensures state { fuse_of self.new ≡ state_after (fused_failures D.failure_count self.old)
+        ensures state { fuse_of self.new ≡ state_after (fused_failures D.model.failure_count self.old)
             (fuse_of self.old) }
-        ensures failed { fused_failures D.failure_count self.old ≢ greatest →
+        ensures failed { fused_failures D.model.failure_count self.old ≢ greatest →
             failed_calls (fuse_of self.new)
             ≡ failed_after result (failed_calls (fuse_of self.old)) }
         ensures inner { fused_inner self.new ≡ fused_inner self.old }
@@ -197,12 +197,9 @@ impl<D: Disk> FusedDisk<D> {
 
     /// Makes a call on the disk below, or lets it fail, as the fuse says.
     fn fuse(&mut self, call: Call<'_>) -> Result<(), DiskFault>
-        requires { D.honest → MayBeMade (call_step call) (D.folder (fused_inner self.old)) }
-        ensures goes { IsChange D.honest (λ disk. D.folder (fused_inner disk)) (λ disk.
-            D.moment (fused_inner disk))
-            (λ disk. D.left (fused_inner disk)) (fused_failures D.failure_count)
-            (call_step call.entry) self.old result self.new }
-        ensures fuses { FusesChange D.honest D.folder D.failure_count D.also_changes self.old
+        requires { D.model.honest → MayBeMade (call_step call) (D.model.folder (fused_inner self.old)) }
+        ensures goes { IsChange (fused_model D.model) (call_step call.entry) self.old result self.new }
+        ensures fuses { FusesChange D.model D.also_changes self.old
             (call_step call.entry) result self.new }
     {
         match self.next_outcome() {
@@ -217,23 +214,15 @@ impl<D: Disk> FusedDisk<D> {
 }
 
 impl<D: Disk> Disk for FusedDisk<D> {
-    ghost use Rattle.test_disks.specs.Fused.{fused_failures, FusesChange, FusesRead};
+    ghost use Rattle.test_disks.specs.Fused.{fused_model, FusesChange, FusesRead};
 
-    ghost honest = { D.honest };
-
-    ghost folder = { λ disk. D.folder disk.inner };
-
-    ghost moment = { λ disk. D.moment disk.inner };
-
-    ghost left = { λ disk. D.left disk.inner };
-
-    ghost failure_count = { λ disk. fused_failures D.failure_count disk };
+    ghost model = { fused_model D.model };
 
     ghost also_changes = { λ old step result new.
-        FusesChange D.honest D.folder D.failure_count D.also_changes old step result new };
+        FusesChange D.model D.also_changes old step result new };
 
     ghost also_reads = { λ old name max result new.
-        FusesRead D.failure_count D.also_reads old name max result new };
+        FusesRead D.model.failure_count D.also_reads old name max result new };
 
     ghost counts_now = { λ disk t image honest le is.
         D.counts_now disk.inner t image honest le is };

@@ -165,15 +165,13 @@ impl Disk for MemoryDisk {
     ghost use Rattle.conf_disk.specs.LogLaws.{left_now, left_only_now, folder_after-whole};
     ghost use Rattle.test_disks.specs.Memory.{steps_of, memory_folder, memory_failures, Notes};
 
-    ghost honest = { ⊤ };
-
-    ghost folder = { memory_folder };
-
-    ghost moment = { λ disk. length (steps_of disk) };
-
-    ghost left = { λ disk. IsLeftSince (steps_of disk) };
-
-    ghost failure_count = { memory_failures };
+    ghost model = { record {
+      honest = ⊤;
+      folder = memory_folder;
+      moment = λ disk. length (steps_of disk);
+      left = λ disk. IsLeftSince (steps_of disk);
+      failure_count = memory_failures;
+    } };
 
     ghost also_changes = { λ old step result new. Notes old step result new };
 

@@ -15,8 +15,8 @@ returns-clause-store g c h =
 
 pub returns-clause-reads : goal.returns-clause-reads
 returns-clause-reads g c h =
-    let old = g.D.Disk.folder c.args.disk.now in
-    performed-reads (Append Next c.args.bytes.now) old (g.D.Disk.folder c.append.new.self) c.append.result _
+    let old = g.D.Disk.model.folder c.args.disk.now in
+    performed-reads (Append Next c.args.bytes.now) old (g.D.Disk.model.folder c.append.new.self) c.append.result _
     (appended_next-reads c.args.bytes.now old (g.met.D.Disk.whole c.args.disk.now h)) (c.append.ensures.goes.change h)
 
 pub returns-clause-left_alone : goal.returns-clause-left_alone

@@ -47,7 +47,7 @@ returns-clause-reads g c h =
 pub returns-clause-synced : goal.returns-clause-synced
 returns-clause-synced g c h =
     let all = c.append_next.new.disk in
-    let folder = g.D.Disk.folder all in
+    let folder = g.D.Disk.model.folder all in
     let bytes = c.args.bytes.now in
     let there = ap (λ (image : Image). image.next) (c.in_ok-append_next.ensures.reads h)
     ∙ ap (λ (image : Image). file_with_bytes image.next bytes) (c.in_ok-begin_next.ensures.reads h) in

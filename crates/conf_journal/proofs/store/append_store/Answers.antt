@@ -9,11 +9,11 @@ use Rattle.conf_journal.proofs.store.append_store.Goals as goal
 pub returns-clause-leaves : goal.returns-clause-leaves
 returns-clause-leaves g c h =
     let d = g.D.Disk in
-    leaves-with_pending d.folder d.moment d.left c.args.bytes.now _ _ (g.met.D.Disk.whole c.args.disk.now h)
+    leaves-with_pending d.model c.args.bytes.now _ _ (g.met.D.Disk.whole c.args.disk.now h)
     (run-grown d tt (run-call d g.met.D.Disk.only_now h [] c.append.ensures.goes))
 
 pub returns-clause-reads : goal.returns-clause-reads
 returns-clause-reads g c h =
-    let old = g.D.Disk.folder c.args.disk.now in
-    performed-reads (Append Store c.args.bytes.now) old (g.D.Disk.folder c.append.new.self) c.append.result _
+    let old = g.D.Disk.model.folder c.args.disk.now in
+    performed-reads (Append Store c.args.bytes.now) old (g.D.Disk.model.folder c.append.new.self) c.append.result _
     (appended_store-reads c.args.bytes.now old (g.met.D.Disk.whole c.args.disk.now h)) (c.append.ensures.goes.change h)

@@ -10,4 +10,4 @@ returns-clause-any_moment g c h = run-grown g.D.Disk tt (run-call g.D.Disk g.met
 pub returns-clause-reads : goal.returns-clause-reads
 returns-clause-reads g c h =
     let d = g.D.Disk in
-    sync-reads_same Store (d.folder c.args.disk.now) (d.folder c.sync.new.self) c.sync.result (c.sync.ensures.goes.change h)
+    sync-reads_same Store (d.model.folder c.args.disk.now) (d.model.folder c.sync.new.self) c.sync.result (c.sync.ensures.goes.change h)

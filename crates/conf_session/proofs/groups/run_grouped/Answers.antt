@@ -14,12 +14,12 @@ pub returns-then-needs_reopen-clause-runs : goal.returns-then-needs_reopen-claus
 returns-then-needs_reopen-clause-runs g c =
     let d = g.D.Disk in
     let on = sym c.needs_reopen.ensures.reopen ∙ c.if-needs_reopen.true in
-    reopens d.honest d.folder d.moment d.left c.args.checkpoints (g.R.Read.remaining c.args.reader.now) (g.W.Write.contents c.args.writer.now) c.args.store.now (λ off. false≢true (sym off ∙ on))
+    reopens d.model c.args.checkpoints (g.R.Read.remaining c.args.reader.now) (g.W.Write.contents c.args.writer.now) c.args.store.now (λ off. false≢true (sym off ∙ on))
 
 pub returns-in_err-flush_all-clause-runs : goal.returns-in_err-flush_all-clause-runs
 returns-in_err-flush_all-clause-runs g c =
     let d = g.D.Disk in
-    let ends = starts-failing d.honest d.folder d.moment d.left c.args.checkpoints (g.R.Read.remaining c.args.reader.now) (g.W.Write.contents c.args.writer.now) c.args.store.now c.flush_all.new.store
+    let ends = starts-failing d.model c.args.checkpoints (g.R.Read.remaining c.args.reader.now) (g.W.Write.contents c.args.writer.now) c.args.store.now c.flush_all.new.store
     c.in_err-flush_all.field-0.0 c.in_err-flush_all.ensures.flushes (λ t image h le is. g.met.D.Disk.counts_now c.flush_all.new.store.disk t image h le is) in
     let p = err_from_is_err_and c.from_residual.result c.from_residual.ensures.1 in
     rw (p.1, p.2) ends
@@ -27,7 +27,7 @@ returns-in_err-flush_all-clause-runs g c =
 pub returns-in_err-input-clause-runs : goal.returns-in_err-input-clause-runs
 returns-in_err-input-clause-runs g c =
     let d = g.D.Disk in
-    let ends = starts-without-memory d.honest d.folder d.moment d.left c.args.checkpoints (g.R.Read.remaining c.args.reader.now) (g.W.Write.contents c.args.writer.now) c.args.store.now c.flush_all.new.store
+    let ends = starts-without-memory d.model c.args.checkpoints (g.R.Read.remaining c.args.reader.now) (g.W.Write.contents c.args.writer.now) c.args.store.now c.flush_all.new.store
     c.in_ok-flush_all.ensures.flushes in
     let p = err_from_is_err_and c.from_residual-in_err-input.result c.from_residual-in_err-input.ensures.1 in
     rw (p.1, p.2) ends
@@ -48,7 +48,7 @@ groups-init g c =
       off = sym c.needs_reopen.ensures.reopen ∙ c.if-needs_reopen.false;
       sound = flush.sound;
       input = start.0;
-      so_far = groups-none d.honest d.folder d.moment d.left c.args.checkpoints (g.R.Read.remaining c.args.reader.now) (g.W.Write.contents c.args.writer.now) c.args.store.now c.flush_all.new.store
+      so_far = groups-none d.model c.args.checkpoints (g.R.Read.remaining c.args.reader.now) (g.W.Write.contents c.args.writer.now) c.args.store.now c.flush_all.new.store
           (ahead c.in_ok-input.input) answers (bytes_read c.in_ok-input.input) flush start.1 zero.documents zero.accepted zero.refused zero.written start.2;
       no_last = zero.last;
       none = nothing;
@@ -68,14 +68,14 @@ returns-in_err-advance-clause-runs g c =
     let d = g.D.Disk in
     let given = g.R.Read.remaining in
     let held = g.W.Write.contents in
-    let ends = ends-in_input d.honest d.folder d.moment d.left c.args.checkpoints (given c.args.reader.now) (given c.groups.reader) (given c.advance.new.reader)
+    let ends = ends-in_input d.model c.args.checkpoints (given c.args.reader.now) (given c.groups.reader) (given c.advance.new.reader)
     (held c.args.writer.now) (held c.groups.writer) c.args.store.now c.groups.store c.groups.input c.advance.new.self c.groups.answers c.groups.invariant.so_far
     c.in_err-advance.field-0.0 c.in_err-advance.ensures in
     let p = err_from_is_err_and c.from_residual-in_err-advance.result c.from_residual-in_err-advance.ensures.1 in
     rw (p.1, p.2) ends
 
 pub perform_group-requires-clause-means : goal.perform_group-requires-clause-means
-perform_group-requires-clause-means g c h = means-prefixes (g.D.Disk.folder c.groups.store.disk) c.groups.store.state (c.groups.invariant.so_far.performs.now h)
+perform_group-requires-clause-means g c h = means-prefixes (g.D.Disk.model.folder c.groups.store.disk) c.groups.store.state (c.groups.invariant.so_far.performs.now h)
 
 pub returns-in_err-perform_group-clause-runs : goal.returns-in_err-perform_group-clause-runs
 returns-in_err-perform_group-clause-runs g c =
@@ -86,7 +86,7 @@ returns-in_err-perform_group-clause-runs g c =
     let advances : AdvancesToPiece (given c.groups.reader) (given c.advance.new.reader) c.groups.input c.advance.new.self =
     subst (λ b. Advances (given c.groups.reader) (given c.advance.new.reader) c.groups.input c.advance.new.self (Ok b)) c.if-branch.true c.in_ok-advance.ensures in
     let out = inv.room.out in
-    let ends = ends-failing d.honest d.folder d.moment d.left c.args.checkpoints (given c.args.reader.now) (given c.groups.reader) (given c.advance.new.reader)
+    let ends = ends-failing d.model c.args.checkpoints (given c.args.reader.now) (given c.groups.reader) (given c.advance.new.reader)
     (held c.args.writer.now) (held c.groups.writer) c.args.store.now c.groups.store c.groups.input c.advance.new.self c.groups.answers inv.so_far advances
     (held c.perform_group.new.writer) c.perform_group.new.store c.perform_group.new.input c.perform_group.new.answers c.in_err-perform_group.field-0.0 c.in_err-perform_group.ensures.performs (omega (arith, out))
     (λ t image h le is. g.met.D.Disk.counts_now c.perform_group.new.store.disk t image h le is) in
@@ -114,11 +114,11 @@ groups-preserved g c =
     subst (λ b. Advances (given c.groups.reader) (given c.advance.new.reader) c.groups.input c.advance.new.self (Ok b)) c.if-branch.true c.in_ok-advance.ensures in
     let new = c.perform_group.new in
     let performs = c.in_ok-perform_group.ensures.performs in
-    let so_far : GroupsSoFar d.honest d.folder d.moment d.left (given c.args.reader.now) (given c.advance.new.reader) (held c.args.writer.now) (held new.writer) c.args.checkpoints c.args.store.now new.store
+    let so_far : GroupsSoFar d.model (given c.args.reader.now) (given c.advance.new.reader) (held c.args.writer.now) (held new.writer) c.args.checkpoints c.args.store.now new.store
     (ahead new.input) new.answers (bytes_read new.input) =
-    subst (λ (n : ℕ). GroupsSoFar d.honest d.folder d.moment d.left (given c.args.reader.now) (given c.advance.new.reader) (held c.args.writer.now) (held new.writer) c.args.checkpoints c.args.store.now new.store
+    subst (λ (n : ℕ). GroupsSoFar d.model (given c.args.reader.now) (given c.advance.new.reader) (held c.args.writer.now) (held new.writer) c.args.checkpoints c.args.store.now new.store
     (ahead new.input) new.answers n) (sym c.in_ok-perform_group.ensures.read)
-    (groups-more d.honest d.folder d.moment d.left c.args.checkpoints (given c.args.reader.now) (given c.groups.reader) (given c.advance.new.reader)
+    (groups-more d.model c.args.checkpoints (given c.args.reader.now) (given c.groups.reader) (given c.advance.new.reader)
     (held c.args.writer.now) (held c.groups.writer) c.args.store.now c.groups.store c.groups.input c.advance.new.self c.groups.answers inv.so_far advances
     (held new.writer) new.store new.answers (ahead new.input) performs.3) in
     let tends = c.in_ok-tend_checkpoint.ensures.tends in
@@ -126,7 +126,7 @@ groups-preserved g c =
       off = inv.off;
       sound = tends.4.sound;
       input = performs.0;
-      so_far = groups-tended d.honest d.folder d.moment d.left c.args.checkpoints (given c.args.reader.now) (given c.advance.new.reader) (given c.advance.new.reader)
+      so_far = groups-tended d.model c.args.checkpoints (given c.args.reader.now) (given c.advance.new.reader) (given c.advance.new.reader)
           (held c.args.writer.now) (held new.writer) c.args.store.now new.store new.input new.input new.answers so_far c.tend_checkpoint.new.store tends.0 tends.1 tends.2 tends.3 tends.4;
       no_last = performs.2;
       none = performs.1;
@@ -144,14 +144,14 @@ returns-in_err-tend_checkpoint-clause-runs g c =
     subst (λ b. Advances (given c.groups.reader) (given c.advance.new.reader) c.groups.input c.advance.new.self (Ok b)) c.if-branch.true c.in_ok-advance.ensures in
     let new = c.perform_group.new in
     let performs = c.in_ok-perform_group.ensures.performs in
-    let so_far : GroupsSoFar d.honest d.folder d.moment d.left (given c.args.reader.now) (given c.advance.new.reader) (held c.args.writer.now) (held new.writer) c.args.checkpoints c.args.store.now new.store
+    let so_far : GroupsSoFar d.model (given c.args.reader.now) (given c.advance.new.reader) (held c.args.writer.now) (held new.writer) c.args.checkpoints c.args.store.now new.store
     (ahead new.input) new.answers (bytes_read new.input) =
-    subst (λ (n : ℕ). GroupsSoFar d.honest d.folder d.moment d.left (given c.args.reader.now) (given c.advance.new.reader) (held c.args.writer.now) (held new.writer) c.args.checkpoints c.args.store.now new.store
+    subst (λ (n : ℕ). GroupsSoFar d.model (given c.args.reader.now) (given c.advance.new.reader) (held c.args.writer.now) (held new.writer) c.args.checkpoints c.args.store.now new.store
     (ahead new.input) new.answers n) (sym c.in_ok-perform_group.ensures.read)
-    (groups-more d.honest d.folder d.moment d.left c.args.checkpoints (given c.args.reader.now) (given c.groups.reader) (given c.advance.new.reader)
+    (groups-more d.model c.args.checkpoints (given c.args.reader.now) (given c.groups.reader) (given c.advance.new.reader)
     (held c.args.writer.now) (held c.groups.writer) c.args.store.now c.groups.store c.groups.input c.advance.new.self c.groups.answers inv.so_far advances
     (held new.writer) new.store new.answers (ahead new.input) performs.3) in
-    let ends = ends-tending d.honest d.folder d.moment d.left c.args.checkpoints (given c.args.reader.now) (given c.advance.new.reader) (given c.advance.new.reader)
+    let ends = ends-tending d.model c.args.checkpoints (given c.args.reader.now) (given c.advance.new.reader) (given c.advance.new.reader)
     (held c.args.writer.now) (held new.writer) c.args.store.now new.store new.input new.input new.answers so_far c.tend_checkpoint.new.store
     c.in_err-tend_checkpoint.field-0.0 c.in_err-tend_checkpoint.ensures.tends (λ t image h le is. g.met.D.Disk.counts_now c.tend_checkpoint.new.store.disk t image h le is) in
     let p = err_from_is_err_and c.from_residual-in_err-tend_checkpoint.result c.from_residual-in_err-tend_checkpoint.ensures.1 in
@@ -163,6 +163,6 @@ returns-clause-runs g c =
     let given = g.R.Read.remaining in
     let end : AdvancesToEnd (given c.groups.reader) (given c.advance.new.reader) c.groups.input c.advance.new.self =
     subst (λ b. Advances (given c.groups.reader) (given c.advance.new.reader) c.groups.input c.advance.new.self (Ok b)) c.if-branch.false c.in_ok-advance.ensures in
-    ends-well d.honest d.folder d.moment d.left c.args.checkpoints (given c.args.reader.now) (given c.groups.reader) (given c.advance.new.reader)
+    ends-well d.model c.args.checkpoints (given c.args.reader.now) (given c.groups.reader) (given c.advance.new.reader)
     (g.W.Write.contents c.args.writer.now) (g.W.Write.contents c.groups.writer) c.args.store.now c.groups.store c.groups.input c.advance.new.self c.groups.answers c.groups.invariant.so_far
     _ end refl refl refl (ap length c.piece.ensures)

@@ -11,12 +11,12 @@ invariant-groups g l = let d = g.D.Disk in record {
   off : l.fn.store.reopen ≡ false;
   sound : l.store.reopen ≡ false;
   input : IsSound l.input;
-  so_far : GroupsSoFar d.honest d.folder d.moment d.left (g.R.Read.remaining l.fn.reader) (g.R.Read.remaining l.reader) (g.W.Write.contents l.fn.writer) (g.W.Write.contents l.writer)
+  so_far : GroupsSoFar d.model (g.R.Read.remaining l.fn.reader) (g.R.Read.remaining l.reader) (g.W.Write.contents l.fn.writer) (g.W.Write.contents l.writer)
       l.fn.checkpoints l.fn.store l.store (ahead l.input) l.answers (bytes_read l.input);
   no_last : l.answers.last ≡ None;
   none : unwritten_bytes l.answers ≡ [];
   room : HasRoomFor l.answers (length (ahead l.input)) (bytes_read l.input);
-  risen : d.failure_count l.fn.store.disk ≤ d.failure_count l.store.disk;
+  risen : d.model.failure_count l.fn.store.disk ≤ d.model.failure_count l.store.disk;
 }
 
 abbrev pub decreases-groups : goal.decreases-groups

@@ -17,7 +17,7 @@ returns-in_err-said-clause-now g c at = c.requires.means
 pub returns-clause-did : goal.returns-clause-did
 returns-clause-did g c off =
     let d = g.D.Disk in
-    did-piece (is_at_once c.args.way) d.honest d.folder d.moment d.left c.args.store.now c.answer_said.new.store c.args.piece.now (said_of c.in_ok-said.said) c.in_ok-said.ensures
+    did-piece (is_at_once c.args.way) d.model c.args.store.now c.answer_said.new.store c.args.piece.now (said_of c.in_ok-said.said) c.in_ok-said.ensures
     c.answer_said.result (c.answer_said.ensures.did off)
 
 pub returns-clause-cause : goal.returns-clause-cause

@@ -29,7 +29,7 @@ returns-in-Ok-clause-did g c off =
     let same = count-after old.state new.state command (room_for (journal_length old) old.state command) c.saturating_add-next.result ok.step ok.count next in (
       accepted-reply (stored_of old) c.count.ensures.limits new.state command c.in_ok-answer.answer c.saturating_add-next.result here same c.in_ok-answer.ensures,
       ok.reopen,
-      command-performed (is_at_once c.args.way) d.honest d.folder d.moment d.left old new command ok.step (λ on. ok) (λ h on. c.in-Ok.ensures.reads h off) (λ h on. c.in-Ok.ensures.stages h off) (λ h. c.in-Ok.ensures.any_moment h off)
+      command-performed (is_at_once c.args.way) d.model old new command ok.step (λ on. ok) (λ h on. c.in-Ok.ensures.reads h off) (λ h on. c.in-Ok.ensures.stages h off) (λ h. c.in-Ok.ensures.any_moment h off)
           (λ h on. c.in-Ok.ensures.waits h off),
     )
 
@@ -41,13 +41,13 @@ returns-in-Err-clause-did g c off =
     let new = c.perform.new.store in
     let command = command_of c.args.command in
     let f = c.in-Err.fault in
-    subst (Did at_once d.honest d.folder d.moment d.left old new (changing command)) (sym c.refused.ensures)
-    (did-refused at_once d.honest d.folder d.moment d.left old new (changing command) f (λ e. false≢true (sym off ∙ c.perform.ensures.reopen.0 (c.in-Err.is ∙ ap Err e)))
+    subst (Did at_once d.model old new (changing command)) (sym c.refused.ensures)
+    (did-refused at_once d.model old new (changing command) f (λ e. false≢true (sym off ∙ c.perform.ensures.reopen.0 (c.in-Err.is ∙ ap Err e)))
     (λ e.
     let broken : new.reopen ≡ true = c.in-Err.ensures.device (ap Err e) in
     let done : outcome (journal_length old) old.state command ≡ Ok new.state = subst (RefusesCommand old command new) e c.in-Err.ensures.refused in (
       broken,
-      command-performed at_once d.honest d.folder d.moment d.left old new command done (λ on. absurd (cc (on, broken))) (λ h on. absurd (cc (on, broken))) (λ h on. absurd (cc (on, broken))) (λ h. c.in-Err.ensures.any_moment h off)
+      command-performed at_once d.model old new command done (λ on. absurd (cc (on, broken))) (λ h on. absurd (cc (on, broken))) (λ h on. absurd (cc (on, broken))) (λ h. c.in-Err.ensures.any_moment h off)
           (λ h on. absurd (cc (on, broken))),
     ))
     c.in-Err.ensures.unchanged
@@ -57,8 +57,8 @@ returns-in-Err-clause-did g c off =
     let same = c.in-Err.ensures.unchanged other in (
       refused-reply (stored_of old) c.count.ensures.limits command f reason here is,
       ap (λ (s : StoreView g.row.D.Denot). s.reopen) same ∙ off,
-      subst (λ s. Performs at_once d.honest d.folder d.moment d.left old s (changing command)) (sym same)
-          (command-refused at_once d.honest d.folder d.moment d.left old off command f refused (λ image h is. g.met.D.Disk.only_now old.disk image h is) c.requires.means),
+      subst (λ s. Performs at_once d.model old s (changing command)) (sym same)
+          (command-refused at_once d.model old off command f refused (λ image h is. g.met.D.Disk.only_now old.disk image h is) c.requires.means),
     )))
 
 -- ---- failures of the device, and what a crash leaves
@@ -79,7 +79,7 @@ pub returns-in-Ok-clause-risen : goal.returns-in-Ok-clause-risen
 returns-in-Ok-clause-risen g c = c.perform.ensures.risen
 
 pub returns-in-Ok-clause-now : goal.returns-in-Ok-clause-now
-returns-in-Ok-clause-now g c at h on = synced-leaves (g.D.Disk.folder c.perform.new.store.disk) c.perform.new.store.state (c.in-Ok.ensures.now at h)
+returns-in-Ok-clause-now g c at h on = synced-leaves (g.D.Disk.model.folder c.perform.new.store.disk) c.perform.new.store.state (c.in-Ok.ensures.now at h)
 
 pub returns-in-Err-clause-cause : goal.returns-in-Err-clause-cause
 returns-in-Err-clause-cause g c e = c.perform.ensures.cause (c.in-Err.is ∙ ap Err (ended-by-device c.in-Err.fault (sym c.refused.ensures ∙ e)))
@@ -90,5 +90,5 @@ returns-in-Err-clause-risen g c = c.perform.ensures.risen
 pub returns-in-Err-clause-now : goal.returns-in-Err-clause-now
 returns-in-Err-clause-now g c at h on =
     ⊎_elim (λ is. absurd (false≢true (sym on ∙ c.in-Err.ensures.device (ap Err is))))
-    (λ other. leaves-same g.D.Disk.honest g.D.Disk.folder c.args.store.now c.perform.new.store (c.in-Err.ensures.unchanged other) c.requires.means h on)
+    (λ other. leaves-same g.D.Disk.model c.args.store.now c.perform.new.store (c.in-Err.ensures.unchanged other) c.requires.means h on)
     (is-device c.in-Err.fault)

@@ -15,7 +15,7 @@ returns-in-Ok-clause-did g c off =
     let d = g.D.Disk in
     let parts = parts_seen c.args.parts.items in
     let edits = map edit_of c.in-Ok.edits.items in
-    did-said (is_at_once c.args.way) d.honest d.folder d.moment d.left c.args.store.now c.change.new.store (batch_of_parts parts) (changing (batch edits)) (inl (edits, c.in-Ok.ensures.ok, refl))
+    did-said (is_at_once c.args.way) d.model c.args.store.now c.change.new.store (batch_of_parts parts) (changing (batch edits)) (inl (edits, c.in-Ok.ensures.ok, refl))
     c.change.result (c.change.ensures.did off)
 
 pub returns-in-Err-clause-did : goal.returns-in-Err-clause-did
@@ -23,8 +23,8 @@ returns-in-Err-clause-did g c off =
     let d = g.D.Disk in
     let f = c.in-Err.fault in
     let said = batch_of_parts (parts_seen c.args.parts.items) in
-    subst (DidSaid (is_at_once c.args.way) d.honest d.folder d.moment d.left c.args.store.now c.args.store.now said) (sym c.refused.ensures)
-    (said-unread (is_at_once c.args.way) d.honest d.folder d.moment d.left c.args.store.now off (λ image h is. g.met.D.Disk.only_now c.args.store.now.disk image h is) c.requires.means said (Read f)
+    subst (DidSaid (is_at_once c.args.way) d.model c.args.store.now c.args.store.now said) (sym c.refused.ensures)
+    (said-unread (is_at_once c.args.way) d.model c.args.store.now off (λ image h is. g.met.D.Disk.only_now c.args.store.now.disk image h is) c.requires.means said (Read f)
     (λ reason is. inr (f, c.in-Err.ensures.refused (read-some f reason is), refl)) (read-memory f))
 
 pub returns-in-Err-clause-cause : goal.returns-in-Err-clause-cause

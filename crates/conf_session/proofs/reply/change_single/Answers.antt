@@ -16,7 +16,7 @@ returns-in-Import-clause-did g c off =
     let same : single_part (import_text (chars c.deref.result.now) source) ≡ single_part (part_seen c.args.part) =
     ap (λ b. single_part (import_text (chars b) source)) c.deref.ensures ∙ ap (λ b. single_part (import_text (chars (text_bytes c.in-Import.name)) (chars b))) c.deref-in-Import.ensures
     ∙ sym (ap (λ p. single_part (part_seen p)) c.in-Import.is) in
-    subst (λ s. DidSaid (is_at_once c.args.way) d.honest d.folder d.moment d.left c.args.store.now c.import.new.store s c.import.result) same (c.import.ensures.did off)
+    subst (λ s. DidSaid (is_at_once c.args.way) d.model c.args.store.now c.import.new.store s c.import.result) same (c.import.ensures.did off)
 
 pub returns-in-Import-clause-cause : goal.returns-in-Import-clause-cause
 returns-in-Import-clause-cause g c = c.import.ensures.cause
@@ -32,8 +32,8 @@ returns-in-Plain-clause-did g c off =
     let d = g.D.Disk in
     let edit = edit_of c.in-Plain.edit in
     let command = command_of c.from.result in
-    subst (λ s. DidSaid (is_at_once c.args.way) d.honest d.folder d.moment d.left c.args.store.now c.change.new.store s c.change.result) (sym (ap (λ p. single_part (part_seen p)) c.in-Plain.is))
-    (did-said (is_at_once c.args.way) d.honest d.folder d.moment d.left c.args.store.now c.change.new.store (single_part (plain edit)) (changing command) (ap changing c.from.ensures) c.change.result
+    subst (λ s. DidSaid (is_at_once c.args.way) d.model c.args.store.now c.change.new.store s c.change.result) (sym (ap (λ p. single_part (part_seen p)) c.in-Plain.is))
+    (did-said (is_at_once c.args.way) d.model c.args.store.now c.change.new.store (single_part (plain edit)) (changing command) (ap changing c.from.ensures) c.change.result
     (c.change.ensures.did off))
 
 pub returns-in-Plain-clause-cause : goal.returns-in-Plain-clause-cause

@@ -27,7 +27,7 @@ returns-in-Ok-clause-did g c off =
         short = answer-short (stored_of old) checkpointing c.count.ensures.limits;
       },
       ok.0,
-      checkpointed true d.honest d.folder d.moment d.left old new c.checkpoint.ensures.state (λ on. (ok.1, ok.2)) (λ h on. c.in-Ok.ensures.reads h) (λ h. c.in-Ok.ensures.any_moment h off) (λ h on. c.in-Ok.ensures.flushed h),
+      checkpointed true d.model old new c.checkpoint.ensures.state (λ on. (ok.1, ok.2)) (λ h on. c.in-Ok.ensures.reads h) (λ h. c.in-Ok.ensures.any_moment h off) (λ h on. c.in-Ok.ensures.flushed h),
     )
 
 pub returns-in-Err-Device-clause-did : goal.returns-in-Err-Device-clause-did
@@ -35,7 +35,7 @@ returns-in-Err-Device-clause-did g c off =
     let d = g.D.Disk in
     let broken = c.in-Err-Device.ensures.device (ap Err c.in-Err-Device.field-0-is) in (
       broken,
-      checkpointed true d.honest d.folder d.moment d.left c.args.store.now c.checkpoint.new.self c.checkpoint.ensures.state (λ on. absurd (cc (on, broken))) (λ h on. absurd (cc (on, broken))) (λ h. c.in-Err-Device.ensures.any_moment h off)
+      checkpointed true d.model c.args.store.now c.checkpoint.new.self c.checkpoint.ensures.state (λ on. absurd (cc (on, broken))) (λ h on. absurd (cc (on, broken))) (λ h. c.in-Err-Device.ensures.any_moment h off)
           (λ h on. absurd (cc (on, broken))),
     )
 
@@ -57,7 +57,7 @@ pub returns-in-Ok-clause-risen : goal.returns-in-Ok-clause-risen
 returns-in-Ok-clause-risen g c = c.checkpoint.ensures.risen
 
 pub returns-in-Ok-clause-now : goal.returns-in-Ok-clause-now
-returns-in-Ok-clause-now g c h on = synced-leaves (g.D.Disk.folder c.checkpoint.new.self.disk) c.checkpoint.new.self.state (c.in-Ok.ensures.now h)
+returns-in-Ok-clause-now g c h on = synced-leaves (g.D.Disk.model.folder c.checkpoint.new.self.disk) c.checkpoint.new.self.state (c.in-Ok.ensures.now h)
 
 pub returns-in-Err-Device-clause-cause : goal.returns-in-Err-Device-clause-cause
 returns-in-Err-Device-clause-cause g c e = c.checkpoint.ensures.cause (c.in-Err-Device.is ∙ ap Err c.in-Err-Device.field-0-is)
@@ -79,7 +79,7 @@ returns-in-Err-Reopen-clause-risen g c = c.checkpoint.ensures.risen
 
 pub returns-in-Err-Reopen-clause-now : goal.returns-in-Err-Reopen-clause-now
 returns-in-Err-Reopen-clause-now g c =
-    leaves-same g.D.Disk.honest g.D.Disk.folder c.args.store.now c.checkpoint.new.self (c.in-Err-Reopen.ensures.unchanged (λ e. cc (e, c.in-Err-Reopen.field-0-is))) c.requires.means
+    leaves-same g.D.Disk.model c.args.store.now c.checkpoint.new.self (c.in-Err-Reopen.ensures.unchanged (λ e. cc (e, c.in-Err-Reopen.field-0-is))) c.requires.means
 
 pub returns-clause-cause : goal.returns-clause-cause
 returns-clause-cause g c e = absurd (cc e)
@@ -90,4 +90,4 @@ returns-clause-risen g c = c.checkpoint.ensures.risen
 pub returns-clause-now : goal.returns-clause-now
 returns-clause-now g c =
     let same : c.checkpoint.new.self ≡ c.args.store.now = search rules in
-    leaves-same g.D.Disk.honest g.D.Disk.folder c.args.store.now c.checkpoint.new.self same c.requires.means
+    leaves-same g.D.Disk.model c.args.store.now c.checkpoint.new.self same c.requires.means

@@ -16,7 +16,7 @@ returns-in-Ok-clause-did g c off =
     let d = g.D.Disk in
     let name = chars c.args.name.now in
     let command = command_of c.in-Ok.command in
-    did-said (is_at_once c.args.way) d.honest d.folder d.moment d.left c.args.store.now c.change.new.store (single_part (import_text name (chars c.args.source.now))) (changing command)
+    did-said (is_at_once c.args.way) d.model c.args.store.now c.change.new.store (single_part (import_text name (chars c.args.source.now))) (changing command)
     (text-given name c.args.source.now command c.utf8.source (subst (λ b. IsImportOf name b command) c.as_bytes.ensures.value c.in-Ok.ensures.ok))
     c.change.result (c.change.ensures.did off)
 
@@ -26,8 +26,8 @@ returns-in-Err-clause-did g c off =
     let name = chars c.args.name.now in
     let f = c.in-Err.fault in
     let said = single_part (import_text name (chars c.args.source.now)) in
-    subst (DidSaid (is_at_once c.args.way) d.honest d.folder d.moment d.left c.args.store.now c.args.store.now said) (sym c.refused.ensures)
-    (said-unread (is_at_once c.args.way) d.honest d.folder d.moment d.left c.args.store.now off (λ image h is. g.met.D.Disk.only_now c.args.store.now.disk image h is) c.requires.means said f
+    subst (DidSaid (is_at_once c.args.way) d.model c.args.store.now c.args.store.now said) (sym c.refused.ensures)
+    (said-unread (is_at_once c.args.way) d.model c.args.store.now off (λ image h is. g.met.D.Disk.only_now c.args.store.now.disk image h is) c.requires.means said f
     (λ reason is. text-refused name c.args.source.now f c.utf8.source (answered-some f reason is) (subst (λ b. RefusesText name b f) c.as_bytes.ensures.value c.in-Err.ensures.refused))
     (text-memory name c.as_bytes.result.now f c.in-Err.ensures.refused))
 

@@ -17,8 +17,8 @@ turns-init g c =
     record {
       off = off;
       sound = off;
-      so_far = subst (λ (l : List (List ℕ)). RoundSoFar d.honest d.folder d.moment d.left store store [] l) (sym (ap answer_bytes none))
-          (round-none d.honest d.folder d.moment d.left store off (λ image h is. g.met.D.Disk.only_now store.disk image h is) c.needs_reopen.ensures.now);
+      so_far = subst (λ (l : List (List ℕ)). RoundSoFar d.model store store [] l) (sym (ap answer_bytes none))
+          (round-none d.model store off (λ image h is. g.met.D.Disk.only_now store.disk image h is) c.needs_reopen.ensures.now);
       risen = omega arith;
       few = ap length none;
     }
@@ -30,7 +30,7 @@ returns-in_err-take_piece-clause-rounds g c =
     let i = c.turns.piece-index in
     let piece = c.piece-item.result in
     let next = next-piece c.args.pieces.now i piece c.piece-item.is c.turns-test.true in
-    let ends = ends-failing d.honest d.folder d.moment d.left c.args.store.now c.turns.store c.take_piece.new.store (answer_bytes c.turns.answers.items) (piece_bytes c.args.pieces.now) i
+    let ends = ends-failing d.model c.args.store.now c.turns.store c.take_piece.new.store (answer_bytes c.turns.answers.items) (piece_bytes c.args.pieces.now) i
     piece.bytes.items c.in_err-take_piece.field-0.0 inv.so_far next.0 next.1 (length c.turns.answers.items) inv.few (c.in_err-take_piece.ensures.fails inv.sound) in
     let p = err_from_is_err_and c.from_residual.result c.from_residual.ensures.1 in
     rw (p.1, p.2) ends
@@ -51,9 +51,9 @@ turns-preserved g c =
     record {
       off = inv.off;
       sound = one.sound;
-      so_far = subst (λ (ps : List (List ℕ)). RoundSoFar d.honest d.folder d.moment d.left old new ps (answer_bytes c.take_piece.new.answers.items)) (sym next.1)
-          (subst (λ (l : List (List ℕ)). RoundSoFar d.honest d.folder d.moment d.left old new (take i all ++ piece ∷ []) l) (sym one.answered)
-          (round-more d.honest d.folder d.moment d.left old now (take i all) (answer_bytes c.turns.answers.items) inv.so_far new piece r one.takes.asks one.takes.performs one.sound));
+      so_far = subst (λ (ps : List (List ℕ)). RoundSoFar d.model old new ps (answer_bytes c.take_piece.new.answers.items)) (sym next.1)
+          (subst (λ (l : List (List ℕ)). RoundSoFar d.model old new (take i all ++ piece ∷ []) l) (sym one.answered)
+          (round-more d.model old now (take i all) (answer_bytes c.turns.answers.items) inv.so_far new piece r one.takes.asks one.takes.performs one.sound));
       risen = omega (arith, inv.risen, c.take_piece.ensures.risen);
       few = one-more c.turns.answers.items c.take_piece.new.answers.items (answer_to (stored_of now) r) one.answered ∙ ap (λ n. n + 1) inv.few;
     }
@@ -67,7 +67,7 @@ returns-in-Ok-clause-rounds g c =
     let long = all-pieces c.args.pieces.now in
     let upto : i ≤ length c.args.pieces.now = c.turns.auto.piece-index-end in
     let past : length c.args.pieces.now ≤ i = c.turns-test.false in
-    ends-flushed d.honest d.folder d.moment d.left c.args.store.now c.turns.store (take i all) (answer_bytes c.turns.answers.items) inv.so_far all i (omega (arith, long, upto)) refl (omega (arith, long, upto, past))
+    ends-flushed d.model c.args.store.now c.turns.store (take i all) (answer_bytes c.turns.answers.items) inv.so_far all i (omega (arith, long, upto)) refl (omega (arith, long, upto, past))
     c.flush.new.self c.turns.answers refl c.flush.ensures.same c.flush.ensures.reads c.flush.ensures.stages (λ h. c.flush.ensures.any_moment h inv.sound) c.in-Ok.ensures.flushed c.in-Ok.ensures.now
 
 pub returns-in-Err-clause-rounds : goal.returns-in-Err-clause-rounds
@@ -78,5 +78,5 @@ returns-in-Err-clause-rounds g c =
     let all = piece_bytes c.args.pieces.now in
     let long = all-pieces c.args.pieces.now in
     let upto : i ≤ length c.args.pieces.now = c.turns.auto.piece-index-end in
-    ends-unflushed d.honest d.folder d.moment d.left c.args.store.now c.turns.store (take i all) (answer_bytes c.turns.answers.items) inv.so_far all i (omega (arith, long, upto)) refl
+    ends-unflushed d.model c.args.store.now c.turns.store (take i all) (answer_bytes c.turns.answers.items) inv.so_far all i (omega (arith, long, upto)) refl
     c.flush.new.self c.flush.ensures.same (λ h. c.flush.ensures.any_moment h inv.sound)

@@ -8,7 +8,7 @@ abbrev pub invariant-turns : goal.invariant-turns
 invariant-turns g l = let d = g.D.Disk in record {
   off : l.fn.store.reopen ≡ false;
   sound : l.store.reopen ≡ false;
-  so_far : RoundSoFar d.honest d.folder d.moment d.left l.fn.store l.store (take l.piece-index (piece_bytes l.pieces)) (answer_bytes l.answers.items);
-  risen : d.failure_count l.fn.store.disk ≤ d.failure_count l.store.disk;
+  so_far : RoundSoFar d.model l.fn.store l.store (take l.piece-index (piece_bytes l.pieces)) (answer_bytes l.answers.items);
+  risen : d.model.failure_count l.fn.store.disk ≤ d.model.failure_count l.store.disk;
   few : length l.answers.items ≡ l.piece-index;
 }

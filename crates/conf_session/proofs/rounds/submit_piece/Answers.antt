@@ -18,7 +18,7 @@ returns-then-not-closes_once-clause-did g c off =
       (
         record { bytes = refl; accepted = refl; refused = refl; short = bad-short },
         off,
-        only-read false d.honest d.folder d.moment d.left store off bad tt (λ image h is. g.met.D.Disk.only_now store.disk image h is) c.requires.means,
+        only-read false d.model store off bad tt (λ image h is. g.met.D.Disk.only_now store.disk image h is) c.requires.means,
       ),
     )
 
@@ -28,5 +28,5 @@ returns-clause-did g c off =
     let old = c.args.store.now in
     let new = c.answer_piece.new.store in
     let closes : ClosesOnce c.args.piece.now.bytes.items = subst ClosesOnce c.deref.ensures.value (c.closes_once.ensures.0 c.if-not-closes_once.false) in
-    in-round d.honest d.folder d.moment d.left old new c.args.piece.now.bytes.items closes c.answer_piece.result
-    (subst (λ b. DidPiece false d.honest d.folder d.moment d.left old new b c.answer_piece.result) c.deref-2.ensures.value (c.answer_piece.ensures.did off))
+    in-round d.model old new c.args.piece.now.bytes.items closes c.answer_piece.result
+    (subst (λ b. DidPiece false d.model old new b c.answer_piece.result) c.deref-2.ensures.value (c.answer_piece.ensures.did off))

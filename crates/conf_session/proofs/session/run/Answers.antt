@@ -13,7 +13,7 @@ pub returns-in_err-input-clause-runs : goal.returns-in_err-input-clause-runs
 returns-in_err-input-clause-runs g c =
     let d = g.D.Disk in
     let off : c.args.store.now.reopen ≡ false = sym c.needs_reopen.ensures.reopen ∙ c.if-needs_reopen.false in
-    let fails = starts-without-memory d.honest d.folder d.moment d.left (g.R.Read.remaining c.args.reader.now) (g.W.Write.contents c.args.writer.now) c.args.store.now off
+    let fails = starts-without-memory d.model (g.R.Read.remaining c.args.reader.now) (g.W.Write.contents c.args.writer.now) c.args.store.now off
     (λ image h is. g.met.D.Disk.only_now c.args.store.now.disk image h is) c.needs_reopen.ensures.now in
     let p = err_from_is_err_and c.from_residual.result c.from_residual.ensures.1 in
     rw (p.1, p.2) fails
@@ -29,7 +29,7 @@ pieces-init g c =
       off = off;
       sound = off;
       input = start.0;
-      so_far = so_far-none d.honest d.folder d.moment d.left (g.R.Read.remaining c.args.reader.now) (g.W.Write.contents c.args.writer.now) c.args.store.now
+      so_far = so_far-none d.model (g.R.Read.remaining c.args.reader.now) (g.W.Write.contents c.args.writer.now) c.args.store.now
           (ahead c.in_ok-input.input) c.new-counts.result (bytes_read c.in_ok-input.input) off
           (λ image h is. g.met.D.Disk.only_now c.args.store.now.disk image h is) c.needs_reopen.ensures.now start.1 zero.documents zero.accepted zero.refused zero.written start.2;
       means = c.needs_reopen.ensures.now;
@@ -44,7 +44,7 @@ pub returns-in_err-advance-clause-runs : goal.returns-in_err-advance-clause-runs
 returns-in_err-advance-clause-runs g c =
     let d = g.D.Disk in
     let inv = c.pieces.invariant in
-    let fails = ends-in_input d.honest d.folder d.moment d.left (g.R.Read.remaining c.args.reader.now) (g.R.Read.remaining c.pieces.reader) (g.R.Read.remaining c.advance.new.reader)
+    let fails = ends-in_input d.model (g.R.Read.remaining c.args.reader.now) (g.R.Read.remaining c.pieces.reader) (g.R.Read.remaining c.advance.new.reader)
     (g.W.Write.contents c.args.writer.now) (g.W.Write.contents c.pieces.writer) c.args.store.now c.pieces.store c.pieces.input c.advance.new.self c.pieces.counts inv.so_far
     c.in_err-advance.field-0.0 c.in_err-advance.ensures inv.means in
     let p = err_from_is_err_and c.from_residual-in_err-advance.result c.from_residual-in_err-advance.ensures.1 in
@@ -59,10 +59,10 @@ returns-in_err-counts-clause-runs g c =
     let advances : AdvancesToPiece (given c.pieces.reader) (given c.advance.new.reader) c.pieces.input c.advance.new.self =
     subst (λ b. Advances (given c.pieces.reader) (given c.advance.new.reader) c.pieces.input c.advance.new.self (Ok b)) c.if-branch.true c.in_ok-advance.ensures in
     let f = c.in_err-counts.field-0.0 in
-    let fails : Fails d.honest d.folder d.moment d.left (held c.pieces.writer) (held c.perform_piece.new.writer) c.pieces.store c.perform_piece.new.store (piece_of c.advance.new.self) c.pieces.counts.written f =
-    subst (λ piece. Fails d.honest d.folder d.moment d.left (held c.pieces.writer) (held c.perform_piece.new.writer) c.pieces.store c.perform_piece.new.store piece c.pieces.counts.written f)
+    let fails : Fails d.model (held c.pieces.writer) (held c.perform_piece.new.writer) c.pieces.store c.perform_piece.new.store (piece_of c.advance.new.self) c.pieces.counts.written f =
+    subst (λ piece. Fails d.model (held c.pieces.writer) (held c.perform_piece.new.writer) c.pieces.store c.perform_piece.new.store piece c.pieces.counts.written f)
     c.piece.ensures (c.in_err-counts.ensures.fails inv.sound) in
-    let ends = ends-failing d.honest d.folder d.moment d.left (given c.args.reader.now) (given c.pieces.reader) (given c.advance.new.reader)
+    let ends = ends-failing d.model (given c.args.reader.now) (given c.pieces.reader) (given c.advance.new.reader)
     (held c.args.writer.now) (held c.pieces.writer) c.args.store.now c.pieces.store c.pieces.input c.advance.new.self c.pieces.counts inv.so_far advances
     (held c.perform_piece.new.writer) c.perform_piece.new.store f fails inv.out c.in_err-counts.ensures.now
     (λ t image h le is. g.met.D.Disk.counts_now c.perform_piece.new.store.disk t image h le is) in
@@ -86,15 +86,15 @@ pieces-preserved g c =
     let held = g.W.Write.contents in
     let advances : AdvancesToPiece (given c.pieces.reader) (given c.advance.new.reader) c.pieces.input c.advance.new.self =
     subst (λ b. Advances (given c.pieces.reader) (given c.advance.new.reader) c.pieces.input c.advance.new.self (Ok b)) c.if-branch.true c.in_ok-advance.ensures in
-    let one : Answered d.honest d.folder d.moment d.left (held c.pieces.writer) (held c.perform_piece.new.writer) c.pieces.store c.perform_piece.new.store (piece_of c.advance.new.self) c.pieces.counts c.in_ok-counts.counts =
-    subst (λ piece. Answered d.honest d.folder d.moment d.left (held c.pieces.writer) (held c.perform_piece.new.writer) c.pieces.store c.perform_piece.new.store piece c.pieces.counts c.in_ok-counts.counts)
+    let one : Answered d.model (held c.pieces.writer) (held c.perform_piece.new.writer) c.pieces.store c.perform_piece.new.store (piece_of c.advance.new.self) c.pieces.counts c.in_ok-counts.counts =
+    subst (λ piece. Answered d.model (held c.pieces.writer) (held c.perform_piece.new.writer) c.pieces.store c.perform_piece.new.store piece c.pieces.counts c.in_ok-counts.counts)
     c.piece.ensures (c.in_ok-counts.ensures.ok inv.sound) in
     let longer = longer-piece (given c.pieces.reader) (given c.advance.new.reader) c.pieces.input c.advance.new.self advances in
     record {
       off = inv.off;
       sound = one.sound;
       input = advances.sound;
-      so_far = so_far-more d.honest d.folder d.moment d.left (given c.args.reader.now) (given c.pieces.reader) (given c.advance.new.reader)
+      so_far = so_far-more d.model (given c.args.reader.now) (given c.pieces.reader) (given c.advance.new.reader)
           (held c.args.writer.now) (held c.pieces.writer) c.args.store.now c.pieces.store c.pieces.input c.advance.new.self c.pieces.counts inv.so_far advances
           (held c.perform_piece.new.writer) c.perform_piece.new.store c.in_ok-counts.counts one;
       means = c.in_ok-counts.ensures.now;
@@ -112,6 +112,6 @@ returns-clause-runs g c =
     let given = g.R.Read.remaining in
     let end : AdvancesToEnd (given c.pieces.reader) (given c.advance.new.reader) c.pieces.input c.advance.new.self =
     subst (λ b. Advances (given c.pieces.reader) (given c.advance.new.reader) c.pieces.input c.advance.new.self (Ok b)) c.if-branch.false c.in_ok-advance.ensures in
-    ends-well d.honest d.folder d.moment d.left (given c.args.reader.now) (given c.pieces.reader) (given c.advance.new.reader)
+    ends-well d.model (given c.args.reader.now) (given c.pieces.reader) (given c.advance.new.reader)
     (g.W.Write.contents c.args.writer.now) (g.W.Write.contents c.pieces.writer) c.args.store.now c.pieces.store c.pieces.input c.advance.new.self c.pieces.counts inv.so_far
     _ end inv.means refl refl refl (ap length c.piece-2.ensures)

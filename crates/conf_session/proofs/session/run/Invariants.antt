@@ -11,10 +11,10 @@ invariant-pieces g l = let d = g.D.Disk in record {
   off : l.fn.store.reopen ≡ false;
   sound : l.store.reopen ≡ false;
   input : IsSound l.input;
-  so_far : SoFar d.honest d.folder d.moment d.left (g.R.Read.remaining l.fn.reader) (g.R.Read.remaining l.reader) (g.W.Write.contents l.fn.writer) (g.W.Write.contents l.writer)
+  so_far : SoFar d.model (g.R.Read.remaining l.fn.reader) (g.R.Read.remaining l.reader) (g.W.Write.contents l.fn.writer) (g.W.Write.contents l.writer)
       l.fn.store l.store (ahead l.input) l.counts (bytes_read l.input);
-  means : d.honest → l.store.reopen ≡ false → LeavesPrefixes (d.folder l.store.disk) l.store.state;
-  risen : d.failure_count l.fn.store.disk ≤ d.failure_count l.store.disk;
+  means : d.model.honest → l.store.reopen ≡ false → LeavesPrefixes (d.model.folder l.store.disk) l.store.state;
+  risen : d.model.failure_count l.fn.store.disk ≤ d.model.failure_count l.store.disk;
   few : l.counts.tally.documents + length (ahead l.input) ≤ bytes_read l.input;
   accepted : l.counts.tally.accepted ≤ l.counts.tally.documents;
   refused : l.counts.tally.refused ≤ l.counts.tally.documents;

@@ -1,11 +1,11 @@
-use Rattle.std.proofs.Common.{rules, ◌≡◌, inl, inr, ⊎_elim, ◌+◌, min, max, length, ◌∙◌, ap}
+use Rattle.std.proofs.Common.{rules, ◌≡◌, inl, inr, ⊎_elim, ◌+◌, min, max, ◌∙◌, ap}
 use Rattle.std.specs.Prelude.{string_bytes}
 use Rattle.yaml_grammar.specs.Texts.{byte_len}
 use Rattle.conf_disk.specs.Moments.{greatest}
 use Rattle.conf_state.specs.Commands.{command_of}
 use Rattle.conf_state.specs.States.{count_limit}
 use Rattle.conf_record.specs.Records.{record_bytes, record_text}
-use Rattle.conf_store.specs.Calls.{next_number, next_record, room_for}
+use Rattle.conf_store.specs.Calls.{next_number}
 use Rattle.conf_store.specs.Staged.{staged_length}
 use Rattle.conf_store.proofs.RefusalLemmas.{of-state}
 use Rattle.conf_store.proofs.StoreLemmas.{accepted, refused-outcome, room-measured}

@@ -15,7 +15,7 @@ returns-in-Ok-made-clause-made g c =
       closed = closed;
       makes = c.in-Ok-made.ensures.ok;
       back = c.close-disk.ensures;
-      images = λ h. subst (λ (disk : g.row.D.Denot). AllImagesMean (d.folder disk) closed.state) (sym c.close-disk.ensures) (c.in-Ok-made.ensures.now h);
+      images = λ h. subst (λ (disk : g.row.D.Denot). AllImagesMean (d.model.folder disk) closed.state) (sym c.close-disk.ensures) (c.in-Ok-made.ensures.now h);
     }
 
 pub returns-in-Ok-made-clause-crashes : goal.returns-in-Ok-made-clause-crashes
@@ -24,8 +24,8 @@ returns-in-Ok-made-clause-crashes g c h =
     let opened = c.in-Ok.store in
     let closed = c.make-made.new.store in
     let opens = c.in-Ok.ensures.opens in
-    subst (λ (disk : g.row.D.Denot). KeepsChange d.folder d.moment d.left c.args.disk c.args.change disk true) (sym c.close-disk.ensures)
-    (keeps-made d.honest d.folder d.moment d.left c.args.disk opened closed opens c.args.change (c.make-made.ensures.any_moment h opens.no_reopen (opens.flushed h))
+    subst (λ (disk : g.row.D.Denot). KeepsChange d.model c.args.disk c.args.change disk true) (sym c.close-disk.ensures)
+    (keeps-made d.model c.args.disk opened closed opens c.args.change (c.make-made.ensures.any_moment h opens.no_reopen (opens.flushed h))
     c.steps_are_counted_or_refused.ensures.room c.in-Ok-made.ensures.ok h (c.in-Ok-made.ensures.now h))
 
 pub returns-in-Err-made-clause-refused : goal.returns-in-Err-made-clause-refused
@@ -45,6 +45,6 @@ returns-in-Err-made-clause-crashes g c h =
     let opened = c.in-Ok.store in
     let closed = c.make-made.new.store in
     let opens = c.in-Ok.ensures.opens in
-    subst (λ (disk : g.row.D.Denot). KeepsChange d.folder d.moment d.left c.args.disk c.args.change disk false) (sym c.close-disk.ensures)
-    (keeps-refused d.honest d.folder d.moment d.left c.args.disk opened closed opens c.args.change (c.make-made.ensures.any_moment h opens.no_reopen (opens.flushed h))
+    subst (λ (disk : g.row.D.Denot). KeepsChange d.model c.args.disk c.args.change disk false) (sym c.close-disk.ensures)
+    (keeps-refused d.model c.args.disk opened closed opens c.args.change (c.make-made.ensures.any_moment h opens.no_reopen (opens.flushed h))
     c.steps_are_counted_or_refused.ensures.room (λ t image le is. g.met.D.Disk.counts_now closed.disk t image h le is) h c.in-Err-made.fault c.in-Err-made.ensures.refused c.in-Err-made.ensures.unchanged)

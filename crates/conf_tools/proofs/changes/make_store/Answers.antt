@@ -11,8 +11,8 @@ pub returns-in-Ok-open_store-clause-crashes : goal.returns-in-Ok-open_store-clau
 returns-in-Ok-open_store-clause-crashes g c h =
     let d = g.D.Disk in
     let mid = c.read.new.self in
-    subst (λ (disk : g.row.D.Denot). LeavesOnly d.moment d.left c.args.disk disk (λ image. MeantAtEntry (d.folder c.args.disk) image.store)) (sym c.close.ensures)
-    (looked-leaves d.folder d.moment d.left c.args.disk mid c.in-Ok-open_store.store.disk
+    subst (λ (disk : g.row.D.Denot). LeavesOnly d.model c.args.disk disk (λ image. MeantAtEntry (d.model.folder c.args.disk) image.store)) (sym c.close.ensures)
+    (looked-leaves d.model c.args.disk mid c.in-Ok-open_store.store.disk
     (λ t image le is. g.met.D.Disk.counts_now mid t image h le is) (λ image is. g.met.D.Disk.only_now c.args.disk image h is)
     (c.read.ensures.time h) (c.read.ensures.same h) (c.in-Ok-open_store.ensures.opens.at_any_moment h))
 
@@ -20,6 +20,6 @@ pub returns-in-Err-clause-crashes : goal.returns-in-Err-clause-crashes
 returns-in-Err-clause-crashes g c h =
     let d = g.D.Disk in
     let mid = c.read.new.self in
-    looked-leaves d.folder d.moment d.left c.args.disk mid c.in-Err.disk
+    looked-leaves d.model c.args.disk mid c.in-Err.disk
     (λ t image le is. g.met.D.Disk.counts_now mid t image h le is) (λ image is. g.met.D.Disk.only_now c.args.disk image h is)
     (c.read.ensures.time h) (c.read.ensures.same h) (c.in-Err.ensures.refused.at_any_moment h)

@@ -10,7 +10,7 @@ returns-in-Ok-text_in-clause-ok g c =
     let text = c.in-Ok-text_in.text in
     record {
       state = c.in-Ok.state;
-      finds = read-finds d.honest d.folder d.moment d.left d.failure_count c.args.disk c.read_state.new.disk c.in-Ok.state (λ h. c.in-Ok.ensures.same h) (λ h. c.in-Ok.ensures.means h);
+      finds = read-finds d.model c.args.disk c.read_state.new.disk c.in-Ok.state (λ h. c.in-Ok.ensures.same h) (λ h. c.in-Ok.ensures.means h);
       exports = c.in-Ok-text_in.ensures.ok;
       exact = sym (encodes-chars (string_bytes text) (IsUtf8-string_bytes text));
     }

@@ -9,33 +9,33 @@ returns-in-Ok-result-clause-runs g c =
     let d = g.D.Disk in
     let given = g.R.Read.remaining in
     let held = g.W.Write.contents in
-    subst (λ (disk : g.row.D.Denot). AnswersOn d.honest d.folder (given c.args.reader.now) (given c.run_session-result.new.reader) (held c.args.writer.now) (held c.run_session-result.new.writer) c.args.grouping c.args.disk disk (Ok c.in-Ok-result.tally))
+    subst (λ (disk : g.row.D.Denot). AnswersOn d.model (given c.args.reader.now) (given c.run_session-result.new.reader) (held c.args.writer.now) (held c.run_session-result.new.writer) c.args.grouping c.args.disk disk (Ok c.in-Ok-result.tally))
     (sym c.close-disk.ensures)
-    (answers-on d.honest d.folder d.moment d.left _ _ _ _ c.args.disk c.in-Ok.store c.run_session-result.new.store _ c.in-Ok.ensures.opens c.args.grouping c.in-Ok-result.ensures.runs c.in-Ok-result.ensures.device)
+    (answers-on d.model _ _ _ _ c.args.disk c.in-Ok.store c.run_session-result.new.store _ c.in-Ok.ensures.opens c.args.grouping c.in-Ok-result.ensures.runs c.in-Ok-result.ensures.device)
 
 pub returns-in-Ok-result-clause-crashes : goal.returns-in-Ok-result-clause-crashes
 returns-in-Ok-result-clause-crashes g c h =
     let d = g.D.Disk in
     let given = g.R.Read.remaining in
     let held = g.W.Write.contents in
-    subst (λ (disk : g.row.D.Denot). KeepsAnswered d.folder d.moment d.left (given c.args.reader.now) (given c.run_session-result.new.reader) (held c.args.writer.now) (held c.run_session-result.new.writer) c.args.grouping c.args.disk disk (Ok c.in-Ok-result.tally))
+    subst (λ (disk : g.row.D.Denot). KeepsAnswered d.model (given c.args.reader.now) (given c.run_session-result.new.reader) (held c.args.writer.now) (held c.run_session-result.new.writer) c.args.grouping c.args.disk disk (Ok c.in-Ok-result.tally))
     (sym c.close-disk.ensures)
-    (keeps-answered d.honest d.folder d.moment d.left _ _ _ _ c.args.disk c.in-Ok.store c.run_session-result.new.store _ c.in-Ok.ensures.opens c.args.grouping c.in-Ok-result.ensures.runs c.answers_acknowledge.ensures h)
+    (keeps-answered d.model _ _ _ _ c.args.disk c.in-Ok.store c.run_session-result.new.store _ c.in-Ok.ensures.opens c.args.grouping c.in-Ok-result.ensures.runs c.answers_acknowledge.ensures h)
 
 pub returns-in-Err-result-clause-runs : goal.returns-in-Err-result-clause-runs
 returns-in-Err-result-clause-runs g c =
     let d = g.D.Disk in
     let given = g.R.Read.remaining in
     let held = g.W.Write.contents in
-    subst (λ (disk : g.row.D.Denot). AnswersOn d.honest d.folder (given c.args.reader.now) (given c.run_session-result.new.reader) (held c.args.writer.now) (held c.run_session-result.new.writer) c.args.grouping c.args.disk disk (Err c.in-Err-result.fault))
+    subst (λ (disk : g.row.D.Denot). AnswersOn d.model (given c.args.reader.now) (given c.run_session-result.new.reader) (held c.args.writer.now) (held c.run_session-result.new.writer) c.args.grouping c.args.disk disk (Err c.in-Err-result.fault))
     (sym c.close-disk.ensures)
-    (answers-on d.honest d.folder d.moment d.left _ _ _ _ c.args.disk c.in-Ok.store c.run_session-result.new.store _ c.in-Ok.ensures.opens c.args.grouping c.in-Err-result.ensures.runs c.in-Err-result.ensures.device)
+    (answers-on d.model _ _ _ _ c.args.disk c.in-Ok.store c.run_session-result.new.store _ c.in-Ok.ensures.opens c.args.grouping c.in-Err-result.ensures.runs c.in-Err-result.ensures.device)
 
 pub returns-in-Err-result-clause-crashes : goal.returns-in-Err-result-clause-crashes
 returns-in-Err-result-clause-crashes g c h =
     let d = g.D.Disk in
     let given = g.R.Read.remaining in
     let held = g.W.Write.contents in
-    subst (λ (disk : g.row.D.Denot). KeepsAnswered d.folder d.moment d.left (given c.args.reader.now) (given c.run_session-result.new.reader) (held c.args.writer.now) (held c.run_session-result.new.writer) c.args.grouping c.args.disk disk (Err c.in-Err-result.fault))
+    subst (λ (disk : g.row.D.Denot). KeepsAnswered d.model (given c.args.reader.now) (given c.run_session-result.new.reader) (held c.args.writer.now) (held c.run_session-result.new.writer) c.args.grouping c.args.disk disk (Err c.in-Err-result.fault))
     (sym c.close-disk.ensures)
-    (keeps-answered d.honest d.folder d.moment d.left _ _ _ _ c.args.disk c.in-Ok.store c.run_session-result.new.store _ c.in-Ok.ensures.opens c.args.grouping c.in-Err-result.ensures.runs c.answers_acknowledge.ensures h)
+    (keeps-answered d.model _ _ _ _ c.args.disk c.in-Ok.store c.run_session-result.new.store _ c.in-Ok.ensures.opens c.args.grouping c.in-Err-result.ensures.runs c.answers_acknowledge.ensures h)

@@ -68,7 +68,7 @@ pub returns-in-Ok-clause-reads : goal.returns-in-Ok-clause-reads
 returns-in-Ok-clause-reads g c h off =
     let d = g.D.Disk in
     let old = c.args.self.now in
-    let before = bytes_under (d.folder old.disk) Store in
+    let before = bytes_under (d.model.folder old.disk) Store in
     let made = c.in-Ok.ensures.ok in
     on_ok_weaker c.apply.result
     (λ is. record { tree = made.tree; reads = made.reads; is = is ∙ ap (λ x. file_with_bytes before (next_record old.state x)) made.is })
@@ -78,7 +78,7 @@ pub returns-in-Ok-clause-stages : goal.returns-in-Ok-clause-stages
 returns-in-Ok-clause-stages g c h off =
     let d = g.D.Disk in
     let old = c.args.self.now in
-    let before = staged_text (d.folder old.disk) old.staged in
+    let before = staged_text (d.model.folder old.disk) old.staged in
     let made = c.in-Ok.ensures.ok in
     on_ok_weaker c.apply.result
     (λ is. record { tree = made.tree; reads = made.reads; is = is ∙ ap (λ x. file_with_bytes before (next_record old.state x)) made.is })
@@ -129,5 +129,5 @@ pub returns-in-Err-clause-any_moment : goal.returns-in-Err-clause-any_moment
 returns-in-Err-clause-any_moment g c h off flushed since has =
     let d = g.D.Disk in
     let old = c.args.self.now in
-    LeavesOnly-start d.moment d.left old.disk (λ image. AfterPrefix flushed since image.store ⊎ FileMeans image.store old.state)
+    LeavesOnly-start d.model old.disk (λ image. AfterPrefix flushed since image.store ⊎ FileMeans image.store old.state)
     (λ image left. inl (c.needs_reopen.ensures.now h off flushed since has image (g.met.D.Disk.only_now old.disk image h left)))

@@ -49,13 +49,13 @@ returns-in-Err-clause-any_moment g c h on flushed since has =
     let inside = c.self.inside in
     let held = c.self.invariant.3 h c.if-self.false in
     let new = c.accept.new.state in
-    subst (λ (s : StoreView g.row.D.Denot). HasFlushed (d.folder s.disk) flushed since s.state → LeavesOnly d.moment d.left s.disk inside.disk (λ image. AfterPrefix flushed since image.store ⊎ FileMeans image.store new)) c.self.view_is
-    (λ inner. or-means d.moment d.left inside.disk inside.disk flushed new since
-    (start-prefix d.folder d.moment d.left inside.disk inside.state inside.size inside.waits c.held_store_is_left.ensures.held c.documents_close.ensures.torn (λ image left. g.met.D.Disk.only_now inside.disk image h left) held.0 flushed since inner)) has
+    subst (λ (s : StoreView g.row.D.Denot). HasFlushed (d.model.folder s.disk) flushed since s.state → LeavesOnly d.model s.disk inside.disk (λ image. AfterPrefix flushed since image.store ⊎ FileMeans image.store new)) c.self.view_is
+    (λ inner. or-means d.model inside.disk inside.disk flushed new since
+    (start-prefix d.model inside.disk inside.state inside.size inside.waits c.held_store_is_left.ensures.held c.documents_close.ensures.torn (λ image left. g.met.D.Disk.only_now inside.disk image h left) held.0 flushed since inner)) has
 
 pub returns-in-Err-clause-risen : goal.returns-in-Err-clause-risen
 returns-in-Err-clause-risen g c =
-    let count = g.D.Disk.failure_count in
+    let count = g.D.Disk.model.failure_count in
     subst (λ (s : StoreView g.row.D.Denot). count s.disk ≤ count c.self.inside.disk) c.self.view_is (omega arith)
 
 pub returns-in-Err-clause-unchanged : goal.returns-in-Err-clause-unchanged
@@ -85,10 +85,10 @@ invariant_of-self-in-Ok-append_store g c =
           (let held = c.self.invariant.3 h c.if-self.false in
           let new = c.append_store.new.disk in
           let next = ap (λ (image : Image). image.next) (c.in-Ok-append_store.ensures.reads h) in (
-            subst (λ n. IsHeld (d.folder new) c.accept.new.state (inside.size + n) true) (sym long)
-                (append-held (d.folder inside.disk) (d.folder new) inside.state c.accept.new.state command inside.size longest inside.waits bytes held.0 (omega arith) ok (c.in-Ok-append_store.ensures.holds h (Some held.0.file) held.0.holds)),
-            subst (λ s. IsStaging (d.folder new) c.accept.new.state s) (sym staged)
-                (staging-more (d.folder inside.disk) (d.folder new) inside.state c.accept.new.state command bytes inside.staging next ok.closes ok.reads ok.done held.1),
+            subst (λ n. IsHeld (d.model.folder new) c.accept.new.state (inside.size + n) true) (sym long)
+                (append-held (d.model.folder inside.disk) (d.model.folder new) inside.state c.accept.new.state command inside.size longest inside.waits bytes held.0 (omega arith) ok (c.in-Ok-append_store.ensures.holds h (Some held.0.file) held.0.holds)),
+            subst (λ s. IsStaging (d.model.folder new) c.accept.new.state s) (sym staged)
+                (staging-more (d.model.folder inside.disk) (d.model.folder new) inside.state c.accept.new.state command bytes inside.staging next ok.closes ok.reads ok.done held.1),
           )),
       omega (arith, c.self.invariant.4),
       subst (λ s. inside.staged_base ≤ staged_length s) (sym staged) (length-least bytes inside.staging inside.staged_base c.self.invariant.5),
@@ -97,9 +97,9 @@ invariant_of-self-in-Ok-append_store g c =
           let new = c.append_store.new.disk in
           let reads = c.in-Ok-append_store.ensures.reads h in (
             subst (λ o. FileStartsWithBase o inside.base) (sym (ap (λ (image : Image). image.store) reads))
-                (file-more (bytes_under (d.folder inside.disk) Store) bytes inside.base starts.0),
-            subst (λ s. StagedStartsWithBase (d.folder new) s inside.staged_base) (sym staged)
-                (staged-base-more (d.folder inside.disk) (d.folder new) bytes inside.staging inside.staged_base (ap (λ (image : Image). image.next) reads) starts.1),
+                (file-more (bytes_under (d.model.folder inside.disk) Store) bytes inside.base starts.0),
+            subst (λ s. StagedStartsWithBase (d.model.folder new) s inside.staged_base) (sym staged)
+                (staged-base-more (d.model.folder inside.disk) (d.model.folder new) bytes inside.staging inside.staged_base (ap (λ (image : Image). image.next) reads) starts.1),
           )),
     )
 
@@ -125,21 +125,21 @@ returns-in-Ok-append_store-clause-reads g c h on =
     let d = g.D.Disk in
     let inside = c.self.inside in
     let command = command_of c.args.command in
-    let now = bytes_under (d.folder c.append_store.new.disk) Store in
-    subst (λ (s : StoreView g.row.D.Denot). now ≡ file_with_bytes (bytes_under (d.folder s.disk) Store) (next_record s.state command)) c.self.view_is
+    let now = bytes_under (d.model.folder c.append_store.new.disk) Store in
+    subst (λ (s : StoreView g.row.D.Denot). now ≡ file_with_bytes (bytes_under (d.model.folder s.disk) Store) (next_record s.state command)) c.self.view_is
     (ap (λ (image : Image). image.store) (c.in-Ok-append_store.ensures.reads h)
-    ∙ ap (file_with_bytes (bytes_under (d.folder inside.disk) Store)) (c.as_bytes.ensures.value ∙ c.in-Ok.ensures.ok.0.is))
+    ∙ ap (file_with_bytes (bytes_under (d.model.folder inside.disk) Store)) (c.as_bytes.ensures.value ∙ c.in-Ok.ensures.ok.0.is))
 
 pub returns-in-Ok-append_store-clause-stages : goal.returns-in-Ok-append_store-clause-stages
 returns-in-Ok-append_store-clause-stages g c h on =
     let d = g.D.Disk in
     let inside = c.self.inside in
     let command = command_of c.args.command in
-    let new = d.folder c.append_store.new.disk in
+    let new = d.model.folder c.append_store.new.disk in
     let record_ = next_record inside.state command in
     let staged : c.accept.new.staging ≡ with_more record_ inside.staging = c.in-Ok.ensures.staged ∙ ap (λ b. with_more b inside.staging) c.in-Ok.ensures.ok.0.is in
-    subst (λ (s : StoreView g.row.D.Denot). staged_text new c.accept.new.staging ≡ file_with_bytes (staged_text (d.folder s.disk) s.staged) (next_record s.state command)) c.self.view_is
-    (ap (staged_text new) staged ∙ text-more (d.folder inside.disk) new record_ inside.staging (ap (λ (image : Image). image.next) (c.in-Ok-append_store.ensures.reads h)))
+    subst (λ (s : StoreView g.row.D.Denot). staged_text new c.accept.new.staging ≡ file_with_bytes (staged_text (d.model.folder s.disk) s.staged) (next_record s.state command)) c.self.view_is
+    (ap (staged_text new) staged ∙ text-more (d.model.folder inside.disk) new record_ inside.staging (ap (λ (image : Image). image.next) (c.in-Ok-append_store.ensures.reads h)))
 
 pub returns-in-Ok-append_store-clause-any_moment : goal.returns-in-Ok-append_store-clause-any_moment
 returns-in-Ok-append_store-clause-any_moment g c h on flushed since has =
@@ -150,8 +150,8 @@ returns-in-Ok-append_store-clause-any_moment g c h on flushed since has =
     let longest = max inside.size (staged_length inside.staging) in
     let ok = subst (λ b. IsAccepted inside.state command c.accept.new.state longest b) (sym c.as_bytes.ensures.value) c.in-Ok.ensures.ok.0 in
     let held = c.self.invariant.3 h c.if-self.false in
-    subst (λ (s : StoreView g.row.D.Denot). HasFlushed (d.folder s.disk) flushed since s.state → LeavesOnly d.moment d.left s.disk c.append_store.new.disk (λ image. AfterPrefix flushed since image.store ⊎ FileMeans image.store c.accept.new.state)) c.self.view_is
-    (λ inner. append-leaves d.moment d.left inside.disk c.append_store.new.disk (d.folder inside.disk) inside.state c.accept.new.state command inside.size longest inside.waits bytes c.documents_close.ensures.torn held.0 (omega arith) ok flushed since inner
+    subst (λ (s : StoreView g.row.D.Denot). HasFlushed (d.model.folder s.disk) flushed since s.state → LeavesOnly d.model s.disk c.append_store.new.disk (λ image. AfterPrefix flushed since image.store ⊎ FileMeans image.store c.accept.new.state)) c.self.view_is
+    (λ inner. append-leaves d.model inside.disk c.append_store.new.disk (d.model.folder inside.disk) inside.state c.accept.new.state command inside.size longest inside.waits bytes c.documents_close.ensures.torn held.0 (omega arith) ok flushed since inner
     ((c.append_store.ensures.leaves h).held (Some held.0.file) held.0.holds)) has
 
 pub returns-in-Ok-append_store-clause-waits : goal.returns-in-Ok-append_store-clause-waits
@@ -163,9 +163,9 @@ returns-in-Ok-append_store-clause-waits g c h on flushed since has =
     let longest = max inside.size (staged_length inside.staging) in
     let ok = subst (λ b. IsAccepted inside.state command c.accept.new.state longest b) (sym c.as_bytes.ensures.value) c.in-Ok.ensures.ok.0 in
     let held = c.self.invariant.3 h c.if-self.false in
-    append-flushed (d.folder inside.disk) (d.folder c.append_store.new.disk) inside.state c.accept.new.state command inside.size longest inside.waits bytes held.0 (omega arith) ok
+    append-flushed (d.model.folder inside.disk) (d.model.folder c.append_store.new.disk) inside.state c.accept.new.state command inside.size longest inside.waits bytes held.0 (omega arith) ok
     (c.in-Ok-append_store.ensures.holds h (Some held.0.file) held.0.holds) flushed since
-    (subst (λ (s : StoreView g.row.D.Denot). HasFlushed (d.folder s.disk) flushed since s.state) (sym c.self.view_is) has)
+    (subst (λ (s : StoreView g.row.D.Denot). HasFlushed (d.model.folder s.disk) flushed since s.state) (sym c.self.view_is) has)
 
 pub returns-in-Ok-append_store-clause-reopen : goal.returns-in-Ok-append_store-clause-reopen
 returns-in-Ok-append_store-clause-reopen g c =
@@ -180,7 +180,7 @@ returns-in-Ok-append_store-clause-cause g c e = absurd (cc e)
 
 pub returns-in-Ok-append_store-clause-risen : goal.returns-in-Ok-append_store-clause-risen
 returns-in-Ok-append_store-clause-risen g c =
-    let count = g.D.Disk.failure_count in
+    let count = g.D.Disk.model.failure_count in
     subst (λ (s : StoreView g.row.D.Denot). count s.disk ≤ count c.append_store.new.disk) c.self.view_is c.append_store.ensures.fails.failures.never_falls
 
 -- ---- the device failed
@@ -194,8 +194,8 @@ returns-clause-any_moment g c h on flushed since has =
     let longest = max inside.size (staged_length inside.staging) in
     let ok = subst (λ b. IsAccepted inside.state command c.accept.new.state longest b) (sym c.as_bytes.ensures.value) c.in-Ok.ensures.ok.0 in
     let held = c.self.invariant.3 h c.if-self.false in
-    subst (λ (s : StoreView g.row.D.Denot). HasFlushed (d.folder s.disk) flushed since s.state → LeavesOnly d.moment d.left s.disk c.append_store.new.disk (λ image. AfterPrefix flushed since image.store ⊎ FileMeans image.store c.accept.new.state)) c.self.view_is
-    (λ inner. append-leaves d.moment d.left inside.disk c.append_store.new.disk (d.folder inside.disk) inside.state c.accept.new.state command inside.size longest inside.waits bytes c.documents_close.ensures.torn held.0 (omega arith) ok flushed since inner
+    subst (λ (s : StoreView g.row.D.Denot). HasFlushed (d.model.folder s.disk) flushed since s.state → LeavesOnly d.model s.disk c.append_store.new.disk (λ image. AfterPrefix flushed since image.store ⊎ FileMeans image.store c.accept.new.state)) c.self.view_is
+    (λ inner. append-leaves d.model inside.disk c.append_store.new.disk (d.model.folder inside.disk) inside.state c.accept.new.state command inside.size longest inside.waits bytes c.documents_close.ensures.torn held.0 (omega arith) ok flushed since inner
     ((c.append_store.ensures.leaves h).held (Some held.0.file) held.0.holds)) has
 
 pub returns-clause-refused : goal.returns-clause-refused
@@ -215,7 +215,7 @@ returns-clause-device g c e = refl
 
 pub returns-clause-risen : goal.returns-clause-risen
 returns-clause-risen g c =
-    let count = g.D.Disk.failure_count in
+    let count = g.D.Disk.model.failure_count in
     subst (λ (s : StoreView g.row.D.Denot). count s.disk ≤ count c.append_store.new.disk) c.self.view_is c.append_store.ensures.fails.failures.never_falls
 
 -- ---- the store has to be opened again
