@@ -1,19 +1,19 @@
-// An open file made so that a read of it gives what its device has.
+// Bytes that a file has in memory, put on its device.
 use std::fs::File;
 use std::io;
-use std::os::fd::AsRawFd;
+use std::io::Write;
 
-/// Syncs an open file, and then has the system let go of its copy in memory, so that the next read asks the device.
+/// Writes the bytes of a file over themselves, and syncs it. `file` is open for writing at its start, and `bytes` are
+/// what it reads as.
 ///
-/// A system whose sync failed may keep in memory what the device doesn't have, and the next sync may succeed. What is
-/// read after this call is what the device has, unless another process has mapped the file.
+/// A system whose sync failed may keep bytes in memory that the device doesn't have, count them as written, and let the
+/// next sync succeed. Bytes that are written again it has to write, so the device has them once this returns `Ok`. A
+/// crash meanwhile leaves of each byte the one that the device had or the one that was read.
 ///
 /// # Errors
-/// If the sync fails, or the system doesn't take the advice.
-pub fn settle(file: &File) -> io::Result<()> {
-    file.sync_all()?;
-    match libc::posix_fadvise(file.as_raw_fd(), 0, 0, libc::POSIX_FADV_DONTNEED) {
-        0 => Ok(()),
-        error => Err(io::Error::from_raw_os_error(error)),
-    }
+/// If the system refuses to write or to sync.
+pub fn write_over(file: File, bytes: &[u8]) -> io::Result<()> {
+    let mut file = file;
+    file.write_all(bytes)?;
+    file.sync_all()
 }

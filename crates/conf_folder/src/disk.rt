@@ -4,9 +4,10 @@ ghost use Rattle.conf_disk.specs.Moments.{CountsFailures};
 
 use crate::FolderFault;
 use crate::lock::{find_unlocked, lock_store};
+use crate::note::Note;
 use crate::reading::open_folder;
 use conf_disk::{Content, Disk, DiskFault, Name};
-use conf_files::{OWNER_ALONE, OpenFolder, look, open_plain, open_to_read, settle, take_after};
+use conf_files::{OWNER_ALONE, OpenFolder, look, open_plain, open_to_read, take_after, write_over};
 use std::alloc::{AllocError, Global};
 use std::fs::{File, Metadata, OpenOptions};
 use std::io::{ErrorKind, Read, Write};
@@ -21,7 +22,9 @@ pub(crate) const STORE_FILE: &str = "store.yaml";
 /// and a handle for appending to each file that it appended to, until it is dropped. Where a name has no plain file but
 /// a link, a FIFO or a folder, a call on it fails.
 ///
-/// A read gives what the device has, and not what a failed sync of an earlier run left in memory.
+/// A run that appended and was killed, or whose sync failed, may have left bytes of `store.yaml` in memory that the device
+/// doesn't have, and that no later sync writes. A note in `store.lock` tells the next run, whose read of `store.yaml` puts
+/// all bytes on the device before it returns them. [`release`](FolderDisk::release) notes that there are none.
 ///
 /// One that was opened [`for_reading`](FolderDisk::for_reading) holds no lock, and reads what the system gives. On it
 /// each call but `read` and `failures` fails, and changes nothing.
@@ -31,8 +34,10 @@ pub struct FolderDisk<'r, R: Files<File = File>> {
     folder: OpenFolder,
     paths: Paths,
     access: Access,
-    store: Option<File>,
-    next: Option<File>,
+    store: Appended,
+    next: Appended,
+    /// What is noted in `store.lock`.
+    note: Note,
     replacing: Replacing,
     /// Whether `store.yaml` was not there when it was looked for last.
     is_missing: bool,
@@ -52,9 +57,49 @@ enum Replacing {
 #[derive(Drop)]
 enum Access {
     /// It reads and changes the files, under the lock on `store.lock`.
-    Changing { _lock: File },
+    Changing { lock: File },
     /// It reads alone.
     Reading,
+}
+
+/// A file that this run appends to, and where its bytes are.
+#[derive(Drop)]
+struct Appended {
+    /// The handle for appending, once it is open.
+    file: Option<File>,
+    bytes: Bytes,
+}
+
+/// Where the bytes of a file are.
+#[derive(Clone, Copy, PartialEq, Eq)]
+enum Bytes {
+    /// The device has them.
+    OnDevice,
+    /// The next sync puts them on the device.
+    Pending,
+    /// Some may be in memory alone, whatever a sync returns.
+    Unsure,
+}
+
+impl Appended {
+    /// A file that is not open yet.
+    fn closed(bytes: Bytes) -> Appended {
+        Appended { file: None, bytes }
+    }
+
+    /// Takes note of an append.
+    fn was_appended_to(&mut self) {
+        if self.bytes == Bytes::OnDevice {
+            self.bytes = Bytes::Pending;
+        }
+    }
+
+    /// Takes note of a sync that succeeded.
+    fn was_synced(&mut self) {
+        if self.bytes == Bytes::Pending {
+            self.bytes = Bytes::OnDevice;
+        }
+    }
 }
 
 /// The paths of the files of a folder.
@@ -166,8 +211,10 @@ impl<'r, R: Files<File = File>> FolderDisk<'r, R> {
         let paths = Paths::new(alloc, &folder)?;
         let store = look_at_files(rt, &paths)?;
         let lock = lock_store(rt, &folder, paths.lock.as_str(), store)?;
-        let access = Access::Changing { _lock: lock };
-        Ok(FolderDisk::over(rt, folder, paths, access))
+        let Ok(note) = Note::read(&lock) else {
+            return Err(FolderFault::Device);
+        };
+        Ok(FolderDisk::over(rt, folder, paths, Access::Changing { lock }, note))
     }
 
     /// The disk of the folder at a path, for reading alone: for a folder or files that can't be written, or are not to
@@ -182,21 +229,47 @@ impl<'r, R: Files<File = File>> FolderDisk<'r, R> {
         find_unlocked(&folder)?;
         let paths = Paths::new(alloc, &folder)?;
         look_at_files(rt, &paths)?;
-        Ok(FolderDisk::over(rt, folder, paths, Access::Reading))
+        Ok(FolderDisk::over(rt, folder, paths, Access::Reading, Note::OnDevice))
     }
 
     /// The disk of an open folder, on which no call has failed.
-    fn over(rt: &'r R, folder: OpenFolder, paths: Paths, access: Access) -> Self {
+    fn over(rt: &'r R, folder: OpenFolder, paths: Paths, access: Access, note: Note) -> Self {
+        let bytes = match note {
+            Note::OnDevice => Bytes::OnDevice,
+            Note::Unsure => Bytes::Unsure,
+        };
         FolderDisk {
             rt,
             folder,
             paths,
             access,
-            store: None,
-            next: None,
+            store: Appended::closed(bytes),
+            next: Appended::closed(Bytes::OnDevice),
+            note,
             replacing: Replacing::Nothing,
             is_missing: false,
             failures: 0,
+        }
+    }
+
+    /// Ends the run, and lets go of the locks. If the device has all bytes of `store.yaml`, it is noted in `store.lock`;
+    /// where the system refuses that, the next run writes them over once more.
+    pub fn release(self) {
+        if self.note == Note::Unsure && self.store.bytes == Bytes::OnDevice {
+            if let Access::Changing { lock } = &self.access {
+                let _ = Note::OnDevice.write(lock);
+            }
+        }
+    }
+
+    /// Returns the open `store.lock` if the disk may change its files.
+    ///
+    /// # Errors
+    /// If it was opened for reading alone.
+    fn lock(&self) -> io::Result<&File> {
+        match &self.access {
+            Access::Changing { lock } => Ok(lock),
+            Access::Reading => Err(io::Error::from(ErrorKind::PermissionDenied)),
         }
     }
 
@@ -209,6 +282,17 @@ impl<'r, R: Files<File = File>> FolderDisk<'r, R> {
             Access::Changing { .. } => Ok(()),
             Access::Reading => Err(io::Error::from(ErrorKind::PermissionDenied)),
         }
+    }
+
+    /// Has something stand in `store.lock`, if it doesn't.
+    fn have_noted(&mut self, note: Note) -> io::Result<()>
+        ensures { self.new.failures ≡ self.old.failures }
+    {
+        if self.note != note {
+            note.write(self.lock()?)?;
+            self.note = note;
+        }
+        Ok(())
     }
 
     /// The path of a file in the folder.
@@ -231,8 +315,8 @@ impl<'r, R: Files<File = File>> FolderDisk<'r, R> {
         ensures { self.new.failures ≡ self.old.failures }
     {
         let kept = match name {
-            Name::Store => self.store.take(),
-            Name::Next => self.next.take(),
+            Name::Store => self.store.file.take(),
+            Name::Next => self.next.file.take(),
         };
         match kept {
             Some(file) => Ok(file),
@@ -244,8 +328,8 @@ impl<'r, R: Files<File = File>> FolderDisk<'r, R> {
         ensures { self.new.failures ≡ self.old.failures }
     {
         match name {
-            Name::Store => self.store = Some(file),
-            Name::Next => self.next = Some(file),
+            Name::Store => self.store.file = Some(file),
+            Name::Next => self.next.file = Some(file),
         }
     }
 
@@ -254,6 +338,13 @@ impl<'r, R: Files<File = File>> FolderDisk<'r, R> {
     {
         self.may_change()?;
         let mut file = self.take_handle(name)?;
+        match name {
+            Name::Store => {
+                self.have_noted(Note::Unsure)?;
+                self.store.was_appended_to();
+            }
+            Name::Next => self.next.was_appended_to(),
+        }
         file.write_all(bytes)?;
         self.keep_handle(name, file);
         Ok(())
@@ -268,7 +359,17 @@ impl<'r, R: Files<File = File>> FolderDisk<'r, R> {
             Err(error) if error.kind() == ErrorKind::NotFound => return Ok(()),
             Err(error) => return Err(error),
         };
-        file.sync_all()?;
+        let synced = file.sync_all();
+        match (name, &synced) {
+            (Name::Store, Ok(())) => self.store.was_synced(),
+            (Name::Next, Ok(())) => self.next.was_synced(),
+            (Name::Store, Err(_)) => {
+                self.store.bytes = Bytes::Unsure;
+                let _ = self.have_noted(Note::Unsure);
+            }
+            (Name::Next, Err(_)) => self.next.bytes = Bytes::Unsure,
+        }
+        synced?;
         self.keep_handle(name, file);
         Ok(())
     }
@@ -286,7 +387,10 @@ impl<'r, R: Files<File = File>> FolderDisk<'r, R> {
             None => Replacing::Nothing,
         };
         let file = create_staged(self.rt, self.path(Name::Next)?, replaced)?;
-        self.keep_handle(Name::Next, file);
+        self.next = Appended {
+            file: Some(file),
+            bytes: Bytes::OnDevice,
+        };
         Ok(())
     }
 
@@ -294,13 +398,16 @@ impl<'r, R: Files<File = File>> FolderDisk<'r, R> {
         ensures { self.new.failures ≡ self.old.failures }
     {
         self.may_change()?;
-        self.store = None;
-        let staged = self.next.take();
+        self.store.file = None;
+        let staged = self.next.file.take();
         let replacing = self.replacing;
         let (from, to) = (self.path(Name::Next)?, self.path(Name::Store)?);
         rename(self.rt, replacing, from, to)?;
         self.is_missing = false;
-        self.store = staged;
+        self.store = Appended {
+            file: staged,
+            bytes: self.next.bytes,
+        };
         Ok(())
     }
 
@@ -308,7 +415,7 @@ impl<'r, R: Files<File = File>> FolderDisk<'r, R> {
         ensures { self.new.failures ≡ self.old.failures }
     {
         self.may_change()?;
-        self.next = None;
+        self.next.file = None;
         let path = self.path(Name::Next)?;
         match look(self.rt, path)? {
             Some(_) => fs::remove_file(self.rt, path),
@@ -332,8 +439,26 @@ impl<'r, R: Files<File = File>> FolderDisk<'r, R> {
         Ok(())
     }
 
+    /// Puts the bytes that `store.yaml` reads as on the device, if they may be in memory alone, and notes it.
+    fn put_on_device(&mut self, content: &Content) -> io::Result<()>
+        ensures { self.new.failures ≡ self.old.failures }
+    {
+        if self.store.bytes != Bytes::Unsure || self.may_change().is_err() {
+            return Ok(());
+        }
+        let Content::Bytes(bytes) = content else {
+            return Ok(());
+        };
+        let path = self.path(Name::Store)?;
+        let file = open_plain(self.rt, OpenOptions::new().write(true), path)?;
+        write_over(file, bytes.as_slice())?;
+        self.store.bytes = Bytes::OnDevice;
+        let _ = self.have_noted(Note::OnDevice);
+        Ok(())
+    }
+
     /// Reads the file under a name, if there is one. A file of more than `max` bytes is `TooLong`. A run that may
-    /// change the files reads what the device has.
+    /// change the files has put what it reads of `store.yaml` on the device.
     fn try_read(&mut self, alloc: Global, name: Name, max: u64) -> io::Result<Content>
         ensures { self.new.failures ≡ self.old.failures }
     {
@@ -341,10 +466,9 @@ impl<'r, R: Files<File = File>> FolderDisk<'r, R> {
         match (opened, name) {
             (Ok(file), Name::Store) => {
                 self.find_store()?;
-                if self.may_change().is_ok() {
-                    settle(&file)?;
-                }
-                file_content(alloc, file, max)
+                let content = file_content(alloc, file, max)?;
+                self.put_on_device(&content)?;
+                Ok(content)
             }
             (Ok(file), Name::Next) => file_content(alloc, file, max),
             (Err(error), name) if error.kind() == ErrorKind::NotFound => {

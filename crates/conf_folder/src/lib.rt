@@ -13,6 +13,7 @@ mod disk;
 mod fault;
 mod lock;
 mod making;
+mod note;
 mod reading;
 
 pub use disk::FolderDisk;

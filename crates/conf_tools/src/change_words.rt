@@ -46,11 +46,11 @@ pub(crate) fn init_folder<F: Files<File = File>, E: Write>(
     };
     match make_store(alloc, disk, errors) {
         Ok(disk) => {
-            drop(disk);
+            disk.release();
             Status::Done
         }
         Err((disk, fault)) => {
-            drop(disk);
+            disk.release();
             write_store_fault(errors, fault)
         }
     }
@@ -165,11 +165,11 @@ pub(crate) fn change_folder<F: Files<File = File>, E: Write>(
     };
     match change_store(alloc, disk, change, errors) {
         Ok(disk) => {
-            drop(disk);
+            disk.release();
             Status::Done
         }
         Err((disk, fault)) => {
-            drop(disk);
+            disk.release();
             write_store_fault(errors, fault)
         }
     }

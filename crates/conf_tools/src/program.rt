@@ -157,12 +157,12 @@ fn run_folder<F: Files<File = File>, R: Read, W: Write, E: Write>(
     };
     match run_store(alloc, disk, grouping_of(words), reader, writer, errors) {
         Ok((disk, tally)) => {
-            drop(disk);
+            disk.release();
             write_rest(errors, &reader.tail, tally.rest);
             Status::Done
         }
         Err((disk, fault)) => {
-            drop(disk);
+            disk.release();
             write_store_fault(errors, fault)
         }
     }
