@@ -239,7 +239,8 @@ class Sessions(ServerTest):
             answer = client.ask(b"import: a\ntext: 'n%d'\n...\n" % number)
             self.assertEqual(answer, b'---\nok: "%d"\n...\n' % number, server.errors())
         self.assertGreaterEqual(holder.held, 3)
-        self.assertIn("serve.py: another run holds the store", server.errors())
+        wanted = r"\Aserve\.py: the store was held by another run: the next session is tried again"
+        self.assertRegex(server.errors(), wanted)
         self.assertIsNone(server.process.poll())
 
     def test_another_that_keeps_the_store(self) -> None:
@@ -261,6 +262,26 @@ class Sessions(ServerTest):
             while not holder.held and time.monotonic() < end:
                 client.ask(b"import: a\ntext: x\n...\n")
         self.assertEqual(server.end(), 0, server.errors())
+        self.assertNotIn("confstore: Locked", server.errors())
+
+    def test_a_program_that_is_gone_for_a_while(self) -> None:
+        """A next session waits for its program, as where it is being replaced, and not for ever."""
+        program = os.path.join(self.top, "program")
+        os.symlink(PROGRAM, program)
+        server = self.serve("--renew-after", "100", "--max-lock-wait", "1", program=program)
+        client = self.client()
+        for number in range(1, 6):
+            os.rename(program, program + ".old")
+            client.send(b"import: a\ntext: x\n...\n" * 5)
+            time.sleep(0.3)
+            os.rename(program + ".old", program)
+            for place in range(5 * number - 4, 5 * number + 1):
+                self.assertEqual(client.answer(), b'---\nok: "%d"\n...\n' % place, server.errors())
+        os.unlink(program)
+        client.send(b"import: a\ntext: x\n...\n" * 10)
+        self.assertEqual(server.wait(), 3)
+        wanted = r"no next session could be started \(No such file or directory\) for 1 seconds: "
+        self.assertRegex(server.errors(), wanted)
 
     def test_a_command_longer_than_a_session(self) -> None:
         self.serve("--renew-after", "100")

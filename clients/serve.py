@@ -44,7 +44,6 @@ import collections
 import contextlib
 import errno
 import os
-import resource
 import selectors
 import socket
 import subprocess
@@ -57,8 +56,8 @@ from typing import Callable, NamedTuple, Optional, Sequence
 sys.path.insert(0, os.path.dirname(os.path.realpath(__file__)))
 sys.dont_write_bytecode = True
 
-from serve_socket import FAILED, Fault, Listener, open_standard_streams, reason, say, shown, tell_manager  # noqa: E402
-from serve_socket import write_error  # noqa: E402
+from serve_socket import FAILED, Fault, Listener, clients_with_room, open_standard_streams, reason  # noqa: E402
+from serve_socket import say, shown, tell_manager, write_error  # noqa: E402
 
 LONGEST = 16_777_216  # bytes of a command
 LONGEST_ANSWER = 67_108_864  # bytes
@@ -67,7 +66,6 @@ PART = 65_536  # bytes that are read at once, and that are kept of each client
 MOST_DUE = 16  # commands of a client in the session
 MOST_UNSENT = 1_048_576  # bytes that wait to be sent to the session while more are put there
 ERRORS_KEPT = 4_096  # bytes of the session's standard error while it opens the store
-RESERVED = 32  # files that are open beside the clients
 GRACE = 10  # seconds until all clients have read their answers at the end, and until a session is gone
 LOOK = 0.5  # seconds between two looks at who is late
 STAY = 1  # seconds that each client is connected, whoever waits
@@ -615,13 +613,16 @@ class Server:
                 if status != 0 or not was_told:
                     return self.end(self.said_why(status))
                 if not self.renew():
-                    return self.end(self.session.process.returncode)
+                    return self.end(self.session.process.returncode or FAILED)
         self.stop_taking()
         while not self.session.is_over:
             self.finish_session()
             self.turn()
         status = self.session.wait()
-        return self.end(0 if self.session.was_locked() else status)
+        if self.session.was_locked():
+            self.session.errors.clear()
+            status = 0
+        return self.end(status)
 
     def said_why(self, status: int) -> int:
         """The status that the session has ended with, without being told to, after a line where it said none."""
@@ -644,23 +645,25 @@ class Server:
         deadline = time.monotonic() + self.bounds.lock_wait
         waits = False
         while not self.is_ending():
-            with contextlib.suppress(BlockingIOError):  # no process can be made just now
+            try:
                 self.begin()
+            except OSError as error:
+                trouble, remedy = f"no next session could be started ({reason(error)})", "free memory and processes"
+            else:
                 if self.opens():
                     return True
                 self.session.wait()
-            is_held = self.session.was_locked()
-            if not is_held or time.monotonic() > deadline:
-                self.session.pass_errors_on()
-                if is_held:
-                    waited = f"the store was held by another run for {self.bounds.lock_wait:g} seconds"
-                    say(f"{waited}: end that run, and start the server again")
-                return False
+                if not self.session.was_locked():
+                    break
+                trouble, remedy = "the store was held by another run", "end that run"
+            if time.monotonic() > deadline:
+                say(f"{trouble} for {self.bounds.lock_wait:g} seconds: {remedy}, and start the server again")
+                break
             if not waits:
                 waits = True
-                say("another run holds the store: the next session waits for it")
+                say(f"{trouble}: the next session is tried again for {self.bounds.lock_wait:g} seconds")
             time.sleep(PAUSE)
-        return True
+        return self.is_ending()
 
     def stop_taking(self) -> None:
         if self.listener is not None:
@@ -684,23 +687,6 @@ class Server:
         """Ends the session, however this program ends."""
         if not self.session.is_over:
             self.session.wait()
-
-
-def clients_with_room(wanted: int) -> int:
-    """How many clients may be connected, once as many files may be open as that takes and the system allows."""
-    allowed, most = resource.getrlimit(resource.RLIMIT_NOFILE)
-    if allowed != resource.RLIM_INFINITY and allowed < wanted + RESERVED:
-        raised = wanted + RESERVED if most == resource.RLIM_INFINITY else min(most, wanted + RESERVED)
-        with contextlib.suppress(OSError, ValueError):
-            resource.setrlimit(resource.RLIMIT_NOFILE, (raised, most))
-            allowed = raised
-        if allowed <= RESERVED:
-            raise Fault(f"only {allowed} files may be open, and {RESERVED + 1} have to be: raise the limit (ulimit -n)")
-        if allowed < wanted + RESERVED:
-            few = f"only {allowed - RESERVED} clients at once, not {wanted}, since {allowed} files may be open"
-            say(f"{few}: raise the limit (ulimit -n)")
-            return allowed - RESERVED
-    return wanted
 
 
 def count(text: str) -> int:

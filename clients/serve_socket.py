@@ -1,4 +1,4 @@
-"""What `serve.py` has of the system: its socket, who may connect, its standard streams, its manager, and its lines.
+"""What `serve.py` has of the system: its socket, its standard streams, its manager, its files, its lines.
 
 A socket is made in a folder of its own, which nobody else may enter, beside its name. It gets its owner, group and
 access list there, and is listened to. Only then it is linked to its name, which fails where anything is. So no mode is
@@ -10,6 +10,7 @@ from __future__ import annotations
 import contextlib
 import errno
 import os
+import resource
 import secrets
 import select
 import socket
@@ -23,6 +24,7 @@ BACKLOG = 4_096  # clients that wait to be taken
 TRIES = 10  # to take a name where others take it and leave it
 LINE_WAITS = 1_000  # milliseconds for room on standard error
 MANAGER_TAKES = 10  # seconds to be told
+RESERVED = 32  # files that are open beside the clients
 
 WRONG_WORDS, FAILED = 2, 3  # statuses
 
@@ -295,3 +297,20 @@ def open_standard_streams() -> None:
     os.close(descriptor)
     sys.stdout = sys.stdout or open(1, "w", closefd=False)
     sys.stderr = sys.stderr or open(2, "w", closefd=False)
+
+
+def clients_with_room(wanted: int) -> int:
+    """How many clients may be connected, once as many files may be open as that takes and the system allows."""
+    allowed, most = resource.getrlimit(resource.RLIMIT_NOFILE)
+    if allowed != resource.RLIM_INFINITY and allowed < wanted + RESERVED:
+        raised = wanted + RESERVED if most == resource.RLIM_INFINITY else min(most, wanted + RESERVED)
+        with contextlib.suppress(OSError, ValueError):
+            resource.setrlimit(resource.RLIMIT_NOFILE, (raised, most))
+            allowed = raised
+        if allowed <= RESERVED:
+            raise Fault(f"only {allowed} files may be open, and {RESERVED + 1} have to be: raise the limit (ulimit -n)")
+        if allowed < wanted + RESERVED:
+            few = f"only {allowed - RESERVED} clients at once, not {wanted}, since {allowed} files may be open"
+            say(f"{few}: raise the limit (ulimit -n)")
+            return allowed - RESERVED
+    return wanted
