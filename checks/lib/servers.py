@@ -53,7 +53,7 @@ class Client:
 
     def send_some(self, commands: bytes) -> int:
         """Sends what the server takes within a moment. How much that was."""
-        self.socket.settimeout(0.2)
+        self.socket.settimeout(0.1)
         sent = 0
         with contextlib.suppress(OSError):
             while sent < len(commands):
