@@ -46,7 +46,7 @@ class Client:
         self.socket = socket.socket(socket.AF_UNIX)
         self.socket.settimeout(PATIENCE)
         self.socket.connect(path)
-        self.rest = b""
+        self.rest = bytearray()
 
     def send(self, commands: bytes) -> None:
         self.socket.sendall(commands)
@@ -63,7 +63,9 @@ class Client:
 
     def answer(self) -> bytes:
         """The next answer, or nothing if the server cut this client off."""
-        while b"\n...\n" not in self.rest:
+        looked = 0
+        while (found := self.rest.find(b"\n...\n", looked)) < 0:
+            looked = max(len(self.rest) - 4, 0)
             try:
                 part = self.socket.recv(1 << 20)
             except ConnectionResetError:
@@ -71,8 +73,9 @@ class Client:
             if not part:
                 return b""
             self.rest += part
-        answer, _, self.rest = self.rest.partition(b"\n...\n")
-        return answer + b"\n...\n"
+        answer = bytes(self.rest[: found + 5])
+        del self.rest[: found + 5]
+        return answer
 
     def ask(self, command: bytes) -> bytes:
         try:
