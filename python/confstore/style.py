@@ -7,7 +7,7 @@ style, so a text of it is exactly as long as the store counts it.
 from __future__ import annotations
 
 import re
-from typing import Any, Dict, List, Optional, Union
+from typing import Any, Dict, Iterator, List, Optional, Tuple, Union
 
 import yaml
 
@@ -37,6 +37,11 @@ _ESCAPES = {
 _LOADER: Any = getattr(yaml, "CBaseLoader", yaml.BaseLoader)
 
 
+def text_of(text: str) -> str:
+    """A text as a str of no other class: one of its own, as of an `Enum`, may write itself otherwise."""
+    return str.__str__(text)
+
+
 def _escape(found: re.Match[str]) -> str:
     character = found.group()
     if character in _ESCAPES:
@@ -64,6 +69,7 @@ def scalar(text: str, indentation: int = 2) -> str:
 
     Raises `NotText` for a lone surrogate.
     """
+    text = text_of(text)
     _check_text(text)
     if "\n" not in text or text[0] in " \n" or not _LINES.fullmatch(text):
         return _word_or_quoted(text)
@@ -76,7 +82,7 @@ def scalar(text: str, indentation: int = 2) -> str:
 
 
 def _is_leaf(tree: Tree) -> bool:
-    return isinstance(tree, str) or not tree
+    return isinstance(tree, str) or len(tree) == 0
 
 
 def _leaf(tree: Tree, indentation: int) -> str:
@@ -92,6 +98,19 @@ def _check(tree: object, depth: int) -> None:
         raise NotATree(f"a tree is a str, a list or a dict, not {type(tree).__name__}")
 
 
+def _pairs(tree: Dict[str, Tree]) -> Iterator[Tuple[str, Tree]]:
+    """The keys, as texts of no other class, with their values."""
+    keys = set()
+    for key, value in tree.items():
+        if not isinstance(key, str):
+            raise NotATree(f"a key is a str, not {type(key).__name__}")
+        text = text_of(key)
+        if text in keys:
+            raise NotATree(f"two keys have the same text: {text!r}")
+        keys.add(text)
+        yield text, value
+
+
 def _lines(tree: Tree, indentation: int, depth: int) -> List[str]:
     """The lines of a collection that is not empty, the first one without its indentation."""
     lines: List[str] = []
@@ -104,9 +123,7 @@ def _lines(tree: Tree, indentation: int, depth: int) -> List[str]:
             else:
                 lines.append(f"{margin}- " + "\n".join(_lines(item, indentation + 2, depth + 1)))
     elif isinstance(tree, dict):
-        for key, value in tree.items():
-            if not isinstance(key, str):
-                raise NotATree(f"a key is a str, not {type(key).__name__}")
+        for key, value in _pairs(tree):
             _check(value, depth)
             _check_text(key)
             written = _word_or_quoted(key)
