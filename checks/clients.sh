@@ -9,12 +9,13 @@
 # - C: the library and its test under the sanitizers of each compiler that is there, and under valgrind, over sessions
 #   of its own and over a socket.
 # - Sixteen clients of one session that is killed and started again.
+# - Exceptions from signal handlers in each call of the Python package.
 # - The settings for editors, the hook, the examples, the page of a log, the completions, the man pages, and a Debian
 #   package.
 #
 # What isn't installed is left out, with a line that says so. Each step has a limit of time, and ends what it started.
 # The program is CONFSTORE, or the one that ./confstore builds. The last line is 'N passed, M failed', of steps, and the
-# status is 0 if M is 0. It takes some three minutes.
+# status is 0 if M is 0. It takes some four minutes.
 set -u
 top=$(cd "$(dirname "${BASH_SOURCE[0]}")/.." && pwd)
 CONFSTORE=${CONFSTORE:-$top/crates/confstore/out/confstore}
@@ -91,7 +92,7 @@ export -f readme_lines
 step "the lines of clients/README.md" 120 bash -c readme_lines
 
 warnings=(-std=c11 -Wall -Wextra -Wpedantic -Wconversion -Wshadow -Werror -g -O1)
-sources=(clients/c/confstore.c clients/c/test_confstore.c -Wl,--wrap=realloc -Wl,--wrap=calloc)
+sources=(clients/c/*.c -Wl,--wrap=realloc -Wl,--wrap=calloc -pthread)
 mkdir "$folder/served"
 "$python" clients/serve.py "$folder/socket" "$folder/served" &
 server=$!
@@ -115,6 +116,7 @@ kill "$server" && wait "$server"
 server=
 
 step "sixteen clients of a session that is killed and started again" 300 "$python" checks/many_clients.py
+step "exceptions from signal handlers" 900 "$python" checks/interrupts.py
 step "editors, the hook and the examples" 300 "$python" checks/editors.py
 step "the page of a log" 300 "$python" checks/page.py
 step "completions" 300 "$python" checks/completions.py
