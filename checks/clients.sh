@@ -67,7 +67,8 @@ try_install() {
     rm -rf "$folder/clone/python/build" "$folder/clone/python/"*.egg-info
     mkdir "$folder/installed"
     cd "$folder/installed" && PYTHONPATH=$folder/site "$python" - <<'END'
-import os, confstore
+import importlib.metadata, os, confstore
+assert importlib.metadata.version("confstore") == confstore.__version__
 assert os.path.exists(os.path.join(os.path.dirname(confstore.__file__), "py.typed"))
 with confstore.Store("store", make=True) as store:
     store["web"] = {"port": "80"}
@@ -92,7 +93,7 @@ export -f readme_lines
 step "the lines of clients/README.md" 120 bash -c readme_lines
 
 warnings=(-std=c11 -Wall -Wextra -Wpedantic -Wconversion -Wshadow -Werror -g -O1)
-sources=(clients/c/*.c -Wl,--wrap=realloc -Wl,--wrap=calloc -pthread)
+sources=(clients/c/*.c '-Wl,--wrap=realloc' '-Wl,--wrap=calloc' -pthread)
 mkdir "$folder/served"
 "$python" clients/serve.py "$folder/socket" "$folder/served" &
 server=$!

@@ -173,6 +173,12 @@ void longest_answers(void) {
     }
 }
 
+/* Whether this runs under valgrind, where posix_spawn does not tell why a program was not started. */
+static int is_under_valgrind(void) {
+    const char *loaded = getenv("LD_PRELOAD");
+    return loaded && strstr(loaded, "vgpreload");
+}
+
 /* Each path that can't be used is told as what it is. */
 void paths(const char *program) {
     struct confstore *store;
@@ -181,12 +187,14 @@ void paths(const char *program) {
     name[0] = '/';
     name[sizeof name - 1] = 0;
     expect_status("a long folder", confstore_open(program, name, PATIENCE, &store), CONFSTORE_BAD_PATH);
-    expect_status("a long program", confstore_open(name, "/", PATIENCE, &store), CONFSTORE_BAD_PATH);
     expect_status("a long socket", confstore_connect(name, PATIENCE, &store), CONFSTORE_NO_SERVER);
     const char *loop = path_of("loop");
     if (symlink("loop", loop) != 0) perror(loop);
     expect_status("a loop", confstore_open(program, loop, PATIENCE, &store), CONFSTORE_BAD_PATH);
-    expect_status("a looping program", confstore_open(loop, "/", PATIENCE, &store), CONFSTORE_BAD_PATH);
+    if (!is_under_valgrind()) {
+        expect_status("a looping program", confstore_open(loop, "/", PATIENCE, &store), CONFSTORE_BAD_PATH);
+        expect_status("a long program", confstore_open(name, "/", PATIENCE, &store), CONFSTORE_BAD_PATH);
+    }
     const char *file = path_of("not_a_folder");
     write_file(file, "", 0600);
     expect_status("a folder that is a file", confstore_open(program, file, PATIENCE, &store), CONFSTORE_NO_FOLDER);
@@ -197,7 +205,8 @@ void paths(const char *program) {
     memset(value, 'x', length - 1);
     value[length - 1] = 0;
     setenv("TOO_LONG", value, 1);
-    expect_status("a long environment", confstore_open(program, "/", PATIENCE, &store), CONFSTORE_NOT_STARTED);
+    if (!is_under_valgrind())
+        expect_status("a long environment", confstore_open(program, "/", PATIENCE, &store), CONFSTORE_NOT_STARTED);
     unsetenv("TOO_LONG");
     free(value);
     expect("no store", store == NULL, 1);

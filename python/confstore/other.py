@@ -3,12 +3,13 @@
 from __future__ import annotations
 
 import _thread
+import io
 import os
 import select
 import socket
 import subprocess
 import time
-from typing import List, Optional, Sequence, Set, Union
+from typing import List, Optional, Sequence, Set, Tuple, Union
 
 from .faults import AnswerCut, ConfstoreError, Disconnected, end_of, program_fault
 
@@ -86,17 +87,12 @@ class Program:
         except OSError as error:
             raise program_fault(error, words[0]) from None
         try:
-            self.process = subprocess.Popen(
-                list(words), stdin=theirs.fileno(), stdout=subprocess.PIPE, stderr=subprocess.PIPE, bufsize=0,
-                start_new_session=True, restore_signals=False,
-            )  # fmt: skip
-        except OSError as error:
+            self.process, *self._streams = started(words, theirs.fileno())
+        except BaseException:
             self._commands.close()
-            raise program_fault(error, words[0]) from None
+            raise
         finally:
             theirs.close()
-        assert self.process.stdout and self.process.stderr
-        self._streams = (self.process.stdout, self.process.stderr)
         self.answers, self.errors = (stream.fileno() for stream in self._streams)
 
     def send(self, part: Union[bytes, bytearray]) -> int:
@@ -182,6 +178,26 @@ class Server:
 
 
 Other = Union[Program, Server]
+
+
+def started(words: Sequence[str], source: int) -> "Tuple[subprocess.Popen[bytes], io.FileIO, io.FileIO]":
+    """Starts a program with such a standard input, and returns it with the ends of its output and its errors."""
+    ends: List[int] = []
+    try:
+        ends += os.pipe()
+        ends += os.pipe()
+        process = subprocess.Popen(
+            list(words), stdin=source, stdout=ends[1], stderr=ends[3], start_new_session=True, restore_signals=False
+        )
+    except BaseException as error:
+        for end in ends:
+            os.close(end)
+        if isinstance(error, OSError):
+            raise program_fault(error, words[0]) from None
+        raise
+    os.close(ends[1])
+    os.close(ends[3])
+    return process, io.FileIO(ends[0]), io.FileIO(ends[2])
 
 
 def shut(connection: socket.socket, how: int) -> None:

@@ -12,8 +12,8 @@ import threading
 import time
 from typing import Optional, Sequence
 
-from .faults import AnswerLong, ConfstoreError, NotStarted, TimedOut, Unknown, program_fault
-from .other import finished, take, take_errors
+from .faults import AnswerLong, ConfstoreError, NotStarted, TimedOut, Unknown
+from .other import finished, started, take, take_errors
 
 # How often in seconds it is looked whether anybody still waits for a run.
 LOOK = 0.1
@@ -62,15 +62,8 @@ class Run:
             self._done.release()
 
     def _perform(self) -> None:
-        try:
-            process = subprocess.Popen(
-                list(self._words), stdin=subprocess.DEVNULL, stdout=subprocess.PIPE, stderr=subprocess.PIPE, bufsize=0,
-                start_new_session=True,
-            )  # fmt: skip
-        except OSError as error:
-            raise program_fault(error, self._words[0]) from None
-        assert process.stdout and process.stderr
-        with process.stdout as output, process.stderr as errors:
+        process, output, errors = started(self._words, subprocess.DEVNULL)
+        with output, errors:
             os.set_blocking(errors.fileno(), False)
             os.set_blocking(output.fileno(), False)
             try:
