@@ -14,8 +14,7 @@ import confstore
 from confstore import Reader, Store
 from confstore.session import LONGEST_ANSWER, LONGEST_COMMAND
 
-from . import TOP
-from .places import StoreTest
+from .places import StoreTest, python_path
 
 # How much memory a process may have that meets an answer without an end, and how long a call may be late.
 MOST_MEMORY = 600_000_000
@@ -64,7 +63,7 @@ class Answers(StoreTest):
             self.assertLess(time.monotonic() - start, 2 * 60)
 
     def run_python(self, code, *words):
-        environment = {**os.environ, "PYTHONPATH": os.path.join(TOP, "python")}
+        environment = {**os.environ, "PYTHONPATH": python_path()}
         words = [sys.executable, "-c", textwrap.dedent(code), *words]
         done = subprocess.run(words, capture_output=True, env=environment, check=False, text=True, timeout=300)
         return done.returncode, done.stdout, done.stderr
@@ -94,19 +93,15 @@ class Answers(StoreTest):
 class Sent(StoreTest):
     def test_what_was_not_sent_is_never_performed(self):
         """A program that does not read for a while: what timed out unsent is not among what it reads then."""
-        heard = os.path.join(self.top, "heard")
-        body = f"time.sleep(4)\nwith open({heard!r}, 'wb') as target: target.write(sys.stdin.buffer.read())\n"
-        store = self.store(program=self.program(body))
-        store._timeout, sent = 0.3, {}
+        program, heard = self.program_that_waits()
+        session, sent = self.store(program=program)._session, {}
         for number in range(4):
             with self.assertRaises(confstore.TimedOut) as caught:
-                store.import_text(f"c{number}", "#" * (LONGEST_COMMAND // 2))
+                session.ask(b"names:\n#%d" % number + b"x" * (LONGEST_COMMAND // 2) + b"\n...\n", 0.3)
             sent[number] = caught.exception.sent
         self.assertEqual(sent, {0: True, 1: False, 2: False, 3: False})
-        store._session.close(PATIENCE)
-        with open(heard, "rb") as source:
-            content = source.read()
-        self.assertEqual({number: f"import: c{number}\n".encode() in content for number in range(4)}, sent)
+        content = heard(session)
+        self.assertEqual({number: b"#%dx" % number in content for number in range(4)}, sent)
 
 
 class Made(StoreTest):

@@ -12,8 +12,7 @@ import unittest
 import confstore
 from confstore import Reader, Store
 
-from . import TOP
-from .places import StoreTest
+from .places import StoreTest, python_path
 from .test_server import ServerTest
 
 PATIENCE = 20
@@ -102,7 +101,7 @@ class Forks(StoreTest):
     def test_a_parent_that_is_killed(self):
         for way in ("os", "multiprocessing"):
             words = [sys.executable, "-c", DYING, self.folder, way]
-            environment = {**os.environ, "PYTHONPATH": os.path.join(TOP, "python")}
+            environment = {**os.environ, "PYTHONPATH": python_path()}
             with subprocess.Popen(words, stdout=subprocess.PIPE, env=environment) as parent:
                 child = int(parent.stdout.readline())
             try:

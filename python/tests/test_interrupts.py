@@ -62,15 +62,13 @@ with open({self.heard!r}, "ab", 0) as target:
 
     def test_what_is_not_sent_yet(self):
         """It is withdrawn: a program that goes on later does not hear of it."""
-        body = f"time.sleep(3)\nwith open({self.heard!r}, 'wb') as target: target.write(sys.stdin.buffer.read())\n"
-        store = self.store(program=self.program(body))
+        program, heard = self.program_that_waits()
+        store = self.store(program=program)
         long = b"import: long\n#" + b"x" * (LONGEST_COMMAND // 2) + b"\n...\n"
         self.interrupted(lambda: store._session.ask(long, PATIENCE))
         self.interrupted(lambda: store.set("a", "", "withdrawn"))
-        store.close()
-        with open(self.heard, "rb") as source:
-            heard = source.read()
-        self.assertEqual((b"import: long" in heard, b"withdrawn" in heard), (True, False))
+        content = heard(store._session)
+        self.assertEqual((b"import: long" in content, b"withdrawn" in content), (True, False))
 
     def test_opening(self):
         """The program that did not answer yet is gone when the exception is there."""
