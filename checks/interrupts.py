@@ -2,10 +2,10 @@
 """Raises exceptions from a signal handler in calls of the Python package, as Ctrl-C does, and looks at what was done.
 
 Each interruption hits one call of a store or a reader: `set`, `put`, `import_text`, `delete`, a batch, many batches,
-`checkpoint`, the calls that read, `close`, the end of `with`, the last use of a store, `reopen`, and the opening itself.
-One half comes from a timer, after a time that moves through the call and beyond it, every fourth of them twice in a row.
-The other half comes at a bytecode of the package, one after the other. Two threads use the same store meanwhile, and
-are never interrupted. After each interruption another call has to get its own answer.
+`checkpoint`, the calls that read, `close`, the end of `with`, the last use of a store, `reopen`, and the opening. One
+half comes from a timer, after a time that moves through the call and beyond it, every fourth of them twice in a row.
+The other half comes at any bytecode of the package. Two threads use the same store meanwhile, and are never
+interrupted. After each interruption another call has to get its own answer.
 
 At the end the records of the store are compared with what the calls were told: each command is there at most once, each
 that returned is there with the number that it returned, none is there that was not sent. No call may take longer than
@@ -442,8 +442,8 @@ class Block:
 
 # The kinds of calls, the cheap ones more than once.
 CHEAP = ["append", "put", "import_text", "delete", "batch", "batches", "get", "export", "names", "contains"]
-KINDS = [*CHEAP, "close", *CHEAP, "reopen", "leave", *CHEAP, "opening", "read_names", *CHEAP, "drop", "read_get", *CHEAP]
-KINDS += ["checkpoint", "read_log", *CHEAP, "read_at"]
+KINDS = [*CHEAP, "close", *CHEAP, "reopen", "leave", *CHEAP, "opening", "read_names", *CHEAP, "drop", "read_get"]
+KINDS += [*CHEAP, "checkpoint", "read_log", *CHEAP, "read_at"]
 
 
 def run_block(number, folder):
@@ -458,7 +458,8 @@ def block_of(number):
     """A block in a process of its own: its counts, and what was wrong."""
     with tempfile.TemporaryDirectory(dir=os.environ.get("INTERRUPTS_FOLDER")) as top:
         words = [sys.executable, os.path.abspath(__file__), "--block", str(number), "--folder", top]
-        done = subprocess.Popen(words, stdout=subprocess.PIPE, stderr=subprocess.PIPE, start_new_session=True, text=True)
+        streams = {"stdout": subprocess.PIPE, "stderr": subprocess.PIPE, "text": True}
+        done = subprocess.Popen(words, start_new_session=True, **streams)
         try:
             output, errors = done.communicate(timeout=LONGEST_BLOCK)
         except subprocess.TimeoutExpired:

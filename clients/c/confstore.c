@@ -55,6 +55,7 @@ struct confstore {
 static struct confstore *stores;
 static pthread_mutex_t stores_lock = PTHREAD_MUTEX_INITIALIZER;
 static pthread_once_t forks = PTHREAD_ONCE_INIT;
+static int forks_fault; /* no memory to look at forks */
 
 static const char *const STATUS_NAMES[] = {
     "CONFSTORE_OK",           "CONFSTORE_NO_MEMORY",        "CONFSTORE_NO_PROGRAM",   "CONFSTORE_NO_FOLDER",
@@ -126,7 +127,7 @@ static void after_fork_in_child(void) {
     pthread_mutex_unlock(&stores_lock);
 }
 
-static void look_at_forks(void) { pthread_atfork(before_fork, after_fork, after_fork_in_child); }
+static void look_at_forks(void) { forks_fault = pthread_atfork(before_fork, after_fork, after_fork_in_child); }
 
 /* Whether the store was opened by another process than this one; also one that was forked past what is above. */
 static bool is_forked(struct confstore *store) {
@@ -483,6 +484,7 @@ static enum confstore_status folder_status(const char *folder) {
 
 /* Starts a program. The lock of the stores is held. */
 static enum confstore_status start(const char *program, const char *folder, int timeout, struct confstore **store) {
+    if (forks_fault) return CONFSTORE_NO_MEMORY;
     struct ends ends = {{-1, -1}, {-1, -1}, {-1, -1}};
     if (!make_ends(&ends)) {
         close_ends(&ends);
@@ -524,6 +526,7 @@ enum confstore_status confstore_open(const char *program, const char *folder, in
 
 /* Makes the two ends of a connection, which is not connected yet. The lock of the stores is held. */
 static enum confstore_status make_connection(int timeout, struct confstore **store) {
+    if (forks_fault) return CONFSTORE_NO_MEMORY;
     int end = socket(AF_UNIX, SOCK_STREAM | SOCK_CLOEXEC, 0);
     int other = end < 0 ? -1 : fcntl(end, F_DUPFD_CLOEXEC, 3);
     *store = other < 0 ? NULL : new_store(-1, end, other, -1, timeout);

@@ -21,8 +21,8 @@
  * Needs C11 and a POSIX system with posix_spawn, pthread_atfork, pipe2 and MSG_NOSIGNAL, as Linux. A handle is used by
  * one thread at a time, and different handles by any threads. No call waits longer than `timeout` milliseconds, and 5
  * seconds for a program that has closed its output to be gone. No signal's disposition or mask is changed in this
- * process, and none is raised: commands go through a socket, which tells a closed other end without SIGPIPE. The program
- * gets an empty mask and a process group of its own, so the keys of a terminal don't end it.
+ * process, and none is raised: commands go through a socket, which tells a closed other end without SIGPIPE. The
+ * program gets an empty mask and a process group of its own, so the keys of a terminal don't end it.
  *
  * A forked process does not hold the sessions of the one it was forked from: its copies of their ends are closed by
  * fork. Each call of it on such a handle returns CONFSTORE_FORKED, and confstore_close frees the handle. That is why
@@ -101,8 +101,8 @@ enum confstore_status confstore_bytes_add(struct confstore_bytes *bytes, const c
 /* A session, or a connection to a server of one. */
 struct confstore;
 
-/* Starts `PROGRAM run --group FOLDER`, and awaits its first answer, so that a store that can't be opened is reported here.
- * A NULL program is that of the environment's CONFSTORE, or else "confstore"; it is looked for on the PATH. `*store` is
+/* Starts `PROGRAM run --group FOLDER`, and awaits its first answer, so that a store that can't be opened is reported
+ * here. A NULL program is that of the environment's CONFSTORE, or else "confstore"; it is looked for on the PATH. `*store` is
  * NULL unless this returns CONFSTORE_OK. */
 enum confstore_status confstore_open(const char *program, const char *folder, int timeout, struct confstore **store);
 

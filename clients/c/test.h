@@ -21,7 +21,8 @@ void write_file(const char *path, const char *content, int mode);
 void make_set(struct confstore_bytes *command, const char *path, const char *text, size_t length);
 
 /* The answer to a command. */
-struct confstore_answer ask(struct confstore *store, const char *command, size_t length, struct confstore_bytes *answer);
+struct confstore_answer ask(struct confstore *store, const char *command, size_t length,
+                            struct confstore_bytes *answer);
 struct confstore_answer ask_text(struct confstore *store, const char *command, struct confstore_bytes *answer);
 
 /* What is tried of texts, without a store and over one. */

@@ -3,7 +3,8 @@
  *     test_confstore PROGRAM FOLDER [SOCKET]
  *
  * FOLDER is an empty folder, SOCKET that of a server of another store, if there is one. The last line is
- * 'N passed, M failed', and the status is 0 if M is 0. checks/clients.sh builds it of all files here, with -Wl,--wrap=realloc and -Wl,--wrap=calloc, under the sanitizers, and runs it. */
+ * 'N passed, M failed', and the status is 0 if M is 0. checks/clients.sh builds it of all files here, with
+ * -Wl,--wrap=realloc and -Wl,--wrap=calloc, under the sanitizers, and runs it. */
 #define _GNU_SOURCE
 #include "test.h"
 

@@ -111,8 +111,8 @@ void forks(const char *program, const char *served) {
     a_parent_that_dies(program, folder);
 }
 
-/* A program in shell that answers the first command, and goes on as its body says: what the second one is told, and what
- * later ones are, and closing. */
+/* A program in shell that answers the first command, and goes on as its body says: what the second one is told, and
+ * what later ones are, and closing. */
 static void endless(const char *body, int timeout, enum confstore_status asked, enum confstore_status closed) {
     char script[1024];
     struct confstore *store;
@@ -133,8 +133,8 @@ static void endless(const char *body, int timeout, enum confstore_status asked, 
     confstore_bytes_free(&answer);
 }
 
-/* What is said without an end is not kept without a bound, and does not keep a call from its time. Each goes on for half
- * a minute, unless it is ended. */
+/* What is said without an end is not kept without a bound, and does not keep a call from its time. Each goes on for
+ * half a minute, unless it is ended. */
 void endless_programs(void) {
     static const struct {
         const char *body;

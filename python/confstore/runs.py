@@ -1,5 +1,5 @@
-"""Runs of the program that print and end, each in a thread of its own: whatever exception a signal handler raises in the
-call that waits for one, nothing of the run is left half done."""
+"""Runs of the program that print and end, each in a thread of its own: whatever exception a signal handler raises in
+the call that waits for one, nothing of the run is left half done."""
 
 from __future__ import annotations
 

@@ -51,8 +51,8 @@ class StoreTest(unittest.TestCase):
         return path
 
     def program_that_waits(self):
-        """A program that reads nothing before it is let, and a call that lets it, closes its session and returns all that
-        it then was sent."""
+        """A program that reads nothing before it is let, and a call that lets it, closes its session, and returns all
+        that it was sent."""
         go, heard = os.path.join(self.top, "go"), os.path.join(self.top, "sent")
         body = f"while not os.path.exists({go!r}): time.sleep(0.01)\n"
         body += f"with open({heard!r}, 'wb') as target: target.write(sys.stdin.buffer.read())\n"

@@ -24,8 +24,8 @@ PATIENCE = 20
 class Answers(StoreTest):
     def test_the_longest_answer(self):
         for more in (0, 1):
-            body = f"heard()\nsay(b'x' * {LONGEST_ANSWER - 5 + more})\nsay(b'\\n...\\n')\nheard()\n"
-            body = body.replace("say(b'x'", "sys.stdout.buffer.write(b'x'").replace("\nsay", "; sys.stdout.flush()\nsay")
+            body = f"heard()\nsys.stdout.buffer.write(b'x' * {LONGEST_ANSWER - 5 + more} + b'\\n...\\n')\n"
+            body += "sys.stdout.flush()\nheard()\n"
             session = self.store(program=self.program(body))._session
             if more == 0:
                 self.assertEqual(len(session.ask(b"...\n", 60)), LONGEST_ANSWER)

@@ -90,7 +90,8 @@ class Forks(StoreTest):
     def test_children_of_multiprocessing(self):
         store = self.store()
         store["a"] = "x"
-        with multiprocessing.get_context("fork").Pool(2, initializer=globals().__setitem__, initargs=("held", store)) as pool:
+        fork = multiprocessing.get_context("fork")
+        with fork.Pool(2, initializer=globals().__setitem__, initargs=("held", store)) as pool:
             found = pool.map(in_pool, range(4))
             self.assertEqual(found, [CLOSED] * 4)
             self.assertEqual(store["a"], "x")

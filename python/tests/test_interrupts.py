@@ -60,6 +60,13 @@ with open({self.heard!r}, "ab", 0) as target:
         self.interrupted(lambda: store.perform_batches([[{"delete": "a", "path": ""}]] * 2))
         self.assertEqual((store.set("a", "", "third"), self.heard_sets()), (5, ["first", "second", "third"]))
 
+    def test_a_handler_that_uses_the_store(self):
+        """It may, in the middle of a call, and each gets its own answer."""
+        store, found = self.store(program=self.slow_program(0.5)), []
+        signal.signal(signal.SIGALRM, lambda *_: found.append(store.set("a", "", "handler")))
+        signal.setitimer(signal.ITIMER_REAL, 0.2)
+        self.assertEqual((store.set("a", "", "call"), found, self.heard_sets()), (1, [2], ["call", "handler"]))
+
     def test_what_is_not_sent_yet(self):
         """It is withdrawn: a program that goes on later does not hear of it."""
         program, heard = self.program_that_waits()

@@ -115,8 +115,11 @@ class Style(unittest.TestCase):
         for text in (*(color.value for color in Color), *(text for text, _ in SCALARS)):
             odd = Odd(text)
             for plain, other in (
-                (text, odd), ([text, "a"], [odd, "a"]), ({text: text}, {odd: odd}), ({"a": [{text: []}]}, {"a": [{odd: []}]})
-            ):  # fmt: skip
+                (text, odd),
+                ([text, "a"], [odd, "a"]),
+                ({text: text}, {odd: odd}),
+                ({"a": [{text: []}]}, {"a": [{odd: []}]}),
+            ):
                 self.assertEqual(to_text(other), to_text(plain))
                 self.assertEqual(document(other), document(plain))
             self.assertEqual(scalar(odd), scalar(text))
