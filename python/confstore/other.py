@@ -9,7 +9,7 @@ import select
 import socket
 import subprocess
 import time
-from typing import List, Optional, Sequence, Set, Tuple, Union
+from typing import List, NamedTuple, Optional, Sequence, Set, Tuple, Union
 
 from .faults import AnswerCut, ConfstoreError, Disconnected, end_of, program_fault
 
@@ -70,8 +70,18 @@ class _Making:
             pass  # a fork, whose wait for the lock was interrupted, has released it
 
 
+class Gone(NamedTuple):
+    """A process that is over. It stands for the one that `subprocess` made, which runs bytecode when it is collected: an
+    exception of a signal handler would be lost there."""
+
+    pid: int
+    returncode: Optional[int]
+
+
 class Program:
     """A program that is a session over its standard streams."""
+
+    process: "subprocess.Popen[bytes] | Gone"
 
     def __init__(self, words: Sequence[str]) -> None:
         with _Making(self):
@@ -108,10 +118,13 @@ class Program:
         shut(self._commands, socket.SHUT_WR)
 
     def kill(self) -> None:
-        self.process.kill()
+        process = self.process
+        if not isinstance(process, Gone):
+            process.kill()
 
     def end(self, errors: bytearray, cut: bool) -> ConfstoreError:
         """Why the program, which has closed its output, is over. `errors` is what was read of standard error."""
+        assert not isinstance(self.process, Gone)
         status = finished(self.process, self.errors, errors)
         return end_of(status, bytes(errors), cut)
 
@@ -120,10 +133,12 @@ class Program:
         self._commands.close()
         for stream in self._streams:
             stream.close()
+        self.process = Gone(self.process.pid, self.process.returncode)
 
     def let_go(self) -> None:
         """Closes a forked process's copies."""
-        self.process.returncode = 0  # it is no child of this process, which is not to ask for it
+        if not isinstance(self.process, Gone):
+            self.process.returncode = 0  # it is no child of this process, which is not to ask for it
         self.close()
 
 

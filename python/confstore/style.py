@@ -35,6 +35,7 @@ _ESCAPES = {
 }  # fmt: skip
 
 _LOADER: Any = getattr(yaml, "CBaseLoader", yaml.BaseLoader)
+_parse: Any = yaml.parse
 
 
 def text_of(text: str) -> str:
@@ -199,7 +200,7 @@ class _Builder:
             raise BadAnswer("a key is no text, or is there twice")
 
 
-def _check_plain(event: yaml.Event) -> None:
+def _check_plain(event: Any) -> None:
     if event.anchor is not None or event.tag is not None:
         raise BadAnswer("an anchor or a tag is part of no tree")
 
@@ -207,7 +208,7 @@ def _check_plain(event: yaml.Event) -> None:
 def trees_of(text: Union[str, bytes]) -> List[Tree]:
     """The trees of a stream of documents in the one style. Raises `BadAnswer`, or what PyYAML raises, for others."""
     builder = _Builder()
-    for event in yaml.parse(text, Loader=_LOADER):
+    for event in _parse(text, Loader=_LOADER):
         builder.take(event)
     return builder.trees
 
