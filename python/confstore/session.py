@@ -98,8 +98,8 @@ class _Line:
         self._begin = _thread.allocate_lock()
 
     def put(self, order: str, slots: Sequence[_Slot]) -> None:
-        """Has the session's thread do something. The thread is started by whoever comes first, or is interrupted least:
-        one that is started twice ends at once."""
+        """Has the session's thread do something. Each call starts it until it has begun, since the one before may have
+        been interrupted; a second one ends at once."""
         self.queue.put((order, slots))
         if not self.is_begun and self.end is None:
             try:

@@ -6,6 +6,7 @@ import os
 import signal
 import subprocess
 import sys
+import threading
 import time
 import unittest
 
@@ -142,6 +143,29 @@ class Forks(StoreTest):
         found = [self.child(lambda: tries(store)) for _ in range(3)]
         self.assertEqual(found, [repr(CLOSED)] * 3)
         self.assertEqual([store.set("l", "/-", str(number)) for number in range(3)], [2, 3, 4])
+
+    def test_forks_while_stores_are_opened(self):
+        """No fork has a socket, wherever the opening of a store in another thread was."""
+        stop, opened, found = threading.Event(), [], []
+
+        def open_stores():
+            while not stop.is_set():
+                Store(self.folder).close()
+                opened.append(None)
+
+        thread = threading.Thread(target=open_stores)
+        thread.start()
+        for number in range(100):
+            time.sleep(number % 10 / 1000)
+            child = os.fork()
+            if child == 0:
+                names = [f"/proc/self/fd/{name}" for name in os.listdir("/proc/self/fd")]
+                links = [os.readlink(name) for name in names if os.path.lexists(name)]
+                os._exit(sum(link.startswith("socket:") for link in links))
+            found.append(os.waitstatus_to_exitcode(os.waitpid(child, 0)[1]))
+        stop.set()
+        thread.join(PATIENCE)
+        self.assertEqual((set(found), thread.is_alive(), len(opened) > 3), ({0}, False, True))
 
     def test_a_child_has_its_own_stores(self):
         self.store()

@@ -1,12 +1,13 @@
 """Exceptions that a signal handler raises in a call. `checks/interrupts.py` tries all calls at all places."""
 
+import _thread
 import os
 import signal
 import time
 import unittest
 
 import confstore
-from confstore import Store
+from confstore import Reader, Store
 from confstore.session import LONGEST_COMMAND, Cutter
 
 from .places import StoreTest
@@ -119,7 +120,18 @@ with open({self.heard!r}, "ab", 0) as target:
         store.reopen()
         self.assertEqual((store["a"], store.checkpoint()), ("y", 2))
 
-    def test_no_thread_and_no_memory(self):
+    def test_no_thread(self):
+        def refuse(*_):
+            raise RuntimeError("can't start new thread")
+
+        self.addCleanup(setattr, _thread, "start_new_thread", _thread.start_new_thread)
+        self.store()
+        _thread.start_new_thread = refuse
+        for call in (lambda: Store(self.folder), Reader(self.folder).names):
+            with self.assertRaises(confstore.NotStarted):
+                call()
+
+    def test_a_thread_that_can_not_send(self):
         """A session whose thread can't send is given up too."""
         store = self.store()
 
