@@ -246,19 +246,16 @@ class Block:
         self.told.append((edits, found if isinstance(found, int) else None))
 
     def checkpoint(self, _):
-        """The list is compared beside, since the records go."""
-        return self.at_other(lambda store: store.checkpoint(), 1)
-
-    def at_other(self, call, wanted):
+        """It is one of another store, since the records go with it."""
         store = opened(self.other)
-        store.put("n", "x") if store.checkpoint() == 0 else None
+        wanted = store.put("n", "x")
 
         def told(found):
             self.expect("checkpoint", found, wanted)
             self.expect("after a checkpoint", (store.get("n"), store.checkpoint()), ("x", wanted))
             store.close()
 
-        return lambda: call(store), told
+        return store.checkpoint, told
 
     def reading(self, name, call, wanted):
         return call, lambda found: self.expect(name, found, wanted)
@@ -285,7 +282,9 @@ class Block:
         return self.reading("Reader.get", lambda: Reader(self.folder).get(name), VALUES[name])
 
     def read_log(self, _):
-        call = lambda: [record.number for record in Reader(self.folder).log()][: self.setup]  # noqa: E731
+        def call():
+            return [record.number for record in Reader(self.folder).log()][: self.setup]
+
         return self.reading("Reader.log", call, list(range(1, self.setup + 1)))
 
     def read_at(self, _):
