@@ -11,7 +11,7 @@ At the end the records of the store are compared with what the calls were told: 
 that returned is there with the number that it returned, none is there that was not sent. No call may take longer than
 20 seconds, and no process may be left behind.
 
-Run it from the repository's root after the program is built; it takes half a minute, or some minutes for 10,000:
+Run it from the repository's root after the program is built; it takes ten seconds, or two minutes for 10,000:
 
     ./confstore --version && python3 checks/interrupts.py [--interruptions 10000] [--seed NUMBER]
 
