@@ -133,7 +133,7 @@ class _Line:
             _thread.start_new_thread(self._listen, (self.other,))
             return True
         except ConfstoreError as fault:
-            self.heard = fault
+            self.heard = fault.with_traceback(None)
         except BaseException as fault:
             self.give_up(fault)
             if self.other is not None:
