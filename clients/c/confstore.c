@@ -51,7 +51,7 @@ struct confstore {
 };
 
 /* The stores that are open in this process. A forked process closes its copies of their ends, so that it does not hold
- * the sessions. The lock is held while a store is opened, so that no fork comes between its ends and its place here. */
+ * the sessions. The lock is held while ends are made or closed, so that no fork comes between them and what is here. */
 static struct confstore *stores;
 static pthread_mutex_t stores_lock = PTHREAD_MUTEX_INITIALIZER;
 static pthread_once_t forks = PTHREAD_ONCE_INIT;
@@ -106,6 +106,13 @@ static void forget_store(struct confstore *store) {
     if (store->before) store->before->after = store->after;
     else stores = store->after;
     if (store->after) store->after->before = store->before;
+    pthread_mutex_unlock(&stores_lock);
+}
+
+/* Closes an end of a store. A fork copies the files of a process before its memory, so none may come between. */
+static void close_store_end(int *end) {
+    pthread_mutex_lock(&stores_lock);
+    close_end(end);
     pthread_mutex_unlock(&stores_lock);
 }
 
@@ -168,7 +175,7 @@ static bool take_errors(struct confstore *store) {
     ssize_t count = read(store->errors, part, sizeof part);
     if (count < 0 && (errno == EINTR || errno == EAGAIN)) return errno == EINTR;
     if (count <= 0) {
-        close_end(&store->errors);
+        close_store_end(&store->errors);
         return false;
     }
     size_t new = (size_t)count, kept = store->error_length;
@@ -218,9 +225,9 @@ static enum confstore_status finish(struct confstore *store) {
     enum confstore_status named = named_end(store);
     bool is_cut = store->got.length > store->whole;
     store->ended = named == CONFSTORE_ENDED && is_cut ? CONFSTORE_ANSWER_CUT : named;
-    close_end(&store->to);
-    close_end(&store->from);
-    close_end(&store->errors);
+    close_store_end(&store->to);
+    close_store_end(&store->from);
+    close_store_end(&store->errors);
     return store->ended;
 }
 

@@ -2,10 +2,13 @@
 #define _GNU_SOURCE
 #include "test.h"
 
+#include <pthread.h>
 #include <signal.h>
+#include <stdatomic.h>
 #include <stdio.h>
 #include <stdlib.h>
 #include <string.h>
+#include <sys/stat.h>
 #include <sys/syscall.h>
 #include <sys/wait.h>
 #include <time.h>
@@ -101,8 +104,51 @@ static void a_parent_that_dies(const char *program, const char *folder) {
     if (last > 0) kill(last, SIGKILL);
 }
 
+/* A thread that opens stores until it is to stop, and counts them. */
+struct opener {
+    const char *program, *folder;
+    atomic_int is_over, count;
+};
+
+static void *open_stores(void *argument) {
+    struct opener *opener = argument;
+    while (!opener->is_over) {
+        struct confstore *store;
+        opener->count += confstore_open(opener->program, opener->folder, PATIENCE, &store) == CONFSTORE_OK;
+        confstore_close(store, NULL);
+    }
+    return NULL;
+}
+
+/* No forked process has a socket, wherever the opening of a store by another thread was. */
+static void forks_beside_opening(const char *program, const char *folder) {
+    struct opener opener = {.program = program, .folder = folder};
+    pthread_t thread;
+    int held = 0;
+    if (pthread_create(&thread, NULL, open_stores, &opener) != 0) perror("thread");
+    fflush(stdout);
+    for (int turn = 0; turn < 100; turn++) {
+        usleep((useconds_t)(turn % 10) * 1000);
+        pid_t child = fork();
+        if (child == 0) {
+            struct stat found;
+            int sockets = 0;
+            for (int file = 0; file < 100; file++) sockets += fstat(file, &found) == 0 && S_ISSOCK(found.st_mode);
+            _exit(sockets);
+        }
+        int status = -1;
+        waitpid(child, &status, 0);
+        held += status != 0;
+    }
+    opener.is_over = 1;
+    pthread_join(thread, NULL);
+    expect("forks that hold a session", held, 0);
+    expect("stores were opened meanwhile", opener.count > 3, 1);
+}
+
 void forks(const char *program, const char *served) {
     const char *folder = folder_of("forks");
+    forks_beside_opening(program, folder);
     a_child_that_closes(opened(program, folder));
     if (served) a_child_that_closes(opened(NULL, served));
 #ifdef SYS_fork

@@ -26,7 +26,7 @@ LOOK = 0.02
 CLOSING = b"...\n"
 
 # The sides that are open in this process. A forked process closes its copies, so that it does not hold the session.
-# The lock is held while a side is made, so that no fork comes between that and its place here.
+# The lock is held while a side is made or closed, so that no fork comes between that and its place here.
 _sides: Set["Other"] = set()
 _making = _thread.allocate_lock()
 
@@ -52,18 +52,13 @@ class Cutter:
         return pieces
 
 
-class _Making:
-    """Keeps forks away while a side is made, and notes it once it is."""
-
-    def __init__(self, side: "Other") -> None:
-        self._side = side
+class _WithoutForks:
+    """Keeps forks away while a side is made or closed."""
 
     def __enter__(self) -> None:
         _making.acquire()
 
-    def __exit__(self, kind: object, *_: object) -> None:
-        if kind is None:
-            _sides.add(self._side)
+    def __exit__(self, *_: object) -> None:
         try:
             _making.release()
         except RuntimeError:
@@ -84,8 +79,9 @@ class Program:
     process: "subprocess.Popen[bytes] | Gone"
 
     def __init__(self, words: Sequence[str]) -> None:
-        with _Making(self):
+        with _WithoutForks():
             self._start(words)
+            _sides.add(self)
         self._commands.setblocking(False)
         os.set_blocking(self.answers, False)
         os.set_blocking(self.errors, False)
@@ -129,10 +125,11 @@ class Program:
         return end_of(status, bytes(errors), cut)
 
     def close(self) -> None:
-        _sides.discard(self)
-        self._commands.close()
-        for stream in self._streams:
-            stream.close()
+        with _WithoutForks():
+            _sides.discard(self)
+            self._commands.close()
+            for stream in self._streams:
+                stream.close()
         self.process = Gone(self.process.pid, self.process.returncode)
 
     def let_go(self) -> None:
@@ -148,11 +145,12 @@ class Server:
     errors: Optional[int] = None
 
     def __init__(self, path: str, timeout: float) -> None:
-        with _Making(self):
+        with _WithoutForks():
             try:
                 self._connection = socket.socket(socket.AF_UNIX)
             except OSError as error:
                 raise Disconnected(f"no socket for {path}: {error.strerror}") from None
+            _sides.add(self)
         try:
             self._connection.settimeout(timeout)
             self._connection.connect(path)
@@ -184,8 +182,9 @@ class Server:
         return AnswerCut(f"{about} in the middle of an answer") if cut else Disconnected(about)
 
     def close(self) -> None:
-        _sides.discard(self)
-        self._connection.close()
+        with _WithoutForks():
+            _sides.discard(self)
+            self._connection.close()
 
     def let_go(self) -> None:
         """Closes a forked process's copy."""
