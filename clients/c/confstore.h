@@ -102,8 +102,8 @@ enum confstore_status confstore_bytes_add(struct confstore_bytes *bytes, const c
 struct confstore;
 
 /* Starts `PROGRAM run --group FOLDER`, and awaits its first answer, so that a store that can't be opened is reported
- * here. A NULL program is that of the environment's CONFSTORE, or else "confstore"; it is looked for on the PATH. `*store` is
- * NULL unless this returns CONFSTORE_OK. */
+ * here. A NULL program is that of the environment's CONFSTORE, or else "confstore"; it is looked for on the PATH.
+ * `*store` is NULL unless this returns CONFSTORE_OK. */
 enum confstore_status confstore_open(const char *program, const char *folder, int timeout, struct confstore **store);
 
 /* The same for a server on a Unix socket, as clients/serve.py is one. */

@@ -170,7 +170,8 @@ void values(struct confstore *store) {
 static size_t make_text(unsigned number, char *text) {
     static const char SIGNS[] = "a \n\"|-";
     size_t length = 0;
-    for (unsigned rest = number / 8; rest > 0; rest /= sizeof SIGNS - 1) text[length++] = SIGNS[rest % (sizeof SIGNS - 1)];
+    const unsigned count = sizeof SIGNS - 1;
+    for (unsigned rest = number / 8; rest > 0; rest /= count) text[length++] = SIGNS[rest % count];
     for (unsigned feeds = number % 8; feeds > 0; feeds--) text[length++] = '\n';
     return length;
 }

@@ -66,8 +66,8 @@ class _WithoutForks:
 
 
 class Gone(NamedTuple):
-    """A process that is over. It stands for the one that `subprocess` made, which runs bytecode when it is collected: an
-    exception of a signal handler would be lost there."""
+    """A process that is over. It stands for the one that `subprocess` made, which runs bytecode when it is collected:
+    an exception of a signal handler would be lost there."""
 
     pid: int
     returncode: Optional[int]
