@@ -145,7 +145,8 @@ def main():
         sys.exit("the program is not built: run ./confstore --version first")
     library = os.path.join(TOP, "clients", "c")
     with tempfile.TemporaryDirectory() as top:
-        client = built(top, "confstore_client", os.path.join(library, "confstore.c"), f"-I{library}")
+        sources = [os.path.join(library, name) for name in ("confstore.c", "confstore_text.c")]
+        client = built(top, "confstore_client", *sources, f"-I{library}")
         peer = built(top, "sqlite_client", "-lsqlite3")
         if client is None:
             sys.exit("the client in C was not built: a C compiler is needed")

@@ -10,6 +10,7 @@
 #   of its own and over a socket.
 # - Sixteen clients of one session that is killed and started again.
 # - The types of the server and of its trials, where mypy is installed, and the server's bounds, socket, faults and ends.
+# - Exceptions from signal handlers in each call of the Python package.
 # - The settings for editors, the hook, the examples, the page of a log, the completions, the man pages, and a Debian
 #   package.
 #
@@ -67,7 +68,8 @@ try_install() {
     rm -rf "$folder/clone/python/build" "$folder/clone/python/"*.egg-info
     mkdir "$folder/installed"
     cd "$folder/installed" && PYTHONPATH=$folder/site "$python" - <<'END'
-import os, confstore
+import importlib.metadata, os, confstore
+assert importlib.metadata.version("confstore") == confstore.__version__
 assert os.path.exists(os.path.join(os.path.dirname(confstore.__file__), "py.typed"))
 with confstore.Store("store", make=True) as store:
     store["web"] = {"port": "80"}
@@ -93,7 +95,7 @@ export -f readme_lines
 step "the lines of clients/README.md" 120 bash -c readme_lines
 
 warnings=(-std=c11 -Wall -Wextra -Wpedantic -Wconversion -Wshadow -Werror -g -O1)
-sources=(clients/c/confstore.c clients/c/test_confstore.c "-Wl,--wrap=realloc" "-Wl,--wrap=calloc")
+sources=(clients/c/*.c "-Wl,--wrap=realloc" "-Wl,--wrap=calloc" -pthread)
 mkdir "$folder/served"
 "$python" clients/serve.py "$folder/socket" "$folder/served" &
 server=$!
@@ -119,6 +121,7 @@ server=
 if has mypy; then step "the types of the server and its trials" 120 bash -c server_types; fi
 step "sixteen clients of a session that is killed and started again" 300 "$python" checks/many_clients.py
 step "the server: clients, the socket, faults and signals" 300 "$python" checks/server.py
+step "exceptions from signal handlers" 900 "$python" checks/interrupts.py
 step "editors, the hook and the examples" 300 "$python" checks/editors.py
 step "the page of a log" 300 "$python" checks/page.py
 step "completions" 300 "$python" checks/completions.py

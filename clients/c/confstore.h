@@ -18,11 +18,17 @@
  * `ok` was taken, its command is on the disk. When a session ends, what was answered stands; of a command that was sent
  * and not answered, open the store again and look.
  *
- * Needs C11 and a POSIX system with posix_spawn, pipe2 and MSG_NOSIGNAL, as Linux. There is no global state. A handle
- * is used by one thread at a time, and different handles by any threads. No call waits longer than `timeout`
- * milliseconds, and 5 seconds for a program that has closed its output to be gone. No signal's disposition or mask is
- * changed in this process, and none is raised: commands go through a socket, which tells a closed other end without
- * SIGPIPE. The program gets an empty mask and a process group of its own, so the keys of a terminal don't end it.
+ * Needs C11 and a POSIX system with posix_spawn, pthread_atfork, pipe2 and MSG_NOSIGNAL, as Linux. A handle is used by
+ * one thread at a time, and different handles by any threads. No call waits longer than `timeout` milliseconds, and 5
+ * seconds for a program that has closed its output to be gone. No signal's disposition or mask is changed in this
+ * process, and none is raised: commands go through a socket, which tells a closed other end without SIGPIPE. The
+ * program gets an empty mask and a process group of its own, so the keys of a terminal don't end it.
+ *
+ * A forked process does not hold the sessions of the one it was forked from: its copies of their ends are closed by
+ * fork. Each call of it on such a handle returns CONFSTORE_FORKED, and confstore_close frees the handle. That is why
+ * there is a list of the open stores, which is the only global state. A signal handler may not fork.
+ *
+ * SPDX-License-Identifier: Apache-2.0
  */
 #ifndef CONFSTORE_H
 #define CONFSTORE_H
@@ -37,6 +43,9 @@ extern "C" {
 /* The longest command that a session takes, with its closing line. */
 #define CONFSTORE_LONGEST_COMMAND ((size_t)16777216)
 
+/* The longest answer that a session gives, with its closing line. */
+#define CONFSTORE_LONGEST_ANSWER ((size_t)67108864)
+
 /* What a call returns. */
 enum confstore_status {
     CONFSTORE_OK,
@@ -44,6 +53,8 @@ enum confstore_status {
     CONFSTORE_NO_MEMORY,        /* malloc refused */
     CONFSTORE_NO_PROGRAM,       /* there is no such program, or it can't be run */
     CONFSTORE_NO_FOLDER,        /* there is no such folder */
+    CONFSTORE_BAD_PATH,         /* a path is too long, a loop of links, or may not be looked at */
+    CONFSTORE_NOT_STARTED,      /* the system did not start the program, as with too many or too long words */
     CONFSTORE_NO_SERVER,        /* no server takes clients at the socket */
     CONFSTORE_NO_PIPE,          /* the system gave no pipe or socket */
     CONFSTORE_NOT_TEXT,         /* the bytes are not UTF-8, or have a surrogate: no YAML can hold them */
@@ -53,9 +64,11 @@ enum confstore_status {
     CONFSTORE_NOTHING_DUE,      /* every command that was sent is answered */
     /* Of the session, which goes on. */
     CONFSTORE_TIMED_OUT, /* no answer in time: take it later; or a command could not be sent whole: close the store */
-    /* Of the session, which is over. Every later call returns the same. */
-    CONFSTORE_BAD_ANSWER,    /* what came is no answer of a session */
+    /* Of the session, which is over, or another process's. Every later call returns the same. */
+    CONFSTORE_FORKED,        /* the store was opened by another process, from which this one was forked */
+    CONFSTORE_BAD_ANSWER,    /* what came is no answer of a session, or is one to no command */
     CONFSTORE_ANSWER_CUT,    /* it ended in the middle of an answer */
+    CONFSTORE_ANSWER_LONG,   /* an answer was longer than one of a session is, and the session was ended */
     CONFSTORE_ENDED,         /* it ended, and did not say why: as by a signal, or since the server closed */
     CONFSTORE_DEVICE,        /* Device: a call of the system failed */
     CONFSTORE_LOCKED,        /* Locked: another run holds the folder */
@@ -81,12 +94,16 @@ struct confstore_bytes {
 /* Frees the bytes, and makes them empty. */
 void confstore_bytes_free(struct confstore_bytes *bytes);
 
+/* Makes room for so many more bytes; and writes them at the end. */
+enum confstore_status confstore_bytes_reserve(struct confstore_bytes *bytes, size_t more);
+enum confstore_status confstore_bytes_add(struct confstore_bytes *bytes, const char *more, size_t length);
+
 /* A session, or a connection to a server of one. */
 struct confstore;
 
-/* Starts `PROGRAM run --group FOLDER`, and awaits its first answer, so that a store that can't be opened is reported here.
- * A NULL program is that of the environment's CONFSTORE, or else "confstore"; it is looked for on the PATH. `*store` is
- * NULL unless this returns CONFSTORE_OK. */
+/* Starts `PROGRAM run --group FOLDER`, and awaits its first answer, so that a store that can't be opened is reported
+ * here. A NULL program is that of the environment's CONFSTORE, or else "confstore"; it is looked for on the PATH.
+ * `*store` is NULL unless this returns CONFSTORE_OK. */
 enum confstore_status confstore_open(const char *program, const char *folder, int timeout, struct confstore **store);
 
 /* The same for a server on a Unix socket, as clients/serve.py is one. */
@@ -110,7 +127,9 @@ enum confstore_status confstore_ask(struct confstore *store, const char *command
 enum confstore_status confstore_close(struct confstore *store, int *status);
 
 /* Writes a text as a value in the one style of docs/STYLE.md, at the end of the bytes: a word, lines after a header, or
- * in double quotes. Lines are indented by so many spaces. No line feed comes after it. */
+ * in double quotes. Lines are indented by so many spaces. The line feed that ends it is written too, so what is written
+ * is what an answer has as its value, and what confstore_read_text reads back: where a text ends in more than one line
+ * feed, another one after it would be part of the text. */
 enum confstore_status confstore_write_text(struct confstore_bytes *to, const char *text, size_t length,
                                            size_t indentation);
 
@@ -125,8 +144,9 @@ enum confstore_status confstore_write_pair(struct confstore_bytes *to, const cha
 enum confstore_status confstore_begin(struct confstore_bytes *command);
 enum confstore_status confstore_end(struct confstore_bytes *command);
 
-/* Reads back a scalar of the one style, perhaps with a line feed after it, and writes its text at the end of the
- * bytes. What is there already stays. */
+/* Reads back a scalar of the one style, with the line feed that ends it, and writes its text at the end of the bytes.
+ * What is there already stays. Where a text ends in at most one line feed, the one that ends the scalar may be missing.
+ */
 enum confstore_status confstore_read_text(const char *written, size_t length, struct confstore_bytes *to);
 
 /* What an answer says. */

@@ -3,10 +3,10 @@
  *     test_confstore PROGRAM FOLDER [SOCKET]
  *
  * FOLDER is an empty folder, SOCKET that of a server of another store, if there is one. The last line is
- * 'N passed, M failed', and the status is 0 if M is 0. checks/clients.sh builds it, with -Wl,--wrap=realloc and
- * -Wl,--wrap=calloc, under the sanitizers, and runs it. */
+ * 'N passed, M failed', and the status is 0 if M is 0. checks/clients.sh builds it of all files here, with
+ * -Wl,--wrap=realloc and -Wl,--wrap=calloc, under the sanitizers, and runs it. */
 #define _GNU_SOURCE
-#include "confstore.h"
+#include "test.h"
 
 #include <fcntl.h>
 #include <signal.h>
@@ -20,7 +20,6 @@
 
 #define PATIENCE 60000
 #define COMMANDS 1000
-#define CHANGED 100000
 
 /* How many allocations of the library succeed before one is refused; negative: all. The linker puts these calls in the
  * place of the C library's (--wrap). */
@@ -46,7 +45,7 @@ void *__wrap_calloc(size_t count, size_t size) { return refuses() ? NULL : __rea
 static int passed, failed;
 static const char *program, *top;
 
-static void expect(const char *name, long found, long wanted) {
+void expect(const char *name, long found, long wanted) {
     if (found == wanted) {
         passed++;
         return;
@@ -55,19 +54,19 @@ static void expect(const char *name, long found, long wanted) {
     printf("WRONG %s: %ld instead of %ld\n", name, found, wanted);
 }
 
-static void expect_status(const char *name, enum confstore_status found, enum confstore_status wanted) {
+void expect_status(const char *name, enum confstore_status found, enum confstore_status wanted) {
     if (found != wanted) printf("%s: %s\n", name, confstore_status_name(found));
     expect(name, (long)found, (long)wanted);
 }
 
-static void expect_bytes(const char *name, const char *found, size_t length, const char *wanted, size_t wanted_length) {
+void expect_bytes(const char *name, const char *found, size_t length, const char *wanted, size_t wanted_length) {
     int is_same = length == wanted_length && (length == 0 || !memcmp(found, wanted, length));
     if (!is_same) printf("%s: %.*s\n", name, (int)length, found ? found : "");
     expect(name, is_same, 1);
 }
 
 /* A path in the folder. Two are kept at a time. */
-static const char *path_of(const char *name) {
+const char *path_of(const char *name) {
     static char paths[2][4096];
     static int turn;
     turn = !turn;
@@ -75,154 +74,22 @@ static const char *path_of(const char *name) {
     return paths[turn];
 }
 
-static const char *folder_of(const char *name) {
+const char *folder_of(const char *name) {
     const char *path = path_of(name);
     if (mkdir(path, 0777) != 0) perror(path);
     return path;
 }
 
-static void write_file(const char *path, const char *content, int mode) {
+void write_file(const char *path, const char *content, int mode) {
     int file = open(path, O_WRONLY | O_CREAT | O_TRUNC | O_CLOEXEC, mode);
     if (file < 0 || write(file, content, strlen(content)) < 0) perror(path);
     close(file);
 }
 
-/* Scalars. */
-
-struct row {
-    const char *text;
-    size_t length;
-    const char *written;
-};
-
-#define ROW(text, written)                                                                                             \
-    { text, sizeof text - 1, written }
-
-/* Texts with what they are as values, indented by two, worked out by hand from docs/STYLE.md. */
-static const struct row ROWS[] = {
-    ROW("", "\"\""),
-    ROW("example", "example"),
-    ROW("a-b_c/d.e", "a-b_c/d.e"),
-    ROW("80", "\"80\""),
-    ROW("a b", "\"a b\""),
-    ROW("True", "\"True\""),
-    ROW("n", "\"n\""),
-    ROW("nn", "nn"),
-    ROW("\"\\", "\"\\\"\\\\\""),
-    ROW("\0\a\b\t\v\f\r\x1b\x01\x7f\xc2\x85", "\"\\0\\a\\b\\t\\v\\f\\r\\e\\x01\\x7F\\x85\""),
-    ROW("\xe2\x80\xa8\xef\xbb\xbf\xef\xbf\xbe", "\"\\u2028\\uFEFF\\uFFFE\""),
-    ROW("\xc3\xa4\xf0\x9d\x84\x9e", "\"\xc3\xa4\xf0\x9d\x84\x9e\""),
-    ROW("a\nb", "|-\n  a\n  b"),
-    ROW("a\n", "|\n  a"),
-    ROW("a\n\n", "|+\n  a\n"),
-    ROW("a\n\n\n", "|+\n  a\n\n"),
-    ROW("a\n\nb\n", "|\n  a\n\n  b"),
-    ROW("\na", "\"\\na\""),
-    ROW(" a\n", "\" a\\n\""),
-    ROW("a\tb\n", "\"a\\tb\\n\""),
-    ROW("...\n", "|\n  ..."),
-    ROW("a\n  \nb", "|-\n  a\n    \n  b"),
-};
-
-static const struct row NO_TEXTS[] = {
-    ROW("\xed\xa0\x80", ""),
-    ROW("\xff", ""),
-    ROW("\xc0\x80", ""),
-    ROW("\xe2\x82", ""),
-    ROW("\xf4\x90\x80\x80", ""),
-    ROW("a\x80", ""),
-    ROW("\xf8\x88\x80\x80\x80", ""),
-    ROW("\xe0\x80\x80", ""),
-};
-
-/* Writes a line feed. */
-static int push_feed(struct confstore_bytes *to) {
-    struct confstore_bytes more = {0};
-    more.data = realloc(to->data, to->length + 1);
-    if (!more.data) return 0;
-    to->data = more.data;
-    to->room = to->length + 1;
-    to->data[to->length++] = '\n';
-    return 1;
-}
-
-/* What is no scalar of the one style. */
-static const char *const NO_SCALARS[] = {
-    "",           "\n",        "80",           "[]\n",   "{}\n",   "\"",  "\"a",    "\"a\"b\"", "\"\\q\"",
-    "\"\\x1\"",   "\"\\u12\"", "\"\\uD800\"",  "\"\\\"", "|",      "|\n", "|\n\n",  "|-\na\n",  "|+\n  a\n",
-    "|\n  a\n\n", "|x\n  a\n", "|\n  a\n b\n", "- a\n",  "a: b\n", "'a'", "true\n", "\"a\nb\"",
-};
-
-static void scalars(void) {
-    struct confstore_bytes written = {0}, text = {0};
-    for (size_t at = 0; at < sizeof ROWS / sizeof *ROWS; at++) {
-        const struct row *row = &ROWS[at];
-        written.length = text.length = 0;
-        expect_status("a text", confstore_write_text(&written, row->text, row->length, 2), CONFSTORE_OK);
-        expect_bytes("written", written.data, written.length, row->written, strlen(row->written));
-        for (int feeds = 0; feeds < 2; feeds++) {
-            text.length = 0;
-            if (feeds || row->written[0] == '|') written.data[written.length] = '\n'; /* there is room */
-            size_t length = written.length + (size_t)(feeds || row->written[0] == '|');
-            expect_status("read", confstore_read_text(written.data, length, &text), CONFSTORE_OK);
-            expect_bytes("read back", text.data, text.length, row->text, row->length);
-        }
-    }
-    for (size_t at = 0; at < sizeof NO_TEXTS / sizeof *NO_TEXTS; at++) {
-        const struct row *row = &NO_TEXTS[at];
-        expect_status("no text", confstore_write_text(&written, row->text, row->length, 2), CONFSTORE_NOT_TEXT);
-        expect_status("no key", confstore_write_key(&written, row->text, row->length), CONFSTORE_NOT_TEXT);
-    }
-    for (size_t at = 0; at < sizeof NO_SCALARS / sizeof *NO_SCALARS; at++) {
-        char *copy = strdup(NO_SCALARS[at]); /* so that a read past its end is seen */
-        size_t before = text.length;
-        expect_status(NO_SCALARS[at], confstore_read_text(copy, strlen(copy), &text), CONFSTORE_NOT_SCALAR);
-        expect("nothing was written", (long)text.length, (long)before);
-        free(copy);
-    }
-    confstore_bytes_free(&written);
-    confstore_bytes_free(&text);
-}
-
-/* Changed scalars and answers: what can be read is written again as a text that is read as the same. Each is in memory
- * of its own length, so that a sanitizer sees a read past it. */
-static void changed(void) {
-    static const char SIGNS[] = "ab0 \n\"\\|+->.:xu[]{}\xc3\xa4\x80\xff\t'";
-    struct confstore_bytes again = {0}, first = {0}, second = {0};
-    unsigned state = 1;
-    long read = 0;
-    for (int turn = 0; turn < CHANGED; turn++) {
-        const char *written = ROWS[(size_t)turn % (sizeof ROWS / sizeof *ROWS)].written;
-        size_t length = strlen(written) + 1;
-        char *copy = malloc(length);
-        memcpy(copy, written, length);
-        copy[length - 1] = '\n';
-        for (int change = turn % 4; change > 0; change--) {
-            state = state * 1103515245u + 12345u;
-            copy[(state >> 8) % length] = SIGNS[(state >> 20) % (sizeof SIGNS - 1)];
-        }
-        struct confstore_answer said;
-        confstore_read_answer(copy, length, &said);
-        again.length = first.length = second.length = 0;
-        if (confstore_read_text(copy, length, &first) == CONFSTORE_OK) {
-            read++;
-            if (confstore_write_text(&again, first.data, first.length, 4) != CONFSTORE_OK || !push_feed(&again) ||
-                confstore_read_text(again.data, again.length, &second) != CONFSTORE_OK ||
-                first.length != second.length || (first.length && memcmp(first.data, second.data, first.length)))
-                expect_bytes("a changed scalar", copy, length, "", 0);
-        }
-        free(copy);
-    }
-    expect("some are read", read > CHANGED / 4, 1);
-    confstore_bytes_free(&again);
-    confstore_bytes_free(&first);
-    confstore_bytes_free(&second);
-}
-
 /* Commands. */
 
 /* Makes `command` a set of the configuration `c` at a path. */
-static void make_set(struct confstore_bytes *command, const char *path, const char *text, size_t length) {
+void make_set(struct confstore_bytes *command, const char *path, const char *text, size_t length) {
     confstore_begin(command);
     confstore_write_pair(command, "set", "c", 1);
     confstore_write_pair(command, "path", path, strlen(path));
@@ -231,40 +98,19 @@ static void make_set(struct confstore_bytes *command, const char *path, const ch
 }
 
 /* The answer to a command. */
-static struct confstore_answer ask(struct confstore *store, const char *command, size_t length,
-                                   struct confstore_bytes *answer) {
+struct confstore_answer ask(struct confstore *store, const char *command, size_t length,
+                            struct confstore_bytes *answer) {
     struct confstore_answer said = {0};
     expect_status("ask", confstore_ask(store, command, length, answer), CONFSTORE_OK);
     expect_status("an answer", confstore_read_answer(answer->data, answer->length, &said), CONFSTORE_OK);
     return said;
 }
 
-static struct confstore_answer ask_text(struct confstore *store, const char *command, struct confstore_bytes *answer) {
+struct confstore_answer ask_text(struct confstore *store, const char *command, struct confstore_bytes *answer) {
     return ask(store, command, strlen(command), answer);
 }
 
 static const char IMPORT[] = "import: c\ntext: \"{list: []}\"\n...\n";
-static const char LOOK[] = "get: c\npath: \"\"\n...\n";
-
-/* Each row's text is set and got: what the program writes of it is what was written here. */
-static void values(struct confstore *store) {
-    struct confstore_bytes command = {0}, answer = {0}, text = {0}, written = {0};
-    for (size_t at = 0; at < sizeof ROWS / sizeof *ROWS; at++) {
-        make_set(&command, "", ROWS[at].text, ROWS[at].length);
-        expect("set", ask(store, command.data, command.length, &answer).kind, CONFSTORE_SAID_OK);
-        struct confstore_answer said = ask_text(store, LOOK, &answer);
-        expect("get", said.kind, CONFSTORE_SAID_VALUE);
-        written.length = text.length = 0;
-        confstore_write_text(&written, ROWS[at].text, ROWS[at].length, 2);
-        expect_bytes("as the program", said.value, said.length - 1, written.data, written.length);
-        expect_status("a value", confstore_read_text(said.value, said.length, &text), CONFSTORE_OK);
-        expect_bytes("got", text.data, text.length, ROWS[at].text, ROWS[at].length);
-    }
-    confstore_bytes_free(&command);
-    confstore_bytes_free(&answer);
-    confstore_bytes_free(&text);
-    confstore_bytes_free(&written);
-}
 
 static void refusals(struct confstore *store) {
     struct confstore_bytes answer = {0};
@@ -332,6 +178,7 @@ static void all_of(struct confstore *store) {
     expect("import", ask_text(store, IMPORT, &answer).kind, CONFSTORE_SAID_OK);
     confstore_bytes_free(&answer);
     values(store);
+    line_feeds(store);
     refusals(store);
     many_at_once(store);
     a_window(store);
@@ -539,6 +386,10 @@ int main(int count, char **words) {
     a_killed_session();
     without_streams();
     without_memory();
+    forks(program, count > 3 ? words[3] : NULL);
+    endless_programs();
+    longest_answers();
+    paths(program);
     if (count > 3) {
         expect_status("connect", confstore_connect(words[3], PATIENCE, &store), CONFSTORE_OK);
         if (store) all_of(store);

@@ -19,7 +19,7 @@ from .records import Edit, Record
 from .store import Batch, Store
 from .style import Tree, document, from_text, to_text
 
-__version__ = "0.1.0"
+__version__ = "0.2.0"
 
 __all__ = [
     "Batch", "ConfstoreError", "Edit", "Reader", "Record", "Refused", "SessionEnded", "Store", "Tree", "View",

@@ -7,16 +7,17 @@ of those that weren't, each was performed or not.
 
 from __future__ import annotations
 
+import errno
 import re
 from typing import Dict, Optional, Type
 
 __all__ = [
-    "AnswerCut", "BadAnswer", "BadCommand", "BadName", "BadPath", "Closed", "CommandLong", "ConfigLarge",
+    "AnswerCut", "AnswerLong", "BadAnswer", "BadCommand", "BadName", "BadPath", "Closed", "CommandLong", "ConfigLarge",
     "ConfstoreError", "CountFull", "Damaged", "Device", "Disconnected", "Documents", "EmptyBatch", "InputFailed",
     "JournalLong", "KeyNotText", "KeyTwice", "LargeInStyle", "Locked", "MissingFolder", "MissingProgram", "NoConfig",
-    "NoSuchCommand", "NoSuchPlace", "NotAStore", "NotATree", "NotIndex", "NotText", "NotUtf8", "OutOfMemory",
-    "OutputFailed", "RecordLong", "Refused", "SessionEnded", "SessionLong", "StoreFull", "Syntax", "TimedOut",
-    "TooDeep", "TooLong", "TooLongToSend", "Unsupported",
+    "NoSuchCommand", "NoSuchPlace", "NotAStore", "NotATree", "NotIndex", "NotStarted", "NotText", "NotUtf8",
+    "OutOfMemory", "OutputFailed", "RecordLong", "Refused", "SessionEnded", "SessionLong", "StoreFull", "Syntax",
+    "TimedOut", "TooDeep", "TooLong", "TooLongToSend", "Unknown", "Unsupported", "UnusablePath",
 ]  # fmt: skip
 
 
@@ -172,8 +173,18 @@ class BadAnswer(SessionEnded):
     """What came is no answer of a session. The session was ended, since nothing else that it says can be trusted."""
 
 
+class AnswerLong(SessionEnded):
+    """An answer had more than the 67,108,864 bytes that one may have. The session was ended, since it is none of a
+    session, and the command was performed or not."""
+
+
 class Disconnected(SessionEnded):
     """The server of the socket closed the connection."""
+
+
+class Unknown(SessionEnded):
+    """The session was given up, since a thread of it was interrupted half way, as where memory ran out. Each command
+    that was not answered was performed or not."""
 
 
 class NotATree(ConfstoreError, TypeError):
@@ -185,7 +196,8 @@ class NotText(ConfstoreError, ValueError):
 
 
 class TooLongToSend(ConfstoreError, ValueError):
-    """The command would have more bytes than a session takes of one. Nothing was sent."""
+    """The command would have more bytes than a session takes of one, or a pointer more than a word of a program may
+    have. Nothing was sent."""
 
 
 class TimedOut(ConfstoreError, TimeoutError):
@@ -197,11 +209,21 @@ class TimedOut(ConfstoreError, TimeoutError):
 
 
 class MissingProgram(ConfstoreError, FileNotFoundError):
-    """There is no program `confstore` where it was looked for, or it can't be run."""
+    """There is no program `confstore` where it was looked for, or what is there is none that may be run."""
 
 
 class MissingFolder(ConfstoreError, FileNotFoundError):
-    """There is no folder of this name."""
+    """There is no folder of this name, or it can't be made."""
+
+
+class UnusablePath(ConfstoreError, OSError):
+    """The path of a folder or a program is too long, a loop of links or no path, or may not be looked at. `errno` says
+    which."""
+
+
+class NotStarted(ConfstoreError, OSError):
+    """The program is there, and the system did not start it: as where too many files are open, or where the words and
+    the environment are too long. `errno` says why."""
 
 
 class Closed(ConfstoreError):
@@ -221,6 +243,11 @@ REFUSALS: Dict[str, Type[Refused]] = {
     )
 }  # fmt: skip
 
+# What the system says of a path that may be fine where nothing is, or where what is there can't be run.
+_NOTHING_THERE = (errno.ENOENT, errno.ENOTDIR)
+_NO_PROGRAM = (*_NOTHING_THERE, errno.EACCES, errno.EISDIR, errno.ENOEXEC)
+_NO_PATH = (errno.ENAMETOOLONG, errno.ELOOP, errno.EINVAL)
+
 ENDS: Dict[str, Type[SessionEnded]] = {
     "Device": Device,
     "Locked": Locked,
@@ -237,6 +264,21 @@ ENDS: Dict[str, Type[SessionEnded]] = {
 def refusal(word: str, about: str = "") -> Refused:
     """The exception of a refusal's word."""
     return REFUSALS.get(word, Refused)(word, about)
+
+
+def folder_fault(error: OSError, folder: str) -> ConfstoreError:
+    """The exception of a folder that the system does not show."""
+    kind = MissingFolder if error.errno in _NOTHING_THERE else UnusablePath
+    return kind(error.errno, f"the folder can't be used: {error.strerror}", folder)
+
+
+def program_fault(error: OSError, program: str) -> ConfstoreError:
+    """The exception of a program that was not started."""
+    if error.errno in _NO_PROGRAM:
+        return MissingProgram(error.errno, f"the program can't be run: {error.strerror}", program)
+    if error.errno in _NO_PATH:
+        return UnusablePath(error.errno, f"the program can't be run: {error.strerror}", program)
+    return NotStarted(error.errno, f"the program was not started: {error.strerror}", program)
 
 
 def end_of(status: Optional[int], errors: bytes, cut: bool) -> SessionEnded:

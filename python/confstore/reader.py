@@ -6,19 +6,21 @@ What is read so is the state after some prefix of the accepted commands. The las
 from __future__ import annotations
 
 import errno
+import operator
 import os
 import re
-import shutil
-import subprocess
 from typing import List, Optional
 
 import yaml
 
-from .faults import BadAnswer, BadName, ConfstoreError, MissingFolder, MissingProgram, NotText, TimedOut
+from .faults import BadAnswer, BadName, ConfstoreError, NotStarted, NotText, TooLongToSend
 from .faults import REFUSALS, Unsupported, end_of, refusal
+from .other import Cutter
+from .places import find_program, need_folder, path_of
 from .records import Record, record_of
-from .session import Cutter
-from .style import Tree, from_text, trees_of
+from .runs import Run
+from .session import LONGEST_ANSWER
+from .style import Tree, from_text, text_of, trees_of
 
 _NAME = re.compile(r"[a-z][a-z0-9_-]{0,63}")
 _FAULT = re.compile(r"confstore: (\w+)")
@@ -31,13 +33,8 @@ WRONG_WORDS = 2
 GREATEST = 2**64 - 1
 
 
-def find_program(program: Optional[str]) -> str:
-    """The path of the program: the one that is given, or that of the environment's CONFSTORE, or of the PATH."""
-    wanted = program or os.environ.get("CONFSTORE") or "confstore"
-    found = shutil.which(wanted)
-    if found is None:
-        raise MissingProgram(errno.ENOENT, "no such program", wanted)
-    return os.path.abspath(found)
+# The most bytes that the word `log` prints: as many as a file has.
+LONGEST_LOG = 1_073_741_824
 
 
 class Reader:
@@ -48,36 +45,34 @@ class Reader:
     """
 
     def __init__(self, path: "str | os.PathLike[str]", *, program: Optional[str] = None, timeout: float = 60.0) -> None:
-        self.folder = os.path.abspath(os.fspath(path))
+        self.folder = path_of(path)
         self.program = find_program(program)
         self.timeout = timeout
 
-    def _read(self, word: str, options: List[str], *more: str) -> bytes:
-        if not os.path.isdir(self.folder):
-            raise MissingFolder(errno.ENOENT, "no such folder", self.folder)
+    def _read(self, word: str, options: List[str], *more: str, longest: int = LONGEST_ANSWER) -> bytes:
+        need_folder(self.folder)
+        run = Run([self.program, word, *options, self.folder, *more], self.timeout, longest)
         try:
-            done = subprocess.run(
-                [self.program, word, *options, self.folder, *more], stdin=subprocess.DEVNULL, capture_output=True,
-                check=False, timeout=self.timeout,
-            )  # fmt: skip
-        except subprocess.TimeoutExpired:
-            raise TimedOut(f"the program took more than {self.timeout} seconds", False) from None
-        except OSError as error:
-            raise MissingProgram(error.errno, f"the program can't be run: {error.strerror}", self.program) from None
-        if done.returncode == 0:
-            return done.stdout
-        raise self._fault(word, done)
+            run.wait()
+        except NotStarted as fault:
+            if fault.errno == errno.E2BIG and more:
+                about = f"a pointer of {len(more[-1].encode())} bytes can't be a word of the program: use a Store"
+                raise TooLongToSend(about) from None
+            raise
+        if run.status == 0:
+            return bytes(run.output)
+        raise self._fault(word, run)
 
-    def _fault(self, word: str, done: "subprocess.CompletedProcess[bytes]") -> ConfstoreError:
-        errors = done.stderr.decode("utf-8", "replace")
-        if done.returncode == WRONG_WORDS and "unrecognized subcommand" in errors:
+    def _fault(self, word: str, run: Run) -> ConfstoreError:
+        errors = run.errors.decode("utf-8", "replace")
+        if run.status == WRONG_WORDS and "unrecognized subcommand" in errors:
             return Unsupported(f"this program has no word `{word}`")
-        if done.returncode == WRONG_WORDS and "unexpected argument" in errors:
+        if run.status == WRONG_WORDS and "unexpected argument" in errors:
             return Unsupported(f"the word `{word}` of this program lacks an option: {errors.splitlines()[0]}")
         found = _FAULT.search(errors)
         if found and found[1] in REFUSALS:
             return refusal(found[1])
-        return end_of(done.returncode, done.stderr, False)
+        return end_of(run.status, bytes(run.errors), False)
 
     def names(self, at: Optional[int] = None) -> List[str]:
         """The names of the configurations, in order."""
@@ -85,6 +80,7 @@ class Reader:
 
     def get(self, name: str, path: str = "", at: Optional[int] = None) -> Tree:
         """The tree at a path of a configuration."""
+        name, path = text_of(name), text_of(path)
         if not _NAME.fullmatch(name):
             raise BadName("BadName")
         if path and not path.startswith("/"):
@@ -98,8 +94,9 @@ class Reader:
 
     def log(self, after: int = 0) -> List[Record]:
         """The records of the file with a number beyond `after`, in order. A checkpoint drops those before it."""
+        printed = self._read("log", ["--yaml"], longest=LONGEST_LOG)
         try:
-            records = [record_of(tree) for tree in trees_of(_later(self._read("log", ["--yaml"]), after))]
+            records = [record_of(tree) for tree in trees_of(_later(printed, after))]
         except yaml.YAMLError:
             raise BadAnswer("what `log` printed is no YAML") from None
         return [record for record in records if record.number > after]
@@ -149,6 +146,8 @@ def _check_word(path: str) -> None:
 
 
 def _at(number: Optional[int]) -> List[str]:
-    if number is not None and not 0 <= number <= GREATEST:
+    if number is None:
+        return []
+    if not 0 <= number <= GREATEST:
         raise refusal("NoSuchCommand")
-    return [] if number is None else ["--at", str(number)]
+    return ["--at", format(operator.index(number), "d")]

@@ -1,208 +1,403 @@
 """A session of the program, or a connection to a server of one: documents go in, and an answer comes out for each.
 
-Any number of threads may `ask` at once. What they send goes to the session at once, one document after the other, so
-those that come while the session syncs share the next sync. One thread of its own takes the answers and hands each to
-the call that waits for it. No call here waits longer than it was told to.
+Any number of threads may `ask` at once. A call puts one tuple into a queue, and waits for its own lock; it changes
+nothing else that another thread looks at. So whatever exception a signal handler raises in it, and wherever, its
+command is in the queue or it isn't, and no other call is touched. Two threads that Python never has handle a signal do
+the rest: one opens the other side, sends what is in the queue and says when all is over, and one takes the answers and
+hands each to the call that waits for it.
+
+Commands that come while the session syncs are sent at once, so they share the next sync. No call here waits longer than
+it was told to.
 """
 
 from __future__ import annotations
 
+import _thread
 import copy
+import errno
+import functools
 import os
-import selectors
-import socket
-import subprocess
+import queue
+import select
 import threading
 import time
+import weakref
 from collections import deque
-from typing import Deque, List, Optional, Sequence, Union
+from typing import Callable, Deque, Dict, List, Optional, Sequence, Tuple, Union
 
-from .faults import AnswerCut, Closed, ConfstoreError, Disconnected, MissingProgram, SessionEnded, TimedOut
-from .faults import TooLongToSend, end_of
+from .faults import AnswerLong, BadAnswer, Closed, ConfstoreError, NotStarted, SessionEnded, TimedOut, TooLongToSend
+from .faults import Unknown
+from .other import GOING, PART, Cutter, Other, Program, Server, take, take_errors
 
-# The longest command of a session in bytes, and how many bytes may wait here to be sent.
+__all__ = ["LONGEST_ANSWER", "LONGEST_COMMAND", "Cutter", "Session"]
+
+# The longest command of a session, and the longest answer, in bytes.
 LONGEST_COMMAND = 16_777_216
-MOST_UNSENT = 2 * LONGEST_COMMAND
+LONGEST_ANSWER = 67_108_864
 
-# How many bytes are read at once, and how many of standard error are kept.
-PART = 65_536
-ERRORS_KEPT = 4_096
+# How many seconds a command that the other side does not take waits before it is looked whether the session is to end.
+STUCK = 0.05
 
-# How many seconds a program may take to be gone after it closed its output.
-GOING = 5.0
-
-CLOSING = b"...\n"
+# What may be asked of a session's thread: to send commands, to answer at once, to end, to kill, and to tell that it is
+# over. Each is put into the queue with slots.
+SEND, LOOK, CLOSE, KILL, OVER = "send", "look", "close", "kill", "over"
 
 
 class _Slot:
-    """A place for one answer. `answer` is set before `done`, unless the session ended."""
+    """A command, and a place for its answer. `answer` is set before `tell`, unless the session ended."""
 
-    __slots__ = ("answer", "done")
+    __slots__ = ("document", "answer", "_claim", "_told")
 
-    def __init__(self) -> None:
+    def __init__(self, document: bytes = b"") -> None:
+        self.document = document
         self.answer: Optional[bytes] = None
-        self.done = threading.Event()
+        self._claim = _thread.allocate_lock()
+        self._told = _thread.allocate_lock()
+        self._told.acquire()
 
+    def claim(self) -> bool:
+        """Whether this call is the first one. The thread claims what it sends, and a caller what is not to be sent."""
+        return self._claim.acquire(False)
 
-class Cutter:
-    """Cuts bytes after each closing line, and never looks at a byte twice."""
+    def withdraw(self) -> bool:
+        """Whether the command isn't sent, and won't be."""
+        if not self.claim():
+            return False
+        self.document = b""
+        return True
 
-    def __init__(self) -> None:
-        self.rest = bytearray()
-        self._looked = 0
-
-    def cut(self, part: bytes) -> List[bytes]:
-        self.rest += part
-        pieces: List[bytes] = []
-        start = 0
-        while (found := self.rest.find(CLOSING, self._looked)) >= 0:
-            self._looked = found + len(CLOSING)
-            if found == start or self.rest[found - 1 : found] == b"\n":
-                pieces.append(bytes(self.rest[start : self._looked]))
-                start = self._looked
-        self._looked = max(len(self.rest) - len(CLOSING) + 1, self._looked) - start
-        del self.rest[:start]
-        return pieces
-
-
-class _Program:
-    """A program that is a session over its standard streams."""
-
-    def __init__(self, words: Sequence[str]) -> None:
+    def tell(self) -> None:
+        """Has the caller look. Whoever is told again has looked already, or will."""
         try:
-            self.process = subprocess.Popen(
-                list(words), stdin=subprocess.PIPE, stdout=subprocess.PIPE, stderr=subprocess.PIPE, bufsize=0,
-                start_new_session=True, restore_signals=False,
-            )  # fmt: skip
-        except OSError as error:
-            raise MissingProgram(error.errno, f"the program can't be run: {error.strerror}", words[0]) from None
-        assert self.process.stdin and self.process.stdout and self.process.stderr
-        self._streams = (self.process.stdin, self.process.stdout, self.process.stderr)
-        self.commands, self.answers, self.errors = (stream.fileno() for stream in self._streams)
-        for stream in self._streams:
-            os.set_blocking(stream.fileno(), False)
-
-    def no_more(self) -> None:
-        """Tells the session that no more commands come."""
-        self._streams[0].close()
-
-    def kill(self) -> None:
-        self.process.kill()
-
-    def end(self, errors: bytearray, cut: bool) -> ConfstoreError:
-        """Why the program, which has closed its output, is over. `errors` is what was read of standard error."""
-        try:
-            status = self.process.wait(GOING)
-        except subprocess.TimeoutExpired:
-            self.process.kill()
-            status = self.process.wait()
-        take_errors(self.errors, errors)
-        return end_of(status, bytes(errors), cut)
-
-    def close(self) -> None:
-        for stream in self._streams:
-            try:
-                stream.close()
-            except OSError:
-                pass
-
-
-class _Server:
-    """A connection to a server of a session, on a Unix socket."""
-
-    errors = None
-
-    def __init__(self, path: str, timeout: float) -> None:
-        self._connection = socket.socket(socket.AF_UNIX)
-        try:
-            self._connection.settimeout(timeout)
-            self._connection.connect(path)
-        except OSError as error:
-            self._connection.close()
-            raise Disconnected(f"no server takes clients at {path}: {error.strerror or error}") from None
-        self._connection.setblocking(False)
-        self.answers = self._connection.fileno()
-        self.commands = os.dup(self.answers)
-
-    def no_more(self) -> None:
-        self.kill(socket.SHUT_WR)
-        os.close(self.commands)
-        self.commands = -1
-
-    def kill(self, how: int = socket.SHUT_RDWR) -> None:
-        try:
-            self._connection.shutdown(how)
-        except OSError:
+            self._told.release()
+        except RuntimeError:
             pass
 
-    def end(self, _errors: bytearray, cut: bool) -> ConfstoreError:
-        about = "the server closed the connection"
-        return AnswerCut(f"{about} in the middle of an answer") if cut else Disconnected(about)
+    def wait(self, deadline: float) -> bool:
+        """Whether this is told before the deadline. Only one thread waits, and only once."""
+        left = min(max(deadline - time.monotonic(), 0), threading.TIMEOUT_MAX)
+        return self._told.acquire(timeout=left)
 
-    def close(self) -> None:
-        self._connection.close()
-        if self.commands >= 0:
-            os.close(self.commands)
+
+class _Line:
+    """What the handle of a session shares with its threads. The queue is all that others put into it."""
+
+    def __init__(self, opening: Callable[[], Other]) -> None:
+        self.opening = opening
+        self.owner = os.getpid()
+        self.queue: "queue.SimpleQueue[Tuple[str, Sequence[_Slot]]]" = queue.SimpleQueue()
+        self.is_begun = False
+        self.is_closed = False  # no more commands are taken
+        self.fault: Optional[ConfstoreError] = None  # why it is to be killed
+        self.end: Optional[ConfstoreError] = None  # why it is over; nobody takes from the queue then
+        self.other: Optional[Other] = None
+        self.handle: Optional["weakref.ref[Session]"] = None
+        self.due: Deque[_Slot] = deque()  # of the commands that were sent, those that are not answered
+        self.ending: List[_Slot] = []  # of those that wait for the end
+        self.heard: ConfstoreError = Unknown("the session was given up")  # what its answers ended with
+        self._begin = _thread.allocate_lock()
+
+    def put(self, order: str, slots: Sequence[_Slot]) -> None:
+        """Has the session's thread do something. Each call starts it until it has begun, since the one before may have
+        been interrupted; a second one ends at once."""
+        self.queue.put((order, slots))
+        if not self.is_begun and self.end is None:
+            try:
+                _thread.start_new_thread(self.run, ())
+            except RuntimeError as error:
+                raise NotStarted(errno.EAGAIN, f"no thread for a session: {error}") from None
+
+    def give_up(self, fault: BaseException) -> None:
+        about = f"the session was given up half way: {type(fault).__name__}: {fault}"
+        self.fault = self.fault or Unknown(about)
+
+    # ---- the thread that sends
+
+    def run(self) -> None:
+        if not self._begin.acquire(False):
+            return
+        self.is_begun = True
+        _lines.add(self)
+        try:
+            self.end_with(self._carry() if self._open() else self.heard)
+        except BaseException as fault:
+            self.give_up(fault)
+            self.end_with(self.heard)
+
+    def _open(self) -> bool:
+        """Opens the other side, and starts the thread that listens."""
+        try:
+            if self.is_closed or self.fault is not None:
+                raise Closed("this store is closed")
+            self.other = self.opening()
+            _thread.start_new_thread(self._listen, (self.other,))
+            return True
+        except ConfstoreError as fault:
+            self.heard = fault.with_traceback(None)
+        except BaseException as fault:
+            self.give_up(fault)
+            if self.other is not None:
+                self.other.kill()
+                self.other.end(bytearray(), False)
+        return False
+
+    def _carry(self) -> ConfstoreError:
+        """Does what is asked, until the answers have ended. Returns why they have."""
+        part = bytearray()
+        while True:
+            order, slots = self.queue.get()
+            try:
+                if order is OVER:
+                    return self.heard
+                if order is SEND:
+                    self._claim(slots, part)
+                    if self.queue.empty():
+                        self._send(part)
+                    continue
+                self._send(part)
+                self._turn(order, slots)
+            except BaseException as fault:
+                self.give_up(fault)
+                self.ending += slots
+            if self.fault is not None and self.other is not None:
+                self.other.kill()
+
+    def _claim(self, slots: Sequence[_Slot], part: bytearray) -> None:
+        """Takes what is still to be sent, and sends it where it is much."""
+        for slot in slots:
+            if self.fault is not None:
+                self.ending.append(slot)
+            elif slot.claim():
+                document, slot.document = slot.document, b""
+                self.due.append(slot)
+                part += document
+                if len(part) >= PART:
+                    self._send(part)
+
+    def _send(self, part: bytearray) -> None:
+        """Sends all of it, unless the session is to be killed or is over."""
+        assert self.other is not None
+        while part and self.fault is None:
+            try:
+                del part[: self.other.send(part)]
+            except BlockingIOError:
+                self.other.await_room(STUCK)
+            except OSError:
+                break  # the session ends, which is heard
+        part.clear()
+
+    def _turn(self, order: str, slots: Sequence[_Slot]) -> None:
+        if order is LOOK:
+            for slot in slots:
+                slot.answer = b""
+                slot.tell()
+            return
+        self.ending += slots
+        if order is CLOSE and self.other is not None:
+            self.other.no_more()
+
+    def end_with(self, end: ConfstoreError) -> None:
+        """Notes why the session is over, and tells all that wait."""
+        if self.other is not None:
+            self.other.close()
+        _lines.discard(self)
+        self.is_begun = True
+        self.end = self.fault or end
+        for slots in (self.due, self.ending):
+            while slots:
+                slots.pop().tell()
+        try:
+            while True:
+                for slot in self.queue.get_nowait()[1]:
+                    slot.tell()
+        except queue.Empty:
+            pass
+
+    # ---- the thread that listens
+
+    def _listen(self, other: Other) -> None:
+        cutter, errors = Cutter(), bytearray()
+        try:
+            self._hear(other, cutter, errors)
+        except ConfstoreError as fault:
+            self.fault = self.fault or fault.with_traceback(None)
+        except BaseException as fault:
+            self.give_up(fault)
+        try:
+            if self.fault is not None:
+                other.kill()
+            self.heard = other.end(errors, bool(cutter.rest))
+        finally:
+            self.queue.put((OVER, ()))
+
+    def _hear(self, other: Other, cutter: Cutter, errors: bytearray) -> None:
+        """Hands out the answers until they end."""
+        poll = select.poll()
+        poll.register(other.answers, select.POLLIN)
+        if other.errors is not None:
+            poll.register(other.errors, select.POLLIN)
+        while self.fault is None:
+            for end, _ in poll.poll():
+                if end == other.answers:
+                    part = take(end)
+                    if part == b"":
+                        return
+                    self._hand_out(cutter, part or b"")
+                elif not take_errors(end, errors):
+                    poll.unregister(end)
+
+    def _hand_out(self, cutter: Cutter, part: bytes) -> None:
+        for answer in cutter.cut(part):
+            if len(answer) > LONGEST_ANSWER:
+                raise AnswerLong(f"an answer of {len(answer)} bytes, more than {LONGEST_ANSWER}")
+            if not self.due:
+                raise BadAnswer("an answer came to no command")
+            slot = self.due.popleft()
+            slot.answer = answer
+            slot.tell()
+        if len(cutter.rest) >= LONGEST_ANSWER:
+            raise AnswerLong(f"an answer of more than {LONGEST_ANSWER} bytes")
+
+
+# The sessions that are open in this process.
+_lines: "set[_Line]" = set()
+
+
+def _end_all() -> None:
+    """Ends the sessions of the process that this one was forked from, for this one."""
+    for line in list(_lines):
+        line.other = None  # it is closed already
+        line.fault = None
+        line.end_with(_forked())
+
+
+def _forked() -> Closed:
+    return Closed("this store was opened by another process")
+
+
+os.register_at_fork(after_in_child=_end_all)
 
 
 class Session:
-    """A session, which answers the k-th document that it is sent by its k-th answer."""
+    """A session, which answers the k-th document that it is sent by its k-th answer.
 
-    def __init__(self, other: Union[_Program, _Server]) -> None:
-        self._other = other
-        self._owner = os.getpid()
-        self._lock = threading.Lock()
-        self._room = threading.Condition(self._lock)  # what is below is changed with it held
-        self._unsent = bytearray()
-        self._slots: Deque[_Slot] = deque()
-        self._end: Optional[ConfstoreError] = None
-        self._fault: Optional[ConfstoreError] = None
-        self._is_closing = False
-        self._bell, self._ear = socket.socketpair()  # a byte wakes the thread below
-        self._bell.setblocking(False)
-        self._over = threading.Event()
-        threading.Thread(target=self._serve, name="confstore session", daemon=True).start()
+    It is opened by the first call. It ends by itself when nobody has it any more.
+    """
+
+    def __init__(self, opening: Callable[[], Other]) -> None:
+        self._line = line = _Line(opening)
+        self._next: Dict[str, Session] = {}
+        # No bytecode runs when this is collected, so no exception of a handler can come between, or be lost there.
+        line.handle = weakref.ref(self, functools.partial(line.queue.put, (CLOSE, ())))
 
     @classmethod
     def start(cls, words: Sequence[str]) -> "Session":
-        """Starts a program that is a session over its standard streams.
+        """A session of a program over its standard streams.
 
         It has a process group of its own, so the keys of a terminal don't end it, and it ends by itself when this
         process does. It ignores SIGXFSZ as Python does: where a limit of file sizes is met it ends with `Device`.
         """
-        return cls(_Program(words))
+        return cls(functools.partial(Program, words))
+
+    @classmethod
+    def to_server(cls, path: str, timeout: float) -> "Session":
+        """A session of a server on a Unix socket."""
+        return cls(functools.partial(Server, path, timeout))
 
     @classmethod
     def connect(cls, path: str, timeout: float) -> "Session":
         """Connects to a server of a session on a Unix socket."""
-        return cls(_Server(path, timeout))
+        session = cls.to_server(path, timeout)
+        session.open(timeout)
+        return session
+
+    @property
+    def _other(self) -> Optional[Other]:
+        return self._line.other
+
+    @property
+    def end(self) -> Optional[ConfstoreError]:
+        """Why the session is over, or None while it goes on."""
+        return self._line.end
+
+    @property
+    def goes_on(self) -> bool:
+        """Whether it takes commands."""
+        return self._line.end is None and not self._line.is_closed
+
+    @property
+    def is_forked(self) -> bool:
+        """Whether it is another process's, from which this one was forked."""
+        return os.getpid() != self._line.owner
+
+    def latest(self) -> "Session":
+        """This session, or the last one that followed it."""
+        session = self
+        while (following := session._next.get("")) is not None:
+            session = following
+        return session
+
+    def followed_by(self, following: "Session") -> "Session":
+        """The session that follows this one: the first that was given, whoever gave it."""
+        return self._next.setdefault("", following)
+
+    def open(self, timeout: float) -> None:
+        """Waits until the other side is open. Raises why it isn't."""
+        deadline, slot = time.monotonic() + timeout, _Slot()
+        self._line.put(LOOK, (slot,))
+        self._answer_in(slot, deadline, timeout)
 
     def ask(self, document: bytes, timeout: float) -> bytes:
         """The answer to a document, which ends in its closing line.
 
         Raises `TimedOut` after so many seconds, `TooLongToSend`, `Closed`, or what the session ended with.
         """
-        deadline = time.monotonic() + timeout
-        return self._answer_in(self._send(document, deadline), deadline, timeout)
+        (answer,) = self.ask_all((document,), timeout)
+        if isinstance(answer, ConfstoreError):
+            raise answer
+        return answer
 
     def ask_all(self, documents: Sequence[bytes], timeout: float) -> List[Union[bytes, ConfstoreError]]:
         """The answers to documents that are sent in this order, before the first is answered.
 
-        Where one got no answer, `TimedOut` or what the session ended with is in its place. Raises as `ask` does where
-        the documents can't be sent: those before were then sent, and may be performed.
+        Where one got no answer, `TimedOut` or what the session ended with is in its place. Raises `TooLongToSend`,
+        `Closed` or what the session ended with where nothing was sent.
         """
         deadline = time.monotonic() + timeout
-        slots = [self._send(document, deadline) for document in documents]
-        answers: List[Union[bytes, ConfstoreError]] = []
-        for slot in slots:
-            try:
-                answers.append(self._answer_in(slot, deadline, timeout))
-            except ConfstoreError as fault:
-                answers.append(fault)
-        return answers
+        session = self.latest()
+        slots = session._checked(documents)
+        try:
+            session._line.put(SEND, slots)
+            return [session._answer_or_fault(slot, deadline, timeout) for slot in slots]
+        except BaseException:
+            for slot in slots:
+                slot.withdraw()
+            raise
+
+    def _checked(self, documents: Sequence[bytes]) -> Tuple[_Slot, ...]:
+        """The slots of documents that may be sent."""
+        line = self._line
+        for document in documents:
+            if len(document) > LONGEST_COMMAND:
+                raise TooLongToSend(f"a command of {len(document)} bytes, more than {LONGEST_COMMAND}")
+        if self.is_forked:
+            raise _forked()
+        if line.is_closed:
+            raise Closed("this store is closed")
+        if line.end is not None:
+            raise self._ended()
+        return tuple(map(_Slot, documents))
+
+    def _answer_or_fault(self, slot: _Slot, deadline: float, timeout: float) -> Union[bytes, ConfstoreError]:
+        try:
+            return self._answer_in(slot, deadline, timeout)
+        except ConfstoreError as fault:
+            return fault
 
     def _answer_in(self, slot: _Slot, deadline: float, timeout: float) -> bytes:
-        if not slot.done.wait(max(deadline - time.monotonic(), 0)):
+        if self._line.end is None and not slot.wait(deadline):
+            if slot.withdraw():
+                raise TimedOut("the session takes no commands", False)
             raise TimedOut(f"no answer within {timeout} seconds", True)
         if slot.answer is None:
             raise self._ended()
@@ -210,160 +405,31 @@ class Session:
 
     def _ended(self) -> ConfstoreError:
         """The exception that the session ended with, anew for each call that raises it."""
-        end = self._end
+        end = self._line.end
         assert end is not None
         again = copy.copy(end)
         again.__traceback__ = None
         return again
 
-    def _send(self, document: bytes, deadline: float) -> _Slot:
-        if len(document) > LONGEST_COMMAND:
-            raise TooLongToSend(f"a command of {len(document)} bytes, more than {LONGEST_COMMAND}")
-        if os.getpid() != self._owner:
-            raise Closed("this store was opened by another process")
-        slot = _Slot()
-        with self._room:
-            while self._end is None and self._unsent and len(self._unsent) + len(document) > MOST_UNSENT:
-                left = deadline - time.monotonic()
-                if left <= 0:
-                    raise TimedOut("the session takes no commands", False)
-                self._room.wait(left)
-            if self._is_closing:
-                raise Closed("this store is closed")
-            if self._end is not None:
-                raise self._ended()
-            self._slots.append(slot)
-            self._unsent += document
-            if len(self._unsent) == len(document):
-                self._write()
-                if self._unsent:
-                    self._ring()
-        return slot
-
-    def _write(self) -> None:
-        """Sends what the other side takes now. The lock is held."""
+    def _await(self, order: str, timeout: float) -> bool:
+        """Has the session end in a way. Whether it is over within so many seconds."""
+        deadline, slot = time.monotonic() + timeout, _Slot()
         try:
-            del self._unsent[: os.write(self._other.commands, self._unsent)]
-        except BlockingIOError:
-            pass
-        except OSError:
-            self._unsent.clear()  # the session ends, which the thread sees
-        self._room.notify_all()
-
-    def _ring(self) -> None:
-        try:
-            self._bell.send(b".")
-        except OSError:
-            pass
-
-    def _serve(self) -> None:
-        """Takes answers, and sends what was not taken at once, until the session is over. Then says so to all."""
-        errors, cutter = bytearray(), Cutter()
-        with selectors.DefaultSelector() as selector:
-            selector.register(self._ear, selectors.EVENT_READ)
-            selector.register(self._other.answers, selectors.EVENT_READ)
-            if self._other.errors is not None:
-                selector.register(self._other.errors, selectors.EVENT_READ)
-            is_open = True
-            while is_open and self._fault is None:
-                self._watch(selector)
-                for key, _ in selector.select():
-                    if key.fileobj is self._ear:
-                        self._ear.recv(PART)
-                    elif key.fd == self._other.answers:
-                        is_open = self._take(cutter)
-                    elif key.fd == self._other.errors:
-                        if not take_errors(key.fd, errors):
-                            selector.unregister(key.fd)
-                    else:
-                        with self._room:
-                            self._write()
-        if self._fault is not None:
-            self._other.kill()
-        end = self._other.end(errors, bool(cutter.rest))
-        self._finish(self._fault or end)
-
-    def _watch(self, selector: selectors.BaseSelector) -> None:
-        """Watches for room to send only while there is something to send, and closes that end once nothing is left."""
-        with self._room:
-            if self._other.commands < 0:
-                return
-            is_watched = self._other.commands in selector.get_map()
-            if self._unsent and not is_watched:
-                selector.register(self._other.commands, selectors.EVENT_WRITE)
-            elif not self._unsent and is_watched:
-                selector.unregister(self._other.commands)
-            if self._is_closing and not self._unsent:
-                self._other.no_more()
-                self._other.commands = -1
-
-    def _take(self, cutter: Cutter) -> bool:
-        """Hands out the answers that are there. Whether there may be more."""
-        try:
-            part = os.read(self._other.answers, PART)
-        except BlockingIOError:
-            return True
-        except OSError:
-            part = b""
-        for answer in cutter.cut(part):
-            with self._lock:
-                slot = self._slots.popleft() if self._slots else _Slot()
-            slot.answer = answer
-            slot.done.set()
-        return bool(part)
-
-    def _finish(self, end: ConfstoreError) -> None:
-        """Notes why the session is over, and tells all that wait."""
-        with self._room:
-            self._end = end
-            self._other.close()
-            self._bell.close()
-            self._ear.close()
-            waiting, self._slots = self._slots, deque()
-            self._room.notify_all()
-        for slot in waiting:
-            slot.done.set()
-        self._over.set()
-
-    @property
-    def end(self) -> Optional[ConfstoreError]:
-        """Why the session is over, or None while it goes on."""
-        return self._end
+            self._line.put(order, (slot,))
+        except NotStarted:
+            return False
+        return self._line.end is not None or slot.wait(deadline)
 
     def distrust(self, fault: ConfstoreError) -> None:
         """Ends the session at once, for this fault."""
-        with self._lock:
-            self._fault = self._fault or fault
-            self._ring()
-        self._over.wait(GOING)
-
-    def abandon(self) -> None:
-        """Has the session perform what it was sent, and end, and does not wait for that. It takes no lock, since a
-        store that nobody holds any more may be collected by any thread at any place."""
-        if os.getpid() == self._owner and self._end is None:
-            self._is_closing = True
-            self._ring()
+        self._line.fault = self._line.fault or fault
+        self._await(KILL, GOING)
 
     def close(self, timeout: float) -> None:
         """Has the session perform what it was sent, and end. It is killed if that takes longer than so many seconds.
 
         What was answered stands in any case. Raises nothing, and does nothing the second time.
         """
-        if os.getpid() != self._owner:
-            return
-        self.abandon()
-        if not self._over.wait(timeout):
+        self._line.is_closed = True
+        if not self.is_forked and not self._await(CLOSE, timeout):
             self.distrust(SessionEnded(f"the session did not end within {timeout} seconds, and was killed"))
-
-
-def take_errors(source: int, errors: bytearray) -> bool:
-    """Takes what is on standard error, and keeps its end. Whether there may be more."""
-    try:
-        part = os.read(source, PART)
-    except BlockingIOError:
-        return True
-    except OSError:
-        part = b""
-    errors += part
-    del errors[:-ERRORS_KEPT]
-    return bool(part)

@@ -2,17 +2,16 @@
 
 from __future__ import annotations
 
-import errno
+import operator
 import os
 import re
-import threading
-import weakref
 from types import TracebackType
 from typing import Any, Callable, Dict, Iterator, List, Optional, Sequence, Type
 
 import yaml
 
-from .faults import BadAnswer, BadCommand, ConfstoreError, EmptyBatch, MissingFolder, Unsupported, refusal
+from .faults import BadAnswer, BadCommand, Closed, ConfstoreError, EmptyBatch, Unsupported, refusal
+from .places import make_folder, need_folder
 from .reader import Reader, View
 from .records import Record
 from .session import Session
@@ -82,6 +81,9 @@ class Store:
     `reopen` starts another one. No call waits longer than `timeout` seconds: then it raises `TimedOut`, and its `sent`
     says whether the command may be performed all the same. A store can't be used after a fork, by the new process.
 
+    A signal handler may raise an exception in any call, as `KeyboardInterrupt` is one. Then the call's command was
+    performed once, will be, or never is. The session goes on, and every other call gets its own answer.
+
     `program` is the program to run: by default what the environment has as `CONFSTORE`, else `confstore` on the PATH.
     With `checkpoint_after` the session writes a checkpoint beside the commands whenever `store.yaml` has grown by so
     many bytes. With `make` the folder is made if it is missing.
@@ -97,13 +99,12 @@ class Store:
         make: bool = False,
     ) -> None:
         self._reader: Optional[Reader] = Reader(path, program=program, timeout=timeout)
-        self._timeout, self._opening = timeout, threading.Lock()
+        self._timeout = timeout
         folder = self._reader.folder
         if make:
-            os.makedirs(folder, exist_ok=True)
-        if not os.path.isdir(folder):
-            raise MissingFolder(errno.ENOENT, "no such folder", folder)
-        more = [] if checkpoint_after is None else ["--checkpoint-after", str(checkpoint_after)]
+            make_folder(folder)
+        need_folder(folder)
+        more = [] if checkpoint_after is None else ["--checkpoint-after", format(operator.index(checkpoint_after), "d")]
         self._words: Sequence[str] = [self._reader.program, "run", "--group", *more, folder]
         self._socket: Optional[str] = None
         self._begin()
@@ -116,23 +117,24 @@ class Store:
         there.
         """
         store = cls.__new__(cls)
-        store._reader, store._timeout, store._opening = None, timeout, threading.Lock()
-        store._words, store._socket = (), os.fspath(path)
+        store._reader, store._timeout = None, timeout
+        store._words, store._socket = (), os.fsdecode(path)
         store._begin()
         return store
 
-    def _begin(self) -> None:
-        """Starts a session, or connects to one, and looks that it answers."""
+    def _new_session(self) -> Session:
+        """A session that is begun by its first command."""
         if self._socket is None:
-            self._session = Session.start(self._words)
-        else:
-            self._session = Session.connect(self._socket, self._timeout)
-        self._forgotten = weakref.finalize(self, self._session.abandon)
+            return Session.start(self._words)
+        return Session.to_server(self._socket, self._timeout)
+
+    def _begin(self) -> None:
+        """Begins the first session. Nobody has this store yet, so whatever comes between ends it."""
+        self._session = session = self._new_session()
         try:
             self.names()
         except BaseException:
-            self._session.distrust(ConfstoreError("the session did not open the store"))
-            self._forgotten.detach()
+            session.distrust(ConfstoreError("the session did not open the store"))
             raise
 
     def reopen(self) -> None:
@@ -140,15 +142,22 @@ class Store:
 
         It does nothing while a session goes on, so each of several threads whose calls raised may call it.
         """
-        with self._opening:
-            if self._session.end is not None or not self._forgotten.alive:
-                self.close()
-                self._begin()
+        session = self._session.latest()
+        if session.is_forked:
+            raise Closed("this store was opened by another process")
+        if not session.goes_on:
+            session.close(self._timeout)
+            session = session.followed_by(self._new_session())
+            self._session = session
+            try:
+                self.names()
+            except ConfstoreError:
+                session.distrust(ConfstoreError("the session did not open the store"))
+                raise
 
     def close(self) -> None:
         """Ends the session. What was answered is on the disk. Does nothing the second time, and raises nothing."""
-        if self._forgotten.detach():
-            self._session.close(self._timeout)
+        self._session.latest().close(self._timeout)
 
     def __enter__(self) -> "Store":
         return self

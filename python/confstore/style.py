@@ -7,7 +7,7 @@ style, so a text of it is exactly as long as the store counts it.
 from __future__ import annotations
 
 import re
-from typing import Any, Dict, List, Optional, Union
+from typing import Any, Dict, Iterator, List, Optional, Tuple, Union
 
 import yaml
 
@@ -35,6 +35,12 @@ _ESCAPES = {
 }  # fmt: skip
 
 _LOADER: Any = getattr(yaml, "CBaseLoader", yaml.BaseLoader)
+_parse: Any = yaml.parse
+
+
+def text_of(text: str) -> str:
+    """A text as a str of no other class: one of its own, as of an `Enum`, may write itself otherwise."""
+    return str.__str__(text)
 
 
 def _escape(found: re.Match[str]) -> str:
@@ -64,6 +70,7 @@ def scalar(text: str, indentation: int = 2) -> str:
 
     Raises `NotText` for a lone surrogate.
     """
+    text = text_of(text)
     _check_text(text)
     if "\n" not in text or text[0] in " \n" or not _LINES.fullmatch(text):
         return _word_or_quoted(text)
@@ -76,7 +83,7 @@ def scalar(text: str, indentation: int = 2) -> str:
 
 
 def _is_leaf(tree: Tree) -> bool:
-    return isinstance(tree, str) or not tree
+    return isinstance(tree, str) or len(tree) == 0
 
 
 def _leaf(tree: Tree, indentation: int) -> str:
@@ -92,6 +99,19 @@ def _check(tree: object, depth: int) -> None:
         raise NotATree(f"a tree is a str, a list or a dict, not {type(tree).__name__}")
 
 
+def _pairs(tree: Dict[str, Tree]) -> Iterator[Tuple[str, Tree]]:
+    """The keys, as texts of no other class, with their values."""
+    keys = set()
+    for key, value in tree.items():
+        if not isinstance(key, str):
+            raise NotATree(f"a key is a str, not {type(key).__name__}")
+        text = text_of(key)
+        if text in keys:
+            raise NotATree(f"two keys have the same text: {text!r}")
+        keys.add(text)
+        yield text, value
+
+
 def _lines(tree: Tree, indentation: int, depth: int) -> List[str]:
     """The lines of a collection that is not empty, the first one without its indentation."""
     lines: List[str] = []
@@ -104,9 +124,7 @@ def _lines(tree: Tree, indentation: int, depth: int) -> List[str]:
             else:
                 lines.append(f"{margin}- " + "\n".join(_lines(item, indentation + 2, depth + 1)))
     elif isinstance(tree, dict):
-        for key, value in tree.items():
-            if not isinstance(key, str):
-                raise NotATree(f"a key is a str, not {type(key).__name__}")
+        for key, value in _pairs(tree):
             _check(value, depth)
             _check_text(key)
             written = _word_or_quoted(key)
@@ -182,7 +200,7 @@ class _Builder:
             raise BadAnswer("a key is no text, or is there twice")
 
 
-def _check_plain(event: yaml.Event) -> None:
+def _check_plain(event: Any) -> None:
     if event.anchor is not None or event.tag is not None:
         raise BadAnswer("an anchor or a tag is part of no tree")
 
@@ -190,7 +208,7 @@ def _check_plain(event: yaml.Event) -> None:
 def trees_of(text: Union[str, bytes]) -> List[Tree]:
     """The trees of a stream of documents in the one style. Raises `BadAnswer`, or what PyYAML raises, for others."""
     builder = _Builder()
-    for event in yaml.parse(text, Loader=_LOADER):
+    for event in _parse(text, Loader=_LOADER):
         builder.take(event)
     return builder.trees
 

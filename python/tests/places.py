@@ -8,6 +8,13 @@ import unittest
 
 from confstore import Store, Unsupported
 
+from . import TOP
+
+
+def python_path():
+    """Where another Python finds the package, and what this one finds."""
+    return os.pathsep.join([os.path.join(TOP, "python"), os.environ.get("PYTHONPATH", "")]).rstrip(os.pathsep)
+
 
 class StoreTest(unittest.TestCase):
     """A test with a folder of its own, which is removed after it."""
@@ -42,6 +49,22 @@ class StoreTest(unittest.TestCase):
             target.write("heard()\nsay(b'---\\nnames: []\\n...\\n')\n" + body)
         os.chmod(path, stat.S_IRWXU)
         return path
+
+    def program_that_waits(self):
+        """A program that reads nothing before it is let, and a call that lets it, closes its session, and returns all
+        that it was sent."""
+        go, heard = os.path.join(self.top, "go"), os.path.join(self.top, "sent")
+        body = f"while not os.path.exists({go!r}): time.sleep(0.01)\n"
+        body += f"with open({heard!r}, 'wb') as target: target.write(sys.stdin.buffer.read())\n"
+
+        def sent(session):
+            with open(go, "w", encoding="ascii"):
+                pass
+            session.close(60)
+            with open(heard, "rb") as source:
+                return source.read()
+
+        return self.program(body), sent
 
     def set_fault(self, kind, body, timeout=60):
         """The fault of a `set` through a program with this body, which has to be of a kind and come in time."""

@@ -1,5 +1,6 @@
 """Calls of a store, over real sessions."""
 
+import enum
 import os
 import threading
 import unittest
@@ -43,6 +44,29 @@ class Calls(StoreTest):
         for text in texts:
             store.set("texts", "", {text: text})
             self.assertEqual(store["texts"], {text: text})
+
+    def test_classes_of_str(self):
+        class Word(str, enum.Enum):
+            NAME = "app"
+            KEY = "k"
+            PATH = "/k"
+            TEXT = "two words"
+
+        store = self.store()
+        store.put(Word.NAME, {Word.KEY: [Word.TEXT]})
+        store.set(Word.NAME, Word.PATH, Word.TEXT)
+        self.assertEqual((store["app"], store.get(Word.NAME, Word.PATH)), ({"k": "two words"}, "two words"))
+        self.assertEqual((store.export(Word.NAME), Word.NAME in store), ('k: "two words"\n', True))
+        self.assertEqual(Reader(self.folder).get(Word.NAME, Word.PATH), "two words")
+        with store.batch() as batch:
+            batch.import_text(Word.NAME, Word.TEXT)
+            batch.put("other", Word.TEXT)
+            batch.set("other", "", Word.TEXT)
+        self.assertEqual((store["app"], store["other"]), ("two words", "two words"))
+        store.perform_batches([[{"set": Word.NAME, "path": "", "value": Word.KEY}]])
+        self.assertEqual(store["app"], "k")
+        store.delete(Word.NAME)
+        self.assertEqual(store.names(), ["other"])
 
     def test_a_folder_is_made(self):
         folder = os.path.join(self.top, "new", "store")

@@ -1,11 +1,12 @@
 """Texts in the one style: the rows of docs/STYLE.md, and the program's own as the measure of random trees."""
 
+import enum
 import os
 import random
 import subprocess
 import unittest
 
-from confstore import NotATree, NotText, TooDeep, from_text, to_text
+from confstore import NotATree, NotText, TooDeep, document, from_text, to_text
 from confstore.style import scalar
 
 # Texts with what they are as values, indented by two, worked out by hand from docs/STYLE.md.
@@ -56,6 +57,41 @@ PAGE_TREE = {
 CHARACTERS = "ab \n\t\"'\\:#-?[]{},&*!|>%@`~\0\x1f\x7f\x85\xa0\u00e4\u2028\u2029\ufeff\ufffd\ufffe\U0001f600."
 
 
+class Color(str, enum.Enum):
+    RED = "red"
+    DARK = "dark\nred\n"
+    NUMBER = "80"
+    EMPTY = ""
+
+
+class Odd(str):
+    """A str that says something else of itself wherever it can."""
+
+    def odd(self, *_):
+        return "odd"
+
+    __str__ = __repr__ = __format__ = lower = rstrip = odd
+    __hash__ = object.__hash__
+
+    def __eq__(self, other):
+        return self is other
+
+    def __contains__(self, _):
+        return False
+
+    def __len__(self):
+        return 0
+
+    def __getitem__(self, _):
+        return " "
+
+    def encode(self, *_):
+        return b"odd"
+
+    def split(self, *_):
+        return ["odd"]
+
+
 def random_text(chance):
     return "".join(chance.choice(CHARACTERS) for _ in range(chance.choice((0, 1, 3, 9))))
 
@@ -73,6 +109,27 @@ class Style(unittest.TestCase):
     def test_scalars(self):
         for text, written in SCALARS:
             self.assertEqual(scalar(text), written, repr(text))
+
+    def test_classes_of_str(self):
+        """A text of a class of its own is written as the text that it is, wherever it stands."""
+        for text in (*(color.value for color in Color), *(text for text, _ in SCALARS)):
+            odd = Odd(text)
+            for plain, other in (
+                (text, odd),
+                ([text, "a"], [odd, "a"]),
+                ({text: text}, {odd: odd}),
+                ({"a": [{text: []}]}, {"a": [{odd: []}]}),
+            ):
+                self.assertEqual(to_text(other), to_text(plain))
+                self.assertEqual(document(other), document(plain))
+            self.assertEqual(scalar(odd), scalar(text))
+        for color in Color:
+            for plain, other in ((color.value, color), ({color.value: [color.value]}, {color: [color]})):
+                self.assertEqual(to_text(other), to_text(plain))
+        with self.assertRaises(NotATree):
+            to_text({Odd("red"): "a", "red": "b"})
+        with self.assertRaises(NotText):
+            to_text(Odd("\ud800"))
 
     def test_page(self):
         self.assertEqual(to_text(PAGE_TREE), PAGE)

@@ -1,0 +1,317 @@
+/* Texts of the one style, and answers: see confstore.h. SPDX-License-Identifier: Apache-2.0 */
+#include "confstore.h"
+
+#include <stdbool.h>
+#include <stdlib.h>
+#include <string.h>
+
+/* The longest word that is plain. */
+#define LONGEST_WORD 128
+
+/* Bytes. */
+
+void confstore_bytes_free(struct confstore_bytes *bytes) {
+    free(bytes->data);
+    *bytes = (struct confstore_bytes){0};
+}
+
+enum confstore_status confstore_bytes_reserve(struct confstore_bytes *bytes, size_t more) {
+    if (more <= bytes->room - bytes->length) return CONFSTORE_OK;
+    if (more > SIZE_MAX / 4 - bytes->length) return CONFSTORE_NO_MEMORY;
+    size_t room = 2 * (bytes->length + more) + 64;
+    char *data = realloc(bytes->data, room);
+    if (!data) return CONFSTORE_NO_MEMORY;
+    bytes->data = data;
+    bytes->room = room;
+    return CONFSTORE_OK;
+}
+
+enum confstore_status confstore_bytes_add(struct confstore_bytes *bytes, const char *more, size_t length) {
+    if (confstore_bytes_reserve(bytes, length) != CONFSTORE_OK) return CONFSTORE_NO_MEMORY;
+    if (length) memcpy(bytes->data + bytes->length, more, length);
+    bytes->length += length;
+    return CONFSTORE_OK;
+}
+
+static bool push(struct confstore_bytes *bytes, const char *more, size_t length) {
+    return confstore_bytes_add(bytes, more, length) == CONFSTORE_OK;
+}
+
+static bool push_byte(struct confstore_bytes *bytes, char byte) { return push(bytes, &byte, 1); }
+
+static bool push_spaces(struct confstore_bytes *bytes, size_t count) {
+    if (confstore_bytes_reserve(bytes, count) != CONFSTORE_OK) return false;
+    if (count) memset(bytes->data + bytes->length, ' ', count);
+    bytes->length += count;
+    return true;
+}
+
+/* Texts. */
+
+/* The length of the character at the start of the bytes, and its number; 0 where none of UTF-8 is. */
+static size_t character(const char *text, size_t length, uint32_t *number) {
+    const unsigned char *bytes = (const unsigned char *)text;
+    static const uint32_t LEAST[] = {0, 0, 0x80, 0x800, 0x10000};
+    size_t size = bytes[0] < 0x80 ? 1 : bytes[0] < 0xc0 ? 0 : bytes[0] < 0xe0 ? 2 : bytes[0] < 0xf0 ? 3 : 4;
+    if (size == 0 || size > length || bytes[0] > 0xf4) return 0;
+    uint32_t found = size == 1 ? bytes[0] : bytes[0] & (0x7fu >> size);
+    for (size_t at = 1; at < size; at++) {
+        if ((bytes[at] & 0xc0) != 0x80) return 0;
+        found = found << 6 | (bytes[at] & 0x3f);
+    }
+    if (found < LEAST[size] || found > 0x10ffff || (found >= 0xd800 && found < 0xe000)) return 0;
+    *number = found;
+    return size;
+}
+
+/* Whether a character stands as it is in double quotes and in lines. */
+static bool is_shown(uint32_t number) {
+    if (number < 0xa0) return number >= 0x20 && number < 0x7f;
+    return number != 0x2028 && number != 0x2029 && number != 0xfeff && number != 0xfffe && number != 0xffff;
+}
+
+static bool is_letter(char byte) { return (byte >= 'a' && byte <= 'z') || (byte >= 'A' && byte <= 'Z'); }
+
+static bool is_word(const char *text, size_t length) {
+    static const char *const NONE[] = {"null", "true", "false", "yes", "no", "on", "off", "y", "n"};
+    if (length == 0 || length > LONGEST_WORD || !is_letter(text[0])) return false;
+    for (size_t at = 1; at < length; at++) {
+        char byte = text[at];
+        if (!is_letter(byte) && !(byte >= '0' && byte <= '9') && (byte == 0 || !strchr("_-./", byte))) return false;
+    }
+    for (size_t number = 0; number < sizeof NONE / sizeof *NONE; number++) {
+        bool is_same = strlen(NONE[number]) == length;
+        for (size_t at = 0; is_same && at < length; at++) is_same = (text[at] | 0x20) == NONE[number][at];
+        if (is_same) return false;
+    }
+    return true;
+}
+
+static const char ESCAPED[] = "\0\a\b\t\n\v\f\r\x1b\"\\";
+static const char ESCAPES[] = "0abtnvfre\"\\";
+
+static bool push_escape(struct confstore_bytes *to, uint32_t number) {
+    const char *found = number < 0x80 ? memchr(ESCAPED, (int)number, sizeof ESCAPED - 1) : NULL;
+    if (found) return push_byte(to, '\\') && push_byte(to, ESCAPES[found - ESCAPED]);
+    static const char DIGITS[] = "0123456789ABCDEF";
+    char spelled[6] = {'\\', number < 0x100 ? 'x' : 'u'};
+    size_t digits = number < 0x100 ? 2 : 4;
+    for (size_t at = 0; at < digits; at++) spelled[2 + at] = DIGITS[number >> 4 * (digits - 1 - at) & 15];
+    return push(to, spelled, 2 + digits);
+}
+
+/* Writes a text that is UTF-8 in double quotes. */
+static bool push_quoted(struct confstore_bytes *to, const char *text, size_t length) {
+    bool is_done = push_byte(to, '"');
+    for (size_t at = 0, size; is_done && at < length; at += size) {
+        uint32_t number = 0;
+        size = character(text + at, length - at, &number);
+        bool is_plain = is_shown(number) && number != '"' && number != '\\';
+        is_done = is_plain ? push(to, text + at, size) : push_escape(to, number);
+    }
+    return is_done && push_byte(to, '"');
+}
+
+/* Writes a text that may be lines, with the last line's feed: after its header, behind so many spaces. */
+static bool push_lines(struct confstore_bytes *to, const char *text, size_t length, size_t indentation) {
+    size_t ends = 0;
+    while (text[length - 1 - ends] == '\n') ends++;
+    const char *header = ends == 0 ? "|-" : ends == 1 ? "|" : "|+";
+    bool is_done = push(to, header, strlen(header));
+    is_done = is_done && push_byte(to, '\n');
+    for (size_t at = 0; is_done && at < length;) {
+        const char *feed = memchr(text + at, '\n', length - at);
+        size_t end = feed ? (size_t)(feed - text) : length;
+        is_done = (end == at || push_spaces(to, indentation)) && push(to, text + at, end - at) && push_byte(to, '\n');
+        at = end + 1;
+    }
+    return is_done;
+}
+
+/* Whether the bytes are UTF-8, and whether they may be lines. */
+static bool look(const char *text, size_t length, bool *may_be_lines) {
+    *may_be_lines = length > 0 && text[0] != ' ' && text[0] != '\n' && memchr(text, '\n', length);
+    for (size_t at = 0, size; at < length; at += size) {
+        uint32_t number = 0;
+        size = character(text + at, length - at, &number);
+        if (size == 0) return false;
+        if (number != '\n' && !is_shown(number)) *may_be_lines = false;
+    }
+    return true;
+}
+
+/* What a write that failed leaves. */
+static enum confstore_status written(struct confstore_bytes *to, size_t before, bool is_done) {
+    if (!is_done) to->length = before;
+    return is_done ? CONFSTORE_OK : CONFSTORE_NO_MEMORY;
+}
+
+enum confstore_status confstore_write_text(struct confstore_bytes *to, const char *text, size_t length,
+                                           size_t indentation) {
+    size_t before = to->length;
+    bool may_be_lines;
+    if (is_word(text, length)) return written(to, before, push(to, text, length) && push_byte(to, '\n'));
+    if (!look(text, length, &may_be_lines)) return CONFSTORE_NOT_TEXT;
+    if (may_be_lines) return written(to, before, push_lines(to, text, length, indentation));
+    return written(to, before, push_quoted(to, text, length) && push_byte(to, '\n'));
+}
+
+enum confstore_status confstore_write_key(struct confstore_bytes *to, const char *text, size_t length) {
+    size_t before = to->length;
+    bool may_be_lines;
+    if (is_word(text, length)) return written(to, before, push(to, text, length));
+    if (!look(text, length, &may_be_lines)) return CONFSTORE_NOT_TEXT;
+    return written(to, before, push_quoted(to, text, length));
+}
+
+enum confstore_status confstore_write_pair(struct confstore_bytes *to, const char *key, const char *text,
+                                           size_t length) {
+    size_t before = to->length;
+    enum confstore_status status = confstore_write_key(to, key, strlen(key));
+    if (status == CONFSTORE_OK && !push(to, ": ", 2)) status = CONFSTORE_NO_MEMORY;
+    if (status == CONFSTORE_OK) status = confstore_write_text(to, text, length, 2);
+    if (status != CONFSTORE_OK) to->length = before;
+    return status;
+}
+
+enum confstore_status confstore_begin(struct confstore_bytes *command) {
+    command->length = 0;
+    return push(command, "---\n", 4) ? CONFSTORE_OK : CONFSTORE_NO_MEMORY;
+}
+
+enum confstore_status confstore_end(struct confstore_bytes *command) {
+    return push(command, "...\n", 4) ? CONFSTORE_OK : CONFSTORE_NO_MEMORY;
+}
+
+/* Writes a character in UTF-8. */
+static bool push_character(struct confstore_bytes *to, uint32_t number) {
+    if (number < 0x80) return push_byte(to, (char)number);
+    char bytes[3];
+    size_t size = number < 0x800 ? 2 : 3;
+    bytes[0] = (char)(size == 2 ? 0xc0 | number >> 6 : 0xe0 | number >> 12);
+    if (size == 3) bytes[1] = (char)(0x80 | (number >> 6 & 0x3f));
+    bytes[size - 1] = (char)(0x80 | (number & 0x3f));
+    return push(to, bytes, size);
+}
+
+/* The number that hexadecimal digits spell, or -1. */
+static int32_t hexadecimal(const char *digits, size_t count) {
+    int32_t number = 0;
+    for (size_t at = 0; at < count; at++) {
+        char digit = digits[at];
+        if (digit >= '0' && digit <= '9') number = number * 16 + (digit - '0');
+        else if (digit >= 'A' && digit <= 'F') number = number * 16 + (digit - 'A' + 10);
+        else return -1;
+    }
+    return number;
+}
+
+/* Reads what is between double quotes. */
+static enum confstore_status read_quoted(const char *written, size_t length, struct confstore_bytes *to) {
+    for (size_t at = 0; at < length; at++) {
+        char byte = written[at];
+        if (byte == '"' || byte == '\n') return CONFSTORE_NOT_SCALAR;
+        if (byte != '\\') {
+            if (!push_byte(to, byte)) return CONFSTORE_NO_MEMORY;
+            continue;
+        }
+        if (++at == length) return CONFSTORE_NOT_SCALAR;
+        const char *found = memchr(ESCAPES, written[at], sizeof ESCAPES - 1);
+        int32_t number = found ? (unsigned char)ESCAPED[found - ESCAPES] : -1;
+        if (!found) {
+            size_t digits = written[at] == 'x' ? 2 : written[at] == 'u' ? 4 : 0;
+            if (digits == 0 || digits >= length - at) return CONFSTORE_NOT_SCALAR;
+            number = hexadecimal(written + at + 1, digits);
+            if (number < 0 || (number >= 0xd800 && number < 0xe000)) return CONFSTORE_NOT_SCALAR;
+            at += digits;
+        }
+        if (!push_character(to, (uint32_t)number)) return CONFSTORE_NO_MEMORY;
+    }
+    return CONFSTORE_OK;
+}
+
+/* Reads the lines after a header; `sign` is that of the header, or a line feed. The lines end in a line feed. */
+static enum confstore_status read_lines(const char *written, size_t length, char sign, struct confstore_bytes *to) {
+    size_t start = to->length, margin = 0;
+    while (margin < length && written[margin] == ' ') margin++;
+    if (margin == 0 || margin == length || written[margin] == '\n') return CONFSTORE_NOT_SCALAR;
+    for (size_t at = 0; at < length;) {
+        const char *feed = memchr(written + at, '\n', length - at);
+        size_t end = feed ? (size_t)(feed - written) : length;
+        if (end > at) {
+            for (size_t space = 0; space < margin; space++)
+                if (at + space >= end || written[at + space] != ' ') return CONFSTORE_NOT_SCALAR;
+            if (!push(to, written + at + margin, end - at - margin)) return CONFSTORE_NO_MEMORY;
+        }
+        if (!push_byte(to, '\n')) return CONFSTORE_NO_MEMORY;
+        at = end + 1;
+    }
+    size_t ends = 0;
+    while (ends < to->length - start && to->data[to->length - 1 - ends] == '\n') ends++;
+    if (sign == '+' ? ends < 2 : ends != 1) return CONFSTORE_NOT_SCALAR;
+    if (sign == '-') to->length--;
+    return CONFSTORE_OK;
+}
+
+static enum confstore_status read_scalar(const char *written, size_t length, struct confstore_bytes *to) {
+    if (length >= 3 && written[0] == '|') {
+        size_t header = written[1] == '\n' ? 1 : 2;
+        char sign = written[1];
+        if ((header == 2 && sign != '-' && sign != '+') || written[header] != '\n') return CONFSTORE_NOT_SCALAR;
+        return read_lines(written + header + 1, length - header - 1, sign, to);
+    }
+    if (length > 0 && written[length - 1] == '\n') length--;
+    if (length >= 2 && written[0] == '"' && written[length - 1] == '"') return read_quoted(written + 1, length - 2, to);
+    if (!is_word(written, length)) return CONFSTORE_NOT_SCALAR;
+    return push(to, written, length) ? CONFSTORE_OK : CONFSTORE_NO_MEMORY;
+}
+
+enum confstore_status confstore_read_text(const char *written, size_t length, struct confstore_bytes *to) {
+    size_t before = to->length;
+    enum confstore_status status = read_scalar(written, length, to);
+    for (size_t at = before, size; status == CONFSTORE_OK && at < to->length; at += size) {
+        uint32_t number;
+        size = character(to->data + at, to->length - at, &number);
+        if (size == 0) status = CONFSTORE_NOT_TEXT;
+    }
+    if (status != CONFSTORE_OK) to->length = before;
+    return status;
+}
+
+/* Answers. */
+
+/* Reads a count in double quotes, with its line feed. */
+static bool read_count(const char *value, size_t length, uint64_t *count) {
+    if (length < 4 || value[0] != '"' || value[length - 2] != '"' || value[length - 1] != '\n') return false;
+    *count = 0;
+    for (size_t at = 1; at < length - 2; at++) {
+        unsigned digit = (unsigned)(value[at] - '0');
+        if (digit > 9 || *count > (UINT64_MAX - digit) / 10) return false;
+        *count = *count * 10 + digit;
+    }
+    return true;
+}
+
+enum confstore_status confstore_read_answer(const char *answer, size_t length, struct confstore_answer *said) {
+    static const struct {
+        const char *key;
+        enum confstore_said kind;
+    } KEYS[] = {
+        {"ok:", CONFSTORE_SAID_OK},     {"refused:", CONFSTORE_SAID_REFUSED}, {"value:", CONFSTORE_SAID_VALUE},
+        {"text:", CONFSTORE_SAID_TEXT}, {"names:", CONFSTORE_SAID_NAMES},
+    };
+    if (length < 9 || memcmp(answer, "---\n", 4) || memcmp(answer + length - 5, "\n...\n", 5))
+        return CONFSTORE_BAD_ANSWER;
+    const char *body = answer + 4;
+    size_t left = length - 8;
+    for (size_t number = 0; number < sizeof KEYS / sizeof *KEYS; number++) {
+        size_t key = strlen(KEYS[number].key);
+        if (left < key + 2 || memcmp(body, KEYS[number].key, key) || (body[key] != ' ' && body[key] != '\n')) continue;
+        *said = (struct confstore_answer){KEYS[number].kind, 0, body + key + 1, left - key - 1};
+        if (said->kind == CONFSTORE_SAID_OK && !read_count(said->value, said->length, &said->count))
+            return CONFSTORE_BAD_ANSWER;
+        if (said->kind == CONFSTORE_SAID_REFUSED && !is_word(said->value, --said->length)) return CONFSTORE_BAD_ANSWER;
+        return CONFSTORE_OK;
+    }
+    return CONFSTORE_BAD_ANSWER;
+}

@@ -1,0 +1,40 @@
+/* What the files of the test share: see test_confstore.c. */
+#ifndef TEST_H
+#define TEST_H
+
+#include "confstore.h"
+
+/* Counts a test, and prints what was wrong. */
+void expect(const char *name, long found, long wanted);
+void expect_status(const char *name, enum confstore_status found, enum confstore_status wanted);
+void expect_bytes(const char *name, const char *found, size_t length, const char *wanted, size_t wanted_length);
+
+/* A path in the folder of the tests. Two are kept at a time. */
+const char *path_of(const char *name);
+const char *folder_of(const char *name);
+void write_file(const char *path, const char *content, int mode);
+
+/* The command that gets the configuration `c`. */
+#define LOOK "get: c\npath: \"\"\n...\n"
+
+/* Makes `command` a set of the configuration `c` at a path. */
+void make_set(struct confstore_bytes *command, const char *path, const char *text, size_t length);
+
+/* The answer to a command. */
+struct confstore_answer ask(struct confstore *store, const char *command, size_t length,
+                            struct confstore_bytes *answer);
+struct confstore_answer ask_text(struct confstore *store, const char *command, struct confstore_bytes *answer);
+
+/* What is tried of texts, without a store and over one. */
+void scalars(void);
+void changed(void);
+void values(struct confstore *store);
+void line_feeds(struct confstore *store);
+
+/* What is tried of forked processes, and of programs that say too much. */
+void forks(const char *program, const char *served);
+void endless_programs(void);
+void longest_answers(void);
+void paths(const char *program);
+
+#endif
