@@ -207,6 +207,7 @@ class Follower(threading.Thread):
                 self._say(error)
             finally:
                 self.close()
+        self._etcd.close()
 
     def _say(self, fault: Exception) -> None:
         """Prints what went wrong, the same thing once, and waits; the longer the more often."""

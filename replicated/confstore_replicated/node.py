@@ -48,6 +48,9 @@ from .server import Server
 # How many seconds a client waits for an answer at most.
 PATIENCE = 30.0
 
+# How many seconds the follower may take to end.
+ENDING = 10.0
+
 # The longest `id`.
 LONGEST_ID = 200
 
@@ -91,6 +94,14 @@ class Node:
             yield etcd
         finally:
             self._idle.append(etcd)
+
+    def end(self) -> None:
+        """Ends the follower, and waits for that. Requests that wait are answered that they failed."""
+        self.follower.end()
+        if self.follower.is_alive():
+            self.follower.join(ENDING)
+        while self._idle:
+            self._idle.pop().close()
 
     def answer(self, request: Request) -> Dict[str, Any]:
         """What is answered to a request."""
@@ -249,31 +260,42 @@ def _open(follower: Follower) -> None:
         pass
 
 
+def _node_of(words: argparse.Namespace) -> Node:
+    """The node, whose store is open if that was possible. Raises `OSError`, `ValueError` or `NotReplicated`."""
+    access = _access_of(words)
+    os.makedirs(words.folder, exist_ok=True)
+    node = Node(
+        words.folder, words.members, words.cluster, program=words.program, base_after=words.base_after,
+        names_kept=words.ids_kept, access=access,
+    )  # fmt: skip
+    _open(node.follower)
+    return node
+
+
 def main() -> int:
     words = _parser().parse_args()
+    server: Optional[Server] = None
+    is_told_to_end = threading.Event()
+
+    def end(*_: object) -> None:
+        is_told_to_end.set()
+        if server is not None:
+            threading.Thread(target=server.end, daemon=True).start()
+
+    signal.signal(signal.SIGTERM, end)
+    signal.signal(signal.SIGINT, end)
     try:
-        access = _access_of(words)
-        os.makedirs(words.folder, exist_ok=True)
-        node = Node(
-            words.folder, words.members, words.cluster, program=words.program, base_after=words.base_after,
-            names_kept=words.ids_kept, access=access,
-        )  # fmt: skip
-        _open(node.follower)
+        node = _node_of(words)
         server = Server(words.socket, words.folder, node.answer)
     except (OSError, ValueError, NotReplicated) as fault:
         print(f"node: {fault}", file=sys.stderr)
         return 1
-
-    def end(*_: object) -> None:
-        threading.Thread(target=server.end, daemon=True).start()
-
-    signal.signal(signal.SIGTERM, end)
-    signal.signal(signal.SIGINT, end)
+    if is_told_to_end.is_set():
+        server.end()
     node.follower.start()
     print("ready", flush=True)
     server.serve()
-    node.follower.end()
-    node.follower.join(10)
+    node.end()
     return 0
 
 

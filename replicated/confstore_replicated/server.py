@@ -191,13 +191,17 @@ class Server:
                 if self._listener in ready and self._has_place():
                     self._accept()
         finally:
-            self._listener.close()
+            for end in (self._listener, self._bell, self._ear):
+                end.close()
             if os.path.lexists(self._path) and os.lstat(self._path).st_ino == self._inode:
                 os.unlink(self._path)
 
     def end(self) -> None:
         self._is_ended.set()
-        self._bell.send(b".")
+        try:
+            self._bell.send(b".")
+        except OSError:  # it has ended
+            pass
 
     def _has_place(self) -> bool:
         """Whether one more client may be served. If not, cuts off the one that asked nothing for the longest time, if

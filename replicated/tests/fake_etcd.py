@@ -102,6 +102,7 @@ class FakeEtcd:
 
         self.server = ThreadingHTTPServer(("127.0.0.1", 0), Handler)
         self.server.daemon_threads = True
+        self.server.handle_error = lambda *_: None  # clients may go at any time
         self.address = "127.0.0.1:%d" % self.server.server_address[1]
         if context is not None:
             self.server.socket = context.wrap_socket(self.server.socket, server_side=True)
