@@ -13,7 +13,7 @@ Each part has one member of etcd and nodes of its own:
 - etcd wants TLS, certificates of clients, and a user with a password, and forgets its tokens;
 - clients connect and say nothing, or half a line, and the node has to answer others.
 
-    checks/replicated.sh
+    checks/replicated.sh, or checks/replicated_faults.py [WORD ..], which has the parts with these words in their names
 
 It needs etcd on the PATH (Debian's etcd-server), PyYAML and the built program; etcdctl (etcd-client) and openssl for
 some parts, which are left out without them. The last line is 'N passed, M failed'.
@@ -34,6 +34,8 @@ import tempfile
 import threading
 import time
 
+WANTED = sys.argv[1:]
+del sys.argv[1:]
 sys.path.insert(0, os.path.dirname(os.path.abspath(__file__)))
 
 from replicated import PROGRAM, TOP, Checks, Process, free_port  # noqa: E402  (it finds the packages)
@@ -423,7 +425,8 @@ def too_long_at_one():
         is_so(one.ask({"import": "web", "text": "port: 0"}), {"ok": "1"}, "too long")
         for number in range(2, 42):
             through = one if number % 2 else other
-            command = {"set": "web" if number % 5 else "none", "path": "/port", "value": str(number), "id": f"i{number}"}
+            name = "web" if number % 5 else "none"
+            command = {"set": name, "path": "/port", "value": str(number), "id": f"i{number}"}
             wanted = {"ok": str(number)} if number % 5 else {"refused": "NoConfig"}
             is_so(through.ask(command), wanted, f"too long: command {number}")
             is_so([one.ask(command), other.ask(command)], [wanted] * 2, f"too long: command {number} again")
@@ -459,8 +462,9 @@ def make_certificates(part):
         "-out", "ca.crt")  # fmt: skip
     with open(part.path("names"), "w", encoding="ascii") as file:
         file.write("subjectAltName=IP:127.0.0.1\nextendedKeyUsage=serverAuth,clientAuth\n")
-    for name in ("member", "client"):
-        run("req", "-newkey", "rsa:2048", "-nodes", "-subj", f"/CN={name}", "-keyout", f"{name}.key", "-out", "csr")
+    # With users on, etcd's gateway takes no client whose certificate has a common name.
+    for name, subject in (("member", "/CN=member"), ("client", "/O=nodes")):
+        run("req", "-newkey", "rsa:2048", "-nodes", "-subj", subject, "-keyout", f"{name}.key", "-out", "csr")
         run("x509", "-req", "-in", "csr", "-CA", "ca.crt", "-CAkey", "ca.key", "-CAcreateserial", "-days", "2",
             "-extfile", "names", "-out", f"{name}.crt")  # fmt: skip
 
@@ -506,7 +510,8 @@ def tls_and_users():
         CHECKS.is_so(member.floor() > 0, "TLS and a user: there is no base")
         member.stop()
         member.process.start()  # which knows no token any more
-        is_so(eventually(lambda: one.set("again", id="again"), {"ok": "32"}), {"ok": "32"}, "TLS and a user: a new token")
+        answer = eventually(lambda: one.set("again", id="again"), {"ok": "32"})
+        is_so(answer, {"ok": "32"}, "TLS and a user: a new token")
         is_so(eventually(lambda: other.get(), {"value": "again"}), {"value": "again"}, "a new token at the other node")
         for name, words in (("no user", tls), ("no certificate", [*tls[:2], *user]), ("no TLS", user)):
             shut_out = part.node(name.replace(" ", "-"), member, *words)
@@ -531,7 +536,6 @@ def clients_that_say_nothing():
         held = []
         for _ in range(380):
             client = socket.socket(socket.AF_UNIX)
-            client.settimeout(30)
             client.connect(node.socket)
             held.append(client)
         began = time.monotonic()
@@ -589,7 +593,7 @@ def main():
     if shutil.which("openssl"):
         parts["TLS and users"] = tls_and_users
     for name, part in parts.items():
-        if not all(word in name for word in sys.argv[1:]):
+        if not all(word in name for word in WANTED):
             continue
         began, before = time.monotonic(), (CHECKS.passed, CHECKS.failed)
         try:

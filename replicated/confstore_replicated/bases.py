@@ -16,14 +16,11 @@ import secrets
 from dataclasses import asdict
 from typing import Callable, List, Optional, Sequence, Tuple
 
-from .etcd import Etcd, Item
+from .etcd import Etcd, Guard, Item
 from .history import Base, base_in
 
 # After how many further entries a name may be forgotten.
 NAMES_KEPT = 100_000
-
-# A key of etcd with the value that it has to have, or None if it may not be there.
-Guard = Tuple[bytes, Optional[bytes]]
 
 # A base is kept in etcd in parts of so many bytes, of which so many are read at once.
 PART = 700_000

@@ -86,7 +86,8 @@ def edits_of(command: Any) -> List[Edit]:
 def command_of(edits: Sequence[Edit]) -> bytes:
     """The bytes of a command. Raises `Refused` if it, or its batch, is too long, or has a text that YAML can't hold."""
     try:
-        command = json.dumps({"edits": list(edits)}, ensure_ascii=False, separators=(",", ":")).encode("utf-8", "strict")
+        text = json.dumps({"edits": list(edits)}, ensure_ascii=False, separators=(",", ":"))
+        command = text.encode("utf-8", "strict")
         batch = document({"batch": [*marked(edits, 1, 1, NO_MARK)]})
     except (NotText, UnicodeEncodeError):
         raise Refused("NotText") from None

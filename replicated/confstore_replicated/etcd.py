@@ -27,8 +27,11 @@ MOST_REMOVED = 60
 UNAUTHENTICATED = 16
 PERMISSION_DENIED = 7
 
-# The comparison that a key is not there.
+# The revision that made a key which is not there, in comparisons.
 ABSENT = 0
+
+# A key of etcd with the value that it has to have, or None if it may not be there.
+Guard = Tuple[bytes, Optional[bytes]]
 
 
 class Unavailable(Exception):
@@ -332,7 +335,7 @@ class Etcd:
         }  # fmt: skip
         return items_of(self._ask("/v3/kv/range", lambda: _range(prefix, end_of(prefix), **more)))
 
-    def remove(self, keys: Sequence[bytes], until: int, absent: Sequence[bytes], guard: Tuple[bytes, Optional[bytes]]) -> bool:
+    def remove(self, keys: Sequence[bytes], until: int, absent: Sequence[bytes], guard: Guard) -> bool:
         """Takes out keys that were made up to a revision, if others are not there, and the guard's key has its value.
         All or nothing; whether it did."""
         compare = [_is(*guard), *(_created(key, until + 1, "LESS") for key in keys)]
@@ -340,7 +343,7 @@ class Etcd:
         removed = [{"request_delete_range": {"key": encode(key)}} for key in keys]
         return bool(self._transact(compare, removed).get("succeeded"))
 
-    def remove_between(self, first: bytes, end: bytes, guard: Tuple[bytes, Optional[bytes]]) -> bool:
+    def remove_between(self, first: bytes, end: bytes, guard: Guard) -> bool:
         """Takes out all keys from the first one on that are before the end, if the guard's key has its value. Whether
         it did."""
         removed = {"request_delete_range": {"key": encode(first), "range_end": encode(end)}}
@@ -376,6 +379,6 @@ def _fault_of(path: str, status: int, text: bytes) -> Exception:
         return Denied(f"the cluster does not let this user in: {about}")
     if code == UNAUTHENTICATED or "auth token" in about or "auth revision" in about:
         return _BadToken(f"status {status}: {about}")
-    if code == PERMISSION_DENIED:
+    if code == PERMISSION_DENIED or "user name is empty" in about:
         return Denied(f"the cluster does not permit this: {about}")
     return ValueError(f"status {status}: {about}")

@@ -258,8 +258,8 @@ class Follower(threading.Thread):
         except NoConfig:
             if store.names() or count_in(self._folder) != 0:
                 raise NotReplicated(
-                    f"{self._folder} has a store with commands that are in no log, so this node would hold other things "
-                    "than the others. Start it with an empty folder, and put what the old store exports with `import`"
+                    f"{self._folder} has a store with commands that are in no log, so this node would hold other "
+                    "things than the others. Start it with an empty folder, and `import` what the old store exports"
                 ) from None
             return Place(0, "")
 

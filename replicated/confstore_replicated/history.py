@@ -1,9 +1,9 @@
 """Whether the log in etcd is the one that a store has performed.
 
 A store keeps, beside the number of the last entry that it performed, a mark: which cluster of etcd had the entry, and a
-digest of it, the tie. Each request that may make an entry has a nonce of its own in it. So an entry with the same number
-and the same tie is the same event in the same history of etcd, and all that was before it is the same too. A log that
-was restored from an older snapshot, or made anew, has no such entry, however far its revisions have come since.
+digest of it, the tie. Each request that may make an entry has a nonce of its own in it. So an entry with the same
+number and the same tie is the same event in the same history of etcd, and all that was before it is the same too. A log
+that was restored from an older snapshot, or made anew, has no such entry, however far its revisions have come since.
 """
 
 from __future__ import annotations

@@ -7,8 +7,8 @@ import unittest
 import confstore
 from confstore import Store
 from confstore_replicated.answers import answers_in, count_in
-from confstore_replicated.entries import LONGEST, MARK_LENGTH, NO_MARK, RESERVED, Refused, command_of, edits_in, edits_of
-from confstore_replicated.entries import entry_of, has_nonce, number_in
+from confstore_replicated.entries import LONGEST, MARK_LENGTH, NO_MARK, RESERVED, Refused, command_of, edits_in
+from confstore_replicated.entries import edits_of, entry_of, has_nonce, number_in
 from confstore_replicated.entries import marked as marked_with, refused as refusal_with
 from confstore_replicated.etcd import Item
 from confstore_replicated.follower import Follower, NotReplicated

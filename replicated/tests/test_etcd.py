@@ -82,7 +82,8 @@ class Tls(EtcdTest):
         return os.path.join(self.top, name)
 
     def make(self, name, subject, *more, signed=False):
-        words = ["openssl", "req", "-newkey", "rsa:2048", "-nodes", "-subj", subject, "-keyout", self.path(f"{name}.key")]
+        key = self.path(f"{name}.key")
+        words = ["openssl", "req", "-newkey", "rsa:2048", "-nodes", "-subj", subject, "-keyout", key]
         if signed:
             request, names = self.path(f"{name}.csr"), self.path(f"{name}.names")
             subprocess.run([*words, "-out", request, *more], check=True, capture_output=True)

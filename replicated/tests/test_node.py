@@ -133,7 +133,7 @@ class OtherHistories(NodeTest):
             self.refuses_all(node)
         self.assertEqual(self.get(self.node("b")), {"value": "2"})
         self.refuses_all(node)
-        (line,) = {line for line in self.said.getvalue().splitlines() if "revision 4" in line}
+        (line,) = {line for line in self.said.getvalue().splitlines() if "revision 5" in line}
         for word in (os.path.join(self.top, "a"), "--bump-revision", "empty"):
             self.assertIn(word, line)
 
