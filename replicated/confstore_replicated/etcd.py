@@ -175,7 +175,8 @@ class Etcd:
 
     def __init__(self, members: Sequence[str], timeout: float = 30.0, access: Optional[Access] = None) -> None:
         self._members = list(members)
-        self._timeout = timeout
+        #: How many seconds a call may take, for all members together.
+        self.timeout = timeout
         self._access = access or Access()
         self._first = 0
         self._connection: Optional[http.client.HTTPConnection] = None
@@ -223,7 +224,7 @@ class Etcd:
     def _ask(self, path: str, body: Callable[[], Dict[str, Any]]) -> Dict[str, Any]:
         """What the first member that answers says to a body, which is made anew for each. Only for what may be asked
         twice."""
-        deadline = time.monotonic() + self._timeout
+        deadline = time.monotonic() + self.timeout
         while True:
             try:
                 return self._post(path, body())

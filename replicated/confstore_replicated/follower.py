@@ -132,9 +132,10 @@ class Follower(threading.Thread):
         self._bases = Bases(self._etcd, prefix, base_after, names_kept)
         self._base_after = base_after
         self._told, self._forget = told, forget
-        self._state = threading.Condition()  # the two below are changed with it held
+        self._state = threading.Condition()  # the three below are changed with it held
         self._place = Place(0, "")
         self._fault: Optional[OtherHistory] = None
+        self._has_looked = False
         self._ended = threading.Event()
         self._last: Optional[Item] = None
         self._cluster_id = 0
@@ -159,6 +160,14 @@ class Follower(threading.Thread):
             self._state.wait_for(is_over, timeout)
             self._raise_fault()
             return self._place.number >= number and not self._ended.is_set()
+
+    def wait_for_look(self, timeout: float) -> None:
+        """Waits until the log was looked at since the start. Raises `OtherHistory`, or `Unavailable` after so long."""
+        with self._state:
+            self._state.wait_for(lambda: self._has_looked or self._fault is not None, timeout)
+            self._raise_fault()
+            if not self._has_looked:
+                raise Unavailable("this node has not seen the log yet")
 
     def place(self) -> Place:
         """Which entry this store performed last."""
@@ -273,7 +282,8 @@ class Follower(threading.Thread):
             self._last = look.at
             self._place = self._place._replace(key=look.at.key)
         with self._state:
-            self._fault = None
+            self._fault, self._has_looked = None, True
+            self._state.notify_all()
         return look
 
     def _follow(self) -> None:

@@ -60,6 +60,16 @@ PASSWORD = "CONFSTORE_ETCD_PASSWORD"
 Request = Dict[str, Any]
 
 
+class Wait:
+    """How long a request may still take."""
+
+    def __init__(self) -> None:
+        self._deadline = time.monotonic() + PATIENCE
+
+    def left(self) -> float:
+        return max(self._deadline - time.monotonic(), 0.0)
+
+
 class Node:
     """Answers the requests of clients."""
 
@@ -84,12 +94,13 @@ class Node:
         )  # fmt: skip
 
     @contextmanager
-    def _etcd(self) -> Iterator[Etcd]:
+    def _etcd(self, wait: Wait) -> Iterator[Etcd]:
         """A client of etcd that nobody else uses meanwhile."""
         try:
             etcd = self._idle.pop()
         except IndexError:
-            etcd = Etcd(self._members, PATIENCE, self._access)
+            etcd = Etcd(self._members, access=self._access)
+        etcd.timeout = wait.left()
         try:
             yield etcd
         finally:
@@ -124,29 +135,30 @@ class Node:
 
     def _change(self, request: Request, identity: Optional[str]) -> Dict[str, Any]:
         """Puts a change into the log, and waits until it was performed here."""
-        command = command_of(edits_of(request))
+        command, wait = command_of(edits_of(request)), Wait()
         name = (identity or uuid.uuid4().hex).encode()
-        created = self._create(name, command)
-        if not self.follower.wait_for(created.number, PATIENCE):
+        self.follower.wait_for_look(wait.left())
+        created = self._create(name, command, wait)
+        if not self.follower.wait_for(created.number, wait.left()):
             return {"failed": "TimedOut"}
-        answer = self._answer_of(created, self._log + name, digest_of(command))
+        answer = self._answer_of(created, self._log + name, digest_of(command), wait)
         if answer is not None:
             return answer
-        again = self._create(name, command)  # so that the log that this node has now is known to have it
+        again = self._create(name, command, wait)  # so that the log that this node has now is known to have it
         is_same = again.number == created.number and again.value in (None, created.value)
         return {"failed": "Forgotten" if is_same else "TimedOut"}
 
-    def _create(self, name: bytes, command: bytes) -> Created:
+    def _create(self, name: bytes, command: bytes, wait: Wait) -> Created:
         """Puts a command into the log under a name, unless it is there. Raises `Refused` if another one is."""
         digest = digest_of(command)
-        with self._etcd() as etcd:
+        with self._etcd(wait) as etcd:
             created = etcd.create(self._ids + name, digest, self._log + name, lambda: entry_of(command))
         if _digest_in(created) != digest:
-            self._look(self.follower.place())
+            self._look(self.follower.place(), wait)
             raise Refused("IdTaken")
         return created
 
-    def _answer_of(self, created: Created, key: bytes, digest: bytes) -> Optional[Dict[str, Any]]:
+    def _answer_of(self, created: Created, key: bytes, digest: bytes, wait: Wait) -> Optional[Dict[str, Any]]:
         """What an entry was answered that this node has performed: the very same, not another with its number. None if
         this node doesn't know."""
         performed, place = self._answers.of(created.number), self.follower.place()
@@ -157,32 +169,32 @@ class Node:
                 raise OtherHistory("the entry with this number is another one here")
             if performed.has_tie():
                 return dict(performed.answer)
-        self._look(place)
+        self._look(place, wait)
         if performed is not None and (created.value is not None or performed.is_of_command(key, digest)):
             return dict(performed.answer)
         return None
 
-    def _look(self, place: Place) -> int:
+    def _look(self, place: Place, wait: Wait) -> int:
         """The number of the newest entry, or 0. Raises `OtherHistory` if the log is not the one that a store at this
         place has performed, and `Behind` if that isn't known."""
-        with self._etcd() as etcd:
+        with self._etcd(wait) as etcd:
             look = self.follower.look(etcd, place)
         return look.after[0].created if look.after else place.number
 
-    def _newest(self) -> int:
+    def _newest(self, wait: Wait) -> int:
         """The number of the newest entry in the log, where this store is not behind it or has started from a base."""
-        deadline = time.monotonic() + PATIENCE
         while True:
             try:
-                return self._look(self.follower.place())
+                return self._look(self.follower.place(), wait)
             except Behind:
-                if time.monotonic() > deadline:
+                if not wait.left():
                     raise
             time.sleep(0.1)
 
     def _read(self, request: Request, fresh: bool) -> Dict[str, Any]:
         """Answers a question from the store of this node."""
-        if fresh and not self.follower.wait_for(self._newest(), PATIENCE):
+        wait = Wait()
+        if fresh and not self.follower.wait_for(self._newest(wait), wait.left()):
             return {"failed": "TimedOut"}
         store = self.follower.store
         if store is None:

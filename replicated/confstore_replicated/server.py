@@ -229,7 +229,11 @@ class Server:
         client = _Client(connection, self)
         with self._lock:
             self._clients.add(client)
-        threading.Thread(target=client.serve, name="confstore client", daemon=True).start()
+        try:
+            threading.Thread(target=client.serve, name="confstore client", daemon=True).start()
+        except RuntimeError:  # the system has no room for one more
+            self.forget(client)
+            connection.close()
 
     def forget(self, client: _Client) -> None:
         with self._lock:
