@@ -122,13 +122,17 @@ class Bases:
 
 
 def install(folder: str, base: bytes) -> None:
-    """Has a base stand in the place of the file of a store, which is closed."""
-    aside = os.path.join(folder, "base.new")
-    with open(aside, "wb") as file:
+    """Has a base stand in the place of the file of a store, which is closed. That file gets another name."""
+    new, store, kept = (os.path.join(folder, name) for name in ("base.new", "store.yaml", "before-base.yaml"))
+    with open(new, "wb") as file:
         file.write(base)
         file.flush()
         os.fsync(file.fileno())
-    os.replace(aside, os.path.join(folder, "store.yaml"))
+    if os.path.exists(store):
+        if os.path.exists(kept):
+            os.unlink(kept)
+        os.link(store, kept)
+    os.replace(new, store)
     directory = os.open(folder, os.O_RDONLY)
     try:
         os.fsync(directory)

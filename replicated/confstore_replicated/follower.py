@@ -164,7 +164,7 @@ class Follower(threading.Thread):
     def wait_for_look(self, timeout: float) -> None:
         """Waits until the log was looked at since the start. Raises `OtherHistory`, or `Unavailable` after so long."""
         with self._state:
-            self._state.wait_for(lambda: self._has_looked or self._fault is not None, timeout)
+            self._state.wait_for(lambda: self._has_looked or self._fault or self._ended.is_set(), timeout)
             self._raise_fault()
             if not self._has_looked:
                 raise Unavailable("this node has not seen the log yet")

@@ -126,7 +126,7 @@ def judge(look: Look, place: Place) -> None:
             raise Behind
         return
     if look.revision < place.number:
-        raise OtherHistory(f"etcd is at revision {look.revision}, and the store at entry {place.number}")
+        raise OtherHistory(f"etcd has not come to entry {place.number}, which the store has performed")
     if look.at is not None:
         _judge_entry(look, look.at, place)
     elif base.floor < place.number:

@@ -133,7 +133,10 @@ class OtherHistories(NodeTest):
             self.refuses_all(node)
         self.assertEqual(self.get(self.node("b")), {"value": "2"})
         self.refuses_all(node)
-        (line,) = {line for line in self.said.getvalue().splitlines() if "revision 5" in line}
+        until(lambda: len(self.said.getvalue().splitlines()) > 1)
+        line, after = self.said.getvalue().splitlines()
+        self.assertIn("has not come to entry 6", line)
+        self.assertIn("does not have entry 6", after)
         for word in (os.path.join(self.top, "a"), "--bump-revision", "empty"):
             self.assertIn(word, line)
 
@@ -287,6 +290,21 @@ class BasesAndNames(NodeTest):
         self.assertEqual(self.get(other), {"value": "59"})
         self.assertEqual(self.set(other, "x"), {"ok": "62"})
         self.assertEqual(self.get(node), {"value": "x"})
+
+    def test_what_a_base_replaces_is_kept(self):
+        behind = self.node("b")
+        node = self.node(base_after=10)
+        self.begin(node, 0)
+        self.get(behind)
+        self.end(behind)
+        with open(os.path.join(self.top, "b", "store.yaml"), "rb") as file:
+            before = file.read()
+        for count in range(40):
+            self.set(node, str(count))
+        until(lambda: base_in(self.etcd.keys.keys[BASE][0]).floor > 10)
+        self.assertEqual(self.get(self.node("b")), {"value": "39"})
+        with open(os.path.join(self.top, "b", "before-base.yaml"), "rb") as file:
+            self.assertEqual(file.read(), before)
 
     def test_names_go_after_entries(self):
         node = self.node(base_after=10, names_kept=30)
