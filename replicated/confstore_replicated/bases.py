@@ -3,8 +3,9 @@ its store is too far behind.
 
 A base is the file of a store, in parts. What etcd has under the key `base` says which parts are those of the base, and
 up to which entry, the floor, the log may have lost entries: that of the base before. It is put only if the log has the
-entry that the store performed last, with the same nonce, so never into the log of another history. And all that is
-taken out goes by transactions that compare the key `base`: another node's base, or a restored one, stops them.
+entry that the store performed last, with the same nonce, and all parts, so never into the log of another history. And
+all that is taken out goes by transactions that compare the key `base`: another node's base, or a restored one, stops
+them.
 """
 
 from __future__ import annotations
@@ -55,9 +56,9 @@ class Bases:
             return
         new = Base(entry.created, count, last.number, mark, last.mark, parts=secrets.token_hex(8))
         new.history, new.names_floor = self._history(last, new)
-        new.sha256 = self._put_parts(path, self._parts_of(new))
+        new.sha256, parts = self._put_parts(path, self._parts_of(new))
         text = json.dumps(asdict(new)).encode()
-        self._etcd.replace(self._key, text, old, entry)
+        self._etcd.replace(self._key, text, old, entry, parts)
         if self._etcd.get(self._key) == text:
             self._clean(new, (self._key, text))
 
@@ -69,15 +70,16 @@ class Bases:
         old = [number for number, known in history if known <= count - self._names_kept]
         return history[max(len(old) - 1, 0) :], min(max(old, default=0), new.floor)
 
-    def _put_parts(self, path: str, prefix: bytes) -> str:
-        """Puts the file in parts. Returns its checksum."""
-        digest, place = hashlib.sha256(), 0
+    def _put_parts(self, path: str, prefix: bytes) -> Tuple[str, List[bytes]]:
+        """Puts the file in parts. Returns its checksum, and the keys of the parts: 96 at most."""
+        digest = hashlib.sha256()
+        keys: List[bytes] = []
         with open(path, "rb") as file:
             while part := file.read(PART):
                 digest.update(part)
-                self._etcd.put(prefix + f"{place:08}".encode(), part)
-                place += 1
-        return digest.hexdigest()
+                keys.append(prefix + f"{len(keys):08}".encode())
+                self._etcd.put(keys[-1], part)
+        return digest.hexdigest(), keys
 
     def _parts_of(self, base: Base) -> bytes:
         place = f"{base.number:020}/" + (f"{base.parts}/" if base.parts else "")

@@ -312,10 +312,13 @@ class Etcd:
     def put(self, key: bytes, value: bytes) -> None:
         self._ask("/v3/kv/put", lambda: {"key": encode(key), "value": encode(value)})
 
-    def replace(self, key: bytes, value: bytes, old: Optional[bytes], entry: Item) -> bool:
-        """Puts a value under a key that has the old one, or is not there if that is None, if the log has this entry.
-        False if it was not put, or if that isn't known."""
+    def replace(
+        self, key: bytes, value: bytes, old: Optional[bytes], entry: Item, present: Sequence[bytes] = ()
+    ) -> bool:
+        """Puts a value under a key that has the old one, or is not there if that is None, if the log has this entry
+        and other keys are there. False if it was not put, or if that isn't known."""
         compare = [_is(key, old), _created(entry.key, entry.created), _is(entry.key, entry.value)]
+        compare += [_created(other, ABSENT, "GREATER") for other in present]
         return bool(self._transact(compare, [_put(key, value)]).get("succeeded"))
 
     def keys_until(self, prefix: bytes, revision: int) -> Iterator[List[bytes]]:

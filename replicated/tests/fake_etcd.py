@@ -61,7 +61,8 @@ class Keys:
         if compare["target"] == "VALUE":
             return value == decoded(compare["value"])
         wanted = int(compare[CREATED])
-        return {"EQUAL": created == wanted, "LESS": created < wanted}[compare.get("result", "EQUAL")]
+        results = {"EQUAL": created == wanted, "LESS": created < wanted, "GREATER": created > wanted}
+        return results[compare.get("result", "EQUAL")]
 
     def transact(self, asked):
         succeeded = all(map(self.holds, asked.get("compare", ())))

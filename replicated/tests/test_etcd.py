@@ -144,7 +144,8 @@ class Answers(EtcdTest):
         self.assertFalse(etcd.replace(b"base", b"new", b"old", entry))
         for other in (entry._replace(value=b"y"), entry._replace(created=3), entry._replace(key=b"log/b")):
             self.assertFalse(etcd.replace(b"base", b"new", None, other))
-        self.assertTrue(etcd.replace(b"base", b"new", None, entry))
+        self.assertFalse(etcd.replace(b"base", b"new", None, entry, [b"log/a", b"part"]))
+        self.assertTrue(etcd.replace(b"base", b"new", None, entry, [b"log/a"]))
         self.assertFalse(etcd.replace(b"base", b"newer", None, entry))
         self.assertEqual(etcd.get(b"base"), b"new")
 

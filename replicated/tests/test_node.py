@@ -334,23 +334,40 @@ class BasesAndNames(NodeTest):
         self.assertEqual(self.set(node, "first", id="i"), {"ok": "2"})
         self.assertEqual(self.set(self.node("b"), "first", id="i"), {"failed": "Forgotten"})
 
-    def test_a_base_of_another_history_is_not_put(self):
-        node = self.node(base_after=4)
-        self.begin(node, 2)
-        snapshot = self.etcd.snapshot()
-        held = threading.Event()
-        bases = node.follower._bases
+    def restored_at_parts(self, node, snapshot, when):
+        """Has etcd be restored before or after the parts of a base are put."""
+        bases, held = node.follower._bases, threading.Event()
 
-        def put_parts(path, prefix):
-            self.etcd.restore(snapshot)
+        def restore():
+            self.etcd.restore(snapshot or held.snapshot)
             self.burn(10)
             held.set()
-            return type(bases)._put_parts(bases, path, prefix)
+
+        def put_parts(path, prefix):
+            held.snapshot = self.etcd.snapshot()
+            if when == "before":
+                restore()
+            found = type(bases)._put_parts(bases, path, prefix)
+            if when == "after":
+                restore()
+            return found
 
         bases._put_parts = put_parts
         self.set(node, "x")
         self.assertTrue(held.wait(20))
+
+    def test_a_base_of_another_history_is_not_put(self):
+        node = self.node(base_after=4)
+        self.begin(node, 2)
+        self.restored_at_parts(node, self.etcd.snapshot(), "before")
         until(lambda: self.get(node, "no") == FAILED)
+        self.assertNotIn(BASE, self.etcd.keys.keys)
+
+    def test_a_base_whose_parts_are_lost_is_not_put(self):
+        node = self.node(base_after=4)
+        self.begin(node, 2)
+        self.restored_at_parts(node, None, "after")
+        until(lambda: self.get(node) == {"value": "x"})
         self.assertNotIn(BASE, self.etcd.keys.keys)
 
 
