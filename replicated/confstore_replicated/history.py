@@ -71,6 +71,11 @@ def _tie_in(mark: str) -> Optional[str]:
     return mark[-TIE:] if len(mark) == MARK_LENGTH else mark[1:] or None
 
 
+def short_tie_in(mark: str) -> str:
+    """As much of the tie in a mark as each one with a tie has."""
+    return (_tie_in(mark) or "")[:SHORT_TIE]
+
+
 def has_tie(mark: str) -> bool:
     """Whether a mark says which entry it is of."""
     return _tie_in(mark) is not None
@@ -131,8 +136,8 @@ def judge(look: Look, place: Place) -> None:
         _judge_entry(look, look.at, place)
     elif base.floor < place.number:
         raise OtherHistory(f"the log does not have entry {place.number}, which the store has performed")
-    elif base.floor == place.number and base.floor_mark:
-        if (_tie_in(base.floor_mark) or "")[:SHORT_TIE] != (_tie_in(place.mark) or "")[:SHORT_TIE]:
+    elif base.floor == place.number and has_tie(base.floor_mark) and has_tie(place.mark):
+        if short_tie_in(base.floor_mark) != short_tie_in(place.mark):
             raise OtherHistory(f"the base in etcd follows another entry {place.number} than the store has performed")
     else:
         _judge_cluster(look, place)
