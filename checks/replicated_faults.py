@@ -6,6 +6,7 @@ Each part has one member of etcd and nodes of its own:
 
 - etcd is restored from a snapshot that is older than the stores, while the nodes run and while they are stopped, by a
   copy of its folder and by etcdctl, which gives it another cluster id; its revisions pass the stores' positions then;
+- etcd is restored again and again while clients send commands: what is answered once it is back is in the log;
 - etcd is made anew, and gets the same commands with the same ids;
 - ids expire while another application writes in the same etcd, and a node is away;
 - `store.yaml` is too long (`JournalLong`) at one node alone, at any batch;
@@ -23,6 +24,7 @@ import base64
 import http.client
 import json
 import os
+import random
 import resource
 import shutil
 import signal
@@ -38,13 +40,15 @@ WANTED = sys.argv[1:]
 del sys.argv[1:]
 sys.path.insert(0, os.path.dirname(os.path.abspath(__file__)))
 
-from replicated import PROGRAM, TOP, Checks, Process, free_port  # noqa: E402  (it finds the packages)
+from replicated import LOG, PROGRAM, Checks, Process, free_port, one_session, some_command  # noqa: E402  (the packages)
 
 from confstore import Reader, Store  # noqa: E402
 from confstore_replicated import Client  # noqa: E402
+from confstore_replicated.etcd import Etcd  # noqa: E402
 
 PREFIX = "/confstore/default/"
 LONGEST = 600
+RESTORES = 6
 CHECKS = Checks()
 
 # Answers to a client that have no place in a history that a node's store has not performed.
@@ -273,7 +277,7 @@ def copy_of_folder(part, member):
 def snapshot_of_etcdctl(part, member):
     """Has etcdctl save a snapshot, and returns how it is restored: as another cluster."""
     environment = {**os.environ, "ETCDCTL_API": "3"}
-    saved = part.path("saved")
+    saved = os.path.join(tempfile.mkdtemp(dir=part.top), "saved")
     words = ["etcdctl", "--endpoints", member.address, "snapshot", "save", saved]
     subprocess.run(words, env=environment, check=True, capture_output=True)
 
@@ -335,6 +339,81 @@ def older_snapshot(keep_snapshot, while_stopped):
         shutil.rmtree(also.folder)
         also.start()
         is_so(also.get(), behind.get(), f"{about}: with an empty folder")
+
+
+class Times:
+    """Clients send commands all the time. A command is kept if it was begun after a restore and answered before the
+    next snapshot: then it has to be in the log at the end."""
+
+    def __init__(self, nodes):
+        self.nodes = nodes
+        self.window = 0  # counted for each restore; None from a snapshot to the end of its restore
+        self.answers = {}
+        self.ended = threading.Event()
+        self.threads = [threading.Thread(target=self.send, args=(which,)) for which in range(4)]
+        for thread in self.threads:
+            thread.start()
+
+    def send(self, which):
+        chance, number = random.Random(which), 0
+        while not self.ended.wait(0.005):
+            number += 1
+            name = f"{which}-{number}"
+            command, before = {"id": name, **some_command(chance, number)}, self.window
+            try:
+                answer = self.nodes[which % len(self.nodes)].ask(command, 20)
+            except OSError:
+                continue
+            if "failed" not in answer and before is not None and self.window == before:
+                self.answers[name] = answer
+
+    def end(self):
+        self.ended.set()
+        for thread in self.threads:
+            thread.join()
+
+
+def restored_again_and_again():
+    """Each command that is kept has the answer that one session gives to the last log, and nodes hold what it does."""
+    chance = random.Random(5)
+    with Part() as part:
+        member = part.member()
+        member.start()
+        nodes = [part.node(name, member, "--base-after", "1000000") for name in ("a", "b")]
+        for node in nodes:
+            node.start()
+        times = Times(nodes)
+        try:
+            for _ in range(RESTORES):
+                time.sleep(chance.uniform(0.5, 2))
+                count, times.window = times.window, None
+                restore = snapshot_of_etcdctl(part, member)
+                time.sleep(chance.uniform(0, 1))
+                restore()
+                member.start()
+                times.window = count + 1
+                for node in nodes:  # the operator empties the folders of those that refuse
+                    if eventually(lambda: "names" in node.ask({"names": "", "fresh": "yes"}), True, 4) is not True:
+                        node.stop()
+                        shutil.rmtree(node.folder)
+                        node.start()
+            time.sleep(2)
+        finally:
+            times.end()
+        for node in nodes:
+            node.ask({"names": "", "fresh": "yes"})
+        etcd = Etcd([member.address])
+        items = etcd.created_after(LOG, 0, 100_000)
+        log = [(item.created, item.key[len(LOG) :].decode(), item.value) for item in items]
+        etcd.close()
+        with tempfile.TemporaryDirectory() as alone:
+            wanted, _ = one_session(alone, log)
+            holds = [node.holds() for node in nodes]
+            with Store(alone, program=PROGRAM) as store:
+                is_so(holds, [{name: store[name] for name in store.names() if name != "replication"}] * 2, "restored")
+    for name, answer in times.answers.items():
+        is_so(answer, wanted.get(name), f"restored again and again: {name}")
+    CHECKS.is_so(len(times.answers) > 100, f"restored again and again: {len(times.answers)} answers")
 
 
 def made_anew(while_stopped):
@@ -590,6 +669,7 @@ def main():
     }
     if shutil.which("etcdctl"):
         parts["older snapshot of etcdctl, nodes running"] = lambda: older_snapshot(snapshot_of_etcdctl, False)
+        parts["restored again and again"] = restored_again_and_again
     if shutil.which("openssl"):
         parts["TLS and users"] = tls_and_users
     for name, part in parts.items():

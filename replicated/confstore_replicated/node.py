@@ -259,7 +259,10 @@ def _access_of(words: argparse.Namespace) -> Access:
         raise ValueError(f"--user needs a password: name its file with --password-file, or set {PASSWORD}")
     if words.user is None and words.password_file is not None:
         raise ValueError("--password-file needs --user")
-    return Access(words.ca, words.cert, words.key, words.user, password)
+    try:
+        return Access(words.ca, words.cert, words.key, words.user, password)
+    except OSError as error:
+        raise ValueError(f"the files of --ca, --cert and --key can't be used: {error}") from None
 
 
 def _open(follower: Follower) -> None:
