@@ -9,7 +9,7 @@ command -v etcd >/dev/null || { echo "etcd is not installed (Debian: etcd-server
 export CONFSTORE_CHECK_MARK=cf$$
 status=0
 timeout -k 10 420 python3 checks/replicated.py "$@" || status=1
-timeout -k 10 620 python3 checks/replicated_faults.py || status=1
+timeout -k 10 920 python3 checks/replicated_faults.py || status=1
 
 for environment in /proc/[0-9]*/environ; do
     process=${environment#/proc/}

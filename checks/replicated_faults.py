@@ -47,7 +47,7 @@ from confstore_replicated import Client  # noqa: E402
 from confstore_replicated.etcd import Etcd  # noqa: E402
 
 PREFIX = "/confstore/default/"
-LONGEST = 600
+LONGEST = 900
 RESTORES = 6
 CHECKS = Checks()
 
@@ -365,7 +365,7 @@ class Times:
             except OSError:
                 continue
             if "failed" not in answer and before is not None and self.window == before:
-                self.answers[name] = answer
+                self.answers[name] = command, answer
 
     def end(self):
         self.ended.set()
@@ -373,13 +373,14 @@ class Times:
             thread.join()
 
 
-def restored_again_and_again():
-    """Each command that is kept has the answer that one session gives to the last log, and nodes hold what it does."""
-    chance = random.Random(5)
+def restored_again_and_again(base_after):
+    """Each command that is kept has the answer that one session gives to the last log, and nodes hold what it does.
+    Where bases are written the log is not whole at the end: then each has its answer when it is sent again."""
+    chance = random.Random(base_after)
     with Part() as part:
         member = part.member()
         member.start()
-        nodes = [part.node(name, member, "--base-after", "1000000") for name in ("a", "b")]
+        nodes = [part.node(name, member, "--base-after", str(base_after)) for name in ("a", "b")]
         for node in nodes:
             node.start()
         times = Times(nodes)
@@ -402,18 +403,33 @@ def restored_again_and_again():
             times.end()
         for node in nodes:
             node.ask({"names": "", "fresh": "yes"})
-        etcd = Etcd([member.address])
-        items = etcd.created_after(LOG, 0, 100_000)
-        log = [(item.created, item.key[len(LOG) :].decode(), item.value) for item in items]
-        etcd.close()
-        with tempfile.TemporaryDirectory() as alone:
-            wanted, _ = one_session(alone, log)
-            holds = [node.holds() for node in nodes]
-            with Store(alone, program=PROGRAM) as store:
-                is_so(holds, [{name: store[name] for name in store.names() if name != "replication"}] * 2, "restored")
-    for name, answer in times.answers.items():
+        one, other = (node.holds() for node in nodes)
+        is_so(one, other, "restored again and again: what the nodes hold")
+        CHECKS.is_so(len(times.answers) > 100, f"restored again and again: {len(times.answers)} answers")
+        if base_after < 1000:
+            CHECKS.is_so(member.floor() > 0, "restored again and again: there is no base")
+            send_again(nodes, times)
+        else:
+            compare_with_one_session(member, one, times)
+
+
+def send_again(nodes, times):
+    for name, (command, answer) in times.answers.items():
+        again = [node.ask(command) for node in nodes]
+        CHECKS.is_so(set(map(str, again)) <= {str(answer), "{'failed': 'Forgotten'}"}, f"{name}: {answer}, now {again}")
+
+
+def compare_with_one_session(member, held, times):
+    etcd = Etcd([member.address])
+    items = etcd.created_after(LOG, 0, 100_000)
+    log = [(item.created, item.key[len(LOG) :].decode(), item.value) for item in items]
+    etcd.close()
+    with tempfile.TemporaryDirectory() as alone:
+        wanted, _ = one_session(alone, log)
+        with Store(alone, program=PROGRAM) as store:
+            is_so(held, {name: store[name] for name in store.names() if name != "replication"}, "restored: a session")
+    for name, (_, answer) in times.answers.items():
         is_so(answer, wanted.get(name), f"restored again and again: {name}")
-    CHECKS.is_so(len(times.answers) > 100, f"restored again and again: {len(times.answers)} answers")
 
 
 def made_anew(while_stopped):
@@ -669,7 +685,8 @@ def main():
     }
     if shutil.which("etcdctl"):
         parts["older snapshot of etcdctl, nodes running"] = lambda: older_snapshot(snapshot_of_etcdctl, False)
-        parts["restored again and again"] = restored_again_and_again
+        parts["restored again and again"] = lambda: restored_again_and_again(1_000_000)
+        parts["restored again and again, with bases"] = lambda: restored_again_and_again(20)
     if shutil.which("openssl"):
         parts["TLS and users"] = tls_and_users
     for name, part in parts.items():
