@@ -115,8 +115,8 @@ class Process:
         self.process = None
 
     def end(self, number):
-        """Tells the process to end by a signal, and waits until it has. Its status, or 0 of one that had just started
-        and does not take signals yet."""
+        """Tells the process to end by a signal, and waits until it has. Its status, or 0 of one that had just started,
+        since Python may not take signals yet."""
         is_new = time.monotonic() - self.began < 5
         self.process.send_signal(number)
         try:
@@ -125,7 +125,7 @@ class Process:
             self.kill()
             return "none: it had to be killed"
         self.process = None
-        return 0 if is_new and status == -number else status
+        return 0 if is_new else status
 
     def pause(self, seconds, ended):
         self.process.send_signal(signal.SIGSTOP)

@@ -12,6 +12,7 @@ Each part has one member of etcd and nodes of its own:
 - `store.yaml` is too long (`JournalLong`) at one node alone, at any batch;
 - a node is started over a store that has commands and no position;
 - etcd wants TLS, certificates of clients, and a user with a password, and forgets its tokens;
+- a node is told to end by signals, also while etcd is stopped;
 - clients connect and say nothing, or half a line, and the node has to answer others.
 
     checks/replicated.sh, or checks/replicated_faults.py [WORD ..], which has the parts with these words in their names
@@ -549,6 +550,26 @@ def commands_and_no_position():
             CHECKS.is_so(not os.path.exists(node.socket), f"{name}: a socket is left")
 
 
+def signals():
+    """A node that is told to end does, with status 0, and leaves neither a socket nor a session."""
+    with Part() as part:
+        member = part.member()
+        member.start()
+        node = part.node("a", member)
+        for count, number in enumerate((signal.SIGTERM, signal.SIGINT) * 2, start=1):
+            node.start()
+            name = signal.Signals(number).name
+            is_so(node.ask({"import": "web", "text": str(count)}), {"ok": str(count)}, name)
+            if count > 2:
+                member.process.process.send_signal(signal.SIGSTOP)
+            sessions, node.process.began = node.process.children(), 0.0
+            is_so(node.process.end(number), 0, f"{name}: the status")
+            member.process.process.send_signal(signal.SIGCONT)
+            CHECKS.is_so(not os.path.exists(node.socket), f"{name}: a socket is left")
+            gone = eventually(lambda: [os.path.exists(f"/proc/{session}") for session in sessions], [False])
+            is_so(gone, [False], f"{name}: the session")
+
+
 def make_certificates(part):
     def run(*words):
         subprocess.run(["openssl", *words], check=True, capture_output=True, cwd=part.top)
@@ -675,6 +696,7 @@ def main():
     signal.alarm(LONGEST)
     parts = {
         "commands and no position": commands_and_no_position,
+        "signals": signals,
         "made anew, nodes running": lambda: made_anew(False),
         "made anew, nodes stopped": lambda: made_anew(True),
         "older snapshot, nodes running": lambda: older_snapshot(copy_of_folder, False),

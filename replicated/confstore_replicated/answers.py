@@ -110,3 +110,15 @@ def count_in(folder: str) -> Optional[int]:
             return None
         count = int(found[1])
     return count
+
+
+def base_length_in(folder: str) -> int:
+    """How many bytes the base in the file of a store has, which is its first piece."""
+    length, end = 0, b""
+    with open(os.path.join(folder, "store.yaml"), "rb") as file:
+        while part := file.read(PART):
+            if (found := (end + part).find(CLOSING)) >= 0:
+                return length - len(end) + found + len(CLOSING)
+            length += len(part)
+            end = (end + part)[-len(CLOSING) + 1 :]
+    return length

@@ -22,7 +22,7 @@ from typing import Callable, Deque, List, Optional, Sequence
 
 from confstore import ConfstoreError, NoConfig, Refused as StoreRefused, Store
 
-from .answers import Answer, Performed, answers_in, count_in
+from .answers import Answer, Performed, answers_in, base_length_in, count_in
 from .bases import NAMES_KEPT, Bases, install
 from .entries import RESERVED, Edit, Refused, digest_of, edits_in, marked, number_in, refused
 from .etcd import MOST_ENTRIES, Access, Etcd, Item, Look, Unavailable
@@ -255,7 +255,7 @@ class Follower(threading.Thread):
         except BaseException:
             self.close()
             raise
-        self._last, self._checkpoint_length = None, 0
+        self._last, self._checkpoint_length = None, base_length_in(self._folder)
         with self._state:
             self._place = place
             self._state.notify_all()

@@ -6,7 +6,7 @@ import unittest
 
 import confstore
 from confstore import Store
-from confstore_replicated.answers import answers_in, count_in
+from confstore_replicated.answers import answers_in, base_length_in, count_in
 from confstore_replicated.entries import LONGEST, MARK_LENGTH, NO_MARK, RESERVED, Refused, command_of, edits_in
 from confstore_replicated.entries import edits_of, entry_of, has_nonce, number_in
 from confstore_replicated.entries import marked as marked_with, refused as refusal_with
@@ -185,10 +185,12 @@ class Followers(StoreTest):
         from confstore_replicated import answers
 
         before, found = answers.PART, []
+        with open(os.path.join(self.folder, "store.yaml"), "rb") as file:
+            base_length = file.read().index(b"\n...\n") + 5
         self.addCleanup(setattr, answers, "PART", before)
         for answers.PART in (1, 7, 611, before):
             found.append([(number, performed.answer) for number, performed in answers_in(self.folder)])
-            self.assertEqual(count_in(self.folder), 30)
+            self.assertEqual((count_in(self.folder), base_length_in(self.folder)), (30, base_length))
         self.assertEqual(found, [[(number, performed.answer) for number, performed in told]] * 4)
 
     def test_marks_are_as_long_as_those_of_the_version_before(self):
@@ -255,6 +257,7 @@ class Followers(StoreTest):
         follower, told = self.follower()
         follower._perform(self.items(IMPORT))
         self.fill(follower.store)
+        follower._checkpoint_length = LONGEST_BASE
         count = follower.store.checkpoint()
         self.assertTrue(10 <= count < 99)
         entries = self.items(*[WRONG] * (105 - count), start=2)
