@@ -543,7 +543,7 @@ class Run:
 
 def on_one_machine(run):
     run.start()
-    run.send("faults", COMMANDS, make_trouble)
+    run.send("faults", COMMANDS, make_trouble, pause=0.05)
     run.compare_members()
     run.ask_again(40)
     run.keep_behind()
