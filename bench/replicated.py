@@ -12,7 +12,6 @@ the times that its clients waited.
 It needs etcd (Debian's package etcd-server), PyYAML and the built program, and takes a minute or two.
 """
 
-import hashlib
 import multiprocessing
 import os
 import shutil
@@ -29,14 +28,14 @@ from replicated import MACHINES, PROGRAM, Cluster, Loopback, asked  # noqa: E402
 
 from confstore import Store  # noqa: E402
 from confstore_replicated import Client  # noqa: E402
-from confstore_replicated.entries import edits_of, entry_of  # noqa: E402
+from confstore_replicated.entries import command_of, digest_of, edits_of, entry_of  # noqa: E402
 from confstore_replicated.etcd import Etcd  # noqa: E402
 
 CLIENTS = (1, 4, 16)
 RUNS = 3
 
 
-def command_of(number):
+def some_command(number):
     return {"set": "app", "path": "/n", "value": f"v{number:09}"}
 
 
@@ -44,7 +43,7 @@ def through_node(cluster, which):
     client = Client(cluster.socket_of(which % MACHINES))
 
     def call(number):
-        answer = client.ask(command_of(number))
+        answer = client.ask(some_command(number))
         if "ok" not in answer:
             raise ValueError(answer)
 
@@ -57,8 +56,8 @@ def etcd_alone(cluster, which):
     mine = f"{os.getpid()}-{time.monotonic_ns()}-"
 
     def call(number):
-        entry, name = entry_of(edits_of(command_of(number))), f"{mine}{number}".encode()
-        etcd.create(b"/alone/ids/" + name, hashlib.sha256(entry).digest(), b"/alone/log/" + name, entry)
+        command, name = command_of(edits_of(some_command(number))), f"{mine}{number}".encode()
+        etcd.create(b"/alone/ids/" + name, digest_of(command), b"/alone/log/" + name, lambda: entry_of(command))
 
     return call
 

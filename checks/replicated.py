@@ -2,7 +2,8 @@
 """Three members of etcd and three nodes of a replicated store, with faults all the time, and what they hold afterwards.
 
 First everything is on 127.0.0.1. Four clients send 2,000 commands; meanwhile, one at a time and at random moments, a
-node or a member is killed, or stopped for a while, or its disk is full. Then a node is kept away until the log has lost
+node or a member is killed (SIGKILL), told to end (SIGTERM, SIGINT), or stopped for a while (SIGSTOP), or its disk is
+full. Then a node is kept away until the log has lost
 entries that it needs. Then each machine gets a network namespace of its own, and each in turn is cut off from the
 others while clients send 1,000 more commands. After each part it looks at these things:
 
@@ -19,6 +20,9 @@ and the part with namespaces is left out. All that it starts is stopped at the e
 failed'.
 """
 
+import base64
+import http.client
+import json
 import os
 import random
 import resource
@@ -35,9 +39,9 @@ TOP = os.path.dirname(os.path.dirname(os.path.abspath(__file__)))
 PROGRAM = os.environ.get("CONFSTORE") or os.path.join(TOP, "crates", "confstore", "out", "confstore")
 sys.path[:0] = [os.path.join(TOP, "python"), os.path.join(TOP, "replicated")]
 
-from confstore import Refused, Store  # noqa: E402
+from confstore import Reader, Refused, Store  # noqa: E402
 from confstore_replicated import Client  # noqa: E402
-from confstore_replicated.entries import edits_in, marked, refused  # noqa: E402
+from confstore_replicated.entries import NO_MARK, RESERVED, edits_in, marked, refused  # noqa: E402
 from confstore_replicated.etcd import Etcd, Unavailable  # noqa: E402
 
 COMMANDS = int(sys.argv[1]) if len(sys.argv) > 1 else 2000
@@ -72,6 +76,7 @@ class Process:
         self.words, self.log = words, log
         self.limit = None
         self.process = None
+        self.began = 0.0
 
     def start(self):
         def limited():
@@ -84,6 +89,7 @@ class Process:
                 self.words, stdin=subprocess.DEVNULL, stdout=log, stderr=log, env=environment, preexec_fn=limited,
                 start_new_session=True,
             )  # fmt: skip
+        self.began = time.monotonic()
 
     def children(self):
         """The sessions that it has started, as a machine that goes takes them with it."""
@@ -107,6 +113,19 @@ class Process:
                 pass
         self.process.wait()
         self.process = None
+
+    def end(self, number):
+        """Tells the process to end by a signal, and waits until it has. Its status, or 0 of one that had just started,
+        since Python may not take signals yet."""
+        is_new = time.monotonic() - self.began < 5
+        self.process.send_signal(number)
+        try:
+            status = self.process.wait(60)
+        except subprocess.TimeoutExpired:
+            self.kill()
+            return "none: it had to be killed"
+        self.process = None
+        return 0 if is_new else status
 
     def pause(self, seconds, ended):
         self.process.send_signal(signal.SIGSTOP)
@@ -306,12 +325,12 @@ class Witness:
         etcd, last = Etcd(members, 1), 0
         while not self.ended.wait(0.02):
             try:
-                last = self.take(etcd, last, local=True)
+                last = self.take(etcd, last)
             except Unavailable:
                 pass
 
-    def take(self, etcd, last, local):
-        entries, _ = etcd.created_after(LOG, last, 500, local)
+    def take(self, etcd, last):
+        entries = etcd.created_after(LOG, last, 500)
         for entry in entries:
             self.entries[entry.created] = entry.key[len(LOG) :].decode(), entry.value
         return entries[-1].created if entries else last
@@ -323,7 +342,7 @@ class Witness:
             thread.join()
         etcd, last, more = Etcd(self.addresses), 0, -1
         while more != last:
-            last, more = self.take(etcd, last, local=False), last
+            last, more = self.take(etcd, last), last
         return [(number, *self.entries[number]) for number in sorted(self.entries)]
 
 
@@ -334,7 +353,7 @@ def make_trouble(cluster, ended, done):
     until = time.monotonic() + TROUBLE
     while time.monotonic() < until and not ended.wait(chance.uniform(0.1, 0.4)):
         if not kinds:
-            kinds = ["kill"] * 6 + ["pause"] * 3 + ["full disk"] + ["full member"]
+            kinds = ["kill"] * 6 + ["SIGTERM", "SIGINT"] * 2 + ["pause"] * 3 + ["full disk"] + ["full member"]
             chance.shuffle(kinds)
         kind = kinds.pop()
         done[kind] = done.get(kind, 0) + 1
@@ -346,7 +365,12 @@ def make_trouble(cluster, ended, done):
             chance.choice([*cluster.nodes, *cluster.members]).pause(chance.uniform(0.2, 2), ended)
         else:
             process = chance.choice([*cluster.nodes, *cluster.members])
-            process.kill()
+            if kind == "kill":
+                process.kill()
+            else:
+                status = process.end(getattr(signal, kind))
+                if process in cluster.nodes and status != 0:
+                    done[f"({kind} that a node ended with status {status})"] = 1
             ended.wait(chance.uniform(0.1, 1))
             process.start()
 
@@ -365,21 +389,39 @@ def exports_of(ask):
     return {name: ask({"export": name})["text"] for name in ask({"names": ""})["names"]}
 
 
+def keys_of_member(address):
+    """The keys of the log that one member knows, with the revisions that made them."""
+    host, port = address.rsplit(":", 1)
+    connection = http.client.HTTPConnection(host, int(port), timeout=10)
+    first, end = (base64.b64encode(key).decode() for key in (LOG, LOG[:-1] + b"0"))
+    asked = {"key": first, "range_end": end, "serializable": True, "keys_only": True}
+    connection.request("POST", "/v3/kv/range", json.dumps(asked))
+    found = json.loads(connection.getresponse().read())
+    connection.close()
+    return sorted((int(item["create_revision"]), item["key"]) for item in found.get("kvs", ()))
+
+
+def position_of(folder):
+    """The number of the last entry that the store in a folder holds."""
+    (number,) = Reader(folder, program=PROGRAM).get(RESERVED)
+    return int(number)
+
+
 def one_session(folder, log):
     """What one session answers to the log, and what it exports then."""
     answers, before = {}, 0
     with Store(folder, program=PROGRAM) as store:
         for number, identity, entry in log:
-            (answer,) = store.perform_batches([marked(edits_in(entry), number, before)])
+            (answer,) = store.perform_batches([marked(edits_in(entry)[0], number, before, NO_MARK)])
             if isinstance(answer, Refused):
                 answers[identity] = {"refused": answer.word}
-                (answer,) = store.perform_batches([refused(answer.word, number, before)])
+                (answer,) = store.perform_batches([refused(answer.word, number, before, NO_MARK)])
             else:
                 answers[identity] = {"ok": str(answer)}
             before = number
             if isinstance(answer, Exception):
                 raise answer
-        return answers, {name: store.export(name) for name in store.names()}
+        return answers, {name: store.export(name) for name in store.names() if name != RESERVED}
 
 
 class Checks:
@@ -427,6 +469,8 @@ class Run:
             thread.join()
         answered = [identity for identity in self.answers if identity.startswith(f"{part}-")]
         self.checks.is_so(len(answered) == count // CLIENTS * CLIENTS, f"{part}: {len(answered)} answers")
+        wrong = [kind for kind in done if kind.startswith("(")]
+        self.checks.is_so(not wrong, f"{part}: {wrong}")
         seconds = time.monotonic() - began
         what = ", ".join(f"{times} times {kind}" for kind, times in sorted(done.items())) or "no trouble"
         print(f"{part}: {len(answered)} commands in {seconds:.0f} s, with {what}", flush=True)
@@ -443,15 +487,16 @@ class Run:
     def keep_behind(self):
         """Keeps a node away until the log has lost what it needs, and starts it again."""
         behind = self.cluster.nodes[2]
-        held = asked(self.cluster, 2, {"fresh": "yes", "get": "replication", "path": ""}, elsewhere=False)["value"]
+        asked(self.cluster, 2, {"fresh": "yes", "names": ""}, elsewhere=False)
         behind.kill()
+        held = position_of(os.path.join(self.folder, "store2"))
         etcd = Etcd(self.cluster.addresses)
         for round_of in range(10):
             self.send(f"behind{round_of}", BASE_AFTER)
-            (first, *_), _ = etcd.created_after(LOG, 0, 1, local=False)
-            if first.created > int(min(held)):
+            first, *_ = etcd.created_after(LOG, 0, 1)
+            if first.created > held:
                 break
-        self.checks.is_so(first.created > int(min(held)), "the log has all that the node needs")
+        self.checks.is_so(first.created > held, "the log has all that the node needs")
         behind.start()
         asked(self.cluster, 2, {"fresh": "yes", "names": ""}, elsewhere=False)
         with open(behind.log, encoding="utf-8") as log:
@@ -462,8 +507,8 @@ class Run:
         found = []
         for address in self.cluster.addresses:
             member = Etcd([address])
-            member.last_created(LOG)  # so that it has caught up with the others
-            found.append([(item.key, item.created) for item in member.created_after(LOG, 0, 100_000)[0]])
+            member.get(LOG)  # so that it has caught up with the others
+            found.append(keys_of_member(address))
         self.checks.is_so(found[1:] == found[:-1], f"the members of etcd differ: {[len(items) for items in found]}")
 
     def compare(self):
@@ -498,7 +543,7 @@ class Run:
 
 def on_one_machine(run):
     run.start()
-    run.send("faults", COMMANDS, make_trouble)
+    run.send("faults", COMMANDS, make_trouble, pause=0.05)
     run.compare_members()
     run.ask_again(40)
     run.keep_behind()

@@ -1,13 +1,15 @@
 #!/usr/bin/env bash
-# Runs checks/replicated.py, whose head says what it does, and sees that nothing that it started is left.
+# Runs checks/replicated.py and checks/replicated_faults.py, whose heads say what they do, and sees that nothing that
+# they started is left.
 set -u
 cd "$(dirname "${BASH_SOURCE[0]}")/.." || exit 1
 command -v etcd >/dev/null || { echo "etcd is not installed (Debian: etcd-server)"; exit 1; }
 
-# What the script starts has this mark in its environment, and its namespaces have it in their names.
+# What the scripts start has this mark in its environment, and its namespaces have it in their names.
 export CONFSTORE_CHECK_MARK=cf$$
-timeout -k 10 420 python3 checks/replicated.py "$@"
-status=$?
+status=0
+timeout -k 10 420 python3 checks/replicated.py "$@" || status=1
+timeout -k 10 920 python3 checks/replicated_faults.py || status=1
 
 for environment in /proc/[0-9]*/environ; do
     process=${environment#/proc/}

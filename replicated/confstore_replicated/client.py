@@ -4,6 +4,7 @@ from __future__ import annotations
 
 import json
 import socket
+import time
 from typing import Any, Dict
 
 
@@ -14,11 +15,22 @@ class Client:
         self._socket = socket.socket(socket.AF_UNIX)
         self._socket.settimeout(timeout)
         try:
-            self._socket.connect(path)
+            self._connect(path, timeout)
         except OSError:
             self._socket.close()
             raise
         self._file = self._socket.makefile("rwb")
+
+    def _connect(self, path: str, timeout: float) -> None:
+        """Connects, and waits where as many others do as may wait."""
+        deadline = time.monotonic() + timeout
+        while True:
+            try:
+                return self._socket.connect(path)
+            except BlockingIOError:
+                if time.monotonic() > deadline:
+                    raise
+            time.sleep(0.05)
 
     def ask(self, request: Dict[str, Any]) -> Dict[str, Any]:
         """What the node answers. Raises `OSError` if the node goes."""

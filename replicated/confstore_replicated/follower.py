@@ -5,85 +5,90 @@ entry with its number or neither, whenever it is killed. After a start the follo
 store holds. An entry that is refused is refused by every follower alike, since their states are the same; then its
 number is put alone, with the word of the refusal in the record. So each entry is one accepted command of the store.
 
-Now and then a follower puts a base of its store into etcd, and takes entries out of the log: those that the base before
-it has. A store that is so far behind that it may miss such entries starts from the base.
+Before it performs anything, and each second, it looks whether the log is still the one that its store has performed
+(`history.py`). If not, it performs nothing more until it is again, and says so.
 """
 
 from __future__ import annotations
 
-import hashlib
-import json
 import os
 import random
-import re
+import sys
 import threading
+import time
 from collections import deque
 from dataclasses import dataclass, field
-from typing import Any, Callable, Deque, Dict, List, Optional, Sequence, Tuple
+from typing import Callable, Deque, List, Optional, Sequence
 
 from confstore import ConfstoreError, NoConfig, Refused as StoreRefused, Store
 
-from .entries import RESERVED, SPARE, Edit, Refused, edits_in, marked, number_in, refused
-from .etcd import Etcd, Item, Unavailable
+from .answers import Answer, Performed, answers_in, base_length_in, count_in
+from .bases import NAMES_KEPT, Bases, install
+from .entries import RESERVED, Edit, Refused, digest_of, edits_in, marked, number_in, refused
+from .etcd import MOST_ENTRIES, Access, Etcd, Item, Look, Unavailable
+from .history import Behind, OtherHistory, Place, base_in, judge, mark_of, short_of
+from .stream import Stream
 
-# How many entries, and how many bytes of them, are sent to the session before the first is answered.
-GROUP = 64
+# How many bytes of entries are sent to the session before the first is answered.
 GROUP_BYTES = 1_000_000
 
-# After how many bytes of entries the store writes a checkpoint. So its file never comes near its limit.
+# After how many bytes of records the store writes a checkpoint. So its file is far from its limit.
 CHECKPOINT_BYTES = 64 * 1024 * 1024
-
-# How many revisions of etcd an `id` is known at least, after its entry too.
-IDS_KEPT = 100_000
-
-# A base is kept in etcd in parts of so many bytes.
-PART = 700_000
 
 # How many seconds the follower waits at first where something fails, and at most.
 PAUSE = 0.2
 LONGEST_PAUSE = 5.0
 
-# How many seconds the follower waits for an entry before it asks another member whether there is one.
+# How many seconds lie between two looks at the log, whatever a stream tells, and how many a stream has to begin.
 LOOK = 1.0
+BEGINNING = 2.0
 
-_COUNT = re.compile(r'(?:---\n)?at: "([0-9]+)"\nbatch:\n')
-_NUMBER = rf'  - set: {RESERVED}\n    path: "/([0-9]{{20}})"\n    value: '
-_ENTRY = re.compile(rf"(?:{_NUMBER}(\w+)\n)?{_NUMBER}.*\n\Z")
+# The words that a store refuses a command by which depend on its state, its count and the command alone, which are the
+# same at all nodes. `JournalLong` is not one of them: it depends on the file of one node.
+WORDS = frozenset(
+    (
+        "BadCommand", "BadName", "BadPath", "ConfigLarge", "CountFull", "Documents", "EmptyBatch", "KeyNotText",
+        "KeyTwice", "LargeInStyle", "NoConfig", "NoSuchPlace", "NotIndex", "NotUtf8", "RecordLong", "StoreFull",
+        "Syntax", "TooDeep", "TooLong",
+    )
+)  # fmt: skip
+JOURNAL_LONG = "JournalLong"
 
-Answer = Dict[str, str]
 
-
-class Behind(Exception):
-    """The store may miss entries that were taken out of the log."""
+class NotReplicated(ConfstoreError):
+    """The store has commands that no log had."""
 
 
 @dataclass
 class _Turn:
-    """An entry whose turn it is: its edits, and why it is refused, once that is known."""
+    """An entry whose turn it is: its edits, its mark, and why it is refused, once that is known."""
 
     entry: Item
+    mark: str
     word: Optional[str] = None
-    spare: str = SPARE
     edits: List[Edit] = field(default_factory=list)
+    digest: Optional[bytes] = None
+    is_short: bool = False
 
     def __post_init__(self) -> None:
         try:
-            self.edits = edits_in(self.entry.value)
+            self.edits, command = edits_in(self.entry.value)
+            self.digest = digest_of(command)
         except Refused as fault:
             self.word = fault.word
 
     def batch(self, before: int) -> List[Edit]:
         """What is sent to the store, whose last entry has this number."""
         if self.word is not None:
-            return refused(self.word, self.entry.created, before, self.spare)
-        return marked(self.edits, self.entry.created, before)
+            return refused(self.word, self.entry.created, before, self.mark)
+        return marked(self.edits, self.entry.created, before, self.mark)
 
     def refuse(self, word: str) -> None:
-        """Notes that the store refused it; of a number alone, that there is no room for what stands with it."""
-        if self.word is None:
+        """Notes that the store refused it; of a number alone, that there is no room for the whole mark."""
+        if self.word is None and word in WORDS:
             self.word = word
-        elif self.spare:
-            self.spare = ""
+        elif self.word is not None and word == "StoreFull" and not self.is_short:
+            self.mark, self.is_short = short_of(self.mark), True
         else:
             raise ConfstoreError(f"the number of entry {self.entry.created} is refused: {word}")
 
@@ -102,7 +107,8 @@ def _groups(entries: Sequence[Item]) -> List[List[Item]]:
 
 
 class Follower(threading.Thread):
-    """Follows the log of a cluster. `told` is called with the number of an entry and what it was answered."""
+    """Follows the log of a cluster. `told` is called with the number of an entry and what it was answered, and `forget`
+    before the store starts from a base: what was told before may be of another history."""
 
     def __init__(
         self,
@@ -112,22 +118,31 @@ class Follower(threading.Thread):
         *,
         program: Optional[str] = None,
         base_after: int = 1000,
-        told: Callable[[int, Answer], None] = lambda _number, _answer: None,
+        names_kept: int = NAMES_KEPT,
+        told: Callable[[int, Performed], None] = lambda _number, _performed: None,
+        forget: Callable[[], None] = lambda: None,
+        access: Optional[Access] = None,
     ) -> None:
         super().__init__(name="confstore follower", daemon=True)
         self._folder = folder
         self._program = program
-        self._etcd = Etcd(members)
-        self._prefix = f"/confstore/{cluster}/".encode()
-        self._log, self._ids = self._prefix + b"log/", self._prefix + b"ids/"
+        self._etcd = Etcd(members, access=access)
+        prefix = f"/confstore/{cluster}/".encode()
+        self._log, self._base_key = prefix + b"log/", prefix + b"base"
+        self._bases = Bases(self._etcd, prefix, base_after, names_kept)
         self._base_after = base_after
-        self._told = told
-        self._state = threading.Condition()
-        self._performed = 0
+        self._told, self._forget = told, forget
+        self._state = threading.Condition()  # the three below are changed with it held
+        self._place = Place(0, "")
+        self._fault: Optional[OtherHistory] = None
+        self._has_looked = False
         self._ended = threading.Event()
-        self._position = 0
+        self._last: Optional[Item] = None
+        self._cluster_id = 0
+        self._count = 0
         self._since_base = 0
-        self._since_checkpoint = 0
+        self._checkpoint_length = 0
+        self._looked = 0.0
         self._pause = PAUSE
         self._said = ""
         #: The store, which others may read. None while there is no session.
@@ -136,10 +151,45 @@ class Follower(threading.Thread):
     # ---- for others
 
     def wait_for(self, number: int, timeout: float) -> bool:
-        """Waits until an entry was performed here, also one that was refused. Whether it was."""
+        """Waits until an entry was performed here, also one that was refused. Whether it was. Raises `OtherHistory`."""
+
+        def is_over() -> bool:
+            return self._place.number >= number or self._fault is not None or self._ended.is_set()
+
         with self._state:
-            over = self._ended.is_set
-            return self._state.wait_for(lambda: self._performed >= number or over(), timeout) and not over()
+            self._state.wait_for(is_over, timeout)
+            self._raise_fault()
+            return self._place.number >= number and not self._ended.is_set()
+
+    def wait_for_look(self, timeout: float) -> None:
+        """Waits until the log was looked at since the start. Raises `OtherHistory`, or `Unavailable` after so long."""
+        with self._state:
+            self._state.wait_for(lambda: self._has_looked or self._fault or self._ended.is_set(), timeout)
+            self._raise_fault()
+            if not self._has_looked:
+                raise Unavailable("this node has not seen the log yet")
+
+    def place(self) -> Place:
+        """Which entry this store performed last."""
+        with self._state:
+            return self._place
+
+    def look(self, etcd: Etcd, place: Place) -> Look:
+        """Looks, by another client of etcd, whether the log is the one that a store at this place has performed.
+        Returns what was found, with the newest entry. Raises `OtherHistory`, or `Behind` if that isn't known."""
+        self.check()
+        look = etcd.look(self._log, self._base_key, place.number, place.key, newest=True)
+        judge(look, place)
+        return look
+
+    def check(self) -> None:
+        """Raises `OtherHistory` if that is what the follower found last."""
+        with self._state:
+            self._raise_fault()
+
+    def _raise_fault(self) -> None:
+        if self._fault is not None:
+            raise OtherHistory(*self._fault.args)
 
     def end(self) -> None:
         self._ended.set()
@@ -151,98 +201,138 @@ class Follower(threading.Thread):
     def run(self) -> None:
         while not self._ended.is_set():
             try:
-                self._open()
+                if self.store is None:
+                    self.open()
                 while not self._ended.is_set():
                     try:
                         self._follow()
                     except Unavailable as error:
                         self._say(error)
+                    except OtherHistory as error:
+                        self._stand_still(error)
             except Behind:
                 self._start_from_base()
             except Exception as error:  # whatever it is, the others go on, and so does this one after a while
                 self._say(error)
             finally:
-                self._close()
+                self.close()
+        self._etcd.close()
 
     def _say(self, fault: Exception) -> None:
         """Prints what went wrong, the same thing once, and waits; the longer the more often."""
         about = f"follower: {type(fault).__name__}: {fault}"
         if about != self._said:
-            print(about, flush=True)
+            print(about, file=sys.stderr, flush=True)
         self._said = about
         self._ended.wait(self._pause)
         self._pause = min(2 * self._pause, LONGEST_PAUSE)
 
-    def _close(self) -> None:
+    def _stand_still(self, fault: OtherHistory) -> None:
+        """Has all requests fail, says what to do, and waits."""
+        with self._state:
+            self._fault = fault
+            self._state.notify_all()
+        remedy = (
+            "this node answers nothing until etcd has its entries again. Restore etcd from a newer snapshot (with "
+            "--bump-revision where it has that), or end this node, keep its folder aside, and start it with an empty "
+            "one: then it holds what etcd has"
+        )
+        self._say(OtherHistory(f"{self._folder}: {fault}; {remedy}"))
+
+    def close(self) -> None:
         store, self.store = self.store, None
         if store is not None:
             store.close()
 
-    def _open(self) -> None:
-        """Opens the store, and tells what the entries in its file were answered."""
+    def open(self) -> None:
+        """Opens the store, and tells what the entries in its file were answered. Raises `NotReplicated`."""
         os.makedirs(self._folder, exist_ok=True)
         self.store = store = Store(self._folder, program=self._program)
-        self._position = self._number_in(store)
-        for number, answer in self._answers_in_file():
-            self._told(number, answer)
-        self._has_performed(self._position)
-
-    def _has_performed(self, number: int) -> None:
+        try:
+            place = self._place_in(store)
+            for number, performed in answers_in(self._folder):
+                self._told(number, performed)
+        except BaseException:
+            self.close()
+            raise
+        self._last, self._checkpoint_length = None, base_length_in(self._folder)
         with self._state:
-            self._performed = max(self._performed, number)
+            self._place = place
             self._state.notify_all()
 
-    def _number_in(self, store: Store) -> int:
-        """The number of the last entry that the store holds; 0 if it holds none."""
+    def _place_in(self, store: Store) -> Place:
+        """Which entry the store holds as the last one. Raises `NotReplicated` if it holds commands and no entry."""
         try:
-            return number_in(store.get(RESERVED))
+            return Place(*number_in(store.get(RESERVED)))
         except NoConfig:
-            return 0
+            if store.names() or count_in(self._folder) != 0:
+                raise NotReplicated(
+                    f"{self._folder} has a store with commands that are in no log, so this node would hold other "
+                    "things than the others. Start it with an empty folder, and `import` what the old store exports"
+                ) from None
+            return Place(0, "")
 
-    def _answers_in_file(self) -> List[Tuple[int, Answer]]:
-        """The entries whose records the store's file has, with what they were answered."""
-        with open(os.path.join(self._folder, "store.yaml"), encoding="utf-8") as file:
-            pieces = file.read().split("\n...\n")
-        found = []
-        for piece in pieces:
-            count, entry = _COUNT.match(piece), _ENTRY.search(piece[-400:] + "\n")
-            if count and entry:
-                _, word, number = entry.groups()
-                found.append((int(number), {"refused": word} if word else {"ok": count[1]}))
-        return found
+    def _look(self, most: int, newest: bool = False) -> Look:
+        """Looks at the log. Raises `OtherHistory` or `Behind` if the store can't go on with it."""
+        look = self._etcd.look(self._log, self._base_key, self._place.number, self._place.key, most, newest)
+        self._looked = time.monotonic()
+        judge(look, self._place)
+        self._cluster_id = look.cluster
+        if look.at is not None:
+            self._last = look.at
+            self._place = self._place._replace(key=look.at.key)
+        with self._state:
+            self._fault, self._has_looked = None, True
+            self._state.notify_all()
+        return look
 
     def _follow(self) -> None:
         """Performs what the log has, and then each entry as it comes, until the member that tells of them goes."""
-        stream = self._etcd.stream(self._log, self._catch_up() + 1)
+        revision = self._catch_up()
+        stream = Stream(self._etcd, self._log, revision + 1)
         try:
-            while not self._ended.is_set():
-                entries = stream.take(GROUP, LOOK)
-                if entries is None:
-                    self._ended.wait(PAUSE)
-                    return
-                self._perform([entry for entry in entries if entry.created > self._position])
-                # A member that is cut off from the others tells of nothing; the majority knows better.
-                if not entries and self._etcd.last_created(self._log) > self._position:
-                    return
+            if not stream.has_begun(BEGINNING):
+                self._ended.wait(PAUSE)
+                return
+            # The log that the stream tells of is looked at after it has begun, so it is the one that is performed.
+            look = self._look(1)
+            if look.revision >= revision and (not look.after or look.after[0].created > revision):
+                self._perform_from(stream)
+            else:
+                self._ended.wait(PAUSE)
         finally:
             stream.close()
+
+    def _perform_from(self, stream: Stream) -> None:
+        while not self._ended.is_set():
+            entries = stream.take(MOST_ENTRIES, LOOK)
+            if entries is None:
+                self._ended.wait(PAUSE)
+                return
+            self._perform([entry for entry in entries if entry.created > self._place.number])
+            if entries and time.monotonic() - self._looked < LOOK:
+                continue
+            try:
+                newest = self._look(1, newest=True).after
+            except Behind:  # but the stream leaves nothing out
+                continue
+            # A member that is cut off from the others tells of nothing; the majority knows better.
+            if not entries and newest and newest[0].created > self._place.number:
+                return
 
     def _catch_up(self) -> int:
         """Performs the entries that the log has behind the store's. Returns the revision up to which these are all."""
         while not self._ended.is_set():
-            entries, revision = self._etcd.created_after(self._log, self._position, GROUP)
-            # Entries are taken out after the base says so. It is read after them, and not from what one member knows.
-            if self._position < self._base().get("floor", 0):
-                raise Behind
-            if not entries:
-                return revision
-            self._perform(entries)
+            look = self._look(MOST_ENTRIES)
+            if not look.after:
+                return look.revision
+            self._perform(look.after)
         return 0
 
     def _perform(self, entries: List[Item]) -> None:
         for group in _groups(entries):
-            self._perform_group(deque(map(_Turn, group)))
-        if self._since_base >= self._base_after:
+            self._perform_group(deque(_Turn(entry, mark_of(self._cluster_id, entry)) for entry in group))
+        if entries and self._since_base >= self._base_after:
             self._since_base = -random.randrange(self._base_after // 4 + 1)  # so that followers don't do it at once
             self._write_base()
 
@@ -250,98 +340,70 @@ class Follower(threading.Thread):
         """Performs entries, and tells what each was answered. Raises if the session ended, with some of them done.
 
         All are sent at once. Where one is refused, those behind it are too, since they wait for its number; so they are
-        sent again, behind its number alone.
+        sent again, behind its number alone. Where the file is too long, it is made short, and they are sent again.
         """
         store = self.store
         assert store is not None
+        was_checkpoint = False
         while turns:
-            befores = [self._position, *(turn.entry.created for turn in turns)]
+            befores = [self._place.number, *(turn.entry.created for turn in turns)]
             for answer in store.perform_batches([turn.batch(before) for turn, before in zip(turns, befores)]):
                 if isinstance(answer, StoreRefused):
-                    turns[0].refuse(answer.word)
+                    if answer.word == JOURNAL_LONG and not was_checkpoint:
+                        was_checkpoint = True
+                        self._checkpoint(store)
+                    else:
+                        turns[0].refuse(answer.word)
                     break
                 if isinstance(answer, ConfstoreError):
                     raise answer
+                was_checkpoint = False
                 self._is_done(turns.popleft(), answer)
         self._pause, self._said = PAUSE, ""
-        if self._since_checkpoint >= CHECKPOINT_BYTES:
-            self._since_checkpoint = 0
-            store.checkpoint()
+        if self._length() - self._checkpoint_length >= CHECKPOINT_BYTES:
+            self._checkpoint(store)
+
+    def _length(self) -> int:
+        return os.path.getsize(os.path.join(self._folder, "store.yaml"))
+
+    def _checkpoint(self, store: Store) -> None:
+        store.checkpoint()
+        self._checkpoint_length = self._length()
 
     def _is_done(self, turn: _Turn, count: int) -> None:
-        number = turn.entry.created
-        self._told(number, {"ok": str(count)} if turn.word is None else {"refused": turn.word})
-        self._position = number
+        entry = turn.entry
+        answer: Answer = {"ok": str(count)} if turn.word is None else {"refused": turn.word}
+        self._told(entry.created, Performed(turn.mark, answer, entry.key, turn.digest))
+        self._last, self._count = entry, count
         self._since_base += 1
-        self._since_checkpoint += len(turn.entry.value)
-        self._has_performed(number)
+        with self._state:
+            self._place = Place(entry.created, turn.mark, entry.key)
+            self._state.notify_all()
 
     # ---- bases
 
-    def _base(self) -> Dict[str, Any]:
-        """What etcd says of the base: its number, up to which entries may have been taken out, its parts' sum."""
-        found = self._etcd.get(self._prefix + b"base")
-        base: Dict[str, Any] = {} if found is None else json.loads(found)
-        return base
-
     def _write_base(self) -> None:
-        """Puts a base of the store into etcd, unless another follower did just now, and takes old entries out."""
-        store = self.store
-        assert store is not None
-        old = self._etcd.get(self._prefix + b"base")
-        last = json.loads(old)["number"] if old else 0
-        number = self._position
-        if number - last < self._base_after // 2:
-            return
-        store.checkpoint()
-        self._since_checkpoint = 0
-        with open(os.path.join(self._folder, "store.yaml"), "rb") as file:
-            base = file.read()
-        for place, start in enumerate(range(0, len(base), PART)):
-            self._etcd.put(self._parts_of(number) + f"{place:08}".encode(), base[start : start + PART])
-        new = {"number": number, "floor": last, "sha256": hashlib.sha256(base).hexdigest()}
-        self._etcd.replace(self._prefix + b"base", json.dumps(new).encode(), old)
-        if self._base().get("number") != number:
-            self._etcd.delete_all(self._parts_of(number))
-            return
-        self._etcd.delete_between(self._prefix + b"parts/", self._parts_of(number))
-        self._etcd.delete_until(self._log, last)
-        self._etcd.delete_until(self._ids, number - IDS_KEPT)
-        if last:
-            self._etcd.compact(last)
-
-    def _parts_of(self, number: int) -> bytes:
-        return self._prefix + f"parts/{number:020}/".encode()
+        """Puts a base of the store into etcd, unless another follower did just now."""
+        store, last = self.store, self._last
+        assert store is not None and last is not None
+        if self._bases.is_due(last.created, self._count):
+            self._checkpoint(store)
+            path = os.path.join(self._folder, "store.yaml")
+            self._bases.write(last, self._place.mark, self._count, path)
 
     def _start_from_base(self) -> None:
         """Puts the base in etcd in the place of this store's file, if it can be had."""
-        self._close()
+        self.close()
         try:
-            base = self._base()
-            self._install(self._whole_base(base), int(base["number"]))
-        except (Unavailable, OSError, KeyError, ValueError) as error:
+            look = self._etcd.look(self._log, self._base_key, self._place.number, self._place.key)
+            try:
+                judge(look, self._place)
+            except Behind:
+                base = self._bases.read(look.base)
+                self._forget()
+                install(self._folder, base)
+                print(f"follower: starts from the base of entry {base_in(look.base).number}", flush=True)
+        except OtherHistory as error:
+            self._stand_still(error)
+        except (Unavailable, OSError, ValueError) as error:
             self._say(error)
-
-    def _whole_base(self, base: Dict[str, Any]) -> bytes:
-        prefix, parts, last = self._parts_of(int(base["number"])), b"", 0
-        while items := self._etcd.created_after(prefix, last, 8, local=False)[0]:
-            parts += b"".join(item.value for item in items)
-            last = items[-1].created
-        if hashlib.sha256(parts).hexdigest() != base["sha256"]:
-            raise ValueError("the base was replaced while it was read")
-        return parts
-
-    def _install(self, base: bytes, number: int) -> None:
-        """Has a base stand in the place of the store's file. The store is closed."""
-        aside = os.path.join(self._folder, "base.new")
-        with open(aside, "wb") as file:
-            file.write(base)
-            file.flush()
-            os.fsync(file.fileno())
-        os.replace(aside, os.path.join(self._folder, "store.yaml"))
-        directory = os.open(self._folder, os.O_RDONLY)
-        try:
-            os.fsync(directory)
-        finally:
-            os.close(directory)
-        print(f"follower: starts from the base of entry {number}", flush=True)

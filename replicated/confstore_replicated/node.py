@@ -11,11 +11,13 @@ A client sends one JSON object a line, and gets one back for each, in order.
     {"names": ""}                                        {"names": [NAME, ..]}
 
 A refusal is `{"refused": WORD}`, with the words of a session, and three more: `NotText` of a text with a lone
-surrogate, which no YAML can hold, `TooLong` of a command that is too long for the log, and `IdTaken`.
-`{"failed": WORD}` says that nothing is known of the command yet: it may be in the log or not.
+surrogate, which no YAML can hold, `TooLong` of a command that is too long for the log, and `IdTaken`. The name
+`replication` is the node's own: it is not among the names, and a command with it is refused with `BadName`.
+`{"failed": WORD}` says that nothing is known of the command yet: it may be in the log or not. `OtherHistory` is said to
+everything while etcd does not have the log that this node's store has performed.
 
 An object may have two more keys: `id`, a text of 1 to 200 characters of the client's own for a change, under which it
-is performed at most once, however often it is sent within the next 100,000 revisions of etcd (`IdTaken` if another
+is performed at most once, however often it is sent until 100,000 further entries were performed (`IdTaken` if another
 command has it); and `fresh` with the value `yes` for a question, which is then answered after all changes that were
 acknowledged anywhere before it was asked. `{"failed": "Forgotten"}` is said of an `id` whose command was performed,
 where this node does not know any more what it was answered; another may.
@@ -24,84 +26,99 @@ where this node does not know any more what it was answered; another may.
 from __future__ import annotations
 
 import argparse
-import errno
-import hashlib
-import json
 import os
 import signal
-import socket
-import socketserver
-import stat
 import sys
 import threading
+import time
 import uuid
-from collections import OrderedDict
-from typing import Any, Dict, Optional
+from contextlib import contextmanager
+from typing import Any, Dict, Iterator, List, Optional
 
 from confstore import ConfstoreError, NotATree, NotText, Refused as StoreRefused, Store
 
-from .entries import Refused, edits_of, entry_of
-from .etcd import Etcd, Unavailable
-from .follower import Answer, Follower
+from .answers import Answers
+from .bases import NAMES_KEPT
+from .entries import RESERVED, Refused, command_of, digest_of, edits_in, edits_of, entry_of
+from .etcd import Access, Created, Etcd, Item, Unavailable
+from .follower import Follower, NotReplicated
+from .history import Behind, OtherHistory, Place
+from .server import Server
 
 # How many seconds a client waits for an answer at most.
 PATIENCE = 30.0
 
-# How many answers are kept for clients that come back for them.
-KEPT = 100_000
-
-# The longest line of a client, in bytes.
-LONGEST_LINE = 16_777_216
+# How many seconds the follower may take to end.
+ENDING = 10.0
 
 # The longest `id`.
 LONGEST_ID = 200
 
+# Where the password of the user of etcd is taken from if no file is named.
+PASSWORD = "CONFSTORE_ETCD_PASSWORD"
+
 Request = Dict[str, Any]
 
 
-class Answers:
-    """What entries were answered, the last ones."""
+class Wait:
+    """How long a request may still take."""
 
     def __init__(self) -> None:
-        self._lock = threading.Lock()
-        self._answers: "OrderedDict[int, Answer]" = OrderedDict()
+        self._deadline = time.monotonic() + PATIENCE
 
-    def keep(self, number: int, answer: Answer) -> None:
-        with self._lock:
-            self._answers[number] = answer
-            if len(self._answers) > KEPT:
-                self._answers.popitem(last=False)
-
-    def of(self, number: int) -> Optional[Answer]:
-        with self._lock:
-            return self._answers.get(number)
+    def left(self) -> float:
+        return max(self._deadline - time.monotonic(), 0.0)
 
 
 class Node:
     """Answers the requests of clients."""
 
     def __init__(
-        self, folder: str, members: "list[str]", cluster: str, program: Optional[str], base_after: int
+        self,
+        folder: str,
+        members: List[str],
+        cluster: str,
+        *,
+        program: Optional[str] = None,
+        base_after: int = 1000,
+        names_kept: int = NAMES_KEPT,
+        access: Optional[Access] = None,
     ) -> None:
-        self._members = members
+        self._members, self._access = members, access or Access()
         self._log, self._ids = (f"/confstore/{cluster}/{kind}/".encode() for kind in ("log", "ids"))
         self._answers = Answers()
-        self._local = threading.local()
+        self._idle: List[Etcd] = []
         self.follower = Follower(
-            folder, members, cluster, program=program, base_after=base_after, told=self._answers.keep
+            folder, members, cluster, program=program, base_after=base_after, names_kept=names_kept,
+            told=self._answers.keep, forget=self._answers.forget, access=self._access,
         )  # fmt: skip
 
-    def _etcd(self) -> Etcd:
-        """A client of etcd for this thread."""
-        if not hasattr(self._local, "etcd"):
-            self._local.etcd = Etcd(self._members, PATIENCE)
-        mine: Etcd = self._local.etcd
-        return mine
+    @contextmanager
+    def _etcd(self, wait: Wait) -> Iterator[Etcd]:
+        """A client of etcd that nobody else uses meanwhile."""
+        try:
+            etcd = self._idle.pop()
+        except IndexError:
+            etcd = Etcd(self._members, access=self._access)
+        etcd.timeout = wait.left()
+        try:
+            yield etcd
+        finally:
+            self._idle.append(etcd)
+
+    def end(self) -> None:
+        """Ends the follower, and waits for that. Requests that wait are answered that they failed."""
+        self.follower.end()
+        if self.follower.is_alive():
+            self.follower.join(ENDING)
+        while self._idle:
+            self._idle.pop().close()
 
     def answer(self, request: Request) -> Dict[str, Any]:
         """What is answered to a request."""
         identity, fresh = request.pop("id", None), request.pop("fresh", None) == "yes"
         try:
+            self.follower.check()
             if identity is not None and not _is_id(identity):
                 raise Refused("BadCommand")
             if tuple(request) in (("get", "path"), ("export",), ("names",)):
@@ -113,23 +130,71 @@ class Node:
             return {"refused": "NotText"}
         except NotATree:
             return {"refused": "BadCommand"}
-        except (Unavailable, ConfstoreError, OSError) as error:
+        except (Unavailable, OtherHistory, Behind, ConfstoreError, OSError) as error:
             return {"failed": type(error).__name__}
 
     def _change(self, request: Request, identity: Optional[str]) -> Dict[str, Any]:
         """Puts a change into the log, and waits until it was performed here."""
-        entry = entry_of(edits_of(request))
-        name, digest = (identity or uuid.uuid4().hex).encode(), hashlib.sha256(entry).digest()
-        number, made = self._etcd().create(self._ids + name, digest, self._log + name, entry)
-        if made != digest:
-            raise Refused("IdTaken")
-        if not self.follower.wait_for(number, PATIENCE):
+        command, wait = command_of(edits_of(request)), Wait()
+        name = (identity or uuid.uuid4().hex).encode()
+        self.follower.wait_for_look(wait.left())
+        created = self._create(name, command, wait)
+        if not self.follower.wait_for(created.number, wait.left()):
             return {"failed": "TimedOut"}
-        return dict(self._answers.of(number) or {"failed": "Forgotten"})
+        answer = self._answer_of(created, self._log + name, digest_of(command), wait)
+        if answer is not None:
+            return answer
+        again = self._create(name, command, wait)  # so that the log that this node has now is known to have it
+        is_same = again.number == created.number and again.value in (None, created.value)
+        return {"failed": "Forgotten" if is_same else "TimedOut"}
+
+    def _create(self, name: bytes, command: bytes, wait: Wait) -> Created:
+        """Puts a command into the log under a name, unless it is there. Raises `Refused` if another one is."""
+        digest = digest_of(command)
+        with self._etcd(wait) as etcd:
+            created = etcd.create(self._ids + name, digest, self._log + name, lambda: entry_of(command))
+        if _digest_in(created) != digest:
+            self._look(self.follower.place(), wait)
+            raise Refused("IdTaken")
+        return created
+
+    def _answer_of(self, created: Created, key: bytes, digest: bytes, wait: Wait) -> Optional[Dict[str, Any]]:
+        """What an entry was answered that this node has performed: the very same, not another with its number. None if
+        this node doesn't know."""
+        performed, place = self._answers.of(created.number), self.follower.place()
+        if self._answers.of(created.number) != performed:  # the store has started from a base meanwhile
+            performed = None
+        if performed is not None and created.value is not None:
+            if not performed.is_of(Item(key, created.value, created.number, created.number)):
+                raise OtherHistory("the entry with this number is another one here")
+            if performed.has_tie():
+                return dict(performed.answer)
+        self._look(place, wait)
+        if performed is not None and (created.value is not None or performed.is_of_command(key, digest)):
+            return dict(performed.answer)
+        return None
+
+    def _look(self, place: Place, wait: Wait) -> int:
+        """The number of the newest entry, or 0. Raises `OtherHistory` if the log is not the one that a store at this
+        place has performed, and `Behind` if that isn't known."""
+        with self._etcd(wait) as etcd:
+            look = self.follower.look(etcd, place)
+        return look.after[0].created if look.after else place.number
+
+    def _newest(self, wait: Wait) -> int:
+        """The number of the newest entry in the log, where this store is not behind it or has started from a base."""
+        while True:
+            try:
+                return self._look(self.follower.place(), wait)
+            except Behind:
+                if not wait.left():
+                    raise
+            time.sleep(0.1)
 
     def _read(self, request: Request, fresh: bool) -> Dict[str, Any]:
         """Answers a question from the store of this node."""
-        if fresh and not self.follower.wait_for(self._etcd().last_created(self._log), PATIENCE):
+        wait = Wait()
+        if fresh and not self.follower.wait_for(self._newest(wait), wait.left()):
             return {"failed": "TimedOut"}
         store = self.follower.store
         if store is None:
@@ -141,75 +206,27 @@ def _is_id(identity: Any) -> bool:
     return isinstance(identity, str) and 0 < len(identity) <= LONGEST_ID
 
 
+def _digest_in(created: Created) -> Optional[bytes]:
+    """The digest of an entry's command. None of what no node puts there."""
+    if created.digest is not None:
+        return created.digest
+    try:
+        return digest_of(edits_in(created.value or b"")[1])
+    except Refused:
+        return None
+
+
 def _read_from(store: Store, request: Request) -> Dict[str, Any]:
+    if next(iter(request.values())) == RESERVED and "names" not in request:
+        raise Refused("BadName")
     if "get" in request:
         return {"value": store.get(str(request["get"]), str(request["path"]))}
     if "export" in request:
         return {"text": store.export(str(request["export"]))}
-    return {"names": store.names()}
+    return {"names": [name for name in store.names() if name != RESERVED]}
 
 
-class _Handler(socketserver.StreamRequestHandler):
-    """One client. It is cut off if it takes no answer for PATIENCE seconds."""
-
-    def handle(self) -> None:
-        node: Node = self.server.node  # type: ignore[attr-defined]
-        while line := self.rfile.readline(LONGEST_LINE):
-            if not line.endswith(b"\n"):
-                if len(line) == LONGEST_LINE:
-                    self._say({"refused": "TooLong"})
-                return
-            try:
-                request = json.loads(line)
-            except (ValueError, RecursionError):
-                request = None
-            if not self._say(node.answer(request) if isinstance(request, dict) else {"refused": "BadCommand"}):
-                return
-
-    def _say(self, answer: Dict[str, Any]) -> bool:
-        """Sends an answer. Whether the client took it in time."""
-        try:
-            self.connection.settimeout(PATIENCE)
-            self.connection.sendall(json.dumps(answer, ensure_ascii=False).encode("utf-8", "surrogatepass") + b"\n")
-            self.connection.settimeout(None)
-        except OSError:
-            return False
-        return True
-
-
-class _Server(socketserver.ThreadingMixIn, socketserver.UnixStreamServer):
-    """Takes clients on a Unix socket, those who may write in the folder. One that nobody listens to is replaced."""
-
-    daemon_threads = True
-    request_queue_size = 64
-
-    def __init__(self, path: str, folder: str) -> None:
-        self._writers = os.stat(folder).st_mode & 0o022
-        if _is_left(path):
-            os.unlink(path)
-        super().__init__(path, _Handler)
-
-    def server_bind(self) -> None:
-        before = os.umask(0o177)
-        try:
-            super().server_bind()
-        finally:
-            os.umask(before)
-        os.chmod(self.server_address, 0o600 | self._writers | self._writers << 1)  # type: ignore[arg-type]
-
-
-def _is_left(path: str) -> bool:
-    """Whether a socket that nobody listens to is at a path."""
-    try:
-        if not stat.S_ISSOCK(os.lstat(path).st_mode):
-            return False
-    except FileNotFoundError:
-        return False
-    with socket.socket(socket.AF_UNIX) as probe:
-        return probe.connect_ex(path) == errno.ECONNREFUSED
-
-
-def main() -> int:
+def _parser() -> argparse.ArgumentParser:
     parser = argparse.ArgumentParser(description="One node of a replicated store.")
     parser.add_argument("socket", help="the Unix socket for clients, which is made")
     parser.add_argument("folder", help="the folder of this node's store, which is made if it is missing")
@@ -217,23 +234,83 @@ def main() -> int:
     parser.add_argument("--cluster", default="default", help="the name of the cluster, its prefix in etcd")
     parser.add_argument("--program", help="the program confstore; else CONFSTORE, or confstore on the PATH")
     parser.add_argument("--base-after", type=int, default=1000, help="how many entries come between two bases in etcd")
-    words = parser.parse_args()
+    kept = "after how many further entries an id may be forgotten"
+    parser.add_argument("--ids-kept", type=int, default=NAMES_KEPT, help=kept)
+    parser.add_argument("--ca", metavar="FILE", help="reach etcd over TLS, and trust these authorities")
+    parser.add_argument("--cert", metavar="FILE", help="the certificate of this node for etcd")
+    parser.add_argument("--key", metavar="FILE", help="its key")
+    parser.add_argument("--user", help="the user of etcd")
+    password = f"the file whose first line is the user's password; else the environment's {PASSWORD}"
+    parser.add_argument("--password-file", metavar="FILE", help=password)
+    return parser
+
+
+def _access_of(words: argparse.Namespace) -> Access:
+    """How etcd is reached. Raises `OSError` or `ValueError`."""
+    if words.ca is None and (words.cert or words.key):
+        raise ValueError("--cert and --key need --ca, the file of authorities that etcd's certificate is checked by")
+    if (words.cert is None) != (words.key is None):
+        raise ValueError("--cert and --key go together")
+    password = os.environ.pop(PASSWORD, None)
+    if words.password_file is not None:
+        with open(words.password_file, encoding="utf-8") as file:
+            password = file.readline().rstrip("\n")
+    if words.user is not None and not password:
+        raise ValueError(f"--user needs a password: name its file with --password-file, or set {PASSWORD}")
+    if words.user is None and words.password_file is not None:
+        raise ValueError("--password-file needs --user")
+    try:
+        return Access(words.ca, words.cert, words.key, words.user, password)
+    except OSError as error:
+        raise ValueError(f"the files of --ca, --cert and --key can't be used: {error}") from None
+
+
+def _open(follower: Follower) -> None:
+    """Opens the store for the first time. Raises `NotReplicated`; what else fails is tried again."""
+    try:
+        follower.open()
+    except NotReplicated:
+        raise
+    except Exception:  # the follower tries again, and says what it is
+        pass
+
+
+def _node_of(words: argparse.Namespace) -> Node:
+    """The node, whose store is open if that was possible. Raises `OSError`, `ValueError` or `NotReplicated`."""
+    access = _access_of(words)
     os.makedirs(words.folder, exist_ok=True)
-    node = Node(words.folder, words.members, words.cluster, words.program, words.base_after)
-    with _Server(words.socket, words.folder) as server:
-        server.node = node  # type: ignore[attr-defined]
-        node.follower.start()
+    node = Node(
+        words.folder, words.members, words.cluster, program=words.program, base_after=words.base_after,
+        names_kept=words.ids_kept, access=access,
+    )  # fmt: skip
+    _open(node.follower)
+    return node
 
-        def end(*_: object) -> None:
-            threading.Thread(target=server.shutdown, daemon=True).start()
 
-        signal.signal(signal.SIGTERM, end)
-        signal.signal(signal.SIGINT, end)
-        print("ready", flush=True)
-        server.serve_forever(0.1)
-    node.follower.end()
-    node.follower.join(10)
-    os.unlink(words.socket)
+def main() -> int:
+    words = _parser().parse_args()
+    server: Optional[Server] = None
+    is_told_to_end = threading.Event()
+
+    def end(*_: object) -> None:
+        is_told_to_end.set()
+        if server is not None:
+            threading.Thread(target=server.end, daemon=True).start()
+
+    signal.signal(signal.SIGTERM, end)
+    signal.signal(signal.SIGINT, end)
+    try:
+        node = _node_of(words)
+        server = Server(words.socket, words.folder, node.answer)
+    except (OSError, ValueError, NotReplicated) as fault:
+        print(f"node: {fault}", file=sys.stderr)
+        return 1
+    if is_told_to_end.is_set():
+        server.end()
+    node.follower.start()
+    print("ready", flush=True)
+    server.serve()
+    node.end()
     return 0
 
 

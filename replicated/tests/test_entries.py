@@ -1,24 +1,33 @@
 """Entries, and the batches that perform them: once, in their order, and no others."""
 
-import json
 import os
-import socket
 import tempfile
-import threading
 import unittest
 
 import confstore
 from confstore import Store
-from confstore_replicated import Client
-from confstore_replicated.entries import LONGEST, RESERVED, SPARE, Refused, edits_in, edits_of, entry_of, marked
-from confstore_replicated.entries import number_in, refused as refusal_of
+from confstore_replicated.answers import answers_in, base_length_in, count_in
+from confstore_replicated.entries import LONGEST, MARK_LENGTH, NO_MARK, RESERVED, Refused, command_of, edits_in
+from confstore_replicated.entries import edits_of, entry_of, has_nonce, number_in
+from confstore_replicated.entries import marked as marked_with, refused as refusal_with
 from confstore_replicated.etcd import Item
-from confstore_replicated.follower import Follower
-from confstore_replicated.node import _Server
+from confstore_replicated.follower import Follower, NotReplicated
+from confstore_replicated.history import mark_of, short_of
 
 IMPORT = {"import": "a", "text": "n: x"}
 SET = {"set": "a", "path": "/n", "value": "y"}
 WRONG = {"set": "b", "path": "/n", "value": "y"}
+
+MARK = "e" + "x" * (MARK_LENGTH - 1)
+
+
+def marked(edits, number, before):
+    return marked_with(edits, number, before, MARK)
+
+
+def refusal_of(word, number, before):
+    return refusal_with(word, number, before, MARK)
+
 
 # The longest base of a store, as docs/STORE.md says.
 LONGEST_BASE = 67_108_864
@@ -55,20 +64,25 @@ class Entries(unittest.TestCase):
         ]
         for word, command in rows:
             with self.assertRaises(Refused) as caught:
-                entry_of(edits_of(command))
+                command_of(edits_of(command))
             self.assertEqual(caught.exception.word, word, str(command)[:100])
 
     def test_what_stands_in_the_log(self):
         for command in (IMPORT, SET, {"batch": [IMPORT, SET]}, {"set": "a", "path": "", "value": nested(150)}):
             edits = edits_of(command)
-            self.assertEqual(edits_in(entry_of(edits)), edits)
+            wanted = command_of(edits)
+            entry, another = entry_of(wanted), entry_of(wanted)
+            self.assertEqual((edits_in(entry), edits_in(another)), ((edits, wanted), (edits, wanted)))
+            self.assertTrue(entry != another and has_nonce(entry) and not has_nonce(wanted))
+            self.assertEqual(edits_in(wanted), (edits, wanted), "an entry of an older version has no nonce")
         for entry in (b"", b"[]", b"{", b'{"edits": 1}', b'{"edits": []}', b"\xff", b"[" * 100_000):
             with self.assertRaises(Refused):
                 edits_in(entry)
 
     def test_numbers(self):
-        self.assertEqual(number_in({"00000000000000000012": SPARE}), 12)
-        for tree in ({}, "12", {"12": ""}, {"0000000000000000001x": ""}, {"00000000000000000012": "", "b": ""}):
+        self.assertEqual(number_in({"00000000000000000012": NO_MARK}), (12, NO_MARK))
+        wrong = ({}, "12", {"12": ""}, {"0000000000000000001x": ""}, {"00000000000000000012": "", "b": ""})
+        for tree in (*wrong, {"00000000000000000012": ["x"]}):
             with self.assertRaises(confstore.ConfstoreError):
                 number_in(tree)
 
@@ -98,7 +112,7 @@ class Batches(StoreTest):
         self.assertEqual(self.answers(store, first, second), [1, 2])
         self.assertEqual(self.answers(store, second, second), ["NoSuchPlace"] * 2)
         self.assertEqual(self.answers(store, marked([SET], 11, 9), third), ["NoSuchPlace", 3])
-        self.assertEqual(number_in(store[RESERVED]), 9)
+        self.assertEqual(number_in(store[RESERVED]), (9, MARK))
 
     def test_a_refused_one_keeps_those_behind_it_back(self):
         store = self.store()
@@ -117,41 +131,144 @@ class Followers(StoreTest):
     def follower(self):
         told = []
         follower = Follower(self.folder, ["127.0.0.1:1"], "x", told=lambda *answer: told.append(answer))
-        self.addCleanup(follower._close)
-        follower._open()
+        self.addCleanup(follower.close)
+        follower.open()
         return follower, told
 
     def items(self, *commands, start=1):
-        return [Item(b"k", entry_of(edits_of(command)), start + at) for at, command in enumerate(commands)]
+        return [self.item(command_of(edits_of(command)), start + at) for at, command in enumerate(commands)]
+
+    def item(self, command, number):
+        return Item(b"k", entry_of(command) if command.endswith(b"}") else command, number, number)
 
     def test_answers(self):
         follower, told = self.follower()
-        follower._perform([*self.items(WRONG, IMPORT, WRONG, WRONG, SET, {"import": "a", "text": "["})])
-        follower._perform([Item(b"k", b"no entry", 20)])
+        entries = self.items(WRONG, IMPORT, WRONG, WRONG, SET, {"import": "a", "text": "["})
+        follower._perform(entries)
+        follower._perform([self.item(b"no entry", 20)])
         wanted = [
             (1, {"refused": "NoConfig"}), (2, {"ok": "2"}), (3, {"refused": "NoConfig"}), (4, {"refused": "NoConfig"}),
             (5, {"ok": "5"}), (6, {"refused": "Syntax"}), (20, {"refused": "BadCommand"}),
         ]  # fmt: skip
-        self.assertEqual(told, wanted)
-        follower._close()
-        again, told = self.follower()
-        self.assertEqual((told, again._position, again.store["a"]), (wanted, 20, {"n": "y"}))
+        self.assertEqual([(number, performed.answer) for number, performed in told], wanted)
+        follower.close()
+        again, from_file = self.follower()
+        self.assertEqual([(number, performed.answer) for number, performed in from_file], wanted)
+        self.assertEqual((again._place.number, again.store["a"]), (20, {"n": "y"}))
+        for (_, performed), entry in zip(from_file, entries):
+            self.assertEqual([performed.is_of(other) for other in entries], [other is entry for other in entries])
+            another = entry._replace(value=entry_of(edits_in(entry.value)[1]))
+            self.assertFalse(performed.is_of(another), "the same command with another nonce is another entry")
 
     def test_a_store_of_something_else(self):
         self.store()[RESERVED] = {"entry": "1"}
         with self.assertRaises(confstore.ConfstoreError):
             self.follower()
 
+    def test_a_store_that_had_commands_before(self):
+        with Store(self.folder) as store:
+            store.put("a", "x")
+        with self.assertRaises(NotReplicated):
+            self.follower()
+        with Store(self.folder) as store:
+            store.delete("a")
+            store.checkpoint()
+        with self.assertRaises(NotReplicated) as caught:
+            self.follower()
+        self.assertIn(self.folder, str(caught.exception))
+
+    def test_the_file(self):
+        """Records are found however the file lies in what is read at once."""
+        follower, told = self.follower()
+        long = {"import": "a", "text": "x" * 3_000}
+        follower._perform(self.items(*[IMPORT, long, WRONG] * 10))
+        from confstore_replicated import answers
+
+        before, found = answers.PART, []
+        with open(os.path.join(self.folder, "store.yaml"), "rb") as file:
+            base_length = file.read().index(b"\n...\n") + 5
+        self.addCleanup(setattr, answers, "PART", before)
+        for answers.PART in (1, 7, 611, before):
+            found.append([(number, performed.answer) for number, performed in answers_in(self.folder)])
+            self.assertEqual((count_in(self.folder), base_length_in(self.folder)), (30, base_length))
+        self.assertEqual(found, [[(number, performed.answer) for number, performed in told]] * 4)
+
+    def test_marks_are_as_long_as_those_of_the_version_before(self):
+        """So the size of a state doesn't tell which version performed its entries."""
+        lengths = set()
+        with Store(self.folder) as store:
+            for number in range(200):
+                mark = mark_of(number * 92_233_720_368_547_758, Item(b"k", b"%d" % number, number, number))
+                store.put(RESERVED, {f"{number:020}": mark})
+                self.assertEqual(number_in(store[RESERVED]), (number, mark))
+                lengths.add(len(store.export(RESERVED)))
+            store.put(RESERVED, {f"{1:020}": NO_MARK})
+            self.assertEqual(lengths, {len(store.export(RESERVED))})
+
+    def test_a_file_that_is_too_long(self):
+        """`JournalLong` is no answer: the store makes its file short, and the command is sent again."""
+        follower, told = self.follower()
+        follower._perform(self.items(IMPORT))
+        store, sent = follower.store, []
+        perform = store.perform_batches
+
+        def too_long(batches):
+            sent.append(len(batches))
+            if len(sent) in wanted:
+                first = perform(batches[: wanted[len(sent)]])
+                return [*first, *[confstore.JournalLong("JournalLong")] * (len(batches) - len(first))]
+            return perform(batches)
+
+        wanted = {1: 2}
+        store.perform_batches = too_long
+        follower._perform(self.items(SET, WRONG, SET, SET, start=2))
+        answers = [{"ok": "1"}, {"ok": "2"}, {"refused": "NoConfig"}, {"ok": "4"}, {"ok": "5"}]
+        self.assertEqual([performed.answer for _, performed in told], answers)
+        sent.clear()
+        wanted.update({1: 1, 2: 0})
+        with self.assertRaises(confstore.ConfstoreError):
+            follower._perform(self.items(SET, SET, start=7))
+        self.assertEqual(len(told), 6, "what is refused again after a checkpoint is not answered")
+
+    def test_a_word_that_is_not_known(self):
+        follower, told = self.follower()
+        follower.store.perform_batches = lambda batches: [confstore.Refused("NewWord")] * len(batches)
+        with self.assertRaises(confstore.ConfstoreError):
+            follower._perform(self.items(IMPORT))
+        self.assertEqual(told, [])
+
+    def test_checkpoints_by_what_is_written(self):
+        """A small entry whose record is long: the file is made short by the bytes of records."""
+        import confstore_replicated.follower as module
+
+        self.addCleanup(setattr, module, "CHECKPOINT_BYTES", module.CHECKPOINT_BYTES)
+        module.CHECKPOINT_BYTES = 1_000_000
+        follower, _ = self.follower()
+        follower._perform(self.items(IMPORT))
+        deep = {"set": "a", "path": "", "value": nested(120, ["x"] * 2_000)}
+        entries = self.items(*[deep] * 8, start=2)
+        self.assertLess(sum(len(entry.value) for entry in entries), 200_000)
+        for entry in entries:
+            follower._perform([entry])
+            self.assertLess(os.path.getsize(os.path.join(self.folder, "store.yaml")), 2_600_000)
+
     def test_a_store_that_is_full(self):
         """A number is put also where the store is full to the last byte and its count gets a digit more."""
         follower, told = self.follower()
         follower._perform(self.items(IMPORT))
         self.fill(follower.store)
+        follower._checkpoint_length = LONGEST_BASE
         count = follower.store.checkpoint()
         self.assertTrue(10 <= count < 99)
-        follower._perform(self.items(*[WRONG] * (105 - count), start=2))
-        self.assertEqual([answer for _, answer in told[1:]], [{"refused": "NoConfig"}] * (105 - count))
-        self.assertEqual((follower.store.checkpoint(), list(follower.store[RESERVED].values())), (105, [""]))
+        entries = self.items(*[WRONG] * (105 - count), start=2)
+        follower._perform(entries)
+        self.assertEqual([performed.answer for _, performed in told[1:]], [{"refused": "NoConfig"}] * (105 - count))
+        number, mark = number_in(follower.store[RESERVED])
+        self.assertEqual((number, mark), (entries[-1].created, short_of(mark_of(0, entries[-1]))))
+        *_, (number, performed) = answers_in(self.folder)
+        self.assertEqual((number, performed.mark), (entries[-1].created, mark))
+        self.assertEqual([performed.is_of(entry) for entry in entries[-2:]], [False, True])
+        self.assertEqual(follower.store.checkpoint(), 105)
 
     def fill(self, store):
         """Has the base of a store be as long as it may be."""
@@ -168,61 +285,6 @@ class Followers(StoreTest):
     def base_length(self, store):
         store.checkpoint()
         return os.path.getsize(os.path.join(self.folder, "store.yaml"))
-
-
-class Answering:
-    """In the place of a node: answers with what it was asked."""
-
-    def answer(self, request):
-        return {"asked": json.dumps(request)[:40]}
-
-
-class Sockets(StoreTest):
-    def serve(self):
-        path = os.path.join(self.top, "socket")
-        server = _Server(path, self.folder)
-        server.node = Answering()
-        threading.Thread(target=server.serve_forever, args=(0.05,), daemon=True).start()
-        self.addCleanup(server.server_close)
-        self.addCleanup(server.shutdown)
-        return path
-
-    def said(self, path, line):
-        with socket.socket(socket.AF_UNIX) as client:
-            client.settimeout(30)
-            client.connect(path)
-            client.sendall(line)
-            client.shutdown(socket.SHUT_WR)
-            with client.makefile("rb") as answers:
-                return answers.read()
-
-    def test_lines(self):
-        path = self.serve()
-        wrong = b'{"refused": "BadCommand"}\n'
-        self.assertEqual(self.said(path, b'{"names": ""}\n'), b'{"asked": "{\\"names\\": \\"\\"}"}\n')
-        self.assertEqual(self.said(path, b"no JSON\n[]\n" + b"[" * 100_000 + b"\n"), wrong * 3)
-        self.assertEqual(self.said(path, b'{"names": ""}'), b"")
-
-    def test_modes(self):
-        for mode, wanted in ((0o700, 0o600), (0o770, 0o660), (0o777, 0o666)):
-            os.chmod(self.folder, mode)
-            path = self.serve()
-            self.assertEqual(os.stat(path).st_mode & 0o777, wanted)
-            os.unlink(path)
-
-    def test_what_is_at_the_path(self):
-        path = self.serve()
-        with self.assertRaises(OSError):
-            _Server(path, self.folder)
-        os.unlink(path)
-        with open(path, "w", encoding="ascii"):
-            pass
-        with self.assertRaises(OSError):
-            _Server(path, self.folder)
-
-    def test_no_node(self):
-        with self.assertRaises(OSError):
-            Client(os.path.join(self.top, "none"))
 
 
 if __name__ == "__main__":

@@ -1,0 +1,142 @@
+"""Bases in etcd: a node writes one now and then, takes out of etcd what it makes needless, and starts from one where
+its store is too far behind.
+
+A base is the file of a store, in parts. What etcd has under the key `base` says which parts are those of the base, and
+up to which entry, the floor, the log may have lost entries: that of the base before. It is put only if the log has the
+entry that the store performed last, with the same nonce, and all parts, so never into the log of another history. And
+all that is taken out goes by transactions that compare the key `base`: another node's base, or a restored one, stops
+them.
+"""
+
+from __future__ import annotations
+
+import hashlib
+import json
+import os
+import secrets
+from dataclasses import asdict
+from typing import Callable, List, Optional, Sequence, Tuple
+
+from .etcd import Etcd, Guard, Item
+from .history import Base, base_in
+
+# After how many further entries a name may be forgotten.
+NAMES_KEPT = 100_000
+
+# A base is kept in etcd in parts of so many bytes, of which so many are read at once.
+PART = 700_000
+PARTS_AT_ONCE = 8
+
+# Into how many steps the entries are divided after which names are forgotten.
+STEPS = 100
+
+
+class Bases:
+    """The bases of a cluster's log."""
+
+    def __init__(self, etcd: Etcd, prefix: bytes, base_after: int, names_kept: int) -> None:
+        self._etcd = etcd
+        self._log, self._names, self._parts = prefix + b"log/", prefix + b"ids/", prefix + b"parts/"
+        self._key = prefix + b"base"
+        self._base_after, self._names_kept = base_after, names_kept
+
+    def is_due(self, number: int, count: int) -> bool:
+        """Whether the base in etcd is so old that a store which is at an entry may write another."""
+        last = base_in(self._etcd.get(self._key))
+        if last.count is None:
+            return number > last.number
+        return number > last.number and count - last.count >= self._base_after // 2
+
+    def write(self, entry: Item, mark: str, count: int, path: str) -> None:
+        """Puts the file of a store, whose last entry is this one, into etcd as a base, unless another node did just
+        now, and takes out what it makes needless."""
+        old = self._etcd.get(self._key)
+        last = base_in(old)
+        if entry.created <= last.number:
+            return
+        new = Base(entry.created, count, last.number, mark, last.mark, parts=secrets.token_hex(8))
+        new.history, new.names_floor = self._history(last, new)
+        new.sha256, parts = self._put_parts(path, self._parts_of(new))
+        text = json.dumps(asdict(new)).encode()
+        self._etcd.replace(self._key, text, old, entry, parts)
+        if self._etcd.get(self._key) == text:
+            self._clean(new, (self._key, text))
+
+    def _history(self, last: Base, new: Base) -> Tuple[List[Tuple[int, int]], int]:
+        """The earlier bases that have to be known, and the last entry whose name may be taken out."""
+        count, history = new.count or 0, list(last.history)
+        if last.count is not None and (not history or last.count - history[-1][1] >= self._names_kept // STEPS):
+            history.append((last.number, last.count))
+        old = [number for number, known in history if known <= count - self._names_kept]
+        return history[max(len(old) - 1, 0) :], min(max(old, default=0), new.floor)
+
+    def _put_parts(self, path: str, prefix: bytes) -> Tuple[str, List[bytes]]:
+        """Puts the file in parts. Returns its checksum, and the keys of the parts: 96 at most."""
+        digest = hashlib.sha256()
+        keys: List[bytes] = []
+        with open(path, "rb") as file:
+            while part := file.read(PART):
+                digest.update(part)
+                keys.append(prefix + f"{len(keys):08}".encode())
+                self._etcd.put(keys[-1], part)
+        return digest.hexdigest(), keys
+
+    def _parts_of(self, base: Base) -> bytes:
+        place = f"{base.number:020}/" + (f"{base.parts}/" if base.parts else "")
+        return self._parts + place.encode()
+
+    def _clean(self, base: Base, guard: Guard) -> None:
+        """Takes out the parts of bases before this one, also of those that were given up, the entries up to the floor,
+        and then old names. Parts of bases behind it stay: another node may be about to put one."""
+        before = self._parts + f"{base.number:020}/".encode()
+        if not self._etcd.remove_between(self._parts, before, guard):
+            return
+        self._remove(self._log, base.floor, guard, lambda keys: ())
+        start = len(self._names)
+        self._remove(self._names, base.names_floor, guard, lambda keys: [self._log + key[start:] for key in keys])
+        if base.floor:
+            self._etcd.compact(base.floor)
+
+    def _remove(
+        self, prefix: bytes, until: int, guard: Guard, absent: Callable[[Sequence[bytes]], Sequence[bytes]]
+    ) -> None:
+        """Takes out the keys with a prefix that were made up to a revision, those where others are absent."""
+        if until <= 0:
+            return
+        for keys in self._etcd.keys_until(prefix, until):
+            if self._etcd.remove(keys, until, absent(keys), guard):
+                continue
+            if self._etcd.get(guard[0]) != guard[1]:
+                return
+            for key in keys:
+                self._etcd.remove([key], until, absent([key]), guard)
+
+    def read(self, text: Optional[bytes]) -> bytes:
+        """The base of which etcd says this. Raises `ValueError` if it is not whole."""
+        base = base_in(text)
+        prefix, parts, last = self._parts_of(base), b"", 0
+        while items := self._etcd.created_after(prefix, last, PARTS_AT_ONCE):
+            parts += b"".join(item.value for item in items)
+            last = items[-1].created
+        if hashlib.sha256(parts).hexdigest() != base.sha256:
+            raise ValueError("the base was replaced while it was read, or is damaged")
+        return parts
+
+
+def install(folder: str, base: bytes) -> None:
+    """Has a base stand in the place of the file of a store, which is closed. That file gets another name."""
+    new, store, kept = (os.path.join(folder, name) for name in ("base.new", "store.yaml", "before-base.yaml"))
+    with open(new, "wb") as file:
+        file.write(base)
+        file.flush()
+        os.fsync(file.fileno())
+    if os.path.exists(store):
+        if os.path.exists(kept):
+            os.unlink(kept)
+        os.link(store, kept)
+    os.replace(new, store)
+    directory = os.open(folder, os.O_RDONLY)
+    try:
+        os.fsync(directory)
+    finally:
+        os.close(directory)

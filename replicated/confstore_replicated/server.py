@@ -1,0 +1,240 @@
+"""Takes clients on a Unix socket, a line for each request, and bounds how many there are and what they make it keep."""
+
+from __future__ import annotations
+
+import json
+import os
+import select
+import socket
+import threading
+import time
+from typing import Any, Callable, Dict, List, Optional, Set
+
+from .listener import listen
+
+# How many clients are served at once. While others wait, those are cut off that asked nothing for so many seconds.
+MOST_CLIENTS = 256
+IDLE = 10.0
+
+# How many seconds a client may take to read an answer, or waits for room for its line.
+PATIENCE = 30.0
+
+# The longest line of a client, in bytes, and how many of it are read at once.
+LONGEST_LINE = 8_388_608
+PART = 65_536
+
+# How many bytes of lines are kept for all clients together, beyond PART for each. Where there is no room, the client is
+# cut off whose line has been unfinished for the longest time, and for so many seconds at least.
+ROOM = 67_108_864
+UNFINISHED = 1.0
+
+# How many requests that are longer than PART are answered at once.
+LONG_ONES = 4
+
+# How many seconds lie between two looks at who waits.
+TURN = 0.2
+
+Answering = Callable[[Dict[str, Any]], Dict[str, Any]]
+
+
+class _Room:
+    """The room for lines of all clients."""
+
+    def __init__(self) -> None:
+        self._changed = threading.Condition()
+        self._free = ROOM
+        self._holders: Set[_Client] = set()
+
+    def take(self, client: "_Client", count: int) -> bool:
+        """Takes room for a client whose line is not finished. Whether there was any in time."""
+        deadline = time.monotonic() + PATIENCE
+        with self._changed:
+            while self._free < count:
+                if time.monotonic() > deadline:
+                    return False
+                self._cut_off_one(client)
+                self._changed.wait(TURN)
+            self._free -= count
+            self._holders.add(client)
+            return True
+
+    def _cut_off_one(self, waiting: "_Client") -> None:
+        late = time.monotonic() - UNFINISHED
+        others = [client for client in self._holders if client is not waiting and client.line_began < late]
+        if others:
+            min(others, key=lambda client: client.line_began).cut_off()
+
+    def give_back(self, client: "_Client", count: int) -> None:
+        with self._changed:
+            self._free += count
+            self._holders.discard(client)
+            self._changed.notify_all()
+
+    def is_finished(self, client: "_Client") -> None:
+        """Notes that the line of a client is finished: it is cut off no more for its length."""
+        with self._changed:
+            self._holders.discard(client)
+
+
+class _Client:
+    """One client, which a thread of its own serves."""
+
+    def __init__(self, connection: socket.socket, server: "Server") -> None:
+        self._connection, self._server = connection, server
+        self._heard = bytearray()
+        self._taken = 0
+        self._is_asking = False
+        self._answered = self.line_began = time.monotonic()
+
+    def idle_since(self) -> Optional[float]:
+        """Since when it asks nothing, or None if it does."""
+        return None if self._is_asking else self._answered
+
+    def cut_off(self) -> None:
+        try:
+            self._connection.shutdown(socket.SHUT_RDWR)
+        except OSError:
+            pass
+
+    def serve(self) -> None:
+        try:
+            while (line := self._line()) is not None:
+                self._is_asking = True
+                told = self._say(self._answer_to(line))
+                self._server.room.give_back(self, self._taken)
+                self._taken = 0
+                self._answered, self._is_asking = time.monotonic(), False
+                if not told:
+                    return
+        except OSError:
+            pass
+        finally:
+            self._server.room.give_back(self, self._taken)
+            self._server.forget(self)
+            self._connection.close()
+
+    def _line(self) -> Optional[bytes]:
+        """The next line, or None if there is no more, or no room for it. Says so of one that is too long."""
+        self.line_began, looked = time.monotonic(), 0
+        while (found := self._heard.find(b"\n", looked)) < 0:
+            looked = len(self._heard)
+            if looked >= LONGEST_LINE:
+                self._say({"refused": "TooLong"})
+                return None
+            part = self._connection.recv(PART)
+            if not part or not self._has_room(len(part)):
+                return None
+            self._heard += part
+        self._server.room.is_finished(self)
+        line = bytes(self._heard[: found + 1])
+        del self._heard[: found + 1]
+        return line
+
+    def _has_room(self, more: int) -> bool:
+        beyond = len(self._heard) + more - PART - self._taken
+        if beyond <= 0:
+            return True
+        if not self._server.room.take(self, beyond):
+            return False
+        self._taken += beyond
+        return True
+
+    def _answer_to(self, line: bytes) -> Dict[str, Any]:
+        if len(line) <= PART:
+            return self._answer(line)
+        if not self._server.long_ones.acquire(timeout=PATIENCE):
+            return {"failed": "Busy"}
+        try:
+            return self._answer(line)
+        finally:
+            self._server.long_ones.release()
+
+    def _answer(self, line: bytes) -> Dict[str, Any]:
+        try:
+            request = json.loads(line)
+        except (ValueError, RecursionError):
+            request = None
+        return self._server.answer(request) if isinstance(request, dict) else {"refused": "BadCommand"}
+
+    def _say(self, answer: Dict[str, Any]) -> bool:
+        """Sends an answer. Whether the client took it in time."""
+        try:
+            self._connection.settimeout(PATIENCE)
+            self._connection.sendall(json.dumps(answer, ensure_ascii=False).encode("utf-8", "surrogatepass") + b"\n")
+            self._connection.settimeout(None)
+        except OSError:
+            return False
+        return True
+
+
+class Server:
+    """Takes clients at a path, those who may write in a folder, until it is ended."""
+
+    def __init__(self, path: str, folder: str, answer: Answering) -> None:
+        self.answer = answer
+        self.room = _Room()
+        self.long_ones = threading.Semaphore(LONG_ONES)
+        self._path = path
+        self._listener = listen(path, folder)
+        self._listener.setblocking(False)
+        self._inode = os.lstat(path).st_ino
+        self._clients: Set[_Client] = set()
+        self._lock = threading.Lock()
+        self._is_ended = threading.Event()
+        self._bell, self._ear = socket.socketpair()
+
+    def serve(self) -> None:
+        """Serves until `end` is called."""
+        try:
+            while not self._is_ended.is_set():
+                ready, _, _ = select.select([self._listener, self._ear], [], [])
+                if self._listener in ready and self._has_place():
+                    self._accept()
+        finally:
+            for end in (self._listener, self._bell, self._ear):
+                end.close()
+            if os.path.lexists(self._path) and os.lstat(self._path).st_ino == self._inode:
+                os.unlink(self._path)
+
+    def end(self) -> None:
+        self._is_ended.set()
+        try:
+            self._bell.send(b".")
+        except OSError:  # it has ended
+            pass
+
+    def _has_place(self) -> bool:
+        """Whether one more client may be served. If not, cuts off the one that asked nothing for the longest time, if
+        that is long enough, and waits a moment."""
+        with self._lock:
+            if len(self._clients) < MOST_CLIENTS:
+                return True
+            idle = [(since, client) for client in self._clients if (since := client.idle_since()) is not None]
+        late = time.monotonic() - IDLE
+        waited: List[_Client] = [client for since, client in sorted(idle, key=lambda pair: pair[0]) if since < late]
+        if waited:
+            waited[0].cut_off()
+        self._is_ended.wait(TURN / 20 if waited else TURN)
+        return False
+
+    def _accept(self) -> None:
+        try:
+            connection, _ = self._listener.accept()
+        except BlockingIOError:
+            return
+        except OSError:  # as where there are no more descriptors
+            self._is_ended.wait(TURN)
+            return
+        connection.setblocking(True)
+        client = _Client(connection, self)
+        with self._lock:
+            self._clients.add(client)
+        try:
+            threading.Thread(target=client.serve, name="confstore client", daemon=True).start()
+        except RuntimeError:  # the system has no room for one more
+            self.forget(client)
+            connection.close()
+
+    def forget(self, client: _Client) -> None:
+        with self._lock:
+            self._clients.discard(client)

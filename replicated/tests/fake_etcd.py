@@ -1,0 +1,197 @@
+"""In the place of etcd: one member that keeps its keys in memory, with the calls of the JSON gateway that nodes use.
+
+It is written from etcd's documentation of its API, not from the code that it tests. What it holds can be kept aside and
+put back, as a snapshot is restored, and an answer can be lost after its call was performed.
+"""
+
+import base64
+import copy
+import json
+import threading
+from http.server import BaseHTTPRequestHandler, ThreadingHTTPServer
+
+CREATED = "create_revision"
+
+
+def decoded(text):
+    return base64.b64decode(text)
+
+
+def encoded(data):
+    return base64.b64encode(data).decode()
+
+
+class Keys:
+    """The keys, and all events since the beginning."""
+
+    def __init__(self):
+        self.revision = 1
+        self.keys = {}  # each with its value, and the revisions that made and changed it
+        self.events = []
+
+    def put(self, key, value, revision):
+        created = self.keys[key][1] if key in self.keys else revision
+        self.keys[key] = value, created, revision
+        self.events.append((revision, self.found(key)))
+
+    def found(self, key, keys_only=False):
+        value, created, modified = self.keys[key]
+        told = {"key": encoded(key), CREATED: str(created), "mod_revision": str(modified), "version": "1"}
+        return told if keys_only else {**told, "value": encoded(value)}
+
+    def in_range(self, asked):
+        first, end = decoded(asked["key"]), decoded(asked.get("range_end", ""))
+        return sorted(key for key in self.keys if (first <= key < end if end else key == first))
+
+    def range(self, asked):
+        keys = self.in_range(asked)
+        least, most = int(asked.get("min_create_revision", 0)), int(asked.get("max_create_revision", 0))
+        keys = [key for key in keys if self.keys[key][1] >= least and (not most or self.keys[key][1] <= most)]
+        if asked.get("sort_target") == "CREATE":
+            keys.sort(key=lambda key: self.keys[key][1], reverse=asked.get("sort_order") == "DESCEND")
+        limit = int(asked.get("limit", 0)) or len(keys)
+        return {"kvs": [self.found(key, asked.get("keys_only", False)) for key in keys[:limit]]}
+
+    def delete(self, asked):
+        for key in self.in_range(asked):
+            del self.keys[key]
+
+    def holds(self, compare):
+        value, created, _ = self.keys.get(decoded(compare["key"]), (None, 0, 0))
+        if compare["target"] == "VALUE":
+            return value == decoded(compare["value"])
+        wanted = int(compare[CREATED])
+        results = {"EQUAL": created == wanted, "LESS": created < wanted, "GREATER": created > wanted}
+        return results[compare.get("result", "EQUAL")]
+
+    def transact(self, asked):
+        succeeded = all(map(self.holds, asked.get("compare", ())))
+        operations = asked.get("success" if succeeded else "failure", ())
+        revision, responses = self.revision + 1, []
+        for operation in operations:
+            ((kind, words),) = operation.items()
+            if kind == "request_range":
+                responses.append({"response_range": self.range(words)})
+                continue
+            self.revision = revision
+            if kind == "request_put":
+                self.put(decoded(words["key"]), decoded(words["value"]), revision)
+            else:
+                self.delete(words)
+            responses.append({})
+        return {"succeeded": succeeded, "responses": responses}
+
+
+class FakeEtcd:
+    """One member. `lose` is called with each request, and its answer is lost if that is true."""
+
+    def __init__(self, context=None, password=None, padding=0):
+        self.keys, self.cluster, self.incarnation = Keys(), 77, 0
+        self.lock = threading.Condition()
+        self.password, self.tokens, self.asked, self.padding = password, [], [], padding
+        self.lose = lambda path, body: False
+        member = self
+
+        class Handler(BaseHTTPRequestHandler):
+            protocol_version = "HTTP/1.1"
+
+            def do_POST(self):
+                member.answer(self, json.loads(self.rfile.read(int(self.headers["Content-Length"]))))
+
+            def log_message(self, *_):
+                pass
+
+        self.server = ThreadingHTTPServer(("127.0.0.1", 0), Handler)
+        self.server.daemon_threads = True
+        self.server.handle_error = lambda *_: None  # clients may go at any time
+        self.address = "127.0.0.1:%d" % self.server.server_address[1]
+        if context is not None:
+            self.server.socket = context.wrap_socket(self.server.socket, server_side=True)
+        threading.Thread(target=self.server.serve_forever, args=(0.02,), daemon=True).start()
+
+    def close(self):
+        self.restart()
+        self.server.shutdown()
+        self.server.server_close()
+
+    def snapshot(self):
+        with self.lock:
+            return copy.deepcopy(self.keys)
+
+    def restore(self, keys, cluster=None):
+        """Holds what a snapshot has, or nothing."""
+        with self.lock:
+            self.keys = copy.deepcopy(keys) if keys is not None else Keys()
+            self.cluster = cluster or self.cluster
+        self.restart()
+
+    def restart(self):
+        """Ends all streams, as those of a process that was started anew."""
+        with self.lock:
+            self.incarnation += 1
+            self.lock.notify_all()
+
+    def header(self):
+        return {"cluster_id": str(self.cluster), "revision": str(self.keys.revision)}
+
+    def answer(self, handler, body):
+        path = handler.path
+        with self.lock:
+            self.asked.append((path, body))
+            if path == "/v3/auth/authenticate":
+                return self.authenticate(handler, body)
+            if self.password is not None and handler.headers.get("Authorization") not in self.tokens:
+                return self.send(handler, 401, {"error": "etcdserver: invalid auth token", "code": 16})
+        if path == "/v3/watch":
+            return self.watch(handler, body["create_request"])
+        with self.lock:
+            told = {"/v3/kv/range": self.keys.range, "/v3/kv/txn": self.keys.transact}.get(path, self.write)(body)
+            answer = {"header": self.header(), **told, "padding": " " * self.padding}
+            self.lock.notify_all()
+        if self.lose(path, body):
+            handler.close_connection = True
+        else:
+            self.send(handler, 200, answer)
+
+    def write(self, body):
+        if "value" in body:
+            self.keys.revision += 1
+            self.keys.put(decoded(body["key"]), decoded(body["value"]), self.keys.revision)
+        return {}
+
+    def authenticate(self, handler, body):
+        if body != {"name": "app", "password": self.password}:
+            return self.send(handler, 400, {"error": "authentication failed, invalid user ID or password", "code": 3})
+        self.tokens.append(f"token{len(self.asked)}")
+        self.send(handler, 200, {"token": self.tokens[-1]})
+
+    def send(self, handler, status, answer):
+        text = json.dumps(answer).encode()
+        handler.send_response(status)
+        handler.send_header("Content-Length", str(len(text)))
+        handler.end_headers()
+        handler.wfile.write(text)
+
+    def watch(self, handler, asked):
+        handler.close_connection = True
+        handler.send_response(200)
+        handler.end_headers()
+        start, mine = int(asked["start_revision"]), self.incarnation
+        first, end = decoded(asked["key"]), decoded(asked["range_end"])
+        self.tell(handler, {"created": True})
+        sent = 0
+        while True:
+            with self.lock:
+                self.lock.wait_for(lambda: self.incarnation != mine or len(self.keys.events) > sent)
+                if self.incarnation != mine:
+                    return
+                new, sent = self.keys.events[sent:], len(self.keys.events)
+            events = [{"kv": kv} for at, kv in new if at >= start and first <= decoded(kv["key"]) < end]
+            if events:
+                self.tell(handler, {"events": events})
+
+    def tell(self, handler, told):
+        try:
+            handler.wfile.write(json.dumps({"result": told}).encode() + b"\n")
+        except OSError:
+            pass

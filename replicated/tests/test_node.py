@@ -1,0 +1,375 @@
+"""Nodes over an etcd that can be restored from a snapshot, made anew, and lose answers."""
+
+import contextlib
+import io
+import os
+import tempfile
+import threading
+import time
+import unittest
+
+from confstore import Store
+from confstore_replicated import node as module
+from confstore_replicated.entries import RESERVED, command_of, edits_of
+from confstore_replicated.etcd import Etcd
+from confstore_replicated.history import base_in
+from confstore_replicated.node import Node
+
+from .fake_etcd import FakeEtcd
+
+FAILED = {"failed": "OtherHistory"}
+LOG = b"/confstore/x/log/"
+IDS = b"/confstore/x/ids/"
+BASE = b"/confstore/x/base"
+
+
+def until(holds, seconds=30):
+    deadline = time.monotonic() + seconds
+    while not (found := holds()):
+        if time.monotonic() > deadline:
+            raise AssertionError("it does not come about")
+        time.sleep(0.02)
+    return found
+
+
+class NodeTest(unittest.TestCase):
+    def setUp(self):
+        holder = tempfile.TemporaryDirectory()
+        self.addCleanup(holder.cleanup)
+        self.top = holder.name
+        self.etcd = FakeEtcd()
+        self.addCleanup(self.etcd.close)
+        self.addCleanup(setattr, module, "PATIENCE", module.PATIENCE)
+        module.PATIENCE = 10.0
+        errors = contextlib.redirect_stderr(io.StringIO())
+        self.said = errors.__enter__()
+        self.addCleanup(errors.__exit__, None, None, None)
+
+    def node(self, name="a", base_after=1_000_000, names_kept=100_000):
+        node = Node(
+            os.path.join(self.top, name), [self.etcd.address], "x", base_after=base_after, names_kept=names_kept
+        )  # fmt: skip
+        node.follower.start()
+        self.addCleanup(self.end, node)
+        return node
+
+    def end(self, node):
+        node.end()
+        self.assertFalse(node.follower.is_alive())
+
+    def set(self, node, value, **more):
+        return node.answer({"set": "a", "path": "/n", "value": value, **more})
+
+    def get(self, node, fresh="yes"):
+        return node.answer({"get": "a", "path": "/n", "fresh": fresh})
+
+    def begin(self, node, count=3):
+        self.assertEqual(node.answer({"import": "a", "text": "n: 0"}), {"ok": "1"})
+        for number in range(count):
+            self.assertEqual(self.set(node, str(number)), {"ok": str(number + 2)})
+
+    def burn(self, count):
+        """Another application makes revisions in the same etcd."""
+        etcd = Etcd([self.etcd.address])
+        for _ in range(count):
+            etcd.put(b"/other", b"x")
+        etcd.close()
+
+
+class Questions(NodeTest):
+    def test_the_name_of_the_node(self):
+        node = self.node()
+        self.begin(node, 1)
+        self.assertEqual(node.answer({"names": "", "fresh": "yes"}), {"names": ["a"]})
+        for request in (
+            {"get": RESERVED, "path": ""}, {"export": RESERVED}, {"delete": RESERVED, "path": ""},
+            {"import": RESERVED, "text": "{}"},
+        ):  # fmt: skip
+            self.assertEqual(node.answer(request), {"refused": "BadName"})
+
+    def test_two_nodes(self):
+        one, two = self.node("a"), self.node("b")
+        self.begin(one)
+        self.assertEqual(self.get(two), {"value": "2"})
+        self.assertEqual(self.set(two, "x", id="i"), {"ok": "5"})
+        self.assertEqual(self.set(one, "x", id="i"), {"ok": "5"})
+        self.assertEqual(self.set(one, "y", id="i"), {"refused": "IdTaken"})
+        self.assertEqual(self.set(one, "y", id=""), {"refused": "BadCommand"})
+
+    def test_an_answer_of_etcd_that_is_lost(self):
+        """The command is sent again, with another nonce, and is in the log once."""
+        node, lost = self.node(), []
+
+        def lose(path, body):
+            if path == "/v3/kv/txn" and body["compare"] and not lost:
+                lost.append(body)
+                return True
+            return False
+
+        self.begin(node)
+        self.etcd.lose = lose
+        self.assertEqual(self.set(node, "x"), {"ok": "5"})
+        sent = [body["success"] for path, body in self.etcd.asked if path == "/v3/kv/txn" and body["compare"]][-2:]
+        self.assertEqual(sent[0][0], sent[1][0])
+        self.assertNotEqual(sent[0][1], sent[1][1])
+        self.assertEqual(self.get(node), {"value": "x"})
+
+
+class OtherHistories(NodeTest):
+    def refuses_all(self, node):
+        until(lambda: self.get(node, "no") == FAILED)
+        for request in ({"names": ""}, {"export": "a"}, {"names": "", "fresh": "yes"}, {"import": "b", "text": "x"}):
+            self.assertEqual(node.answer(request), FAILED)
+
+    def test_an_older_snapshot(self):
+        node = self.node()
+        self.begin(node)
+        snapshot = self.etcd.snapshot()
+        self.assertEqual(self.set(node, "later"), {"ok": "5"})
+        self.etcd.restore(snapshot)
+        self.refuses_all(node)
+        for _ in range(3):
+            self.burn(1)
+            self.refuses_all(node)
+        self.assertEqual(self.get(self.node("b")), {"value": "2"})
+        self.refuses_all(node)
+        until(lambda: len(self.said.getvalue().splitlines()) > 1)
+        line, after = self.said.getvalue().splitlines()
+        self.assertIn("has not come to entry 6", line)
+        self.assertIn("does not have entry 6", after)
+        for word in (os.path.join(self.top, "a"), "--bump-revision", "empty"):
+            self.assertIn(word, line)
+
+    def test_no_ok_for_what_another_history_has_at_the_number(self):
+        """The same id and the same command, made again at the same revision, is another entry."""
+        one, two = self.node("a"), self.node("b")
+        self.begin(one)
+        self.get(two)
+        snapshot = self.etcd.snapshot()
+        self.assertEqual(self.set(one, "later", id="i"), {"ok": "5"})
+        self.get(two)
+        self.end(two)
+        self.etcd.restore(snapshot)
+        self.refuses_all(one)
+        fresh = self.node("c")
+        self.assertEqual(self.set(fresh, "later", id="i"), {"ok": "5"})
+        self.burn(3)
+        self.refuses_all(one)
+        self.refuses_all(self.node("b"))
+        self.assertEqual(self.set(one, "later", id="i"), FAILED)
+
+    def test_the_snapshot_has_the_last_entry(self):
+        """Nothing is lost, so the node goes on; also in a cluster with another id, which a restore makes."""
+        node = self.node()
+        self.begin(node)
+        snapshot = self.etcd.snapshot()
+        self.burn(5)
+        self.etcd.restore(snapshot, cluster=78)
+        self.assertEqual(self.set(node, "x"), {"ok": "5"})
+        self.assertEqual(self.get(self.node("b")), {"value": "x"})
+
+    def test_the_right_log_comes_back(self):
+        node = self.node()
+        self.begin(node)
+        snapshot = self.etcd.snapshot()
+        self.etcd.restore(None)
+        self.refuses_all(node)
+        self.etcd.restore(snapshot)
+        until(lambda: self.get(node, "no") == {"value": "2"})
+        self.assertEqual(self.set(node, "x"), {"ok": "5"})
+
+    def test_made_anew_while_the_node_is_away(self):
+        node = self.node()
+        self.begin(node)
+        self.end(node)
+        self.etcd.restore(None)
+        for count in (0, 3, 3):
+            self.burn(count)
+            again = self.node()
+            self.refuses_all(again)
+            self.end(again)
+
+    def test_another_cluster_has_the_same_entry(self):
+        """Entries of an older version have no nonce, so only the id of the cluster tells them apart."""
+        command = command_of(edits_of({"import": "a", "text": "n: 0"}))
+        self.etcd.keys.put(LOG + b"old", command, 2)
+        self.etcd.keys.revision = 2
+        node = self.node()
+        self.assertEqual(self.get(node), {"value": "0"})
+        self.etcd.restore(self.etcd.snapshot(), cluster=78)
+        self.refuses_all(node)
+
+    def test_an_entry_that_somebody_changed(self):
+        node = self.node()
+        self.begin(node)
+        with self.etcd.lock:
+            key = max(self.etcd.keys.keys, key=lambda key: self.etcd.keys.keys[key][1] * key.startswith(LOG))
+            self.etcd.keys.revision += 1
+            self.etcd.keys.put(key, self.etcd.keys.keys[key][0], self.etcd.keys.revision)
+        self.refuses_all(node)
+
+    def test_skipped_by_a_stream(self):
+        """Entries that a restored log got before the stream began are not left out."""
+        from confstore_replicated import follower
+
+        node = self.node()
+        self.begin(node)
+        self.burn(5)
+        snapshot = self.etcd.snapshot()
+        self.burn(5)
+        begun, go_on = threading.Event(), threading.Event()
+        before = follower.Stream
+
+        def late(*words):
+            begun.set()
+            go_on.wait(20)
+            return before(*words)
+
+        self.addCleanup(setattr, follower, "Stream", before)
+        follower.Stream = late
+        self.etcd.restart()
+        begun.wait(20)
+        self.etcd.restore(snapshot)
+        other = self.node("b")
+        follower.Stream = before
+        self.end(other)
+        again = self.node("b")
+        self.assertEqual(self.set(again, "missed"), {"ok": "5"})
+        go_on.set()
+        self.assertEqual(self.set(again, "next"), {"ok": "6"})
+        until(lambda: self.get(node) == {"value": "next"})
+        self.assertEqual(node.follower.place().number, again.follower.place().number)
+        self.assertEqual(node.follower.store.names(), again.follower.store.names())
+
+
+class StoresOfTheVersionBefore(NodeTest):
+    """Their marks say nothing, and their entries have no nonce."""
+
+    def make(self, entries):
+        folder = os.path.join(self.top, "a")
+        with Store(folder, make=True) as store:
+            for number, command in entries:
+                edits = [{"delete": RESERVED, "path": f"/{number - 1:020}"}]
+                if number == 2:
+                    edits = [{"import": RESERVED, "text": "{}\n"}]
+                last = {"set": RESERVED, "path": f"/{number:020}", "value": "spare-room-for-the-count"}
+                store.perform_batches([[*edits, command, last]])
+                self.etcd.keys.put(LOG + b"k%d" % number, command_of([command]), number)
+                self.etcd.keys.put(IDS + b"k%d" % number, module.digest_of(command_of([command])), number)
+                self.etcd.keys.revision = number
+
+    def test_it_goes_on_and_is_tied_then(self):
+        self.make([(2, {"import": "a", "text": "n: 0"}), (3, {"set": "a", "path": "/n", "value": "1"})])
+        node = self.node()
+        self.assertEqual(self.set(node, "1", id="k3"), {"ok": "2"})
+        snapshot = self.etcd.snapshot()
+        self.assertEqual(self.set(node, "2"), {"ok": "3"})
+        self.assertEqual(self.set(node, "3"), {"ok": "4"})
+        self.etcd.restore(snapshot)
+        until(lambda: self.get(node, "no") == FAILED)
+
+    def test_it_is_refused_where_the_log_has_no_such_entry(self):
+        self.make([(2, {"import": "a", "text": "n: 0"}), (3, {"set": "a", "path": "/n", "value": "1"})])
+        self.etcd.restore(None)
+        self.burn(9)
+        node = self.node()
+        until(lambda: self.get(node, "no") == FAILED)
+
+
+class BasesAndNames(NodeTest):
+    def test_a_new_node_starts_from_a_base(self):
+        node = self.node(base_after=10)
+        self.begin(node, 60)
+        base = until(lambda: base_in(self.etcd.keys.keys.get(BASE, (None,))[0]))
+        self.assertTrue(base.floor > 0 and base.count and base.mark and base.floor_mark)
+        with self.etcd.lock:
+            old = [key for key, (_, created, _) in self.etcd.keys.keys.items() if created <= base.floor]
+        self.assertFalse([key for key in old if key.startswith(LOG)])
+        self.assertTrue([key for key in old if key.startswith(IDS)], "names outlive their entries")
+        other = self.node("b")
+        self.assertEqual(self.get(other), {"value": "59"})
+        self.assertEqual(self.set(other, "x"), {"ok": "62"})
+        self.assertEqual(self.get(node), {"value": "x"})
+
+    def test_what_a_base_replaces_is_kept(self):
+        behind = self.node("b")
+        node = self.node(base_after=10)
+        self.begin(node, 0)
+        self.get(behind)
+        self.end(behind)
+        with open(os.path.join(self.top, "b", "store.yaml"), "rb") as file:
+            before = file.read()
+        for count in range(40):
+            self.set(node, str(count))
+        until(lambda: base_in(self.etcd.keys.keys[BASE][0]).floor > 10)
+        self.assertEqual(self.get(self.node("b")), {"value": "39"})
+        with open(os.path.join(self.top, "b", "before-base.yaml"), "rb") as file:
+            self.assertEqual(file.read(), before)
+
+    def test_names_go_after_entries(self):
+        node = self.node(base_after=10, names_kept=30)
+        self.begin(node, 0)
+        self.assertEqual(self.set(node, "first", id="i"), {"ok": "2"})
+        number = self.etcd.keys.keys[IDS + b"i"][1]
+        self.burn(200)
+        for count in range(28):
+            self.set(node, str(count))
+            self.assertEqual(self.set(node, "second", id="i"), {"refused": "IdTaken"}, count)
+        for count in range(60):
+            self.set(node, str(count))
+            with self.etcd.lock:
+                has_name, has_entry = (prefix + b"i" in self.etcd.keys.keys for prefix in (IDS, LOG))
+                self.assertTrue(has_name or not has_entry)
+        self.assertFalse(has_name)
+        self.assertNotIn("refused", self.set(node, "second", id="i"))
+        self.assertGreater(self.etcd.keys.keys[LOG + b"i"][1], number)
+
+    def test_an_id_whose_entry_is_gone(self):
+        node = self.node(base_after=10)
+        self.begin(node, 0)
+        self.assertEqual(self.set(node, "first", id="i"), {"ok": "2"})
+        for count in range(40):
+            self.set(node, str(count))
+        until(lambda: LOG + b"i" not in self.etcd.keys.keys)
+        self.assertEqual(self.set(node, "first", id="i"), {"ok": "2"})
+        self.assertEqual(self.set(self.node("b"), "first", id="i"), {"failed": "Forgotten"})
+
+    def restored_at_parts(self, node, snapshot, when):
+        """Has etcd be restored before or after the parts of a base are put."""
+        bases, held = node.follower._bases, threading.Event()
+
+        def restore():
+            self.etcd.restore(snapshot or held.snapshot)
+            self.burn(10)
+            held.set()
+
+        def put_parts(path, prefix):
+            held.snapshot = self.etcd.snapshot()
+            if when == "before":
+                restore()
+            found = type(bases)._put_parts(bases, path, prefix)
+            if when == "after":
+                restore()
+            return found
+
+        bases._put_parts = put_parts
+        self.set(node, "x")
+        self.assertTrue(held.wait(20))
+
+    def test_a_base_of_another_history_is_not_put(self):
+        node = self.node(base_after=4)
+        self.begin(node, 2)
+        self.restored_at_parts(node, self.etcd.snapshot(), "before")
+        until(lambda: self.get(node, "no") == FAILED)
+        self.assertNotIn(BASE, self.etcd.keys.keys)
+
+    def test_a_base_whose_parts_are_lost_is_not_put(self):
+        node = self.node(base_after=4)
+        self.begin(node, 2)
+        self.restored_at_parts(node, None, "after")
+        until(lambda: self.get(node) == {"value": "x"})
+        self.assertNotIn(BASE, self.etcd.keys.keys)
+
+
+if __name__ == "__main__":
+    unittest.main()
