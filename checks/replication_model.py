@@ -3,10 +3,10 @@
 
     checks/replication_model.py [--large] [--traces] [--only WORDS]
 
-The model and its bounds are in replicated/model (README.md there). The old rules have to show each of their faults, with
-its shortest schedule; without any one of the rules a fault has to be found; and with all rules none. It needs nothing
-but Python, and takes a minute on four processors; with `--large` half an hour more. The last line is 'N passed, M
-failed'.
+The model and its bounds are in replicated/model (README.md there). The old rules have to show each of their faults,
+with its shortest schedule; without any one of the rules a fault has to be found; and with all rules none. It needs
+nothing but Python, and takes a minute on four processors; with `--large` some ten minutes more. The last line is
+'N passed, M failed'.
 """
 
 import os

@@ -17,7 +17,7 @@ RESTORED = "with the same id"
 
 
 class Scenario(NamedTuple):
-    """A search for faults whose words begin with one of the kinds. It has to find one, by a step that ends so, or none."""
+    """A search for faults whose words begin with one of the kinds. It has to find one by a step that ends so, or none."""
 
     name: str
     rules: Rules
@@ -75,7 +75,7 @@ _IDS = Bounds((FIRST, OTHER, THIRD), (1, 1, 1), base_after=1, ids_kept=1, other_
 OLD_FAULTS = (
     Scenario("etcd from a snapshot: ok for what is not performed", OLD, _RESTORED, (LOST_COMMAND,), True, ": ok 1"),
     Scenario("etcd from a snapshot: divided stores", OLD,
-             Bounds((FIRST, SECOND, THIRD), (1, 1, 1), snapshots=1, restores=1, ways=(RESTORED,)), (DIVIDED_STORES,), True),
+             _RESTORED._replace(commands=(FIRST, SECOND, THIRD), sends=(1, 1, 1)), (DIVIDED_STORES,), True),
     Scenario("etcd made anew: ok for what is not performed", OLD, _REMADE, (LOST_COMMAND,), True, ": ok 1"),
     Scenario("JournalLong at one node: two answers to one id", OLD, _TWO._replace(full=1), (DIVIDED_ANSWERS,), True),
     Scenario("an id that goes before its entry: two stores", OLD, _IDS._replace(ids_kept=2), (DIVIDED_STORES,), True),
@@ -141,6 +141,7 @@ LARGE = (
 def small() -> Tuple[Scenario, ...]:
     """What takes a minute or two."""
     left_out = tuple(
-        Scenario(f"without {rule}", NEW._replace(**{rule: False}), bounds, finds=True) for rule, bounds in LEFT_OUT.items()
+        Scenario(f"without {rule}", NEW._replace(**{rule: False}), bounds, finds=True)
+        for rule, bounds in LEFT_OUT.items()
     )
     return OLD_FAULTS + left_out + NO_FAULTS

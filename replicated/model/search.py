@@ -134,7 +134,7 @@ class Search:
 
 
 def schedules(states: int, edges: "array[int]") -> int:
-    """How many ways there are from the first state to states without a step. Raises `ValueError` if some way is endless."""
+    """How many ways there are from the first state to states without a step. Raises `ValueError` if one is endless."""
     into, begins = [0] * states, [0] * (states + 1)
     for place in range(0, len(edges), 2):
         begins[edges[place] + 1] += 1

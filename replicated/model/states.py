@@ -1,7 +1,7 @@
 """What the model's states are made of. All are tuples of numbers, words and tuples, so that states compare and hash.
 
-No step of the protocol looks at `Request.life`, `Request.newest` and `State.lives`; they are for the properties. A life of etcd goes from
-one restore to the next. `Entry.life` is the nonce of an entry: a number and a life name one commit.
+No step of the protocol looks at `Request.life`, `Request.newest` and `State.lives`; they are for the properties. A life
+of etcd goes from one restore to the next. `Entry.life` is an entry's nonce: a number and a life name one commit.
 """
 
 from __future__ import annotations

@@ -1,5 +1,6 @@
-"""The steps that both protocols have, and the faults. Each step is whole: one call of etcd, one batch of a store, or one
-file renamed. Its words say what is done, as in the README of this package.
+"""The steps that both protocols have, and the faults.
+
+Each step is whole: one call of etcd, one batch of a store, or one file renamed. Its words say what is done.
 """
 
 from __future__ import annotations
@@ -76,7 +77,8 @@ class Steps:
                 return
             if self.answers_at_once:
                 for request in node.requests:
-                    if steps := list(self._answers(state, place, node, request)):
+                    steps = list(self._answers(state, place, node, request))
+                    if steps and all(step.claim and step.state.etcd is state.etcd for step in steps):
                         yield from steps
                         return
         for place, node in enumerate(state.nodes):
@@ -145,7 +147,7 @@ class Steps:
         for request in node.requests:
             if not request.number and request.command != QUESTION:
                 yield from self.create(state, place, without_request(node, request), request.command)
-            elif not self.answers_at_once:
+            else:
                 yield from self._answers(state, place, node, request)
 
     def create(self, state: State, place: int, node: Node, command: Command) -> Iterator[Step]:
@@ -211,7 +213,8 @@ class Steps:
         """A client is told something, and doesn't wait any more."""
         words = "answers a fresh question"
         if request.command != QUESTION:
-            words = f"answers id {request.command.identity}: {WORDS.get(answer, f'ok {answer}') if answer else 'Forgotten'}"
+            answered = WORDS.get(answer, f"ok {answer}") if answer else "Forgotten"
+            words = f"answers id {request.command.identity}: {answered}"
         number = request.newest if request.command == QUESTION else request.number
         claim = Claim(request.command, number, request.life, answer)
         return Step(place, words, state.with_node(place, without_request(node, request)), claim)

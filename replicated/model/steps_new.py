@@ -159,7 +159,8 @@ class NewSteps(Steps):
                 asked = step.state.with_node(place, with_request(without_request(node, request), same))
                 yield self.told(asked, place, asked.nodes[place], same, 0)
             else:
-                yield Step(place, f"{step.words}: TimedOut", step.state.with_node(place, without_request(node, request)))
+                told = step.state.with_node(place, without_request(node, request))
+                yield Step(place, f"{step.words}: TimedOut", told)
 
     def _other_history(self, state: State, place: int, node: Node, request: Request) -> Step:
         words = f"answers id {request.command.identity}: OtherHistory"
@@ -177,7 +178,8 @@ class NewSteps(Steps):
 
     def at_putting_the_parts(self, etcd: Etcd, node: Node, _state: State) -> Iterator[Does]:
         parts = tuple(sorted(set(etcd.parts) | {node.disk}))
-        yield f"puts the parts of base {node.position}", node._replace(at="replacing the base"), etcd._replace(parts=parts)
+        then = node._replace(at="replacing the base")
+        yield f"puts the parts of base {node.position}", then, etcd._replace(parts=parts)
 
     def at_replacing_the_base(self, etcd: Etcd, node: Node, _state: State) -> Iterator[Does]:
         mine = self._tie(node.disk.history[-1].entry)

@@ -67,7 +67,8 @@ class OldSteps(Steps):
 
     def at_putting_the_parts(self, etcd: Etcd, node: Node, _state: State) -> Iterator[Does]:
         parts = tuple(sorted([part for part in etcd.parts if part.position != node.position] + [node.disk]))
-        yield f"puts the parts of base {node.position}", node._replace(at="replacing the base"), etcd._replace(parts=parts)
+        then = node._replace(at="replacing the base")
+        yield f"puts the parts of base {node.position}", then, etcd._replace(parts=parts)
 
     def at_replacing_the_base(self, etcd: Etcd, node: Node, _state: State) -> Iterator[Does]:
         then = node._replace(at="reading it back")
