@@ -32,8 +32,6 @@ class Rules(NamedTuple):
     compares_the_place: bool = True
     #: And only where all its parts are.
     compares_the_parts: bool = True
-    #: A node takes out parts of older bases, and none of newer ones, which may be about to be put.
-    keeps_newer_parts: bool = True
     #: Entries and ids are taken out only while the base is the one that was put.
     compares_the_base: bool = True
     #: An answer is given only for the commit that this node's store performed.

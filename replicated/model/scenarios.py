@@ -44,6 +44,7 @@ def _put_base(node: str, number: int, *taken_out: int) -> Tuple[str, ...]:
 
 
 _OPENED = ("a opens its store", "b opens its store")
+_SNAPSHOT = _OPENED + ("a snapshot of etcd is taken",)
 _OF_A = ("a puts id 1", "a puts id 2") + _perform("a", 2, 3) + _put_base("a", 3)
 
 # etcd is made anew after node a performed ids 1 and 2. Node b performs id 2, which is entry 2 now, id 1 and id 3, and
@@ -75,7 +76,8 @@ _IDS = Bounds((FIRST, OTHER, THIRD), (1, 1, 1), base_after=1, ids_kept=1, other_
 OLD_FAULTS = (
     Scenario("etcd from a snapshot: ok for what is not performed", OLD, _RESTORED, (LOST_COMMAND,), True, ": ok 1"),
     Scenario("etcd from a snapshot: divided stores", OLD,
-             _RESTORED._replace(commands=(FIRST, SECOND, THIRD), sends=(1, 1, 1)), (DIVIDED_STORES,), True),
+             _RESTORED._replace(commands=(FIRST, SECOND, THIRD), sends=(1, 1, 1), first=_SNAPSHOT),
+             (DIVIDED_STORES,), True),
     Scenario("etcd made anew: ok for what is not performed", OLD, _REMADE, (LOST_COMMAND,), True, ": ok 1"),
     Scenario("JournalLong at one node: two answers to one id", OLD, _TWO._replace(full=1), (DIVIDED_ANSWERS,), True),
     Scenario("an id that goes before its entry: two stores", OLD, _IDS._replace(ids_kept=2), (DIVIDED_STORES,), True),
@@ -97,7 +99,6 @@ LEFT_OUT = {
     "asks_again": _REMADE._replace(other_writes=1),
     "compares_the_place": _REMADE._replace(base_after=1),
     "compares_the_parts": _RESTORED._replace(base_after=1),
-    "keeps_newer_parts": _BASES,
     "compares_the_base": _REMADE._replace(base_after=1),
     "compares_the_entry": _REMADE,
     "forgets_on_install": _REPLACED,

@@ -207,11 +207,8 @@ class NewSteps(Steps):
         return words + ": no, the base is another", node._replace(at=self.goes_on(node), base=Base()), etcd
 
     def at_taking_old_parts_out(self, etcd: Etcd, node: Node, _state: State) -> Iterator[Does]:
-        newest = node.base.number
-        parts = tuple(
-            file for file in etcd.parts
-            if file == node.base.file or (file.position > newest and self.rules.keeps_newer_parts)
-        )  # fmt: skip
+        # Parts with a greater number may be those of a base that another node is about to put.
+        parts = tuple(file for file in etcd.parts if file == node.base.file or file.position > node.base.number)
         less = etcd._replace(parts=parts)
         yield self._taking(etcd, node, "takes old parts out", "taking entries out", less)
 
