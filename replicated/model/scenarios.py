@@ -17,7 +17,7 @@ RESTORED = "with the same id"
 
 
 class Scenario(NamedTuple):
-    """A search for faults whose words begin with one of the kinds. It has to find one by a step that ends so, or none."""
+    """A search for faults whose words begin with one of the kinds. It finds one by a step that ends so, or none."""
 
     name: str
     rules: Rules
@@ -111,8 +111,7 @@ LEFT_OUT = {
 # Where nothing may be found. The old rules hold without a restore, a long journal, old ids and a store before; but two
 # nodes that put a base of one number may leave it without parts.
 NO_FAULTS = (
-    Scenario("old rules: kills, bases, a member that lags", OLD, _BASES._replace(kills=1, lag=1),
-             ("lost", "doubled", "divided")),
+    Scenario("old rules: bases, a member that lags", OLD, _BASES._replace(lag=1), ("lost", "doubled", "divided")),
     Scenario("kills, lost answers, one command twice", NEW, Bounds((FIRST, SECOND), (2, 1), kills=1, losses=1)),
     Scenario("kills, fresh questions", NEW, _TWO._replace(kills=1, questions=1)),
     Scenario("kills, bases", NEW, _BASES._replace(kills=1)),
@@ -130,6 +129,7 @@ NO_FAULTS = (
 
 # The same with more, for once in a while.
 LARGE = (
+    Scenario("old rules: kills, bases", OLD, _BASES._replace(kills=1), ("lost", "doubled", "divided")),
     Scenario("three commands, kills, bases", NEW, _THREE_BASES._replace(kills=1)),
     Scenario("etcd from a snapshot, bases", NEW, _RESTORED._replace(base_after=1)),
     Scenario("etcd made anew, bases, one command twice", NEW, _REMADE._replace(sends=(2, 1), base_after=1)),
