@@ -135,7 +135,6 @@ LARGE = (
     Scenario("etcd made anew, bases, one command twice", NEW, _REMADE._replace(sends=(2, 1), base_after=1)),
     Scenario("etcd from a snapshot, kills, lost answers", NEW, _RESTORED._replace(kills=1, losses=1)),
     Scenario("etcd restored twice", NEW, _RESTORED._replace(restores=2, ways=(RESTORED, OTHER_ID))),
-    Scenario("bases, ids, kills, long journals", NEW, _IDS._replace(kills=1, full=1)),
 )  # fmt: skip
 
 
