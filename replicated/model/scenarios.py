@@ -130,7 +130,7 @@ NO_FAULTS = (
 # The same with more, for once in a while.
 LARGE = (
     Scenario("old rules: kills, bases", OLD, _BASES._replace(kills=1), ("lost", "doubled", "divided")),
-    Scenario("three commands, kills, bases", NEW, _THREE_BASES._replace(kills=1)),
+    Scenario("three commands, bases", NEW, _THREE_BASES),
     Scenario("etcd from a snapshot, bases", NEW, _RESTORED._replace(base_after=1)),
     Scenario("etcd made anew, bases, one command twice", NEW, _REMADE._replace(sends=(2, 1), base_after=1)),
     Scenario("etcd from a snapshot, kills, lost answers", NEW, _RESTORED._replace(kills=1, losses=1)),
