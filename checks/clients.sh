@@ -79,7 +79,10 @@ END
 export -f try_install
 export python folder
 step "the Python package is installed without a network" 120 bash -c try_install
-types() { MYPYPATH=python mypy --config-file python/pyproject.toml python/confstore replicated/confstore_replicated; }
+types() {
+    MYPYPATH=python:replicated mypy --config-file python/pyproject.toml python/confstore \
+        replicated/confstore_replicated replicated/model
+}
 server_types() { MYPYPATH=checks:clients mypy --strict --explicit-package-bases clients/serve.py checks/server.py; }
 export -f types server_types
 if has mypy; then step "its types, and those of the replicated store" 120 bash -c types; fi
