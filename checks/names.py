@@ -13,7 +13,7 @@
 - docs/TRUSTED.md: each file of definitions is there.
 - docs/GUIDE.md and README.md: each word behind `confstore` is one of the program's; the guide has all of them.
 - crates.txt: a library that a line names is in the files of the line's crate, and from no crate are there more than
-  6,000 ways down through these lines: a toolchain may read the sources once for each.
+  5,500 ways down through these lines: a toolchain may read the sources once for each.
 
 It takes some seconds, and the status is 1 if a name is not there or if there are more ways.
 """
