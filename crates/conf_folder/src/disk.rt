@@ -440,6 +440,9 @@ impl<'r, R: Files<File = File>> FolderDisk<'r, R> {
     }
 
     /// Puts the bytes that `store.yaml` reads as on the device, if they may be in memory alone, and notes it.
+    ///
+    /// # Errors
+    /// If the system refuses. The disk reads alone then, and changes nothing any more.
     fn put_on_device(&mut self, content: &Content) -> io::Result<()>
         ensures { self.new.failures ≡ self.old.failures }
     {
@@ -449,12 +452,20 @@ impl<'r, R: Files<File = File>> FolderDisk<'r, R> {
         let Content::Bytes(bytes) = content else {
             return Ok(());
         };
-        let path = self.path(Name::Store)?;
-        let file = open_plain(self.rt, OpenOptions::new().write(true), path)?;
-        write_over(file, bytes.as_slice())?;
+        if let Err(error) = self.write_store_over(bytes.as_slice()) {
+            self.access = Access::Reading;
+            return Err(error);
+        }
         self.store.bytes = Bytes::OnDevice;
         let _ = self.have_noted(Note::OnDevice);
         Ok(())
+    }
+
+    /// Writes the bytes of `store.yaml` over themselves, and syncs it.
+    fn write_store_over(&self, bytes: &[u8]) -> io::Result<()> {
+        let path = self.path(Name::Store)?;
+        let file = open_plain(self.rt, OpenOptions::new().write(true), path)?;
+        write_over(file, bytes)
     }
 
     /// Reads the file under a name, if there is one. A file of more than `max` bytes is `TooLong`. A run that may

@@ -22,7 +22,7 @@ use Rattle.conf_tools.specs.declared.stores.StoreToolFault.TheVariants.{Session,
 -- ---- one call
 
 -- A call on a disk that is honest, with what its clause `crashes` says: of `run_store`, of `change_store`, or of
--- `export_store` or `make_store`. A call that was cut off is given by what it would have returned: an image that it left
+-- `export_text` or `make_store`. A call that was cut off is given by what it would have returned: an image that it left
 -- is one that this clause allows.
 pub data Call {D : Type 0} (model : DiskModel D) : Type 0 where
   running : (given left held written : Option (List ℕ)) (grouping : Grouping) (old : D)

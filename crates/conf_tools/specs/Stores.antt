@@ -145,16 +145,16 @@ pub record AnswersOn {D : Type 0} (model : DiskModel D)
 
 -- How a session on a disk ends, and what its files read as then. Nothing is read or written if the store can't be
 -- opened.
-abbrev pub RunsOn : {D : Type 0} → DiskModel D → (D → ℕ)
+abbrev pub RunsOn : {D : Type 0} → DiskModel D
     → Option (List ℕ) → Option (List ℕ) → Option (List ℕ) → Option (List ℕ) → Grouping → D
     → Result (D × Tally) (D × StoreToolFault) → Type 0
-RunsOn model failures given left held written grouping old (Ok (new, tally)) =
+RunsOn model given left held written grouping old (Ok (new, tally)) =
     AnswersOn model given left held written grouping old new (Ok tally)
-RunsOn model failures given left held written grouping old (Err (new, Session fault)) =
+RunsOn model given left held written grouping old (Err (new, Session fault)) =
     AnswersOn model given left held written grouping old new (Err fault)
-RunsOn model failures given left held written grouping old (Err (new, Open fault)) =
-    Keeps given left × Keeps held written × CannotOpen model failures old new fault
-RunsOn model failures given left held written grouping old (Err (new, fault)) = ⊥
+RunsOn model given left held written grouping old (Err (new, Open fault)) =
+    Keeps given left × Keeps held written × CannotOpen model old new fault
+RunsOn model given left held written grouping old (Err (new, fault)) = ⊥
 
 -- ---- what a crash leaves of a session
 

@@ -8,7 +8,7 @@ use conf_store::bytes_mean_one_state;
 /// and none is kept that was not accepted.
 ///
 /// Take any list of calls of [`run_store`](crate::run_store), [`change_store`](crate::change_store),
-/// [`export_store`](crate::export_store) and [`make_store`](crate::make_store) on an honest disk. Each of them returned,
+/// [`export_text`](crate::export_text) and [`make_store`](crate::make_store) on an honest disk. Each of them returned,
 /// whatever it returned, or was cut off. What it may have left then is what its clause `crashes` says, and the next call
 /// finds a folder of which a crash leaves no more than that. So a crash may come between two calls, or not. Let all that
 /// a crash leaves of the first folder mean one state, as a folder without `store.yaml` means the empty one. Then what a

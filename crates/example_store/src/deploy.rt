@@ -24,8 +24,12 @@ pub enum DeployFault {
 }
 
 /// Opens the store on `disk`, imports a text as `web`, sets its port to 81, and returns the configuration in the one
-/// style. Each change is synced when its call returns `Ok`. The store is closed at the end, and its disk dropped.
-pub fn deploy<D: Disk + Drop>(alloc: Global, disk: D, text: &[u8]) -> Result<String, DeployFault> {
+/// style, with the disk. Each change is synced when its call returns `Ok`. The store is closed at the end.
+pub fn deploy<D: Disk + Drop>(
+    alloc: Global,
+    disk: D,
+    text: &[u8],
+) -> Result<(D, String), DeployFault> {
     let mut store = match Store::open(alloc, disk) {
         Ok((store, _opened)) => store,
         Err((_disk, fault)) => return Err(DeployFault::Open(fault)),
@@ -33,8 +37,7 @@ pub fn deploy<D: Disk + Drop>(alloc: Global, disk: D, text: &[u8]) -> Result<Str
     store.import("web", text)?;
     store.apply(set_port(alloc, "81")?)?;
     let deployed = store.export("web")?;
-    drop(store.close());
-    Ok(deployed)
+    Ok((store.close(), deployed))
 }
 
 /// The command that sets the port of `web`.

@@ -43,8 +43,17 @@ fn run(rt: &HostRuntime, folder: &str) -> io::Result<ExitCode> {
             return Ok(ExitCode::from(1));
         }
     };
-    let in_folder = deploy(alloc, disk, &text);
-    let in_memory = deploy(alloc, MemoryDisk::new(alloc), &text);
+    let in_folder = match deploy(alloc, disk, &text) {
+        Ok((disk, deployed)) => {
+            disk.release();
+            Ok(deployed)
+        }
+        Err(fault) => Err(fault),
+    };
+    let in_memory = match deploy(alloc, MemoryDisk::new(alloc), &text) {
+        Ok((_disk, deployed)) => Ok(deployed),
+        Err(fault) => Err(fault),
+    };
     print_result(rt, in_folder)?;
     print_result(rt, in_memory)
 }
