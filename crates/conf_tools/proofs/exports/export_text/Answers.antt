@@ -2,6 +2,8 @@
 use Rattle.std.proofs.Common.{sym, subst, string_bytes}
 use Rattle.std.proofs.lemmas.Str.{IsUtf8-string_bytes, encodes-chars}
 use Rattle.std.specs.Str.{chars}
+use Rattle.conf_disk.specs.Moments.{LeavesOnly}
+use Rattle.conf_store.specs.Opens.{MeantAtEntry}
 use Rattle.conf_store.specs.declared.fault.OpenFault.{OpenFault}
 use Rattle.conf_tools.specs.Exports.{HasText}
 use Rattle.conf_tools.specs.Stores.{CannotOpen}
@@ -41,3 +43,15 @@ returns-in-Ok-exported-clause-ok g c =
       exports = c.in-Ok-exported.ensures.ok;
       exact = sym (encodes-chars (string_bytes text) (IsUtf8-string_bytes text));
     })
+
+pub returns-in-Ok-exported-clause-crashes : goal.returns-in-Ok-exported-clause-crashes
+returns-in-Ok-exported-clause-crashes g c h =
+    let d = g.D.Disk in
+    subst (λ (disk : g.row.D.Denot). LeavesOnly d.model c.args.disk disk (λ image. MeantAtEntry (d.model.folder c.args.disk) image.store)) (sym c.close-disk.ensures)
+    (c.in-Ok.ensures.opens.at_any_moment h)
+
+pub returns-in-Err-exported-clause-crashes : goal.returns-in-Err-exported-clause-crashes
+returns-in-Err-exported-clause-crashes g c h =
+    let d = g.D.Disk in
+    subst (λ (disk : g.row.D.Denot). LeavesOnly d.model c.args.disk disk (λ image. MeantAtEntry (d.model.folder c.args.disk) image.store)) (sym c.close-disk.ensures)
+    (c.in-Ok.ensures.opens.at_any_moment h)

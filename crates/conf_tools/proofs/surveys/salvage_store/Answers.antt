@@ -2,8 +2,8 @@
 use Rattle.conf_tools.proofs.ReadLemmas.{not_written}
 use Rattle.conf_tools.proofs.surveys.salvage_store.Goals as goal
 
-pub returns : goal.returns
-returns g c =
+pub returns-in-Err-write_findings : goal.returns-in-Err-write_findings
+returns-in-Err-write_findings g c =
     let d = g.D.Disk in
     record {
       new = c.in-Ok.made.0;
