@@ -59,6 +59,10 @@ test_shared() { # COMPILER
             -lconfstore -pthread && objdump -p "$folder/test" | grep -q 'NEEDED *libconfstore\.so\.0$' &&
         LD_LIBRARY_PATH=$prefix/lib "$folder/test" "$program" "$folder/test-$1" ${socket:+"$socket"}
 }
+unload() { # COMPILER
+    "$1" -std=c11 "${warnings[@]}" -o "$folder/unload" "$here/shared/unload.c" -ldl &&
+        "$folder/unload" "$prefix/lib/libconfstore.so"
+}
 
 # The version is the header's wherever it stands.
 version=$(sed -n 's/^#define CONFSTORE_VERSION "\(.*\)"$/\1/p' "$here/confstore.h")
@@ -87,6 +91,7 @@ for compiler in gcc clang; do
     try "$compiler: another prefix" is_moved
     try "$compiler: the library" "$here/try_installed.sh" "$prefix" "$prefix/lib" "$program"
     [ -z "$program" ] || try "$compiler: the test with the shared library" test_shared "$compiler"
+    try "$compiler: unloaded" unload "$compiler"
     try "$compiler: uninstall" run_make "$compiler" uninstall
     try "$compiler: nothing is left" is_removed
 done
