@@ -7,12 +7,12 @@
 #   over real stores, those of the server among them; and the tests of `replicated/` that need no etcd.
 # - The lines of clients/README.md, as they stand there.
 # - C: the library and its test under the sanitizers of each compiler that is there, and under valgrind, over sessions
-#   of its own and over a socket.
+#   of its own and over a socket; the library as its Makefile installs it, shared and static, and its version.
 # - Sixteen clients of one session that is killed and started again.
 # - The types of the server and of its trials, where mypy is installed, and the server's bounds, socket, faults and ends.
 # - Exceptions from signal handlers in each call of the Python package.
-# - The settings for editors, the hook, the examples, the page of a log, the completions, the man pages, and a Debian
-#   package.
+# - The settings for editors, the hook, the examples, the page of a log, the completions, the man pages, and the Debian
+#   packages.
 #
 # What isn't installed is left out, with a line that says so. Each step has a limit of time, and ends what it started.
 # The program is CONFSTORE, or the one that ./confstore builds. The last line is 'N passed, M failed', of steps, and the
@@ -117,6 +117,9 @@ if has valgrind; then
     step "its test under valgrind" 600 valgrind --quiet --error-exitcode=9 --leak-check=full --show-leak-kinds=all \
         --child-silent-after-fork=yes "$folder/plain" "$CONFSTORE" "$folder/c-valgrind" "$folder/socket"
 fi
+if has make && has pkg-config; then
+    step "the C library where it is installed" 600 clients/c/try.sh "$CONFSTORE" "$folder/socket"
+fi
 if has c++; then step "the header in C++" 60 c++ -fsyntax-only -Wall -Wextra -Werror -x c++ clients/c/confstore.h; fi
 kill "$server" && wait "$server"
 server=
@@ -140,6 +143,6 @@ no_warnings() {
 }
 export -f no_warnings
 if has man; then step "man pages" 60 bash -c no_warnings; fi
-if has dpkg-deb; then step "a Debian package" 300 packaging/deb/try.sh; fi
+if has dpkg-deb; then step "the Debian packages" 300 packaging/deb/try.sh; fi
 echo "$passed passed, $failed failed"
 [ "$failed" -eq 0 ]

@@ -4,7 +4,8 @@
  *
  * FOLDER is an empty folder, SOCKET that of a server of another store, if there is one. The last line is
  * 'N passed, M failed', and the status is 0 if M is 0. checks/clients.sh builds it of all files here, with
- * -Wl,--wrap=realloc and -Wl,--wrap=calloc, under the sanitizers, and runs it. */
+ * -Wl,--wrap=realloc and -Wl,--wrap=calloc, under the sanitizers, and runs it; try.sh runs it with the shared
+ * library. */
 #define _GNU_SOURCE
 #include "test.h"
 
@@ -22,7 +23,15 @@
 #define COMMANDS 1000
 
 /* How many allocations of the library succeed before one is refused; negative: all. The linker puts these calls in the
- * place of the C library's (--wrap). */
+ * place of the C library's (--wrap). With -DINTERPOSE they are this program's own realloc and calloc instead, which a
+ * shared library finds before the C library's. */
+#ifdef INTERPOSE
+#define __wrap_realloc realloc
+#define __wrap_calloc calloc
+#define __real_realloc __libc_realloc
+#define __real_calloc __libc_calloc
+#endif
+
 static long allowed = -1;
 static int was_refused;
 

@@ -5,14 +5,12 @@
 #
 # The package is put into FOLDER, and its path is printed. The program is CONFSTORE, or the one that ./confstore runs.
 # It is packed as it is, and not stripped, so that its checksum is the one of release/manifest. The same program and
-# commit make the same package, byte by byte. DEBFULLNAME and DEBEMAIL name its maintainer.
+# commit make the same package, byte by byte. The man page of the C library is in the package of build_library.sh.
 set -euo pipefail
 umask 022
 top=$(cd "$(dirname "${BASH_SOURCE[0]}")/../.." && pwd)
 # shellcheck source=packaging/program.sh
 . "$top/packaging/program.sh"
-# shellcheck source=packaging/files.sh
-. "$top/packaging/files.sh"
 target=${1:?the folder to put the package in}
 program=${2:-${CONFSTORE:-}}
 if [ -z "$program" ] && ! find_program; then
@@ -23,28 +21,17 @@ fi
 root=$(mktemp -d)
 chmod 755 "$root"
 trap 'rm -rf "$root"' EXIT
+# shellcheck source=packaging/deb/package.sh
+. "$top/packaging/deb/package.sh"
 version=$("$program" --version | awk '{ print $2 }')
 architecture=$(dpkg --print-architecture)
-SOURCE_DATE_EPOCH=${SOURCE_DATE_EPOCH:-$(git -C "$top" log -1 --format=%ct 2>/dev/null || echo "$RELEASE_TIME")}
-export SOURCE_DATE_EPOCH
-
-# The C library that the program needs: the newest version of a symbol that it uses.
-glibc=$(objdump -T "$program" 2>/dev/null | sed -n 's/.*GLIBC_\([0-9.]*\).*/\1/p' | sort -Vu | tail -n 1 || true)
 
 put_files "$program" "$root/usr"
-gzip -n9 "$root"/usr/share/man/man*/*
+rm -r "$root/usr/share/man/man3"
 for page in README.md CHANGELOG.md docs/GUIDE.md docs/SESSION.md docs/STORE.md docs/FAULTS.md docs/STYLE.md; do
     put 644 "$top/$page" "$root/usr/share/doc/confstore/$(basename "$page")"
 done
-put 644 "$top/packaging/deb/copyright" "$root/usr/share/doc/confstore/copyright"
-maintainer="${DEBFULLNAME:-the confstore authors} <${DEBEMAIL:-confstore@localhost}>"
-gzip -n9 >"$root/usr/share/doc/confstore/changelog.gz" <<CHANGES
-confstore ($version) unstable; urgency=medium
-
-  * CHANGELOG.md has what was made.
-
- -- $maintainer  $(LC_ALL=C date -u -R -d "@$SOURCE_DATE_EPOCH")
-CHANGES
+put_papers confstore "$version"
 
 mkdir "$root/DEBIAN"
 cat >"$root/DEBIAN/control" <<CONTROL
@@ -52,8 +39,8 @@ Package: confstore
 Version: $version
 Architecture: $architecture
 Maintainer: $maintainer
-Installed-Size: $(du -sk --exclude=DEBIAN "$root" | cut -f 1)
-Depends: libc6${glibc:+ (>= $glibc)}
+Installed-Size: $(installed_size)
+Depends: $(needed_c_library "$program")
 Suggests: python3
 Section: database
 Priority: optional
@@ -63,10 +50,4 @@ Description: crash-safe store of named configuration trees
  its contracts. Its journal, commands and answers are YAML, in one style.
 CONTROL
 install -m 755 "$top/packaging/deb/postinst" "$root/DEBIAN/postinst"
-(cd "$root" && find usr -type f -print0 | LC_ALL=C sort -z | xargs -0 md5sum >DEBIAN/md5sums)
-find "$root" -exec touch -h -d "@$SOURCE_DATE_EPOCH" {} +
-
-mkdir -p "$target"
-package=$target/confstore_${version}_$architecture.deb
-dpkg-deb --root-owner-group -Zxz --build "$root" "$package" >/dev/null
-echo "$package"
+pack "$target" "confstore_${version}_$architecture.deb"

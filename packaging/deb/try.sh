@@ -1,10 +1,11 @@
 #!/usr/bin/env bash
-# Makes the package, installs it in a root of its own, tries what is in it, and removes it again.
+# Makes the packages of the program and of the C library, installs them in a root of their own, tries what is in them,
+# and removes them again.
 #
 #     packaging/deb/try.sh [PROGRAM]
 #
-# It needs dpkg, and root or fakeroot. Nothing outside of a temporary folder is changed. The last line is
-# 'N passed, M failed', and the status is 0 if M is 0.
+# It needs dpkg, and root or fakeroot; and for the library make, cc, objdump and pkg-config. Nothing outside of a
+# temporary folder is changed. The last line is 'N passed, M failed', and the status is 0 if M is 0.
 set -u
 top=$(cd "$(dirname "${BASH_SOURCE[0]}")/../.." && pwd)
 # shellcheck source=packaging/program.sh
@@ -55,6 +56,44 @@ works() {
         [ "$("$tree/usr/bin/confstore" export "$folder/store" web)" = 'port: "80"' ]
 }
 
+# The C library, in the same root: it shares no file with the program.
+try_library() { # PACKAGE AGAIN
+    local libraries page=$tree/usr/share/man/man3/confstore.3.gz
+    libraries=$tree/usr/lib/$("${CC:-cc}" -print-multiarch)
+    try "the same library's package twice" cmp "$1" "$2"
+    try "install the library" in_root --install "$1"
+    try "the library" "$top/clients/c/try_installed.sh" "$tree/usr" "$libraries" "$program"
+    try "the library's prefix" grep -qx 'prefix=/usr' "$libraries/pkgconfig/confstore.pc"
+    try "the library's licence" grep -q '^License: Apache-2.0$' "$tree/usr/share/doc/libconfstore-dev/copyright"
+    try "the version of the library's package" is_version_of_library "$1"
+    try "what is linked with the library depends on" is_depended_on "$1" "$libraries/libconfstore.so"
+    try "the system's list of libraries" is_triggering "$1"
+    try "the library's page" has_page "$page"
+    try "no warning in the library's page" has_no_warning "$page"
+    try "what is installed of the library" in_root --verify libconfstore-dev
+    try "remove the library" in_root --purge libconfstore-dev
+    try "nothing of the library is left" is_without_library
+    try "the program stays" in_root --verify confstore
+}
+is_version_of_library() {
+    diff <(dpkg-deb --field "$1" Version) \
+        <(sed -n 's/^#define CONFSTORE_VERSION "\(.*\)"$/\1/p' "$top/clients/c/confstore.h")
+}
+is_depended_on() { # PACKAGE LIBRARY
+    local soname
+    soname=$(objdump -p "$2" | awk '$1 == "SONAME" { print $2 }')
+    diff <(dpkg-deb --ctrl-tarfile "$1" | tar -xO ./shlibs) \
+        <(echo "${soname%.so.*} ${soname##*.} libconfstore-dev (>= $(dpkg-deb --field "$1" Version))")
+}
+is_triggering() { dpkg-deb --ctrl-tarfile "$1" | tar -xO ./triggers | grep -qx 'activate-noawait ldconfig'; }
+is_without_library() { [ -z "$(find "$tree/usr" -name '*libconfstore*' -o -name 'confstore.[h3]*' -o -name '*.pc')" ]; }
+can_build_library() {
+    local tool
+    for tool in make "${CC:-cc}" objdump pkg-config; do
+        command -v "$tool" >/dev/null || { echo "left out: the library, as $tool is not installed"; return 1; }
+    done
+}
+
 mkdir -p "$tree/etc" "$tree/var/lib/dpkg/info" "$tree/var/lib/dpkg/updates" && : >"$tree/var/lib/dpkg/status"
 package=$("$top/packaging/deb/build.sh" "$folder/one" "$program") || exit 1
 again=$("$top/packaging/deb/build.sh" "$folder/two" "$program") || exit 1
@@ -78,6 +117,11 @@ command -v fish >/dev/null &&
 try "the server" "$tree/usr/lib/confstore/serve.py" --help
 command -v systemd-analyze >/dev/null && try "the unit" verifies_unit
 try "what is installed" in_root --verify confstore
+if can_build_library; then
+    library=$("$top/packaging/deb/build_library.sh" "$folder/one") || exit 1
+    library_again=$("$top/packaging/deb/build_library.sh" "$folder/two") || exit 1
+    try_library "$library" "$library_again"
+fi
 try "remove" in_root --purge confstore
 try "nothing is left" is_removed
 echo "$passed passed, $failed failed"
