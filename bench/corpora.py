@@ -53,7 +53,8 @@ def kubernetes(size: int) -> str:
         name = f"{chance.choice(WORDS)}-{number}"
         return (
             f"- apiVersion: apps/v1\n  kind: Deployment\n  metadata:\n    name: {name}\n    labels:\n"
-            f"      app: {name}\n      tier: {chance.choice(WORDS)}\n  spec:\n    replicas: {number % 9}\n    template:\n      spec:\n"
+            f"      app: {name}\n      tier: {chance.choice(WORDS)}\n"
+            f"  spec:\n    replicas: {number % 9}\n    template:\n      spec:\n"
             f"        containers:\n          - name: {name}\n            image: registry/{name}:1.{number % 50}\n"
             f"            args: [\"--port\", '80{number % 90}']\n"
             "            ports:\n              - containerPort: 8080\n            env:\n"
@@ -133,7 +134,8 @@ def compact(size: int) -> str:
         names = [chance.choice(WORDS) for _ in range(4)]
         return (
             f'{{"id":{number},"name":"{names[0]}-{names[1]}",'
-            f'"at":"2024-01-{number % 28 + 1:02}T10:{number % 60:02}:00Z","tags":["{names[2]}","{names[3]}"],"size":[{number % 640},{number % 480}],'
+            f'"at":"2024-01-{number % 28 + 1:02}T10:{number % 60:02}:00Z",'
+            f'"tags":["{names[2]}","{names[3]}"],"size":[{number % 640},{number % 480}],'
             f'"open":{"true" if number % 2 else "false"}}},'
         )
 
