@@ -34,11 +34,10 @@ READERS = os.path.join(TOP, "checks", "data", "readers")
 
 TEXTS = [
     "", " ", "x", "-", "- a", "a: b", "a #b", "# c", "'", '"', "''", "\\", "true", "null", "~", "no", "12", "0x1F",
-    "1e3", ".inf", "2026-11-26", "<<", "=", "?", "!tag", "&anchor", "*alias", "|", ">", "%", "@", "`", "[", "]", "{", "}",
-    ",", "a\nb", "a\n", "\na", "a\n\n", " a\nb", "a \nb ", "\n", "...", "---", "a\n...\nb", "a\n---\nb\n",
+    "1e3", ".inf", "2026-11-26", "<<", "=", "?", "!tag", "&anchor", "*alias", "|", ">", "%", "@", "`", "[", "]", "{",
+    "}", ",", "a\nb", "a\n", "\na", "a\n\n", " a\nb", "a \nb ", "\n", "...", "---", "a\n...\nb", "a\n---\nb\n",
     "tab\there", "\u00e4\u20ac\U0001d11e", "\u0085\u2028", "\u0007\u001b", "x" * 300, "word " * 60,
 ]  # fmt: skip
-
 
 # A document of a stream: a command, an answer, a record or a base.
 Document = Mapping[str, Any]
