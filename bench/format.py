@@ -19,7 +19,7 @@ import tempfile
 
 from corpora import Part, until
 from lib.programs import MIB, PROGRAM, need_program
-from lib.runs import Words, greatest_memory, seconds_in, usage_of
+from lib.runs import Words, greatest_memory, processor_seconds
 
 SIZES = [64 * 1024, 256 * 1024, MIB]
 FORMS: dict[str, Part] = {
@@ -30,20 +30,14 @@ FORMS: dict[str, Part] = {
     "single quotes": lambda i: f"key-{i:07}: 'the value of key {i}, as text' \n",
 }
 FORMAT, CHECK = [PROGRAM, "format"], [PROGRAM, "check"]
+# How often each run is made.
+TIMES = 15
 
 
-def processor_seconds(words: Words, path: str) -> float:
-    """The processor time of one run."""
-    with open(path, "rb") as source:
-        status, usage = usage_of(words, source)
-    # `check` ends with 1 where it found something
-    if status != 0 and not (words[-1] == "check" and status == 1):
-        sys.exit(f"{words} failed on {path}")
-    return seconds_in(usage)
-
-
-def best(words: Words, path: str, times: int = 15) -> float:
-    return min(processor_seconds(words, path) for _ in range(times))
+def best(words: Words, path: str) -> float:
+    """The least processor time of several runs. `check` ends with 1 where it found something."""
+    statuses = (0, 1) if words is CHECK else (0,)
+    return min(processor_seconds(words, path, statuses) for _ in range(TIMES))
 
 
 class Cost:

@@ -7,7 +7,7 @@ import re
 import resource
 import subprocess
 import sys
-from collections.abc import Callable, Mapping, Sequence
+from collections.abc import Callable, Collection, Mapping, Sequence
 from typing import IO, TypeVar, Union
 
 Words = Sequence[str]
@@ -37,12 +37,12 @@ def seconds_in(usage: resource.struct_rusage) -> float:
     return usage.ru_utime + usage.ru_stime
 
 
-def processor_seconds(words: Words, source: str = os.devnull) -> float:
-    """The processor time of a run that reads a file."""
+def processor_seconds(words: Words, source: str = os.devnull, statuses: Collection[int] = (0,)) -> float:
+    """The processor time of a run that reads a file, and ends with one of these statuses."""
     with open(source, "rb") as text:
         status, usage = usage_of(words, text)
-    if status != 0:
-        sys.exit(f"{' '.join(words)} failed on {source}")
+    if status not in statuses:
+        sys.exit(f"`{' '.join(words)}`, which reads {source}, ended with {status}")
     return seconds_in(usage)
 
 
