@@ -68,5 +68,5 @@ class Lmdb:
         self.base.close()
 
 
-# Those that are here.
+# The databases that are installed.
 DATABASES: list[type[Sqlite] | type[Lmdb]] = [Sqlite, Lmdb] if lmdb else [Sqlite]

@@ -27,7 +27,7 @@ def fresh(top: str, name: str) -> str:
 def perform(folder: str, commands: bytes, *options: str) -> None:
     """A session that performs commands, none of which may be refused, and is not measured."""
     words = [PROGRAM, "run", *options, folder]
-    refuse_refusals(subprocess.run(words, input=commands, stdout=subprocess.PIPE, check=True).stdout)
+    expect_no_refusal(subprocess.run(words, input=commands, stdout=subprocess.PIPE, check=True).stdout)
 
 
 def store_in(top: str, name: str) -> str:
@@ -57,7 +57,7 @@ def session_usage(folder: str, commands: bytes, *options: str) -> resource.struc
         said = answers.read()
     if status != 0:
         sys.exit(f"a session ended with {status}: {said[:200]!r}")
-    refuse_refusals(said)
+    expect_no_refusal(said)
     return usage
 
 
@@ -65,11 +65,11 @@ def session_instructions(folder: str, commands: bytes, *options: str) -> int:
     """How many instructions a session takes that performs commands, none of which may be refused."""
     words = [*CALLGRIND, PROGRAM, "run", *options, folder]
     done = subprocess.run(words, input=commands, capture_output=True, check=True)
-    refuse_refusals(done.stdout)
+    expect_no_refusal(done.stdout)
     return instructions_in(done.stderr)
 
 
-def refuse_refusals(answers: bytes) -> None:
+def expect_no_refusal(answers: bytes) -> None:
     """Ends the script where a session has refused a command."""
     if b"refused" in answers:
         sys.exit(f"a command was refused: {answers[:200]!r}")
