@@ -12,105 +12,91 @@ runs. Run it on a quiet machine from the repository's root after the program is 
     ./confstore --version && python3 bench/base.py [-i]
 """
 
+from __future__ import annotations
+
 import os
-import re
 import subprocess
 import sys
 import tempfile
+from collections.abc import Callable
 
 from corpora import CORPORA
+from lib.programs import MEMORY, MIB, PROGRAM, need_program
+from lib.runs import seconds_in
+from lib.stores import CHECKPOINT, perform, session_instructions, session_usage
 
-TOP = os.path.dirname(os.path.dirname(os.path.abspath(__file__)))
-PROGRAM = os.path.join(TOP, "crates", "confstore", "out", "confstore")
-MEMORY = "/dev/shm"
-MIB = 1024 * 1024
 # About how many bytes a base has, and one whose instructions are counted.
 SIZE = 56 * MIB
 COUNTED = 4 * MIB
 # How many bytes of a corpus a configuration has.
 CONFIGURATION = 256 * 1024
 RUNS = 5
-CHECKPOINT = b"checkpoint:\n...\n"
-KINDS = {
+KINDS: dict[str, Callable[[], str]] = {
     "services": lambda: CORPORA["services"](CONFIGURATION),
     "kubernetes": lambda: CORPORA["kubernetes"](CONFIGURATION),
     "long texts": lambda: f"k: {'x' * CONFIGURATION}\n",
 }
 
 
-def indented(text):
+def indented(text: str) -> str:
     return "".join(f"  {line}\n" for line in text.splitlines())
 
 
-def store_in(top, name, text, size):
+def filled(top: str, name: str, text: str, size: int) -> tuple[str, int]:
     """A store whose base has about this size, and the size of the base."""
     folder = os.path.join(top, name)
     os.mkdir(folder)
     count = max(1, size // len(text))
     commands = (f"import: c{number}\ntext: |\n{indented(text)}...\n" for number in range(count))
-    session(folder, "".join(commands).encode() + CHECKPOINT)
+    perform(folder, "".join(commands).encode() + CHECKPOINT)
     return folder, os.path.getsize(os.path.join(folder, "store.yaml"))
 
 
-def session(folder, commands, before=()):
-    """What a session used, and what it wrote to its standard error."""
-    with tempfile.TemporaryFile() as source, tempfile.TemporaryFile() as errors:
-        source.write(commands)
-        source.seek(0)
-        words = [*before, PROGRAM, "run", folder]
-        process = subprocess.Popen(words, stdin=source, stdout=subprocess.DEVNULL, stderr=errors)
-        _, status, usage = os.wait4(process.pid, 0)
-        process.returncode = status
-        errors.seek(0)
-        written = errors.read().decode()
-        if status != 0:
-            sys.exit(f"a session failed: {written}")
-        return usage, written
+def seconds(folder: str, commands: bytes) -> float:
+    return min(seconds_in(session_usage(folder, commands)) for _ in range(RUNS))
 
 
-def seconds(folder, commands):
-    usages = [session(folder, commands)[0] for _ in range(RUNS)]
-    return min(usage.ru_utime + usage.ru_stime for usage in usages)
-
-
-def memory(folder):
+def memory(folder: str) -> tuple[int, int]:
     """The greatest number of bytes that an opening maps, and that are resident."""
-    process = subprocess.Popen([PROGRAM, "run", folder], stdin=subprocess.PIPE, stdout=subprocess.PIPE)
-    process.stdin.write(b"get: none\npath: \"\"\n...\n")
-    process.stdin.flush()
-    process.stdout.readline()
-    with open(f"/proc/{process.pid}/status", encoding="ascii") as status:
-        lines = dict(line.split(":", 1) for line in status)
-    process.stdin.close()
-    process.wait()
-    return [int(lines[name].split()[0]) * 1024 for name in ("VmPeak", "VmHWM")]
+    with subprocess.Popen([PROGRAM, "run", folder], stdin=subprocess.PIPE, stdout=subprocess.PIPE) as process:
+        assert process.stdin is not None and process.stdout is not None
+        process.stdin.write(b"get: none\npath: \"\"\n...\n")
+        process.stdin.flush()
+        process.stdout.readline()
+        with open(f"/proc/{process.pid}/status", encoding="ascii") as status:
+            lines = dict(line.split(":", 1) for line in status)
+    return int(lines["VmPeak"].split()[0]) * 1024, int(lines["VmHWM"].split()[0]) * 1024
 
 
-def instructions(folder, commands):
-    words = ["valgrind", "--tool=callgrind", "--callgrind-out-file=/dev/null"]
-    return int(re.search(r"Collected : (\d+)", session(folder, commands, words)[1])[1])
+def measure(top: str, name: str, text: str) -> None:
+    """Prints what the base of a store of such texts takes."""
+    folder, size = filled(top, name, text, SIZE)
+    opened = seconds(folder, b"")
+    written = seconds(folder, CHECKPOINT) - opened
+    mapped, resident = memory(folder)
+    print(
+        f"{name}: a base of {size / MIB:.1f} MiB, a checkpoint {written * 1e3:.0f} ms, opening {opened * 1e3:.0f} ms, "
+        f"{mapped / size:.1f} times the base mapped, {resident / size:.1f} resident",
+        flush=True,
+    )
 
 
-def main():
-    if not os.access(PROGRAM, os.X_OK):
-        sys.exit("the program is not built: run ./confstore --version first")
-    with tempfile.TemporaryDirectory(dir=MEMORY if os.path.isdir(MEMORY) else None) as top:
+def count_instructions(top: str, name: str, text: str) -> None:
+    """Prints the instructions of a smaller base."""
+    folder, size = filled(top, f"{name} counted", text, COUNTED)
+    opened = session_instructions(folder, b"")
+    written = session_instructions(folder, CHECKPOINT) - opened
+    print(f"  instructions a byte: a checkpoint {written / size:.1f}, opening {opened / size:.1f}", flush=True)
+
+
+def main() -> int:
+    need_program()
+    with tempfile.TemporaryDirectory(dir=MEMORY) as top:
         for name, make in KINDS.items():
             text = make()
-            folder, size = store_in(top, name, text, SIZE)
-            opened = seconds(folder, b"")
-            written = seconds(folder, CHECKPOINT) - opened
-            mapped, resident = memory(folder)
-            print(
-                f"{name}: a base of {size / MIB:.1f} MiB, a checkpoint {written * 1e3:.0f} ms, opening {opened * 1e3:.0f} ms, "
-                f"{mapped / size:.1f} times the base mapped, {resident / size:.1f} resident",
-                flush=True,
-            )
+            measure(top, name, text)
             if "-i" in sys.argv:
-                folder, size = store_in(top, f"{name} counted", text, COUNTED)
-                opened = instructions(folder, b"")
-                written = instructions(folder, CHECKPOINT) - opened
-                print(f"  instructions a byte: a checkpoint {written / size:.1f}, opening {opened / size:.1f}", flush=True)
+                count_instructions(top, name, text)
     return 0
 
 

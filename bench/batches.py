@@ -11,105 +11,118 @@ program is built; it needs valgrind, and takes some minutes:
     ./confstore --version && python3 bench/batches.py
 """
 
+from __future__ import annotations
+
 import os
-import re
 import shutil
 import subprocess
 import sys
 import tempfile
+from collections.abc import Iterable
 
-TOP = os.path.dirname(os.path.dirname(os.path.abspath(__file__)))
-PROGRAM = os.environ.get("CONFSTORE") or os.path.join(TOP, "crates", "confstore", "out", "confstore")
+from lib.programs import PROGRAM, has_valgrind, need_program
+from lib.stores import CHECKPOINT, perform, session_instructions
+
 VALUE = "a value of some fifty bytes, as many of them are here"
 
 
-def session(folder, commands, tool=()):
-    return subprocess.run([*tool, PROGRAM, "run", "--group", folder], input=commands.encode(), capture_output=True, check=True)
+def instructions(folder: str, commands: str) -> int:
+    """How many instructions a session in groups takes that performs these commands."""
+    return session_instructions(folder, commands.encode(), "--group")
 
 
-def instructions(folder, commands):
-    """How many instructions a session takes that performs these commands."""
-    tool = ("valgrind", "--tool=callgrind", "--callgrind-out-file=/dev/null")
-    done = session(folder, commands, tool)
-    if b"refused" in done.stdout:
-        sys.exit(f"a command was refused: {done.stdout[:200]!r}")
-    return int(re.search(rb"Collected : (\d+)", done.stderr)[1])
-
-
-def name(number):
+def name_of(number: int) -> str:
     return f"c{number:05}"
 
 
-def filled(folder, configurations):
+def filled(top: str, configurations: int) -> str:
     """A store with so many configurations."""
+    folder = os.path.join(top, "store")
     os.makedirs(folder)
-    imports = "".join(f'---\nimport: {name(number)}\ntext: "k: v"\n...\n' for number in range(configurations))
-    session(folder, imports + "---\ncheckpoint:\n...\n")
+    imports = "".join(f'---\nimport: {name_of(number)}\ntext: "k: v"\n...\n' for number in range(configurations))
+    perform(folder, imports.encode() + CHECKPOINT, "--group")
+    return folder
 
 
-def single(number):
-    return f'---\nset: {name(number)}\npath: /k\nvalue: "{VALUE}"\n...\n'
+def single(number: int) -> str:
+    return f'---\nset: {name_of(number)}\npath: /k\nvalue: "{VALUE}"\n...\n'
 
 
-def batch(numbers):
-    edits = "".join(f'  - set: {name(number)}\n    path: /k\n    value: "{VALUE}"\n' for number in numbers)
+def batch(numbers: Iterable[int]) -> str:
+    edits = "".join(f'  - set: {name_of(number)}\n    path: /k\n    value: "{VALUE}"\n' for number in numbers)
     return f"---\nbatch:\n{edits}...\n"
 
 
-def cost(top, configurations, commands):
+def cost(top: str, configurations: int, commands: str) -> int:
     """What commands cost beyond opening and closing their store."""
-    folder = os.path.join(top, "store")
-    filled(folder, configurations)
+    folder = filled(top, configurations)
     before = instructions(folder, "")
     taken = instructions(folder, commands) - before
     shutil.rmtree(folder)
     return taken
 
 
-def opening(top, commands):
+def opening(top: str, commands: str) -> int:
     """What opening costs after these commands, beyond opening without them."""
-    folder = os.path.join(top, "store")
-    filled(folder, 100)
+    folder = filled(top, 100)
     before = instructions(folder, "")
-    session(folder, commands)
+    perform(folder, commands.encode(), "--group")
     taken = instructions(folder, "") - before
     shutil.rmtree(folder)
     return taken
 
 
-def syncs(top):
+def syncs(top: str) -> int | None:
     """How many syncs a batch of 100 edits takes in a session, less those of opening."""
     if shutil.which("strace") is None:
         return None
     counts = []
     for commands in ("", batch(range(100))):
-        folder = os.path.join(top, "store")
-        filled(folder, 100)
-        log = os.path.join(top, "calls")
-        session(folder, commands, ("strace", "-f", "-e", "trace=fsync,fdatasync", "-o", log))
+        folder, log = filled(top, 100), os.path.join(top, "calls")
+        words = ["strace", "-f", "-e", "trace=fsync,fdatasync", "-o", log, PROGRAM, "run", "--group", folder]
+        subprocess.run(words, input=commands.encode(), capture_output=True, check=True)
         with open(log, encoding="utf-8") as calls:
             counts.append(sum("sync(" in line for line in calls))
         shutil.rmtree(folder)
     return counts[1] - counts[0]
 
 
-def main():
-    if not os.access(PROGRAM, os.X_OK) or shutil.which("valgrind") is None:
-        sys.exit("the program is not built, or valgrind is not installed")
+def compare_sizes(top: str) -> None:
+    """Prints what a set costs in batches of several sizes, beside a single one."""
+    alone = cost(top, 100, "".join(map(single, range(100))) * 10) / 1000
+    for size in (1, 10, 100, 1000):
+        numbers = [number % 100 for number in range(size)]
+        rounds = max(1000 // size, 1)
+        each = cost(top, 100, batch(numbers) * rounds) / (size * rounds)
+        print(f"a set in a batch of {size:5}: {each:8.0f} instructions,", end=" ")
+        print(f"{each / alone:.2f} times a single one ({alone:.0f})")
+
+
+def compare_large(top: str) -> None:
+    """Prints what a batch of one set costs in a large store, beside a single set."""
+    one = cost(top, 10_000, batch([5_000]) * 100) / 100
+    other = cost(top, 10_000, single(5_000) * 100) / 100
+    print(f"in a store of 10,000: a batch of one set {one:.0f} instructions,", end=" ")
+    print(f"a single set {other:.0f}, {one / other:.2f} times")
+
+
+def compare_openings(top: str) -> None:
+    """Prints what opening a journal of batches costs, beside one of single edits."""
+    edits, hundred = 10_000, range(100)
+    batches = opening(top, batch(hundred) * (edits // 100)) / edits
+    singles = opening(top, "".join(map(single, hundred)) * (edits // 100)) / edits
+    print(f"opening: an edit in batches of 100 {batches:.0f} instructions,", end=" ")
+    print(f"a single one {singles:.0f}, {batches / singles:.2f} times")
+
+
+def main() -> int:
+    need_program()
+    if not has_valgrind():
+        sys.exit("valgrind is missing, which counts the instructions: apt-get install valgrind")
     with tempfile.TemporaryDirectory() as top:
-        hundred = range(100)
-        alone = cost(top, 100, "".join(map(single, hundred)) * 10) / 1000
-        for size in (1, 10, 100, 1000):
-            numbers = [number % 100 for number in range(size)]
-            rounds = max(1000 // size, 1)
-            each = cost(top, 100, batch(numbers) * rounds) / (size * rounds)
-            print(f"a set in a batch of {size:5}: {each:8.0f} instructions, {each / alone:.2f} times a single one ({alone:.0f})")
-        one, other = cost(top, 10_000, batch([5_000]) * 100) / 100, cost(top, 10_000, single(5_000) * 100) / 100
-        print(f"in a store of 10,000: a batch of one set {one:.0f} instructions, a single set {other:.0f}, {one / other:.2f} times")
-        edits = 10_000
-        batches = opening(top, "".join(batch(hundred) for _ in range(edits // 100))) / edits
-        singles = opening(top, "".join(map(single, hundred)) * (edits // 100)) / edits
-        print(f"opening: an edit in batches of 100 {batches:.0f} instructions, a single one {singles:.0f}, {batches / singles:.2f} times")
+        compare_sizes(top)
+        compare_large(top)
+        compare_openings(top)
         print(f"syncs of a batch of 100: {syncs(top)}")
     return 0
 

@@ -1,20 +1,27 @@
 """Nine corpora inside the profile, and hostile texts, to be read and measured. The same size gives the same text."""
 
+from __future__ import annotations
+
 import random
+from collections.abc import Callable
+
+# Makes a text of a size, or the part of a text with a number.
+Part = Callable[[int], str]
 
 WORDS = (
-    "alpha beta gamma delta config server proxy cache queue worker storage network region backup metrics gateway ingress "
-    "token secret volume memory limit policy default internal external primary replica"
+    "alpha beta gamma delta config server proxy cache queue worker storage network region backup metrics gateway "
+    "ingress token secret volume memory limit policy default internal external primary replica"
 ).split()
 SENTENCE = (
-    "The store keeps what was written before the crash, and a reader finds either the old state or the new one; nothing "
-    "between them is ever seen by anybody who opens the folder again."
+    "The store keeps what was written before the crash, and a reader finds either the old state or the new one; "
+    "nothing between them is ever seen by anybody who opens the folder again."
 ).split()
 
 
-def until(size, part):
+def until(size: int, part: Part) -> str:
     """The parts 0, 1, 2 .. in a row, as many as fit into the size."""
-    parts, length, number = [], 0, 0
+    parts: list[str] = []
+    length, number = 0, 0
     while True:
         text = part(number)
         if length + len(text) > size:
@@ -24,54 +31,56 @@ def until(size, part):
         number += 1
 
 
-def services(size):
+def services(size: int) -> str:
     """Service files: short keys and words."""
     chance = random.Random(1)
 
-    def service(number):
+    def service(number: int) -> str:
         names = [chance.choice(WORDS) for _ in range(4)]
         return (
-            f"{names[0]}-{number:06}:\n  image: {names[1]}/{names[2]}\n  restart: always\n  port: {8000 + number % 999}\n"
-            f"  user: {names[3]}\n  env: production\n"
+            f"{names[0]}-{number:06}:\n  image: {names[1]}/{names[2]}\n  restart: always\n"
+            f"  port: {8000 + number % 999}\n  user: {names[3]}\n  env: production\n"
         )
 
     return until(size, service)
 
 
-def kubernetes(size):
+def kubernetes(size: int) -> str:
     """Mappings and sequences in one another, as Kubernetes' files have them."""
     chance = random.Random(2)
 
-    def deployment(number):
+    def deployment(number: int) -> str:
         name = f"{chance.choice(WORDS)}-{number}"
         return (
-            f"- apiVersion: apps/v1\n  kind: Deployment\n  metadata:\n    name: {name}\n    labels:\n      app: {name}\n"
-            f"      tier: {chance.choice(WORDS)}\n  spec:\n    replicas: {number % 9}\n    template:\n      spec:\n"
+            f"- apiVersion: apps/v1\n  kind: Deployment\n  metadata:\n    name: {name}\n    labels:\n"
+            f"      app: {name}\n      tier: {chance.choice(WORDS)}\n"
+            f"  spec:\n    replicas: {number % 9}\n    template:\n      spec:\n"
             f"        containers:\n          - name: {name}\n            image: registry/{name}:1.{number % 50}\n"
-            f"            args: [\"--port\", '80{number % 90}']\n            ports:\n              - containerPort: 8080\n"
-            f"            env:\n              - name: {chance.choice(WORDS).upper()}\n                value: \"{number}\"\n"
+            f"            args: [\"--port\", '80{number % 90}']\n"
+            "            ports:\n              - containerPort: 8080\n            env:\n"
+            f"              - name: {chance.choice(WORDS).upper()}\n                value: \"{number}\"\n"
             "              # set by the chart\n              - name: MODE\n                value: production\n"
         )
 
     return until(size, deployment)
 
 
-def literals(size):
+def literals(size: int) -> str:
     """Long literal scalars."""
     chance = random.Random(3)
 
-    def literal(number):
+    def literal(number: int) -> str:
         lines = [" ".join(chance.choice(WORDS) for _ in range(chance.randrange(4, 12))) for _ in range(40)]
         return f"file-{number}: |\n" + "".join(f"  {line}\n" for line in lines)
 
     return until(size, literal)
 
 
-def brackets(size):
+def brackets(size: int) -> str:
     """Flow collections, as JSON has them."""
     chance = random.Random(4)
 
-    def record(number):
+    def record(number: int) -> str:
         names = [chance.choice(WORDS) for _ in range(5)]
         return (
             f' {{"id": {number}, "name": "{names[0]} {names[1]}", "tags": ["{names[2]}", "{names[3]}"], '
@@ -81,31 +90,32 @@ def brackets(size):
     return "[\n" + until(size - 4, record) + " ]\n"
 
 
-def nests(size):
+def nests(size: int) -> str:
     """Collections of 40 levels, one after the other."""
 
-    def nest(number):
+    def nest(number: int) -> str:
         lines = [f"nest-{number}:\n"]
         for level in range(1, 40):
             indent = "  " * level
-            lines.append(f"{indent}left-{level}: a\n{indent}down:\n" if level < 39 else f"{indent}- end\n{indent}- here\n")
+            is_last = level == 39
+            lines.append(f"{indent}- end\n{indent}- here\n" if is_last else f"{indent}left-{level}: a\n{indent}down:\n")
         return "".join(lines)
 
     return until(size, nest)
 
 
-def prose(size):
+def prose(size: int) -> str:
     """Folded and quoted scalars over lines, and plain ones."""
     chance = random.Random(5)
 
-    def paragraph(indent):
+    def paragraph(indent: str) -> str:
         lines = []
         for _ in range(chance.randrange(3, 7)):
             start = chance.randrange(len(SENTENCE) - 12)
             lines.append(" ".join(SENTENCE[start : start + 12]).replace(":", ""))
         return ("\n" + indent).join(lines)
 
-    def chapter(number):
+    def chapter(number: int) -> str:
         return (
             f"folded-{number}: >\n  {paragraph('  ')}\n\n  {paragraph('  ')}\n"
             f"quoted-{number}: \"{paragraph('  ')}\\\n  {paragraph('  ')}\"\n"
@@ -116,49 +126,57 @@ def prose(size):
     return until(size, chapter)
 
 
-def compact(size):
+def compact(size: int) -> str:
     """JSON without whitespace, as programs write it."""
     chance = random.Random(6)
 
-    def record(number):
+    def record(number: int) -> str:
         names = [chance.choice(WORDS) for _ in range(4)]
         return (
-            f'{{"id":{number},"name":"{names[0]}-{names[1]}","at":"2024-01-{number % 28 + 1:02}T10:{number % 60:02}:00Z",'
-            f'"tags":["{names[2]}","{names[3]}"],"size":[{number % 640},{number % 480}],"open":{"true" if number % 2 else "false"}}},'
+            f'{{"id":{number},"name":"{names[0]}-{names[1]}",'
+            f'"at":"2024-01-{number % 28 + 1:02}T10:{number % 60:02}:00Z",'
+            f'"tags":["{names[2]}","{names[3]}"],"size":[{number % 640},{number % 480}],'
+            f'"open":{"true" if number % 2 else "false"}}},'
         )
 
     return "[" + until(size - 4, record)[:-1] + "]\n"
 
 
-def pipelines(size):
+def pipelines(size: int) -> str:
     """Files of build pipelines: short literals of shell commands, comments and empty lines."""
     chance = random.Random(7)
 
-    def job(number):
+    def job(number: int) -> str:
         name = f"{chance.choice(WORDS)}-{number}"
-        commands = "".join(f"        {chance.choice(WORDS)} --{chance.choice(WORDS)} ${{{chance.choice(WORDS).upper()}}}\n" for _ in range(5))
+        commands = "".join(
+            f"        {chance.choice(WORDS)} --{chance.choice(WORDS)} ${{{chance.choice(WORDS).upper()}}}\n"
+            for _ in range(5)
+        )
         return (
-            f"# {name}: made by hand\n{name}:\n  stage: {chance.choice(WORDS)}\n  needs: [{chance.choice(WORDS)}, {chance.choice(WORDS)}]\n"
-            f"  script:\n    - |\n{commands}    - echo \"{name} is done\"\n\n  only:\n    - main\n    - /^release-.*$/\n\n"
+            f"# {name}: made by hand\n{name}:\n  stage: {chance.choice(WORDS)}\n"
+            f"  needs: [{chance.choice(WORDS)}, {chance.choice(WORDS)}]\n"
+            f"  script:\n    - |\n{commands}    - echo \"{name} is done\"\n\n"
+            "  only:\n    - main\n    - /^release-.*$/\n\n"
         )
 
     return until(size, job)
 
 
-def listings(size):
+def listings(size: int) -> str:
     """Long sequences of short scalars, plain and quoted by turns."""
     chance = random.Random(8)
 
-    def listing(number):
+    def listing(number: int) -> str:
         entries = "".join(
-            f"  - {chance.choice(WORDS)}\n" if entry % 3 else f"  - '{chance.choice(WORDS)} {entry}'\n" for entry in range(60)
+            f"  - {chance.choice(WORDS)}\n" if entry % 3 else f"  - '{chance.choice(WORDS)} {entry}'\n"
+            for entry in range(60)
         )
         return f"list-{number}:\n{entries}"
 
     return until(size, listing)
 
 
-CORPORA = {
+CORPORA: dict[str, Part] = {
     "services": services,
     "kubernetes": kubernetes,
     "literals": literals,
@@ -171,7 +189,7 @@ CORPORA = {
 }
 
 # Texts that a careless reader takes more than linear time for. Some of them are refused.
-HOSTILE = {
+HOSTILE: dict[str, Part] = {
     "[ alone": lambda size: "[" * size,
     "[ and ]": lambda size: "[" * (size // 2) + "]" * (size // 2),
     "{a: {a:": lambda size: "{a: " * (size // 5) + "}" * (size // 5),
@@ -185,7 +203,9 @@ HOSTILE = {
     "empty lines": lambda size: "a: b\n" + "\n" * (size - 5),
     "empty lines in a plain": lambda size: "a\n" + "\n" * (size - 4) + "b\n",
     "escapes": lambda size: '"' + "\\x41" * (size // 4 - 1) + '"\n',
-    "rising literals": lambda size: until(size, lambda number: "- |\n" + "".join(" " * (k + 1) + "x\n" for k in range(60))),
+    "rising literals": lambda size: until(
+        size, lambda number: "- |\n" + "".join(" " * (k + 1) + "x\n" for k in range(60))
+    ),
     "stairs": lambda size: until(
         size, lambda number: "- " * 99 + "a\n" + "".join("  " * level + "- b\n" for level in range(98, 0, -1))
     ),

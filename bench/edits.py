@@ -18,16 +18,18 @@ delete, the least of three runs, less that of a batch of one delete. A delete mo
     ./confstore --version && (cd crates/bench_driver && rt run -- edits tree wide 1 1) && python3 bench/edits.py [-i]
 """
 
+from __future__ import annotations
+
 import os
-import re
-import shutil
 import subprocess
 import sys
 import tempfile
+from collections.abc import Callable, Iterable
 
-TOP = os.path.dirname(os.path.dirname(os.path.abspath(__file__)))
-PROGRAM = os.path.join(TOP, "crates", "bench_driver", "out", "bench_driver")
-CONFSTORE = os.environ.get("CONFSTORE") or os.path.join(TOP, "crates", "confstore", "out", "confstore")
+from lib.programs import DRIVER, PROGRAM, has_valgrind, need_driver
+from lib.runs import instructions_of, processor_seconds, seconds_in
+from lib.stores import CHECKPOINT, perform, session_instructions, session_usage
+
 # Shapes with their size. The rounds, in a tree and by commands, are so many that a run takes some tenths of a second.
 SHAPES = [
     ("wide", 100, 100_000, 50_000),
@@ -50,132 +52,99 @@ DELETES = 500
 GOAL = 3
 
 
-def run(*words):
-    """The processor time of one run, and what it printed."""
-    process = subprocess.Popen([PROGRAM, "edits", *map(str, words)], stdout=subprocess.PIPE, text=True)
-    printed = process.stdout.read()
-    _, status, usage = os.wait4(process.pid, 0)
-    if status != 0:
-        sys.exit(f"{' '.join(map(str, words))} failed")
-    return usage.ru_utime + usage.ru_stime, printed
+def order(target: str, shape: str, size: int, rounds: int) -> list[str]:
+    """The words for rounds of edits in a shape."""
+    return [DRIVER, "edits", target, shape, str(size), str(rounds)]
 
 
-def microseconds(*words, rounds):
+def microseconds(target: str, shape: str, size: int, rounds: int) -> float:
     """The processor time of an edit: the least of nine runs, less the least of runs with one round."""
 
-    def least(rounds):
-        return min(run(*words, rounds)[0] for _ in range(9))
+    def least(rounds: int) -> float:
+        return min(processor_seconds(order(target, shape, size, rounds)) for _ in range(9))
 
     return max(least(rounds) - least(1), 0) / (2 * (rounds - 1)) * 1e6
 
 
-def instructions(*words):
+def instructions(target: str, shape: str, size: int) -> float:
     """How many instructions an edit takes, as callgrind counts them."""
-
-    def collected(rounds):
-        tool = ["valgrind", "--tool=callgrind", "--callgrind-out-file=/dev/null"]
-        command = [*tool, PROGRAM, "edits", *map(str, words), str(rounds)]
-        done = subprocess.run(command, capture_output=True, text=True, check=True)
-        return int(re.search(r"Collected : (\d+)", done.stderr)[1])
-
-    return (collected(UNCOUNTED + COUNTED) - collected(UNCOUNTED)) / (2 * COUNTED)
+    many, few = (instructions_of(order(target, shape, size, rounds)) for rounds in (UNCOUNTED + COUNTED, UNCOUNTED))
+    return (many - few) / (2 * COUNTED)
 
 
-def cost(target, shape, size, rounds, counts):
+def cost(target: str, shape: str, size: int, rounds: int, counts: bool) -> float:
     """Prints what an edit costs, and returns it."""
-    _, printed = run(target, shape, size, 1)
+    printed = subprocess.run(order(target, shape, size, 1), stdout=subprocess.PIPE, text=True, check=True).stdout
     length = int(printed.split()[-2])
     what = f"{size} pairs" if shape == "wide" else f"{size} deep"
     if counts:
         number = instructions(target, shape, size)
         shown = f"{number:10.0f} instructions an edit"
     else:
-        number = microseconds(target, shape, size, rounds=rounds)
+        number = microseconds(target, shape, size, rounds)
         shown = f"{number:10.3f} us an edit  ({2 * (rounds - 1)} edits)"
     print(f"{target:5} {what:>12} {length:8} bytes  {shown}", flush=True)
     return number
 
 
-def session(folder, commands):
-    """How many instructions a session takes that performs these commands."""
-    tool = ["valgrind", "--tool=callgrind", "--callgrind-out-file=/dev/null"]
-    words = [*tool, CONFSTORE, "run", "--group", folder]
-    done = subprocess.run(words, input=commands.encode(), capture_output=True, check=True)
-    if b"refused" in done.stdout:
-        sys.exit(f"a command was refused: {done.stdout[:200]!r}")
-    return int(re.search(rb"Collected : (\d+)", done.stderr)[1])
-
-
-def sets(numbers):
+def sets(numbers: Iterable[int]) -> bytes:
     """Commands that set the keys with these numbers."""
-    return "".join(f"---\nset: wide\npath: /k{key}\nvalue: v{turn:05}\n...\n" for turn, key in enumerate(numbers))
+    commands = (f"---\nset: wide\npath: /k{key}\nvalue: v{turn:05}\n...\n" for turn, key in enumerate(numbers))
+    return "".join(commands).encode()
 
 
-def old_keys(width, count):
+def old_keys(width: int, count: int) -> Iterable[int]:
     """The numbers of keys that are there, all over the mapping."""
     return [turn * 7919 % width for turn in range(count)]
 
 
-def new_keys(width, count):
+def new_keys(width: int, count: int) -> Iterable[int]:
     """The numbers of keys that are not there yet."""
     return range(width, width + count)
 
 
-def set_costs(width, name, numbers):
+def set_costs(width: int, name: str, numbers: Callable[[int, int], Iterable[int]]) -> None:
     """Prints what a set of such a key costs in a session and at opening, in instructions."""
     pairs = "".join(f"  k{number}: v00000\n" for number in range(width))
 
-    def costs(count):
+    def costs(count: int) -> tuple[int, int]:
         with tempfile.TemporaryDirectory() as folder:
-            session(folder, f"---\nimport: wide\ntext: |\n{pairs}...\n---\ncheckpoint:\n...\n")
-            return session(folder, sets(numbers(width, count))), session(folder, "")
+            perform(folder, f"---\nimport: wide\ntext: |\n{pairs}...\n".encode() + CHECKPOINT, "--group")
+            in_session = session_instructions(folder, sets(numbers(width, count)), "--group")
+            return in_session, session_instructions(folder, b"", "--group")
 
     many, few = costs(3 * SETS // 2), costs(SETS // 2)
     in_session, opening = ((one - other) / SETS for one, other in zip(many, few))
     print(f"a set of {name} key beside {width:6}: {in_session:9.0f} instructions in a session,"
-          f" {opening:9.0f} at opening", flush=True)
+          f" {opening:9.0f} at opening", flush=True)  # fmt: skip
 
 
-def session_time(folder, commands):
+def session_time(folder: str, commands: str) -> float:
     """The processor time of a session that performs these commands."""
-    with tempfile.TemporaryFile() as given, tempfile.TemporaryFile() as answers:
-        given.write(commands.encode())
-        given.seek(0)
-        process = subprocess.Popen([CONFSTORE, "run", "--group", folder], stdin=given, stdout=answers)
-        _, status, usage = os.wait4(process.pid, 0)
-        process.returncode = status
-        answers.seek(0)
-        said = answers.read()
-    if status != 0 or b"refused" in said:
-        sys.exit(f"a session ended with {status}: {said[:200]!r}")
-    return usage.ru_utime + usage.ru_stime
+    return seconds_in(session_usage(folder, commands.encode(), "--group"))
 
 
-def delete_costs():
+def delete_costs() -> None:
     """Prints what a delete at the head of a long list costs, in a batch and at the opening after it."""
     elements = ",".join(["a"] * ELEMENTS)
 
-    def costs(count):
+    def costs(count: int) -> tuple[float, float]:
         edits = "- {delete: long, path: /0}\n" * count
         with tempfile.TemporaryDirectory() as folder:
-            session_time(folder, f"---\nimport: long\ntext: \"[{elements}]\"\n...\n---\ncheckpoint:\n...\n")
+            perform(folder, f'---\nimport: long\ntext: "[{elements}]"\n...\n'.encode() + CHECKPOINT, "--group")
             return session_time(folder, f"---\nbatch:\n{edits}...\n"), session_time(folder, "")
 
-    def least(count):
+    def least(count: int) -> tuple[float, float]:
         batches, openings = zip(*(costs(count) for _ in range(3)))
         return min(batches), min(openings)
 
     in_batch, opening = ((many - one) / (DELETES - 1) * 1e3 for many, one in zip(least(DELETES), least(1)))
     print(f"a delete at the head of {ELEMENTS} elements: {in_batch:.2f} ms in a batch, {opening:.2f} ms at opening",
-          flush=True)
+          flush=True)  # fmt: skip
 
 
-def main():
-    if not os.access(PROGRAM, os.X_OK):
-        sys.exit("the program is not built: `rt run -- edits tree wide 1 1`, in crates/bench_driver, builds it")
-    counts = "-i" in sys.argv[1:]
-    if counts and shutil.which("valgrind") is None:
-        sys.exit("valgrind is missing, which counts the instructions")
+def compare_targets(counts: bool) -> None:
+    """Prints what an edit costs by a command, as a multiple of an edit in the tree."""
     ratios = []
     for shape, size, in_tree, by_command in SHAPES:
         alone = cost("tree", shape, size, in_tree, counts)
@@ -183,11 +152,19 @@ def main():
         print(f"  by a command {ratios[-1]:.2f} times an edit in the tree", flush=True)
     within = "within" if max(ratios) <= GOAL else "MORE THAN"
     print(f"an edit by a command takes at most {max(ratios):.2f} times one in the tree: {within} {GOAL} times")
-    if shutil.which("valgrind") is not None and os.access(CONFSTORE, os.X_OK):
+
+
+def main() -> int:
+    need_driver()
+    counts = "-i" in sys.argv[1:]
+    if counts and not has_valgrind():
+        sys.exit("valgrind is missing, which counts the instructions: apt-get install valgrind")
+    compare_targets(counts)
+    if has_valgrind() and os.access(PROGRAM, os.X_OK):
         for width in WIDTHS:
             set_costs(width, "an old", old_keys)
             set_costs(width, "a new", new_keys)
-    if os.access(CONFSTORE, os.X_OK):
+    if os.access(PROGRAM, os.X_OK):
         delete_costs()
     return 0
 

@@ -11,93 +11,85 @@ built:
     python3 bench/format.py
 """
 
+from __future__ import annotations
+
 import os
-import subprocess
 import sys
 import tempfile
 
-TOP = os.path.dirname(os.path.dirname(os.path.abspath(__file__)))
-PROGRAM = os.path.join(TOP, "crates", "confstore", "out", "confstore")
-SIZES = [64 * 1024, 256 * 1024, 1024 * 1024]
-FORMS = {
+from corpora import Part, until
+from lib.programs import MIB, PROGRAM, need_program
+from lib.runs import Words, greatest_memory, processor_seconds
+
+SIZES = [64 * 1024, 256 * 1024, MIB]
+FORMS: dict[str, Part] = {
     "plain words": lambda i: f"key-{i:07}: value/of.{i:07}\n",
     "double quotes": lambda i: f'key-{i:07}: "the value of key {i}, as text"\n',
     "long values": lambda i: f'k{i:06}: "' + "lorem ipsum dolor " * 20 + '"\n',
     # a finding on each line
     "single quotes": lambda i: f"key-{i:07}: 'the value of key {i}, as text' \n",
 }
+FORMAT, CHECK = [PROGRAM, "format"], [PROGRAM, "check"]
+# How often each run is made.
+TIMES = 15
 
 
-def text_of(form, size):
-    lines, length, i = [], 0, 0
-    while True:
-        line = FORMS[form](i)
-        if length + len(line) > size:
-            return "".join(lines)
-        lines.append(line)
-        length += len(line)
-        i += 1
+def best(words: Words, path: str) -> float:
+    """The least processor time of several runs. `check` ends with 1 where it found something."""
+    statuses = (0, 1) if words is CHECK else (0,)
+    return min(processor_seconds(words, path, statuses) for _ in range(TIMES))
 
 
-def processor_seconds(words, path):
-    """The processor time of one run."""
-    with open(path, "rb") as source:
-        process = subprocess.Popen(words, stdin=source, stdout=subprocess.DEVNULL)
-        _, status, usage = os.wait4(process.pid, 0)
-    # `check` ends with 1 where it found something
-    if status != 0 and not (words[-1] == "check" and os.waitstatus_to_exitcode(status) == 1):
-        sys.exit(f"{words} failed on {path}")
-    return usage.ru_utime + usage.ru_stime
+class Cost:
+    """What `format` and `check` take on a file, beyond the start of the program."""
+
+    def __init__(self, path: str, start: float, floor: int) -> None:
+        self.length = os.path.getsize(path)
+        self.seconds = best(FORMAT, path)
+        self.memory = greatest_memory(FORMAT, path)
+        self.checked = best(CHECK, path)
+        self.check_memory = greatest_memory(CHECK, path)
+        self.peer = best(["wc", "-c"], path)
+        self.work = max(self.seconds - start, 1e-6)
+        self.ratio = max(self.checked - start, 1e-6) / self.work
+        self.beyond = self.memory - floor
+
+    def show(self, form: str) -> None:
+        print(
+            f"{form:14} {self.length:8} bytes  {self.seconds * 1000:7.2f} ms  {self.length / self.work / 1e6:7.1f} MB/s"
+            f"  wc -c {self.peer * 1000:5.2f} ms  {self.memory / MIB:6.1f} MiB"
+            f" ({self.beyond / self.length:4.1f} times the input)"
+            f"  check {self.checked * 1000:7.2f} ms ({self.ratio:4.2f} times)  {self.check_memory / MIB:6.1f} MiB"
+        )
 
 
-def greatest_memory(words, path):
-    """The greatest memory of one run in bytes, as `time` reports it."""
-    with open(path, "rb") as source:
-        ended = subprocess.run(["/usr/bin/time", "-f", "%M", *words], stdin=source, stdout=subprocess.DEVNULL, stderr=subprocess.PIPE, text=True)
-    return int(ended.stderr.split()[-1]) * 1024
+def is_within(form: str, folder: str, start: float, floor: int) -> bool:
+    """Prints what a form of text takes at each size, and returns whether that is within the bounds."""
+    path, costs = os.path.join(folder, "input.yaml"), []
+    for size in SIZES:
+        with open(path, "w", encoding="utf-8") as target:
+            target.write(until(size, FORMS[form]))
+        costs.append(Cost(path, start, floor))
+        costs[-1].show(form)
+    growth = (costs[-1].work / costs[-1].length) / (costs[0].work / costs[0].length)
+    print(f"{form:14} the time a byte at the largest size is {growth:.2f} times that at the smallest")
+    fits = all(cost.beyond <= 12 * cost.length for cost in costs)
+    return fits and growth <= 1.25 and costs[-1].ratio <= 1.3
 
 
-def best(words, path, times=15):
-    return min(processor_seconds(words, path) for _ in range(times))
-
-
-def main():
-    if not os.access(PROGRAM, os.X_OK):
-        sys.exit("the program is not built: run ./confstore --version first")
-    sound = True
+def main() -> int:
+    need_program()
     with tempfile.TemporaryDirectory() as folder:
-        empty = os.path.join(folder, "word")
-        with open(empty, "w") as target:
+        word = os.path.join(folder, "word")
+        with open(word, "w", encoding="utf-8") as target:
             target.write("a: b\n")
-        start = best([PROGRAM, "format"], empty)
-        floor = greatest_memory([PROGRAM, "format"], empty)
-        print(f"start of the program: {start * 1000:.2f} ms, {floor / 2**20:.1f} MiB")
-        for form in FORMS:
-            costs = []
-            for size in SIZES:
-                path = os.path.join(folder, "input.yaml")
-                with open(path, "w") as target:
-                    target.write(text_of(form, size))
-                length = os.path.getsize(path)
-                seconds = best([PROGRAM, "format"], path)
-                memory = greatest_memory([PROGRAM, "format"], path)
-                checked = best([PROGRAM, "check"], path)
-                check_memory = greatest_memory([PROGRAM, "check"], path)
-                ratio = max(checked - start, 1e-6) / max(seconds - start, 1e-6)
-                peer = best(["wc", "-c"], path)
-                work = max(seconds - start, 1e-6)
-                costs.append(work / length)
-                fits = memory - floor <= 12 * length
-                sound = sound and fits
-                print(
-                    f"{form:14} {length:8} bytes  {seconds * 1000:7.2f} ms  {length / work / 1e6:7.1f} MB/s"
-                    f"  wc -c {peer * 1000:5.2f} ms  {memory / 2**20:6.1f} MiB ({(memory - floor) / length:4.1f} times the input)"
-                    f"  check {checked * 1000:7.2f} ms ({ratio:4.2f} times)  {check_memory / 2**20:6.1f} MiB"
-                )
-            growth = costs[-1] / costs[0]
-            sound = sound and growth <= 1.25 and ratio <= 1.3
-            print(f"{form:14} the time a byte at the largest size is {growth:.2f} times that at the smallest")
-    print("linear, within 12 times the input, and `check` within 1.3 times the time of `format`" if sound else "NOT within the bounds")
+        start, floor = best(FORMAT, word), greatest_memory(FORMAT, word)
+        print(f"start of the program: {start * 1000:.2f} ms, {floor / MIB:.1f} MiB")
+        sound = all([is_within(form, folder, start, floor) for form in FORMS])
+    if sound:
+        print("linear, within 12 times the input, and `check` within 1.3 times the time of `format`")
+    else:
+        print("NOT within the bounds")
     return 0 if sound else 1
 
 

@@ -17,6 +17,8 @@ the median of the ratios. Run it from the repository's root after the program is
 LMDB is left out if it is not installed: `apt-get install python3-lmdb` installs it for the system's Python.
 """
 
+from __future__ import annotations
+
 import os
 import shutil
 import statistics
@@ -24,9 +26,12 @@ import subprocess
 import sys
 import tempfile
 import time
+from collections.abc import Callable, Mapping, Sequence
 
-from session import FIRST, PROGRAM, TOP, command, record_bytes
-from store import Lmdb, Sqlite, lmdb
+from lib.databases import DATABASES, Lmdb, Sqlite
+from lib.programs import PROGRAM, appending_stub, need_program
+from lib.runs import Words, by_turns
+from lib.stores import command, fresh, perform, record_bytes, store_in
 
 GROUP = 100
 GROUPS = 50
@@ -41,27 +46,31 @@ BESIDE = 20_000
 class Pipes:
     """A process that answers each of a list of pieces, each answer closed by a line of `...`."""
 
-    def __init__(self, words):
+    def __init__(self, words: Words) -> None:
+        self.words = words
         self.process = subprocess.Popen(words, stdin=subprocess.PIPE, stdout=subprocess.PIPE, bufsize=0)
+        assert self.process.stdin is not None and self.process.stdout is not None
+        self.to, self.of = self.process.stdin, self.process.stdout
 
-    def ask(self, pieces):
+    def ask(self, pieces: Sequence[bytes]) -> float:
         """The seconds until all pieces are answered."""
         start = time.perf_counter()
-        os.write(self.process.stdin.fileno(), b"".join(pieces))
+        os.write(self.to.fileno(), b"".join(pieces))
         left = len(pieces)
         while left > 0:
-            part = os.read(self.process.stdout.fileno(), 65_536)
+            part = os.read(self.of.fileno(), 65_536)
             if not part:
-                sys.exit(f"{self.process.args} ended early")
+                sys.exit(f"{self.words} ended early")
             left -= part.count(b"...\n")
         return time.perf_counter() - start
 
-    def end(self):
-        self.process.stdin.close()
+    def end(self) -> None:
+        self.to.close()
         self.process.wait()
+        self.of.close()
 
 
-def piped(words, pieces, size):
+def piped(words: Words, pieces: Sequence[bytes], size: int) -> float:
     """The seconds of a process for the pieces, so many at a time."""
     pipes = Pipes(words)
     seconds = sum(pipes.ask(pieces[place : place + size]) for place in range(0, len(pieces), size))
@@ -69,68 +78,47 @@ def piped(words, pieces, size):
     return seconds
 
 
-def in_transactions(kind, folder):
+def in_transactions(kind: type[Sqlite] | type[Lmdb], folder: str) -> float:
     """The seconds of a peer for as many changes."""
     base = kind(folder)
     start = time.perf_counter()
     for group in range(GROUPS):
         numbers = range(group * GROUP, (group + 1) * GROUP)
-        if kind is Lmdb:
-            with base.base.begin(write=True) as step:
-                for number in numbers:
-                    step.put(f"{number:09}".encode(), f"v{number:09}".encode())
-        else:
-            base.base.execute("BEGIN")
-            for number in numbers:
-                base.base.execute("INSERT INTO configs VALUES (?, ?)", (f"{number:09}", f"v{number:09}"))
-            base.base.execute("COMMIT")
+        base.put_all((f"{number:09}", f"v{number:09}") for number in numbers)
     seconds = time.perf_counter() - start
     base.close()
     return seconds
 
 
-def store_in(top, name):
-    folder = os.path.join(top, name)
-    shutil.rmtree(folder, ignore_errors=True)
-    os.mkdir(folder)
-    subprocess.run([PROGRAM, "run", folder], input=FIRST, stdout=subprocess.DEVNULL, check=True)
-    return folder
-
-
-def by_turns(count, ways):
+def compare(count: int, ways: Mapping[str, Callable[[], float]]) -> None:
     """Prints what each way takes; a way is a call that returns seconds. The last one is what the others are beside."""
-    seconds = {name: [] for name in ways}
-    for run in range(RUNS):
-        for name in ways if run % 2 == 0 else reversed(ways):
-            seconds[name].append(ways[name]())
+    seconds = by_turns(ways, RUNS)
     last = seconds[list(ways)[-1]]
     for name, times in seconds.items():
         ratio = statistics.median(base / own for own, base in zip(times, last))
         print(f"  {name}: {count / min(times):9.0f} commands a second, {ratio:.2f} of the last one's rate")
 
 
-def compare_groups(top, stub):
+def compare_groups(top: str, stub: str) -> None:
     pieces = [command(number) for number in range(GROUP * GROUPS)]
     records = [record_bytes(number) for number in range(GROUP * GROUPS)]
 
-    def fresh(name):
-        folder = os.path.join(top, name)
-        shutil.rmtree(folder, ignore_errors=True)
-        os.mkdir(folder)
-        return folder
+    def by_database(kind: type[Sqlite] | type[Lmdb]) -> Callable[[], float]:
+        return lambda: in_transactions(kind, fresh(top, "p"))
 
-    ways = {"confstore run --group": lambda: piped([PROGRAM, "run", "--group", store_in(top, "s")], pieces, GROUP)}
-    for kind in (Sqlite, Lmdb) if lmdb else (Sqlite,):
-        ways[kind.name] = lambda kind=kind: in_transactions(kind, fresh("p"))
-    ways["the stub in C"] = lambda: piped([stub, os.path.join(fresh("c"), "stub"), "group"], records, GROUP)
+    ways: dict[str, Callable[[], float]] = {
+        "confstore run --group": lambda: piped([PROGRAM, "run", "--group", store_in(top, "s")], pieces, GROUP)
+    }
+    ways.update((kind.name, by_database(kind)) for kind in DATABASES)
+    ways["the stub in C"] = lambda: piped([stub, os.path.join(fresh(top, "c"), "stub"), "group"], records, GROUP)
     print(f"{GROUP} commands at a time")
-    by_turns(GROUP * GROUPS, ways)
+    compare(GROUP * GROUPS, ways)
 
 
-def compare_single(top):
+def compare_single(top: str) -> None:
     pieces = [command(number) for number in range(SINGLE)]
     print("one command at a time")
-    by_turns(
+    compare(
         SINGLE,
         {
             "confstore run --group": lambda: piped([PROGRAM, "run", "--group", store_in(top, "s")], pieces, 1),
@@ -139,7 +127,7 @@ def compare_single(top):
     )
 
 
-def count_syncs(top):
+def count_syncs(top: str) -> None:
     """Prints how many syncs a session makes for the groups."""
     if not shutil.which("strace"):
         print("syncs aren't counted: install strace")
@@ -152,8 +140,8 @@ def count_syncs(top):
     print(f"  {syncs} syncs for {GROUPS} groups, those of opening among them")
 
 
-def longest_wait(top, base, words, commands):
-    """The longest time until an answer, in milliseconds, and that of all."""
+def longest_wait(top: str, base: str, words: Words, commands: Sequence[bytes]) -> tuple[float, float, int]:
+    """The longest time until an answer and the median in milliseconds, and the length of the file at the end."""
     folder = os.path.join(top, "s")
     shutil.rmtree(folder, ignore_errors=True)
     shutil.copytree(base, folder)
@@ -165,11 +153,10 @@ def longest_wait(top, base, words, commands):
     return max(waits) * 1e3, statistics.median(waits) * 1e3, size
 
 
-def compare_checkpoints(top):
+def compare_checkpoints(top: str) -> None:
     base = store_in(top, "base")
     texts = (f"import: c{number}\ntext: |\n  k: {'x' * LETTERS}\n...\n" for number in range(LARGE))
-    commands = "".join(texts) + "checkpoint:\n...\n"
-    subprocess.run([PROGRAM, "run", base], input=commands.encode(), stdout=subprocess.DEVNULL, check=True)
+    perform(base, ("".join(texts) + "checkpoint:\n...\n").encode())
     sets = [command(number) for number in range(BESIDE)]
     print(f"a base of {os.path.getsize(os.path.join(base, 'store.yaml')):,} bytes, {BESIDE:,} commands one by one")
     ways = {
@@ -178,18 +165,14 @@ def compare_checkpoints(top):
         "one by a command": (["run", "--group"], [*sets[:100], b"checkpoint:\n...\n", *sets[100:1000]]),
     }
     for name, (words, pieces) in ways.items():
-        waits = [longest_wait(top, base, words, pieces) for _ in range(3)]
-        longest, median, size = min(waits)
+        longest, median, size = min(longest_wait(top, base, words, pieces) for _ in range(3))
         print(f"  {name}: the longest wait {longest:.2f} ms, the median {median:.3f} ms; {size:,} bytes at the end")
 
 
-def main():
-    if not os.access(PROGRAM, os.X_OK):
-        sys.exit("the program is not built: run ./confstore --version first")
+def main() -> int:
+    need_program()
     with tempfile.TemporaryDirectory() as top:
-        stub = os.path.join(top, "append")
-        subprocess.run(["cc", "-O2", "-o", stub, os.path.join(TOP, "bench", "peers", "append.c")], check=True)
-        compare_groups(top, stub)
+        compare_groups(top, appending_stub(top))
         count_syncs(top)
         compare_single(top)
         compare_checkpoints(top)

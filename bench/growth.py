@@ -27,15 +27,20 @@ a quiet machine with glibc 2.35 or later, from the repository's root, after `ben
 says. It takes some 25 minutes.
 """
 
+from __future__ import annotations
+
 import mmap
 import os
 import statistics
 import sys
 import tempfile
 import time
+from collections.abc import Callable, Iterable, Mapping, Sequence
 
-from corpora import CORPORA, HOSTILE
-from read import DRIVER, MIB, round_instructions, rounds_of, run, usage_and_output, written
+from corpora import CORPORA, HOSTILE, Part
+from lib.programs import DRIVER, MIB, need_driver
+from lib.runs import Words
+from read import Reading, round_instructions, written
 
 SIZES = [64 * 1024, MIB, 16 * MIB]
 # The greatest growth.
@@ -48,84 +53,91 @@ TURNS = 9
 KEPT = {"GLIBC_TUNABLES": "glibc.malloc.hugetlb=1:glibc.malloc.mmap_max=0:glibc.malloc.trim_threshold=17179869184"}
 ANEW = {"GLIBC_TUNABLES": "glibc.malloc.mmap_threshold=32768:glibc.malloc.trim_threshold=32768"}
 
+# What a byte takes in nanoseconds: for the process, and for the system.
+Cost = tuple[float, float]
+# The costs of each turn, for the file of each size.
+Turns = Sequence[Sequence[Cost]]
 
-def times(words, settings):
+
+def times(words: Words, settings: Mapping[str, str]) -> tuple[float, float]:
     """The processor time of a run in seconds: for the process, and for the system."""
-    usage, _ = usage_and_output(words, settings=settings)
+    usage, _ = Reading(settings).usage_and_output(words)
     return usage.ru_utime, usage.ru_stime
 
 
-def measured(orders, settings):
+def measured(orders: Sequence[Words], settings: Mapping[str, str]) -> Turns:
     """What a byte of each order's file takes in each turn, in nanoseconds: for the process, and for the system."""
-    rounds = [max(ROUNDS, rounds_of(words)) for words in orders]
-    turns = [[] for _ in orders]
+    rounds = [max(ROUNDS, Reading().rounds_of(words)) for words in orders]
+    turns: list[list[Cost]] = [[] for _ in orders]
     for _ in range(TURNS):
         for words, count, costs in zip(orders, rounds, turns):
             one, many = times([*words, "1"], settings), times([*words, str(count + 1)], settings)
-            costs.append([(more - less) / (count * length_of(words)) * 1e9 for less, more in zip(one, many)])
+            own, system = ((more - less) / (count * length_of(words)) * 1e9 for less, more in zip(one, many))
+            costs.append((own, system))
     return turns
 
 
-def length_of(words):
+def length_of(words: Words) -> int:
     """The length of an order's file."""
     return os.path.getsize(words[-1])
 
 
-def medians(turns, part):
+def medians(turns: Turns, part: Callable[[Cost], float]) -> list[float]:
     """The medians over the turns of a part of what a byte takes."""
     return [statistics.median(map(part, costs)) for costs in turns]
 
 
-def growths(turns):
+def growths(turns: Turns) -> list[float]:
     """How many times what a byte takes at the first size it takes at the others."""
     first = [sum(cost) for cost in turns[0]]
     return [statistics.median(sum(cost) / one for cost, one in zip(costs, first)) for costs in turns[1:]]
 
 
-def page_cost(pages=16_384):
+def page_cost(pages: int = 16_384) -> float:
     """The microseconds that the system takes to hand out a page: what touching it takes more the first time."""
     with mmap.mmap(-1, pages * mmap.PAGESIZE) as memory:
         memory.madvise(mmap.MADV_NOHUGEPAGE)
-        times = []
+        seconds = []
         for _ in range(2):
             start = time.perf_counter()
             for page in range(pages):
                 memory[page * mmap.PAGESIZE] = 1
-            times.append(time.perf_counter() - start)
-    return (times[0] - times[1]) / pages * 1e6
+            seconds.append(time.perf_counter() - start)
+    return (seconds[0] - seconds[1]) / pages * 1e6
 
 
-def shown(costs):
+def shown(costs: Iterable[float]) -> str:
     return ", ".join(f"{cost:6.2f}" for cost in costs)
 
 
-def compare(name, make, folder, counts_instructions):
-    """Prints what a byte of a text takes at each size, and returns whether it grows by no more than it may."""
+def grows(name: str, make: Part, folder: str, counts: bool) -> bool:
+    """Prints what a byte of a text takes at each size, and returns whether it grows by more than it may."""
     orders = [[DRIVER, "read", "events", written(folder, make(size), f"{size}.yaml")] for size in SIZES]
     kept, anew = measured(orders, KEPT), measured(orders, ANEW)
-    is_well = max(growths(kept)) <= MOST
-    line = f"{name:22} {'     ' if is_well else 'GROWS'} kept {shown(medians(kept, sum))} ns, {shown(growths(kept))} times"
+    is_more = max(growths(kept)) > MOST
+    line = f"{name:22} {'GROWS' if is_more else '     '}"
+    line += f" kept {shown(medians(kept, sum))} ns, {shown(growths(kept))} times"
     line += f" | anew {shown(medians(anew, lambda cost: cost[0]))} ns"
     line += f" and {shown(medians(anew, lambda cost: cost[1]))} for the system, {shown(growths(anew))} times"
-    if counts_instructions:
+    if counts:
         line += f" | {shown(round_instructions(words) / length_of(words) for words in orders[:2])} instructions"
-    answer = run([*orders[-1], "1"])[1].decode().strip()
+    answer = Reading().run([*orders[-1], "1"])[1].decode().strip()
     print(f"{line}  ({answer})", flush=True)
-    return is_well
+    return is_more
 
 
-def main():
-    if not os.access(DRIVER, os.X_OK):
-        sys.exit(f"{DRIVER} is not built")
+def main() -> int:
+    need_driver()
     words = [word for word in sys.argv[1:] if word != "-i"]
     print(f"A page of {mmap.PAGESIZE} bytes takes the system {min(page_cost() for _ in range(5)):.2f} us.")
     grown = []
     with tempfile.TemporaryDirectory() as folder:
         for name, make in {**CORPORA, **HOSTILE}.items():
-            if all(word in name for word in words) and not compare(name, make, folder, "-i" in sys.argv):
+            if all(word in name for word in words) and grows(name, make, folder, "-i" in sys.argv):
                 grown.append(name)
     print(f"more than {MOST} times: {', '.join(grown) or 'none'}")
+    return 0
 
 
 if __name__ == "__main__":
-    main()
+    sys.exit(main())

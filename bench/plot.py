@@ -9,11 +9,15 @@ reader, and further to the right is faster; one that is too slow for the axis ha
 library alone, and the same data gives the same bytes.
 """
 
+from __future__ import annotations
+
 import math
 import os
 import re
+from collections.abc import Iterable, Iterator, Mapping
 
-TOP = os.path.dirname(os.path.dirname(os.path.abspath(__file__)))
+from lib.programs import TOP
+
 DATA = os.path.join(TOP, "bench", "data", "read.txt")
 TARGET = os.path.join(TOP, "docs", "speed.svg")
 
@@ -24,11 +28,14 @@ NAMES, PANEL, SPACE, ROW, ABOVE, BELOW = 84, 250, 36, 24, 58, 26
 # The ends of the axis in MB/s, and its marks.
 SLOWEST, FASTEST, TICKS = 3, 1000, (3, 10, 30, 100, 300, 1000)
 
+# The rates in MB/s, by corpus and reader.
+Rates = dict[str, dict[str, float]]
 
-def rates(path):
+
+def rates(path: str) -> dict[str, Rates]:
     """The rates in MB/s, by work, corpus and reader, of the first part of what was printed."""
-    found = {work: {} for work in WORKS}
-    corpus = None
+    found: dict[str, Rates] = {work: {} for work in WORKS}
+    corpus = ""
     with open(path, encoding="utf-8") as data:
         for line in data.read().partition("== malloc keeps")[0].splitlines():
             head = re.match(r"(\w+): +\d+ bytes an event", line)
@@ -41,23 +48,23 @@ def rates(path):
     return found
 
 
-def x_of(rate):
+def x_of(rate: float) -> float:
     """Where a rate is in its panel."""
     share = math.log(rate / SLOWEST) / math.log(FASTEST / SLOWEST)
     return PANEL * min(max(share, 0), 1)
 
 
-def text(x, y, words, anchor="start", weight="normal"):
+def text(x: float, y: float, words: str, anchor: str = "start", weight: str = "normal") -> str:
     return f'<text x="{x:.1f}" y="{y:.1f}" text-anchor="{anchor}" font-weight="{weight}">{words}</text>'
 
 
-def mark(x, y, reader):
+def mark(x: float, y: float, reader: str) -> str:
     colour = COLOURS[reader.partition(" ")[0]]
     size = 5.5 if reader == "confstore" else 4
     return f'<circle cx="{x:.1f}" cy="{y:.1f}" r="{size}" fill="{colour}"><title>{reader}</title></circle>'
 
 
-def panel(left, title, of_corpora):
+def panel(left: float, title: str, of_corpora: Rates) -> Iterator[str]:
     """A panel: its axis, and the marks of each corpus."""
     bottom = ABOVE + ROW * len(of_corpora)
     yield text(left, ABOVE - 12, title, weight="bold")
@@ -74,8 +81,8 @@ def panel(left, title, of_corpora):
                 yield text(left - 8, y + 4, f"{rate:g}", "end")
 
 
-def legend(readers):
-    x = NAMES
+def legend(readers: Iterable[str]) -> Iterator[str]:
+    x: float = NAMES
     for reader in readers:
         yield mark(x + 5, 18, reader)
         yield text(x + 14, 22, reader)
@@ -83,7 +90,7 @@ def legend(readers):
     yield text(x, 22, "MB/s of the text")
 
 
-def drawing(found):
+def drawing(found: Mapping[str, Rates]) -> Iterator[str]:
     corpora = list(found["events"])
     readers = list(dict.fromkeys(reader for of in found.values() for some in of.values() for reader in some))
     width = NAMES + len(WORKS) * (PANEL + SPACE)
@@ -99,7 +106,7 @@ def drawing(found):
     yield "</svg>"
 
 
-def main():
+def main() -> None:
     with open(TARGET, "w", encoding="utf-8") as target:
         target.write("\n".join(drawing(rates(DATA))) + "\n")
 

@@ -12,19 +12,28 @@ the times that its clients waited.
 It needs etcd (Debian's package etcd-server), PyYAML and the built program, and takes a minute or two.
 """
 
+from __future__ import annotations
+
+import importlib
 import multiprocessing
 import os
 import shutil
-import subprocess
 import sys
 import tempfile
 import time
+from collections.abc import Callable, Mapping
+from contextlib import ExitStack
+from typing import Any
 
-TOP = os.path.dirname(os.path.dirname(os.path.abspath(__file__)))
+from lib.programs import PROGRAM, TOP, need_program
+from lib.runs import by_turns
+from lib.serving import served
+
 COUNT = int(sys.argv.pop(1)) if len(sys.argv) > 1 else 960
 sys.path.insert(0, os.path.join(TOP, "checks"))
 
-from replicated import MACHINES, PROGRAM, Cluster, Loopback, asked  # noqa: E402  (it finds the packages)
+# The trials of a replicated store, checks/replicated.py, have the machines. They also find the packages below.
+trials = importlib.import_module("replicated")
 
 from confstore import Store  # noqa: E402
 from confstore_replicated import Client  # noqa: E402
@@ -34,15 +43,22 @@ from confstore_replicated.etcd import Etcd  # noqa: E402
 CLIENTS = (1, 4, 16)
 RUNS = 3
 
+# Makes the command of a number, and awaits its answer.
+Call = Callable[[int], object]
+# Makes such a call for the client of a number, in a cluster or at a socket.
+Way = Callable[[Any, int], Call]
+# Commands a second, and how long each client waited.
+Run = tuple[float, "list[float]"]
 
-def some_command(number):
+
+def some_command(number: int) -> dict[str, str]:
     return {"set": "app", "path": "/n", "value": f"v{number:09}"}
 
 
-def through_node(cluster, which):
-    client = Client(cluster.socket_of(which % MACHINES))
+def through_node(cluster: Any, which: int) -> Call:
+    client = Client(cluster.socket_of(which % trials.MACHINES))
 
-    def call(number):
+    def call(number: int) -> None:
         answer = client.ask(some_command(number))
         if "ok" not in answer:
             raise ValueError(answer)
@@ -50,25 +66,26 @@ def through_node(cluster, which):
     return call
 
 
-def etcd_alone(cluster, which):
-    shift = which % MACHINES
+def etcd_alone(cluster: Any, which: int) -> Call:
+    shift = which % trials.MACHINES
     etcd = Etcd(cluster.addresses[shift:] + cluster.addresses[:shift])
     mine = f"{os.getpid()}-{time.monotonic_ns()}-"
 
-    def call(number):
+    def call(number: int) -> None:
         command, name = command_of(edits_of(some_command(number))), f"{mine}{number}".encode()
         etcd.create(b"/alone/ids/" + name, digest_of(command), b"/alone/log/" + name, lambda: entry_of(command))
 
     return call
 
 
-def one_store(path, _which):
+def one_store(path: str, _which: int) -> Call:
     store = Store.connect(path)
     return lambda number: store.set("app", "/n", f"v{number:09}")
 
 
-def work(make, place, which, count, starts, waits):
-    call = make(place, which)
+def work(way: Way, place: Any, which: int, count: int, starts: Any, waits: Any) -> None:
+    """What the process of a client does: it makes its commands once all are there, and tells how long each took."""
+    call = way(place, which)
     call(0)
     starts.wait()
     took = []
@@ -79,13 +96,13 @@ def work(make, place, which, count, starts, waits):
     waits.put(took)
 
 
-def timed(make, place, clients):
+def timed(way: Way, place: Any, clients: int) -> Run:
     """Commands a second of all clients together, and how long they waited, in order."""
     forked = multiprocessing.get_context("fork")
     starts, waits = forked.Barrier(clients + 1), forked.Queue()
     count = COUNT // clients
     processes = [
-        forked.Process(target=work, args=(make, place, which, count, starts, waits)) for which in range(clients)
+        forked.Process(target=work, args=(way, place, which, count, starts, waits)) for which in range(clients)
     ]
     for process in processes:
         process.start()
@@ -98,57 +115,53 @@ def timed(make, place, clients):
     return len(took) / seconds, took
 
 
-def served(folder):
-    """A server of one store, and its socket."""
-    path, store = os.path.join(folder, "one.socket"), os.path.join(folder, "one")
+def made_store(folder: str) -> str:
+    """A store by itself, with the configuration that is edited."""
+    store = os.path.join(folder, "one")
     with Store(store, program=PROGRAM, make=True) as opened:
         opened["app"] = {"n": "0"}
-    words = [sys.executable, os.path.join(TOP, "clients", "serve.py"), path, store]
-    server = subprocess.Popen(words, env={**os.environ, "CONFSTORE": PROGRAM})
-    for _ in range(1_000):
-        if os.path.exists(path):
-            return server, path
-        time.sleep(0.01)
-    sys.exit("the server takes no clients")
+    return store
 
 
-def print_best(name, runs):
+def print_best(name: str, runs: list[Run]) -> None:
     rate, waits = max(runs, key=lambda run: run[0])
     middle, most = (1000 * waits[int(place * (len(waits) - 1))] for place in (0.5, 0.99))
     print(f"  {name}: {rate:7.0f} commands a second, waits {middle:.1f} ms, 99 of 100 up to {most:.1f} ms", flush=True)
 
 
-def main():
-    if shutil.which("etcd") is None or not os.access(PROGRAM, os.X_OK):
-        sys.exit("etcd is not installed, or the program is not built")
+def compare(ways: Mapping[str, tuple[Way, Any]], clients: int) -> None:
+    """Prints what each way takes with so many clients."""
+
+    def timed_way(way: Way, place: Any) -> Callable[[], Run]:
+        return lambda: timed(way, place, clients)
+
+    runs = by_turns({name: timed_way(*way) for name, way in ways.items()}, RUNS)
+    print(f"{clients} client" + "s" * (clients > 1))
+    for name, results in runs.items():
+        print_best(name, results)
+
+
+def main() -> int:
+    need_program()
+    if shutil.which("etcd") is None:
+        sys.exit("etcd is not installed: apt-get install etcd-server")
     print(f"load {os.getloadavg()[0]:.1f} on {os.cpu_count()} processors")
-    with tempfile.TemporaryDirectory() as folder:
-        cluster = Cluster(folder, Loopback())
-        server = None
-        try:
-            cluster.start()
-            server, path = served(folder)
-            asked(cluster, 0, {"import": "app", "text": "n: 0"})
-            for number in range(MACHINES):
-                asked(cluster, number, {"fresh": "yes", "names": ""}, elsewhere=False)
-            ways = {
-                "replicated": (through_node, cluster),
-                "etcd alone": (etcd_alone, cluster),
-                "one store": (one_store, path),
-            }
-            for clients in CLIENTS:
-                runs = {name: [] for name in ways}
-                for run in range(RUNS):
-                    for name in ways if run % 2 == 0 else reversed(ways):
-                        runs[name].append(timed(*ways[name], clients))
-                print(f"{clients} client" + "s" * (clients > 1))
-                for name, results in runs.items():
-                    print_best(name, results)
-        finally:
-            if server is not None:
-                server.terminate()
-                server.wait()
-            cluster.stop()
+    with tempfile.TemporaryDirectory() as folder, ExitStack() as ends:
+        cluster = trials.Cluster(folder, trials.Loopback())
+        ends.callback(cluster.stop)
+        cluster.start()
+        path = os.path.join(folder, "one.socket")
+        ends.enter_context(served(path, made_store(folder)))
+        trials.asked(cluster, 0, {"import": "app", "text": "n: 0"})
+        for number in range(trials.MACHINES):
+            trials.asked(cluster, number, {"fresh": "yes", "names": ""}, elsewhere=False)
+        ways: dict[str, tuple[Way, Any]] = {
+            "replicated": (through_node, cluster),
+            "etcd alone": (etcd_alone, cluster),
+            "one store": (one_store, path),
+        }
+        for clients in CLIENTS:
+            compare(ways, clients)
     return 0
 
 

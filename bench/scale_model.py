@@ -1,12 +1,12 @@
 #!/usr/bin/env python3
 """A model of many stores on many machines, for what can't be run on one: docs/SCALE.md has its figures.
 
-Stores lie on machines by their names' hash, some are busier than others (Zipf), and commands come at random. A machine's
-disk makes one sync after the other. A session that holds commands waits for its turn, and then one sync takes all that
-wait for it, up to a group. With `--copies 3` each store is on three machines, whose disks sync it alike: a command first
-goes over the link to the leader of the log, which waits for the faster of the two others, and then comes back and is
-performed here, which takes the sync of the store as before. The log's own disks are not modelled beyond one sync for
-each command's way.
+Stores lie on machines by their names' hash, some are busier than others (Zipf), and commands come at random. A
+machine's disk makes one sync after the other. A session that holds commands waits for its turn, and then one sync takes
+all that wait for it, up to a group. With `--copies 3` each store is on three machines, whose disks sync it alike: a
+command first goes over the link to the leader of the log, which waits for the faster of the two others, and then comes
+back and is performed here, which takes the sync of the store as before. The log's own disks are not modelled beyond one
+sync for each command's way.
 
     bench/scale_model.py [--stores N] [--machines N] [--commands PER_SECOND] [--sync MS] [--link MS] [--copies 1|3]
                          [--skew EXPONENT] [--group N] [--seconds N] [--sample MACHINES] [--seed N]
@@ -15,27 +15,32 @@ It prints how long commands wait, on the machines that are sampled, and how busy
 the same words give the same figures.
 """
 
+from __future__ import annotations
+
 import argparse
 import heapq
 import random
 import zlib
 from collections import deque
+from collections.abc import Collection, Mapping
 
 
-def weights_of(stores, skew):
+def weights_of(stores: int, skew: float) -> list[float]:
     """How many of all commands each store gets, as a share."""
     raw = [1 / (rank + 1) ** skew for rank in range(stores)]
     whole = sum(raw)
     return [weight / whole for weight in raw]
 
 
-def machines_of(store, machines, copies):
+def machines_of(store: int, machines: int, copies: int) -> list[int]:
     """The machines that hold a store, by its name's hash; its clients are at the first."""
     first = zlib.crc32(f"store-{store}".encode()) % machines
     return [(first + copy) % machines for copy in range(copies)]
 
 
-def arrivals(chance, shares, rate, seconds):
+def arrivals(
+    chance: random.Random, shares: Mapping[int, float], rate: float, seconds: float
+) -> list[tuple[float, int]]:
     """When commands come, each with its store, in the order of time."""
     times = []
     for store, share in shares.items():
@@ -47,8 +52,10 @@ def arrivals(chance, shares, rate, seconds):
     return sorted(times)
 
 
-def run_machine(chance, shares, own, words):
-    """The times that the commands of a machine's own clients wait, and how long its disk syncs, for all its stores."""
+def ready_commands(
+    chance: random.Random, shares: Mapping[int, float], words: argparse.Namespace
+) -> list[tuple[float, float, int]]:
+    """When the commands of a machine can be performed, with when they came and their stores, as a heap."""
     link, sync = words.link / 1000, words.sync / 1000
     coming = []
     for at, store in arrivals(chance, shares, words.commands, words.seconds):
@@ -58,8 +65,18 @@ def run_machine(chance, shares, own, words):
             way = (0 if chance.randrange(3) == 0 else 2 * link) + 2 * link + sync
         coming.append((at + way, at, store))
     heapq.heapify(coming)
-    waiting, turns = {}, deque()
-    now, busy, waits = 0.0, 0.0, []
+    return coming
+
+
+def run_machine(
+    chance: random.Random, shares: Mapping[int, float], own: Collection[int], words: argparse.Namespace
+) -> tuple[list[float], float]:
+    """The times that the commands of a machine's own clients wait, and how long its disk syncs, for all its stores."""
+    coming, sync = ready_commands(chance, shares, words), words.sync / 1000
+    waiting: dict[int, list[float]] = {}
+    turns: deque[int] = deque()
+    now, busy = 0.0, 0.0
+    waits: list[float] = []
     while coming or turns:
         while coming and (coming[0][0] <= now or not turns):
             ready, at, store = heapq.heappop(coming)
@@ -80,7 +97,7 @@ def run_machine(chance, shares, own, words):
     return waits, busy
 
 
-def main():
+def words_given() -> argparse.Namespace:
     parser = argparse.ArgumentParser(description="A model of many stores on many machines.")
     parser.add_argument("--stores", type=int, default=10_000)
     parser.add_argument("--machines", type=int, default=100)
@@ -93,9 +110,13 @@ def main():
     parser.add_argument("--seconds", type=float, default=10.0)
     parser.add_argument("--sample", type=int, default=10, help="how many machines are looked at")
     parser.add_argument("--seed", type=int, default=1)
-    words = parser.parse_args()
-    shares = [{} for _ in range(words.machines)]
-    own = [set() for _ in range(words.machines)]
+    return parser.parse_args()
+
+
+def main() -> None:
+    words = words_given()
+    shares: list[dict[int, float]] = [{} for _ in range(words.machines)]
+    own: list[set[int]] = [set() for _ in range(words.machines)]
     for store, share in enumerate(weights_of(words.stores, words.skew)):
         holders = machines_of(store, words.machines, words.copies)
         own[holders[0]].add(store)

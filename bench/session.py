@@ -9,30 +9,27 @@ minute:
     ./confstore --version && python3 bench/session.py
 """
 
+from __future__ import annotations
+
 import os
 import statistics
 import subprocess
 import sys
 import tempfile
 import time
+from collections.abc import Callable, Sequence
 
-TOP = os.path.dirname(os.path.dirname(os.path.abspath(__file__)))
-PROGRAM = os.path.join(TOP, "crates", "confstore", "out", "confstore")
+from lib.programs import PROGRAM, appending_stub, need_program
+from lib.runs import Words, by_turns
+from lib.stores import command, fresh, record_bytes, store_in
+
 # A place, how many commands a run sends there, and how many runs there are.
 PLACES = [("/dev/shm", 10_000, 9), (tempfile.gettempdir(), 500, 31)]
-FIRST = b'import: app\ntext: "n: v0\\n"\n...\n'
+# Sends a process the pieces, and returns the seconds until all are answered.
+Measure = Callable[[Words, Sequence[bytes]], float]
 
 
-def command(number):
-    return f"set: app\npath: /n\nvalue: v{number:09}\n...\n".encode()
-
-
-def record_bytes(number):
-    """What the stub appends: as many bytes as the record of that command has."""
-    return f'---\nat: "{number}"\nset: app\npath: /n\nvalue: v{number:09}\n...\n'.encode()
-
-
-def all_at_once(words, pieces):
+def all_at_once(words: Words, pieces: Sequence[bytes]) -> float:
     start = time.perf_counter()
     done = subprocess.run(words, input=b"".join(pieces), stdout=subprocess.PIPE, check=True)
     seconds = time.perf_counter() - start
@@ -41,40 +38,31 @@ def all_at_once(words, pieces):
     return seconds
 
 
-def one_by_one(words, pieces):
-    process = subprocess.Popen(words, stdin=subprocess.PIPE, stdout=subprocess.PIPE, bufsize=0)
-    source, target = process.stdout.fileno(), process.stdin.fileno()
-    start = time.perf_counter()
-    for piece in pieces:
-        os.write(target, piece)
-        answer = b""
-        while not answer.endswith(b"...\n"):
-            part = os.read(source, 4096)
-            if not part:
-                sys.exit(f"{words} ended early")
-            answer += part
-    seconds = time.perf_counter() - start
-    process.stdin.close()
-    process.wait()
-    return seconds
+def one_by_one(words: Words, pieces: Sequence[bytes]) -> float:
+    with subprocess.Popen(words, stdin=subprocess.PIPE, stdout=subprocess.PIPE, bufsize=0) as process:
+        assert process.stdin is not None and process.stdout is not None
+        source, target = process.stdout.fileno(), process.stdin.fileno()
+        start = time.perf_counter()
+        for piece in pieces:
+            os.write(target, piece)
+            answer = b""
+            while not answer.endswith(b"...\n"):
+                part = os.read(source, 4096)
+                if not part:
+                    sys.exit(f"{words} ended early")
+                answer += part
+        return time.perf_counter() - start
 
 
-def compare(name, measure, top, stub, count, runs):
-    """Prints the least time of a session and of the stub, and the median of their ratios. They take turns in going
-    first, since a disk that others use is slower for a while and faster again."""
-    sessions, stubs = [], []
+def compare(name: str, measure: Measure, top: str, stub: str, count: int, runs: int) -> None:
+    """Prints the least time of a session and of the stub, and the median of their ratios."""
     commands = [command(number) for number in range(count)]
     records = [record_bytes(number) for number in range(count)]
-    for run in range(runs):
-        folder = os.path.join(top, f"{name}-{run}".replace(" ", "-"))
-        os.mkdir(folder)
-        subprocess.run([PROGRAM, "run", folder], input=FIRST, stdout=subprocess.DEVNULL, check=True)
-        turns = [
-            lambda: sessions.append(measure([PROGRAM, "run", folder], commands)),
-            lambda: stubs.append(measure([stub, os.path.join(folder, "stub")], records)),
-        ]
-        for turn in turns if run % 2 == 0 else reversed(turns):
-            turn()
+    ways: dict[str, Callable[[], float]] = {
+        "session": lambda: measure([PROGRAM, "run", store_in(top, "store")], commands),
+        "stub": lambda: measure([stub, os.path.join(fresh(top, "appended"), "stub")], records),
+    }
+    sessions, stubs = by_turns(ways, runs).values()
     ratios = [session / stubbed for session, stubbed in zip(sessions, stubs)]
     print(
         f"  {name}: {count / min(sessions):9.0f} commands a second, stub {count / min(stubs):9.0f}; an answer takes"
@@ -83,13 +71,10 @@ def compare(name, measure, top, stub, count, runs):
     )
 
 
-def main():
-    if not os.access(PROGRAM, os.X_OK):
-        sys.exit("the program is not built: run ./confstore --version first")
+def main() -> int:
+    need_program()
     with tempfile.TemporaryDirectory() as tools:
-        stub = os.path.join(tools, "append")
-        source = os.path.join(TOP, "bench", "peers", "append.c")
-        subprocess.run(["cc", "-O2", "-o", stub, source], check=True)
+        stub = appending_stub(tools)
         for place, count, runs in PLACES:
             with tempfile.TemporaryDirectory(dir=place) as top:
                 print(place)

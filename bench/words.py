@@ -9,92 +9,82 @@ minute:
     ./confstore --version && python3 bench/words.py
 """
 
+from __future__ import annotations
+
 import os
-import resource
 import statistics
-import subprocess
 import sys
 import tempfile
+from collections.abc import Callable, Mapping
 
-TOP = os.path.dirname(os.path.dirname(os.path.abspath(__file__)))
-PROGRAM = os.environ.get("CONFSTORE") or os.path.join(TOP, "crates", "confstore", "out", "confstore")
-DRIVER = os.path.join(TOP, "crates", "bench_driver", "out", "bench_driver")
+from lib.programs import DRIVER, MIB, PROGRAM, need_driver, need_program
+from lib.runs import Words, by_turns, greatest_memory, processor_seconds
+from lib.stores import CHECKPOINT, fresh, perform
+
 TURNS = 41
 CONFIGURATIONS = 16
-BASE = 1 << 20
+BASE = MIB
 EDITS = (10_000, 40_000, 160_000)
 
 
-def processor_time(words):
-    """The processor time of a run, in milliseconds."""
-    before = resource.getrusage(resource.RUSAGE_CHILDREN)
-    subprocess.run(words, stdout=subprocess.DEVNULL, check=True)
-    after = resource.getrusage(resource.RUSAGE_CHILDREN)
-    return 1000 * (after.ru_utime - before.ru_utime + after.ru_stime - before.ru_stime)
+def median_times(programs: Mapping[str, Words], turns: int) -> dict[str, float]:
+    """The median time of each program in milliseconds, run by turns."""
+
+    def timed(words: Words) -> Callable[[], float]:
+        return lambda: processor_seconds(words)
+
+    times = by_turns({name: timed(words) for name, words in programs.items()}, turns)
+    return {name: 1000 * statistics.median(seconds) for name, seconds in times.items()}
 
 
-def by_turns(programs, turns):
-    """The median time of each program, run by turns."""
-    times = {name: [] for name in programs}
-    for _ in range(turns):
-        for name, words in programs.items():
-            times[name].append(processor_time(words))
-    return {name: statistics.median(some) for name, some in times.items()}
-
-
-def run(folder, commands):
-    subprocess.run([PROGRAM, "run", "--group", folder], input=commands, stdout=subprocess.DEVNULL, check=True)
-
-
-def fill(folder):
+def fill(folder: str) -> None:
     """A store whose base has 1 MiB, of configurations of the same size."""
     line = b"  key_%06d: a value of some thirty bytes\n"
     rows = BASE // CONFIGURATIONS // len(line % 0)
     text = b"".join(line % row for row in range(rows))
     commands = b"".join(b"---\nimport: c%d\ntext: |\n%s...\n" % (number, text) for number in range(CONFIGURATIONS))
-    run(folder, commands + b"---\ncheckpoint:\n...\n")
+    perform(folder, commands + CHECKPOINT, "--group")
 
 
-def peak_memory(words):
-    """The most memory that a run held, in MiB."""
-    reader = "import os,resource,subprocess,sys;subprocess.run(sys.argv[1:],stdout=subprocess.DEVNULL,check=True);" \
-        "print(resource.getrusage(resource.RUSAGE_CHILDREN).ru_maxrss)"
-    done = subprocess.run([sys.executable, "-c", reader, *words], capture_output=True, check=True)
-    return int(done.stdout) / 1024
+def compare_readers(top: str) -> None:
+    """Prints what reading a store with a base of 1 MiB takes, beside `cat` and the reading of its base."""
+    folder = fresh(top, "store")
+    fill(folder)
+    store = os.path.join(folder, "store.yaml")
+    programs = {
+        "cat": ["cat", store],
+        "the base to a tree": [DRIVER, "read", "tree", store, "1"],
+        "names": [PROGRAM, "names", folder],
+        "get": [PROGRAM, "get", folder, "c7", "/key_000100"],
+    }
+    times = median_times(programs, TURNS)
+    print(f"A base of {os.path.getsize(store)} bytes:")
+    for name, time in times.items():
+        print(f"  {name:20} {time:6.2f} ms")
+    limit = 3 * times["cat"] + times["the base to a tree"]
+    print(f"  3 times cat and the reading of the base: {limit:.2f} ms")
 
 
-def main():
-    if not os.access(PROGRAM, os.X_OK) or not os.access(DRIVER, os.X_OK):
-        sys.exit("the programs are not built: run rt run in crates/confstore and in crates/bench_driver first")
+def measure_journal(top: str, edits: int) -> None:
+    """Prints what `log` and `verify` take on a journal of so many edits."""
+    folder = fresh(top, f"store{edits}")
+    sets = b"".join(b"---\nset: a\npath: /k%d\nvalue: v%d\n...\n" % (edit % 50, edit) for edit in range(edits))
+    perform(folder, b"---\nimport: a\ntext: 'k: v'\n...\n" + sets, "--group")
+    words = {word: [PROGRAM, word, folder] for word in ("log", "verify")}
+    for word, time in median_times(words, 5).items():
+        print(f"{edits} edits: {word:6} {time:7.1f} ms, {1000 * time / edits:.2f} us an edit, "
+              f"{greatest_memory(words[word]) / MIB:.0f} MiB at most")  # fmt: skip
+
+
+def main() -> int:
+    need_program()
+    need_driver()
     with tempfile.TemporaryDirectory() as top:
-        folder = os.path.join(top, "store")
-        os.mkdir(folder)
-        fill(folder)
-        store = os.path.join(folder, "store.yaml")
-        programs = {
-            "cat": ["cat", store],
-            "the base to a tree": [DRIVER, "read", "tree", store, "1"],
-            "names": [PROGRAM, "names", folder],
-            "get": [PROGRAM, "get", folder, "c7", "/key_000100"],
-        }
-        times = by_turns(programs, TURNS)
-        print(f"A base of {os.path.getsize(store)} bytes:")
-        for name, time in times.items():
-            print(f"  {name:20} {time:6.2f} ms")
-        limit = 3 * times["cat"] + times["the base to a tree"]
-        print(f"  3 times cat and the reading of the base: {limit:.2f} ms")
-
+        compare_readers(top)
         for edits in EDITS:
-            folder = os.path.join(top, f"store{edits}")
-            os.mkdir(folder)
-            sets = b"".join(b'---\nset: a\npath: /k%d\nvalue: v%d\n...\n' % (edit % 50, edit) for edit in range(edits))
-            run(folder, b"---\nimport: a\ntext: 'k: v'\n...\n" + sets)
-            words = {word: [PROGRAM, word, folder] for word in ("log", "verify")}
-            times = by_turns(words, 5)
-            for word, time in times.items():
-                print(f"{edits} edits: {word:6} {time:7.1f} ms, {1000 * time / edits:.2f} us an edit, "
-                      f"{peak_memory(words[word]):.0f} MiB at most")
+            measure_journal(top, edits)
+    return 0
 
 
 if __name__ == "__main__":
-    main()
+    sys.exit(main())

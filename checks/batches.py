@@ -12,16 +12,26 @@ It needs the built program and PyYAML, and takes about a minute for 4,000 batche
 failed', and the status is 0 if M is 0.
 """
 
+from __future__ import annotations
+
 import json
 import os
 import random
 import sys
 import tempfile
+from collections.abc import Callable, Sequence
+from typing import Any
 
 import yaml
 
-from lib.store_model import Refused, edited, meaning, tree_of
+from lib.store_model import Configs, Refused, Tree, compose_all, edited, meaning, tree_of
 from lib.store_runs import GROUPED, SINGLE, Failures, need_program, read_file, session, write_file
+
+# PyYAML's function has no types.
+compose: Callable[..., Any] = yaml.compose
+
+# An edit as a session's command has it: its keys and values, each value as a text of YAML.
+Edit = dict[str, str]
 
 BATCHES = int(sys.argv[1]) if len(sys.argv) > 1 else 4000
 # How many commands a store gets, and how often its file is cut.
@@ -32,8 +42,7 @@ PATHS = ("", "/k", "/l/-", "/l/0", "/l/7", "/k/x", "no")
 VALUES = ("x", "text of a value", '{k: v, l: [m, n]}', "[]", '"y"')
 
 
-def some_edit(chance):
-    """An edit as a session's command has it: its keys and values, each value as a text of YAML."""
+def some_edit(chance: random.Random) -> Edit:
     name = chance.choice(NAMES if chance.random() < 0.1 else NAMES[:4])
     kind = chance.randrange(10)
     if kind < 4:
@@ -44,44 +53,51 @@ def some_edit(chance):
     return {"delete": name, "path": path}
 
 
-def spelled(edit):
+def spelled(edit: Edit) -> list[str]:
     """The lines of an edit. The value of a set stands as it is, and all other texts are quoted."""
     return [f"{key}: {text if key == 'value' else json.dumps(text)}" for key, text in edit.items()]
 
 
-def command_of(edits, is_batch):
-    if not is_batch:
-        return "\n".join(spelled(edits[0])) + "\n...\n"
+def single(edit: Edit) -> str:
+    return "\n".join(spelled(edit)) + "\n...\n"
+
+
+def batch_of(edits: Sequence[Edit]) -> str:
     if not edits:
         return "batch: []\n...\n"
     lines = [("  - " if number == 0 else "    ") + line for edit in edits for number, line in enumerate(spelled(edit))]
     return "batch:\n" + "\n".join(lines) + "\n...\n"
 
 
-def performed(configs, edits):
+def performed(configs: Configs, edits: Sequence[Edit]) -> Configs:
     """What edits make of the configurations, by the model. Raises Refused."""
     if not edits:
         raise Refused
     for edit in edits:
-        values = [tree_of(yaml.compose(text, yaml.CBaseLoader)) if key in ("text", "value") else text for key, text in edit.items()]
+        values: list[Tree] = [
+            tree_of(compose(text, yaml.CBaseLoader)) if key in ("text", "value") else text
+            for key, text in edit.items()
+        ]
         keys = tuple("tree" if key == "text" else key for key in edit)
         configs = edited(configs, keys, values)
     return configs
 
 
-def look(folder):
-    """The names of a store and the tree of each, as the program gives them."""
+def look(folder: str) -> Configs | str:
+    """The names of a store and the tree of each, as the program gives them, or what it says where it refuses it."""
     status, answers, errors = session(folder, b"names:\n...\n")
     if status:
         return errors
     names = yaml.load(answers, yaml.CBaseLoader)["names"]
     commands = "".join(f'get: {name}\npath: ""\n...\n' for name in names).encode()
     _, answers, _ = session(folder, commands)
-    values = [tree_of(node) for node in yaml.compose_all(answers, yaml.CBaseLoader)]
-    return {name: value[0][1] for name, value in zip(names, values)}
+    values = [tree_of(node) for node in compose_all(answers, yaml.CBaseLoader)]
+    return {name: dict(value)["value"] for name, value in zip(names, values) if isinstance(value, tuple)}
 
 
-def try_cuts(chance, top, content, states, failures, about):
+def try_cuts(
+    chance: random.Random, top: str, content: bytes, states: Sequence[Configs], failures: Failures, about: str
+) -> None:
     """Opens prefixes of a file, some with zeros after them, and looks that each means a state that the store had."""
     for cut in range(CUTS):
         kept = chance.randrange(47, len(content) + 1)
@@ -95,36 +111,51 @@ def try_cuts(chance, top, content, states, failures, about):
         failures.expect(f"{about}, {kept} bytes: a state that was", configs == states[count], True)
 
 
-def try_store(chance, top, words, failures, about):
+class Commands:
+    """Random commands for a store, with what each has to be answered, and the states after those that are accepted."""
+
+    def __init__(self, chance: random.Random) -> None:
+        self.texts: list[str] = []
+        self.wanted: list[str] = []
+        self.states: list[Configs] = [{}]
+        self.batches = self.refused = 0
+        for _ in range(COMMANDS):
+            self.add(chance)
+
+    def add(self, chance: random.Random) -> None:
+        is_batch = chance.random() < 0.8
+        edits = [some_edit(chance) for _ in range(chance.choice((0, 1, 1, 2, 2, 3, 3, 4, 6)) if is_batch else 1)]
+        self.texts.append(batch_of(edits) if is_batch else single(edits[0]))
+        self.batches += is_batch
+        try:
+            self.states.append(performed(self.states[-1], edits))
+            self.wanted.append(f'ok: "{len(self.states) - 1}"')
+        except Refused:
+            self.wanted.append("refused" if edits else "refused: EmptyBatch")
+            self.refused += is_batch
+
+
+def try_store(
+    chance: random.Random, top: str, words: Sequence[str], failures: Failures, about: str
+) -> tuple[int, int]:
     """Sends random commands to a store. Returns how many batches there were, and how many of them were refused."""
     folder = os.path.join(top, "folder")
     os.mkdir(folder)
-    commands, wanted, states, batches, refused = [], [], [{}], 0, 0
-    for _ in range(COMMANDS):
-        is_batch = chance.random() < 0.8
-        edits = [some_edit(chance) for _ in range(chance.choice((0, 1, 1, 2, 2, 3, 3, 4, 6)) if is_batch else 1)]
-        commands.append(command_of(edits, is_batch))
-        batches += is_batch
-        try:
-            states.append(performed(states[-1], edits))
-            wanted.append(f'ok: "{len(states) - 1}"')
-        except Refused:
-            wanted.append("refused" if edits else "refused: EmptyBatch")
-            refused += is_batch
-    status, answers, errors = session(folder, "".join(commands).encode(), words)
+    commands = Commands(chance)
+    status, answers, errors = session(folder, "".join(commands.texts).encode(), words)
     failures.expect(f"{about}: status", (status, errors), (0, ""))
     found = [answer.split("\n")[1] for answer in answers.decode().split("...\n")[:-1]]
-    for number, (one, other) in enumerate(zip(found, wanted)):
+    for number, (one, other) in enumerate(zip(found, commands.wanted)):
         is_right = one.startswith("refused: ") if other == "refused" else one == other
-        failures.expect(f"{about}, command {number}: {commands[number]!r} is answered {one}", is_right, True)
-    failures.expect(f"{about}: answers", len(found), len(wanted))
-    failures.expect(f"{about}: state", look(folder), states[-1])
-    failures.expect(f"{about}: order", list(look(folder)), list(states[-1]))
-    try_cuts(chance, top, read_file(os.path.join(folder, "store.yaml")), states, failures, about)
-    return batches, refused
+        failures.expect(f"{about}, command {number}: {commands.texts[number]!r} is answered {one}", is_right, True)
+    failures.expect(f"{about}: answers", len(found), len(commands.wanted))
+    failures.expect(f"{about}: state", look(folder), commands.states[-1])
+    failures.expect(f"{about}: order", list(look(folder)), list(commands.states[-1]))
+    try_cuts(chance, top, read_file(os.path.join(folder, "store.yaml")), commands.states, failures, about)
+    return commands.batches, commands.refused
 
 
-def answered(failures, about, command, answer, size):
+def answered(failures: Failures, about: str, command: bytes, answer: str, size: int) -> None:
     """A session of one command in a new folder: its answer, and the size of the store after it beyond 47 bytes."""
     with tempfile.TemporaryDirectory() as folder:
         _, answers, _ = session(folder, command, SINGLE)
@@ -132,7 +163,7 @@ def answered(failures, about, command, answer, size):
         failures.expect(about, found, (f"---\n{answer}\n...\n".encode(), size))
 
 
-def try_longest_record(failures):
+def try_longest_record(failures: Failures) -> None:
     """Seven imports whose record has 67,108,864 bytes, the most that a file may add, and then one letter more."""
     items = b",".join([b"x"] * 1_048_576)
     lists = b"".join(b"- import: %c\n  text: \"[%s]\"\n" % (name, items) for name in b"abcdef")
@@ -141,7 +172,7 @@ def try_longest_record(failures):
         answered(failures, f"a record with a text of {letters} letters", command, answer, size)
 
 
-def main():
+def main() -> int:
     need_program()
     failures, done, refused, number = Failures(), 0, 0, 0
     try_longest_record(failures)

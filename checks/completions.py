@@ -12,6 +12,8 @@ Run it from the repository's root after the program is built; it takes some seco
 The last line is 'N passed, M failed', and the status is 0 if M is 0.
 """
 
+from __future__ import annotations
+
 import os
 import pty
 import re
@@ -60,14 +62,14 @@ START = 20
 PATIENCE = 10
 
 
-def store_with_names(top):
+def store_with_names(top: str) -> None:
     folder = os.path.join(top, "store")
     os.mkdir(folder)
     session(folder, b"import: web\ntext: x\n...\nimport: app\ntext: x\n...\n")
     write_file(os.path.join(top, "file.yaml"), b"a: b\n")
 
 
-def put_program(top):
+def put_program(top: str) -> str:
     """A program that says its words. For `names`, which completions call, it is the one that was built."""
     folder = os.path.join(top, "bin")
     os.mkdir(folder)
@@ -81,7 +83,7 @@ def put_program(top):
 class Terminal:
     """A shell in a terminal."""
 
-    def __init__(self, words, top, programs):
+    def __init__(self, words: list[str], top: str, programs: str) -> None:
         path = f"{programs}:{os.environ['PATH']}"
         environment = {"PATH": path, "HOME": top, "TERM": "dumb", "LANG": "C.UTF-8", "PS1": "$ "}
         self.process, self.end = pty.fork()
@@ -90,10 +92,10 @@ class Terminal:
             os.execvpe(words[0], words, environment)
         self.seen = ""
 
-    def type(self, text):
+    def type(self, text: str) -> None:
         os.write(self.end, text.encode())
 
-    def await_text(self, pattern, seconds):
+    def await_text(self, pattern: str, seconds: float) -> re.Match[str] | None:
         """The first match of a pattern in what comes within so many seconds."""
         deadline = time.monotonic() + seconds
         while not (found := re.search(pattern, self.seen)) and time.monotonic() < deadline:
@@ -106,7 +108,7 @@ class Terminal:
             self.seen = self.seen[found.end() :]
         return found
 
-    def close(self):
+    def close(self) -> None:
         os.close(self.end)
         try:
             os.kill(self.process, 9)
@@ -115,7 +117,7 @@ class Terminal:
         os.waitpid(self.process, 0)
 
 
-def try_shell(name, top, programs, failures):
+def try_shell(name: str, top: str, programs: str, failures: Failures) -> None:
     words, first = SHELLS[name]
     terminal = Terminal(words, top, programs)
     try:
@@ -133,7 +135,7 @@ def try_shell(name, top, programs, failures):
         terminal.close()
 
 
-def look_up_words(failures):
+def look_up_words(failures: Failures) -> None:
     """Each word of the program is completed, and is in its page."""
     printed = subprocess.run([PROGRAM, "--help"], capture_output=True, check=True).stdout.decode()
     listed = printed.partition("Commands:\n")[2].partition("\n\n")[0]
@@ -145,12 +147,15 @@ def look_up_words(failures):
         lacking = {word for word in words - {"help"} if not re.search(rf"\b{word}\b", text)}
         failures.expect(f"words that {file} lacks", lacking, set())
     with open(os.path.join(FOLDER, "confstore.bash"), encoding="utf-8") as source:
-        completed = set(re.search(r"_confstore_words='(.*)'", source.read())[1].split())
+        found = re.search(r"_confstore_words='(.*)'", source.read())
+    if found is None:
+        sys.exit("completions/confstore.bash has no list _confstore_words")
+    completed = set(found[1].split())
     if completed - words - {"help"}:
         print(f"completed, but not in this program: {' '.join(sorted(completed - words - {'help'}))}")
 
 
-def main():
+def main() -> int:
     need_program()
     failures = Failures()
     with tempfile.TemporaryDirectory() as top:

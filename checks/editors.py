@@ -12,6 +12,8 @@ Run it from the repository's root after the program is built; it takes some seco
 The last line is 'N passed, M failed', and the status is 0 if M is 0.
 """
 
+from __future__ import annotations
+
 import json
 import os
 import re
@@ -20,11 +22,18 @@ import subprocess
 import sys
 import tempfile
 import time
+from collections.abc import Mapping, Sequence
+from typing import Any
 
 from lib.store_runs import PROGRAM, TOP, Failures, need_program, read_file, session, write_file
 
+# Where an editor finds a message: the file, the line and the column, with the message.
+Place = tuple[str, int, int, str]
+# A line that is tried, with its place.
+Line = tuple[str, Place]
+
 # Lines, each with the file, the line, the column and the message that an editor has to find.
-LINES = [
+LINES: list[Line] = [
     ("web.yaml:3: S1 the line ends in a space or TAB", ("web.yaml", 3, 0, "S1 the line ends in a space or TAB")),
     ("web.yaml:12:7: Syntax Flow", ("web.yaml", 12, 7, "Syntax Flow")),
     ("a b.yaml:1: S4", ("a b.yaml", 1, 0, "S4")),
@@ -57,13 +66,16 @@ SAID = (
 )
 
 
-def block_of(language):
+def block_of(language: str) -> str:
     """What stands in docs/EDITORS.md as a block of a language."""
     text = read_file(os.path.join(TOP, "docs", "EDITORS.md")).decode()
-    return re.search(rf"```{language}\n(.*?)```", text, re.DOTALL)[1]
+    found = re.search(rf"```{language}\n(.*?)```", text, re.DOTALL)
+    if found is None:
+        sys.exit(f"docs/EDITORS.md has no block of {language}")
+    return found[1]
 
 
-def lines_of(top, failures):
+def lines_of(top: str, failures: Failures) -> list[Line]:
     """The lines to be tried, those that the program prints of two files among them."""
     write_file(os.path.join(top, "own.yaml"), SPACED)
     write_file(os.path.join(top, "twice.yaml"), b"a: b\na: c\n")
@@ -75,7 +87,7 @@ def lines_of(top, failures):
     return LINES + [(line, ("own.yaml", 2, 0, line.split(": ", 1)[1])) for line in own]
 
 
-def by_vim(top, lines):
+def by_vim(top: str, lines: Sequence[Line]) -> list[Place]:
     """What Vim reads of the lines."""
     settings = block_of("vim").replace("setlocal", "set")
     write_file(os.path.join(top, "settings.vim"), settings.encode())
@@ -113,7 +125,7 @@ BY_EMACS = """
 """
 
 
-def by_emacs(top, lines, failures):
+def by_emacs(top: str, lines: Sequence[Line], failures: Failures) -> list[tuple[str, int, int]]:
     """What Emacs reads of the lines, and whether its settings can be read."""
     write_file(os.path.join(top, "lines"), "".join(f"{line}\n" for line, _ in lines).encode())
     write_file(os.path.join(top, "settings.el"), block_of("elisp").encode())
@@ -125,24 +137,25 @@ def by_emacs(top, lines, failures):
     return [(name, int(line), int(column)) for name, line, column in found]
 
 
-def by_code(lines):
+def by_code(lines: Sequence[Line]) -> list[Place | None]:
     """What the patterns for VS Code find in the lines, of which each takes the first that fits."""
     patterns = [matcher["pattern"] for matcher in json.loads(block_of("json"))["tasks"][0]["problemMatcher"]]
     return [found_by(patterns, line) for line, _ in lines]
 
 
-def found_by(patterns, line):
+def found_by(patterns: Sequence[Mapping[str, Any]], line: str) -> Place | None:
+    """What the first pattern that fits finds in a line."""
     for pattern in patterns:
         match = re.search(pattern["regexp"], line)
         if match:
             name, number, column, message = (
-                match[pattern[part]] if part in pattern else None for part in ("file", "line", "column", "message")
+                match[pattern[part]] if part in pattern else "" for part in ("file", "line", "column", "message")
             )
             return name, int(number or 0), int(column or 0), message
     return None
 
 
-def try_editors(top, failures):
+def try_editors(top: str, failures: Failures) -> None:
     lines = lines_of(top, failures)
     wanted = [place for _, place in lines]
     failures.expect("VS Code", by_code(lines), wanted)
@@ -156,16 +169,19 @@ def try_editors(top, failures):
         print("left out: Emacs")
 
 
-def git(folder, *words, **more):
+def git(folder: str, *words: str, **more: str) -> tuple[int, str]:
+    """The status and the errors of git, with more settings of the environment."""
     names = {"GIT_AUTHOR_NAME": "a", "GIT_AUTHOR_EMAIL": "a", "GIT_COMMITTER_NAME": "a", "GIT_COMMITTER_EMAIL": "a"}
     alone = {"GIT_CONFIG_GLOBAL": "/dev/null", "GIT_CONFIG_SYSTEM": "/dev/null", "CONFSTORE": PROGRAM}
     environment = {**os.environ, **names, **alone, **more}
-    how = {"capture_output": True, "check": False, "timeout": PATIENCE}
-    done = subprocess.run(["git", *words], cwd=folder, env=environment, **how)
+    done = subprocess.run(
+        ["git", *words], cwd=folder, env=environment, capture_output=True, check=False, timeout=PATIENCE
+    )
     return done.returncode, done.stderr.decode()
 
 
-def try_hook(top, failures):
+def repository_in(top: str) -> str:
+    """A repository with the hook, and with the staged files in its index."""
     folder = os.path.join(top, "repository")
     os.mkdir(folder)
     git(folder, "init", "-q")
@@ -176,6 +192,11 @@ def try_hook(top, failures):
     for name, content in STAGED.items():
         write_file(os.path.join(folder, name), content)
     git(folder, "add", ".")
+    return folder
+
+
+def try_hook(top: str, failures: Failures) -> None:
+    folder = repository_in(top)
     write_file(os.path.join(folder, "b d.yml"), b"a: b\n")  # the working tree is well, the index is not
     status, said = git(folder, "commit", "-m", "x")
     failures.expect("a commit of wrong files", status, 1)
@@ -193,21 +214,21 @@ def try_hook(top, failures):
     failures.expect("a missing program", (status, "no program" in said), (1, True))
 
 
-def try_deployment(top, failures):
+def deploy(*words: str) -> tuple[int, bytes, bytes]:
+    """The status, the output and the errors of clients/examples/deploy.sh."""
+    script = os.path.join(TOP, "clients", "examples", "deploy.sh")
+    environment = {**os.environ, "CONFSTORE": PROGRAM}
+    done = subprocess.run([script, *words], env=environment, capture_output=True, check=False, timeout=PATIENCE)
+    return done.returncode, done.stdout, done.stderr
+
+
+def try_deployment(top: str, failures: Failures) -> None:
     folder, file = os.path.join(top, "deployed"), os.path.join(top, "web.yaml")
     os.mkdir(folder)
     if session(folder, b"batch: []\n...\n")[1] == b"---\nrefused: BadCommand\n...\n":
         print("left out: deploy.sh, since this program has no batches")
         return
     write_file(file, b"\xef\xbb\xbf# a comment\nhost: none\nnote: |\n  a\n  ...\n  b\nlist: [1, 2]")
-    script = os.path.join(TOP, "clients", "examples", "deploy.sh")
-
-    def deploy(*words):
-        environment = {**os.environ, "CONFSTORE": PROGRAM}
-        how = {"capture_output": True, "check": False, "timeout": PATIENCE}
-        done = subprocess.run([script, *words], env=environment, **how)
-        return done.returncode, done.stdout, done.stderr
-
     text = b'host: "a \\"b\\" \\\\c"\nnote: |\n  a\n  ...\n  b\nlist:\n  - "1"\n  - "2"\n  - x\n'
     failures.expect("deploy", deploy(folder, "web", file, "/host", 'a "b" \\c', "/list/-", "x"), (0, text, b""))
     refused = (1, b"", b"deploy.sh: refused: NoSuchPlace\n")
@@ -219,7 +240,7 @@ def try_deployment(top, failures):
     failures.expect("wrong words", deploy(folder, "web", file, "/host")[0], 2)
 
 
-def try_service(top, failures):
+def try_service(top: str, failures: Failures) -> None:
     folder = os.path.join(top, "served")
     os.mkdir(folder)
     session(folder, b'import: web\ntext: "port: 80"\n...\n')
@@ -229,6 +250,7 @@ def try_service(top, failures):
     environment = {**os.environ, "CONFSTORE": PROGRAM, "PYTHONPATH": os.path.join(TOP, "python")}
     words = [sys.executable, os.path.join(TOP, "clients", "examples", "service.py"), folder, "web", "0.1"]
     service = subprocess.Popen(words, env=environment, stdout=subprocess.PIPE, text=True)
+    assert service.stdout is not None
     try:
         failures.expect("the settings", service.stdout.readline(), "settings: {'port': '80'}\n")
         session(folder, b"set: web\npath: /port\nvalue: 81\n...\nimport: other\ntext: x\n...\n")
@@ -244,7 +266,7 @@ def try_service(top, failures):
         service.stdout.close()
 
 
-def main():
+def main() -> int:
     need_program()
     failures = Failures()
     with tempfile.TemporaryDirectory() as top:

@@ -13,6 +13,8 @@ Run it from the repository's root after the program is built; it takes some seco
 A seed may follow. The status is 0 if all is as it should be.
 """
 
+from __future__ import annotations
+
 import os
 import random
 import sys
@@ -28,7 +30,8 @@ JOURNALS = {
     "edits of one value": ['import: app\ntext: "port: 80"\n...\n']
     + [f"set: app\npath: /port\nvalue: {number}\n...\n" for number in range(300)],
     "texts": [
-        f"import: page{number}\ntext: |\n  title: Page {number}\n  body: |\n    Some words about it,\n    on two lines.\n...\n"
+        f"import: page{number}\ntext: |\n  title: Page {number}\n"
+        "  body: |\n    Some words about it,\n    on two lines.\n...\n"
         for number in range(100)
     ],
     "lists": ['import: log\ntext: "[]"\n...\n']
@@ -36,7 +39,7 @@ JOURNALS = {
 }
 
 
-def seen(folder, before, failures):
+def seen(folder: str, before: int, failures: Failures) -> str:
     """What a session makes of the file in the folder, where it answered `before` for the whole one."""
     status, answers, errors = session(folder, b"---\nnames:\n...\n")
     if status == 1 and errors in ("confstore: Damaged\n", "confstore: NotAStore\n"):
@@ -46,7 +49,7 @@ def seen(folder, before, failures):
     return "read as it is" if size == before and answers else "cut at its end"
 
 
-def main():
+def main() -> int:
     need_program()
     seed = int(sys.argv[1]) if len(sys.argv) > 1 else random.randrange(10**9)
     print(f"seed {seed}")
@@ -57,11 +60,11 @@ def main():
             os.mkdir(store)
             session(store, "".join(commands).encode())
             journal = read_file(os.path.join(store, "store.yaml"))
-            counts = Counter()
+            counts: Counter[str] = Counter()
             for _ in range(FLIPS):
                 changed, place = bytearray(journal), chance.randrange(len(journal))
                 changed[place] ^= 1 << chance.randrange(8)
-                write_file(os.path.join(store, "store.yaml"), changed)
+                write_file(os.path.join(store, "store.yaml"), bytes(changed))
                 counts[seen(store, len(journal), failures)] += 1
             print(f"{name}: of {FLIPS} flipped bits", ", ".join(f"{count} {what}" for what, count in counts.items()))
     return failures.report()

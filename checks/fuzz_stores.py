@@ -21,6 +21,8 @@ Run it from the repository's root after the program is built; it takes two minut
 A number of files and a seed may follow. The status is 0 if all is as it should be.
 """
 
+from __future__ import annotations
+
 import os
 import random
 import re
@@ -29,10 +31,12 @@ import subprocess
 import sys
 import tempfile
 from collections import Counter
+from collections.abc import Callable, Sequence
 from concurrent.futures import ProcessPoolExecutor
+from typing import Union
 
 from lib.mutations import changed, flip_bit, place
-from lib.store_model import OLD_BREAKS, Damaged, NotAStore, Refused, meaning, pieces_of, read_base
+from lib.store_model import OLD_BREAKS, Damaged, NotAStore, Refused, Tree, meaning, pieces_of, read_base
 from lib.store_runs import EMPTY, PROGRAM, Failures, need_program, read_file, session, write_file
 
 COUNT = 100_000
@@ -49,17 +53,28 @@ VERIFIED = 100
 
 MEMORY = "/dev/shm"
 
+# A state: the configurations in order, the count, and how many bytes come after the last piece. Or the name of a
+# refusal.
+State = tuple["list[tuple[str, Tree]]", int, int]
+Outcome = Union[State, str]
+# A change of a store, which may take pieces of another one.
+Change = Callable[[random.Random, bytes, bytes], bytes]
+# The shape of a tree, without its texts.
+Shape = Union[str, "list[Shape]", "tuple[tuple[str, Shape], ...]"]
+# What was counted, how often something was tried, and what went wrong.
+Tried = tuple["Counter[tuple[str, str]]", int, "list[str]"]
 
-def imports(name, text):
+
+def imports(name: str, text: str) -> str:
     lines = "".join(f"  {line}\n" for line in text.split("\n"))
     return f"import: {name}\ntext: |\n{lines}...\n"
 
 
-def sets(name, path, value):
+def sets(name: str, path: str, value: str) -> str:
     return f'set: {name}\npath: "{path}"\nvalue: {value}\n...\n'
 
 
-def deletes(name, path):
+def deletes(name: str, path: str) -> str:
     return f'delete: {name}\npath: "{path}"\n...\n'
 
 
@@ -75,13 +90,14 @@ SESSIONS = [
     "".join(imports(f"c{number}", f"[{number}]") for number in range(8)) + deletes("c3", "") + sets("c5", "", "{}"),
     NOTES + sets("notes", "/first", '"\\x07 \\u2028 \\"quoted\\""') + sets("notes", "/é", "ÿ😀"),
     imports("deep", "[" * 20 + "x" + "]" * 20) + sets("deep", "/0/0/0/-", "[y, {z: ''}]") + "checkpoint:\n...\n",
-    WEB + NOTES + "checkpoint:\n...\n" + sets("web", "/host", "other") + sets("notes", "/a~1b", "[]") + deletes("notes", "/last"),
+    WEB + NOTES + "checkpoint:\n...\n"
+    + sets("web", "/host", "other") + sets("notes", "/a~1b", "[]") + deletes("notes", "/last"),
     imports("keys", f"? {'k' * 1100}\n: v\n'': empty\n'yes': 'no'") + sets("keys", "/~0~1", '"- not a list"'),
     imports("log", "[]") + "".join(sets("log", "/-", f"n{number}") for number in range(20)),
-]
+]  # fmt: skip
 
 
-def made_stores():
+def made_stores() -> list[bytes]:
     """The files that the sessions make."""
     stores = []
     for commands in SESSIONS:
@@ -93,7 +109,7 @@ def made_stores():
     return stores
 
 
-def change_pieces(chance, store, other):
+def change_pieces(chance: random.Random, store: bytes, other: bytes) -> bytes:
     """The store with whole pieces swapped, doubled, taken out, or put in from another store."""
     pieces = pieces_of(store)[0]
     at, to = chance.randrange(len(pieces)), chance.randrange(len(pieces))
@@ -109,28 +125,30 @@ def change_pieces(chance, store, other):
     return b"".join(pieces)
 
 
-def cut_off(chance, store, _other):
+def cut_off(chance: random.Random, store: bytes, _other: bytes) -> bytes:
     return store[: place(chance, store)]
 
 
-def with_zeros(chance, store, _other):
+def with_zeros(chance: random.Random, store: bytes, _other: bytes) -> bytes:
     """The store cut off, with zeros in the place of what is gone, or more."""
     return store[: place(chance, store)] + bytes(chance.randrange(1, 100))
 
 
-def with_flipped_bit(chance, store, _other):
+def with_flipped_bit(chance: random.Random, store: bytes, _other: bytes) -> bytes:
     return flip_bit(chance, store)
 
 
-def with_changed_bytes(chance, store, _other):
+def with_changed_bytes(chance: random.Random, store: bytes, _other: bytes) -> bytes:
     return changed(chance, store)
 
 
 # The ways to change a store, and whether the model has to agree with the program on every file.
-EXACT = {change_pieces: True, cut_off: True, with_zeros: True, with_flipped_bit: False, with_changed_bytes: False}
+EXACT: dict[Change, bool] = {
+    change_pieces: True, cut_off: True, with_zeros: True, with_flipped_bit: False, with_changed_bytes: False,
+}  # fmt: skip
 
 
-def outcome_of_model(content):
+def outcome_of_model(content: bytes) -> Outcome:
     """The state that the model finds, or the name of a refusal."""
     try:
         configs, count, rest = meaning(content)
@@ -141,7 +159,7 @@ def outcome_of_model(content):
         return "Damaged"
 
 
-def outcome_of_program(folder, content, failures):
+def outcome_of_program(folder: str, content: bytes, failures: Failures) -> Outcome:
     """The state that the program finds, or the name of its refusal."""
     file = os.path.join(folder, "store.yaml")
     write_file(file, content)
@@ -164,7 +182,7 @@ def outcome_of_program(folder, content, failures):
     return list(configs.items()), count, len(pieces_of(content)[1])
 
 
-def opening_changes_nothing(folder, content, outcome, failures):
+def opening_changes_nothing(folder: str, content: bytes, outcome: Outcome, failures: Failures) -> None:
     """A session without commands leaves the file, unless it drops bytes after the last piece."""
     file = os.path.join(folder, "store.yaml")
     write_file(file, content)
@@ -177,30 +195,49 @@ def opening_changes_nothing(folder, content, outcome, failures):
         failures.expect(f"the base of {content!r} after opening", (list(configs.items()), count), outcome[:2])
 
 
-def run_word(*words):
+def run_word(*words: str) -> tuple[int, str, str]:
     """The status, the output and the first line of the errors of a word."""
     done = subprocess.run([PROGRAM, *words], capture_output=True, check=False, timeout=HANGS)
     return done.returncode, done.stdout.decode(), done.stderr.decode().partition("\n")[0]
 
 
-def findings_of(output):
-    """The lines that `verify` writes, as numbers and words by their keys."""
-    return {key: int(value[1:-1]) if value[0] == '"' else value for key, value in re.findall(r"(?m)^(\w+): (.+)$", output)}
+class Findings:
+    """The lines that `verify` writes: a number, or a word, by each key."""
+
+    def __init__(self, output: str) -> None:
+        self.values: dict[str, str] = dict(re.findall(r"(?m)^(\w+): (.+)$", output))
+
+    def word(self, key: str) -> str:
+        return self.values[key]
+
+    def number(self, key: str) -> int:
+        """A number within quotes, or -1 where there is none."""
+        found = re.fullmatch(r'"(\d+)"', self.values.get(key, ""))
+        return int(found[1]) if found else -1
 
 
-def place_of_damage(content, found):
-    """The first bytes of the content before the piece that `verify` found, with the number and the line of the piece."""
+def place_of_damage(content: bytes, commands: int) -> tuple[bytes, dict[str, int]]:
+    """The content through so many commands, with the numbers that `verify` gives of what follows."""
     pieces = pieces_of(content)[0]
-    before = b"".join(pieces[: found["commands"] + 1])
+    before = b"".join(pieces[: commands + 1])
     return before, {
-        "piece": found["commands"] + 1,
+        "piece": commands + 1,
         "byte": len(before),
         "line": before.count(b"\n") + 1,
-        "following": len(pieces) - found["commands"] - 2,
+        "following": len(pieces) - commands - 2,
     }
 
 
-def verified(folder, content, outcome, failures):
+def verified_damage(content: bytes, said: tuple[int, str], found: Findings, failures: Failures) -> bytes:
+    """Looks at what `verify` says of a damaged file. Returns its first bytes, up to the damage."""
+    what = (*said, found.word("state"))
+    failures.expect(f"verify of {content!r}", what, (1, "confstore: Damaged", "damaged"))
+    kept, place = place_of_damage(content, found.number("commands"))
+    failures.expect(f"the damage in {content!r}", {key: found.number(key) for key in place}, place)
+    return kept
+
+
+def verified(folder: str, content: bytes, outcome: Outcome, failures: Failures) -> None:
     """What `verify` and `salvage` say and make of a file whose opening ended so."""
     write_file(os.path.join(folder, "store.yaml"), content)
     saved = os.path.join(folder, "saved")
@@ -211,15 +248,13 @@ def verified(folder, content, outcome, failures):
         failures.expect(f"salvage of {content!r}", run_word("salvage", folder, saved), (1, "", "confstore: NotAStore"))
         shutil.rmtree(saved, ignore_errors=True)
         return
-    found, kept = findings_of(output), content
+    found, kept = Findings(output), content
     if outcome == "Damaged":
-        failures.expect(f"verify of {content!r}", (status, errors, found["state"]), (1, "confstore: Damaged", "damaged"))
-        kept, place = place_of_damage(content, found)
-        failures.expect(f"the damage in {content!r}", {key: found[key] for key in place}, place)
+        kept = verified_damage(content, (status, errors), found, failures)
     else:
-        failures.expect(f"verify of {content!r}", (status, errors, found["state"]), (0, "", "whole"))
-        failures.expect(f"the count in {content!r}", found["base"] + found["commands"], outcome[1])
-    failures.expect(f"the bytes that {content!r} drops", found["dropped"], len(pieces_of(content)[1]))
+        failures.expect(f"verify of {content!r}", (status, errors, found.word("state")), (0, "", "whole"))
+        failures.expect(f"the count in {content!r}", found.number("base") + found.number("commands"), outcome[1])
+    failures.expect(f"the bytes that {content!r} drops", found.number("dropped"), len(pieces_of(content)[1]))
     failures.expect(f"salvage of {content!r}", run_word("salvage", folder, saved), (0, output, ""))
     configs, count = read_base(read_file(os.path.join(saved, "store.yaml")))
     salvaged = outcome_of_program(saved, kept, failures)[:2] if outcome == "Damaged" else outcome[:2]
@@ -229,21 +264,22 @@ def verified(folder, content, outcome, failures):
     failures.expect(f"the file {content!r} after salvage", read_file(os.path.join(folder, "store.yaml")), content)
 
 
-def texts_of(tree):
+def texts_of(tree: Tree) -> tuple[list[str], Shape]:
     """The texts of a tree, and its shape without them."""
     if isinstance(tree, str):
         return [tree], "text"
+    parts = [texts_of(value) for value in (tree if isinstance(tree, list) else [value for _, value in tree])]
+    texts = [text for texts, _ in parts for text in texts]
     if isinstance(tree, list):
-        parts = [texts_of(value) for value in tree]
-        return sum((texts for texts, _ in parts), []), [shape for _, shape in parts]
-    parts = [(key, *texts_of(value)) for key, value in tree]
-    return sum((texts for _, texts, _ in parts), []), tuple((key, shape) for key, _, shape in parts)
+        return texts, [shape for _, shape in parts]
+    return texts, tuple((key, shape) for (key, _), (_, shape) in zip(tree, parts))
 
 
-def difference(before, after):
+def difference(before: Outcome, after: Outcome) -> str:
     """How the state of a store with a flipped bit differs from the state before."""
     if isinstance(after, str):
         return after
+    assert not isinstance(before, str), "a store that a session made is read"
     if before[:2] == after[:2]:
         return "no difference"
     if after[2]:
@@ -254,7 +290,7 @@ def difference(before, after):
     return "a key, a name, a path or a list changed"
 
 
-def agreement(change, content, model, program):
+def agreement(change: Change, content: bytes, model: Outcome, program: Outcome) -> str:
     """How the model and the program agree on a file."""
     if model == program:
         return "agreed"
@@ -267,9 +303,10 @@ def agreement(change, content, model, program):
     return "opened by libyaml's reading alone" if isinstance(program, str) else "opened by the program alone"
 
 
-def try_files(stores, seed, count):
+def try_files(stores: Sequence[bytes], seed: str, count: int) -> Tried:
     """Opens so many changed files. Returns what was counted, and what went wrong."""
-    chance, failures, counts = random.Random(seed), Failures(), Counter()
+    chance, failures = random.Random(seed), Failures()
+    counts: Counter[tuple[str, str]] = Counter()
     with tempfile.TemporaryDirectory(dir=MEMORY if os.path.isdir(MEMORY) else None) as folder:
         for number in range(count):
             store = chance.choice(stores)
@@ -290,15 +327,17 @@ def try_files(stores, seed, count):
     return counts, failures.tried, failures.wrong
 
 
-def main():
+def main() -> int:
     need_program()
     count = int(sys.argv[1]) if len(sys.argv) > 1 else COUNT
     seed = int(sys.argv[2]) if len(sys.argv) > 2 else random.randrange(10**6)
     print(f"seed {seed}")
-    failures, counts, stores = Failures(), Counter(), made_stores()
+    failures, stores = Failures(), made_stores()
+    counts: Counter[tuple[str, str]] = Counter()
     failures.expect("the empty store", stores[0], EMPTY)
     with ProcessPoolExecutor() as workers:
-        parts = [workers.submit(try_files, stores, f"{seed} {part}", min(CHUNK, count - part)) for part in range(0, count, CHUNK)]
+        starts = range(0, count, CHUNK)
+        parts = [workers.submit(try_files, stores, f"{seed} {start}", min(CHUNK, count - start)) for start in starts]
         for part in parts:
             found, tried, wrong = part.result()
             counts += found

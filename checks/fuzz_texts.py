@@ -17,6 +17,9 @@ Run it from the repository's root after the program is built; it takes some 3 mi
 A number of texts and a seed may follow. The status is 0 if all is as it should be.
 """
 
+from __future__ import annotations
+
+import importlib
 import multiprocessing
 import os
 import queue
@@ -27,14 +30,17 @@ import subprocess
 import sys
 import threading
 from collections import Counter
-from concurrent.futures import ProcessPoolExecutor
+from collections.abc import Iterable, Iterator, Sequence
+from concurrent.futures import Future, ProcessPoolExecutor
+from typing import Any
 
 from cases import CASES, TOP, bytes_of, read_cases
 from lib.mutations import changed
 from lib.store_runs import Failures, read_file
 
+yaml: Any
 try:
-    import yaml
+    yaml = importlib.import_module("yaml")
 except ImportError:
     yaml = None
 
@@ -57,6 +63,11 @@ MEMORY = 16 * 1024 * 1024
 MEMORY_A_BYTE = 200
 LONGEST_SHORT = 8 * 1024
 
+# A text and its tree in the one style.
+Pair = tuple[bytes, str]
+# What was counted, and what went wrong: what a comparison gave, the text, and its tree in the one style.
+Compared = tuple["Counter[str]", "list[tuple[str, bytes, str]]"]
+
 # If nothing is read for so many seconds, the process hangs.
 HANGS = 60
 
@@ -78,21 +89,21 @@ ESCAPES = {byte: f"\\x{byte:02x}" for byte in (*range(32), *range(127, 256))}
 ESCAPES.update({0x0A: "\\n", 0x0D: "\\r", 0x09: "\\t", 0x5C: "\\\\"})
 
 
-def seeds():
+def seeds() -> list[bytes]:
     """The texts that are changed."""
-    texts = [read_file(os.path.join(TOP, "checks", "data", "every_form.yaml"))]
+    texts: list[bytes] = [read_file(os.path.join(TOP, "checks", "data", "every_form.yaml"))]
     for name in sorted(os.listdir(CASES)):
         texts += [bytes_of(case["text"]) for case in read_cases(os.path.join(CASES, name))]
     return [text for text in texts if len(text) <= 2000]
 
 
-def short_texts(chance, count):
+def short_texts(chance: random.Random, count: int) -> Iterator[bytes]:
     known = seeds()
     for _ in range(count):
         yield changed(chance, chance.choice(known))
 
 
-def long_texts(chance, count):
+def long_texts(chance: random.Random, count: int) -> Iterator[bytes]:
     """So many changed texts, some as items of a list, each repeated, and some changed once more."""
     known = seeds()
     for _ in range(count):
@@ -103,43 +114,45 @@ def long_texts(chance, count):
         yield one * times if chance.random() < 0.5 else changed(chance, one * times)
 
 
-def order_of(text):
+def order_of(text: bytes) -> bytes:
     """The line that asks for the tree of a text."""
     return b"style;" + text.decode("latin-1").translate(ESCAPES).encode() + b"\n"
 
 
-def unescaped(line):
+def unescaped(line: str) -> str:
     return re.sub(r"\\(.)", lambda found: "\n" if found[1] == "n" else "\\", line)
 
 
 class Probe:
     """A process that reads texts. `sent` has those that were sent and not answered yet."""
 
-    def __init__(self, source, longest):
+    def __init__(self, source: Iterable[bytes], longest: int) -> None:
         self.most = MEMORY + MEMORY_A_BYTE * longest
         self.peak = 0
-        self.sent = queue.Queue(100_000)
+        self.sent: queue.Queue[bytes] = queue.Queue(100_000)
         self.process = subprocess.Popen(
             [PROBE], stdin=subprocess.PIPE, stdout=subprocess.PIPE, preexec_fn=self.limit_memory
         )
+        assert self.process.stdin is not None and self.process.stdout is not None
+        self.orders, self.lines = self.process.stdin, self.process.stdout
         self.progress = 0
         self.ended = threading.Event()
         threading.Thread(target=self.send, args=(source,), daemon=True).start()
         threading.Thread(target=self.watch, daemon=True).start()
 
-    def limit_memory(self):
+    def limit_memory(self) -> None:
         resource.setrlimit(resource.RLIMIT_AS, (self.most, self.most))
 
-    def send(self, source):
+    def send(self, source: Iterable[bytes]) -> None:
         try:
             for text in source:
                 self.sent.put(text)
-                self.process.stdin.write(order_of(text))
-            self.process.stdin.close()
+                self.orders.write(order_of(text))
+            self.orders.close()
         except BrokenPipeError:
             pass
 
-    def watch(self):
+    def watch(self) -> None:
         """Ends the process once it makes no progress."""
         last = -1
         while not self.ended.wait(HANGS):
@@ -147,32 +160,32 @@ class Probe:
                 self.process.kill()
             last = self.progress
 
-    def answers(self):
+    def answers(self) -> Iterator[tuple[bytes, int, str]]:
         """Each text with the nanoseconds that reading took, and its answer."""
-        for line in self.process.stdout:
+        for line in self.lines:
             self.progress += 1
             if self.progress % 100 == 0:
                 self.peak = self.memory() or self.peak
             time, answer = line.decode().rstrip("\n").split(" ", 1)
             yield self.sent.get(), int(time), answer
 
-    def memory(self):
+    def memory(self) -> int | None:
         """The greatest memory of the process so far in KiB, or nothing once it has ended."""
         with open(f"/proc/{self.process.pid}/status", encoding="ascii") as source:
             found = re.search(r"VmHWM:\s+(\d+) kB", source.read())
-        return found and int(found[1])
+        return int(found[1]) if found else None
 
-    def end(self):
+    def end(self) -> int:
         """Waits for the process. Returns its status."""
         self.ended.set()
         return self.process.wait()
 
 
-def may_take(text):
+def may_take(text: bytes) -> int:
     return TIME + TIME_A_BYTE * len(text)
 
 
-def least_time(text):
+def least_time(text: bytes) -> int:
     """The least time of some readings of a text."""
     probe = Probe([text] * AGAIN, len(text))
     least = min(time for _, time, _ in probe.answers())
@@ -180,7 +193,7 @@ def least_time(text):
     return least
 
 
-def read_by_libyaml(text):
+def read_by_libyaml(text: bytes | str) -> Any:
     """The tree that libyaml reads, or why it refuses the text."""
     try:
         return yaml.load(text, yaml.CBaseLoader)
@@ -188,7 +201,7 @@ def read_by_libyaml(text):
         return error
 
 
-def comparison(text, style):
+def comparison(text: bytes, style: str) -> str:
     """What libyaml says of a text that was read, and of its tree in the one style."""
     if OLD_BREAKS.search(text.decode()):
         return "not compared"
@@ -203,7 +216,7 @@ def comparison(text, style):
     return "another tree by other rules" if OTHER_RULES.search(text.decode()) else "another tree"
 
 
-def compare(pairs):
+def compare(pairs: Sequence[Pair]) -> Compared:
     """How many comparisons went how, and those that went wrong."""
     results = [(comparison(text, style), text, style) for text, style in pairs]
     counts = Counter(result for result, _, _ in results)
@@ -218,14 +231,14 @@ EXPECTED = {"the same tree", "refused by libyaml", "not compared", "another tree
 class Tally:
     """What was answered, and what took long."""
 
-    def __init__(self):
-        self.answers = Counter()
-        self.slow = []
+    def __init__(self) -> None:
+        self.answers: Counter[str] = Counter()
+        self.slow: list[bytes] = []
         self.slowest = 0.0
         self.longest = 0
-        self.trees = []
+        self.trees: list[Pair] = []
 
-    def take(self, text, time, answer):
+    def take(self, text: bytes, time: int, answer: str) -> None:
         word, _, rest = answer.partition(" ")
         self.answers[word] += 1
         self.longest = max(self.longest, len(text))
@@ -235,29 +248,30 @@ class Tally:
         if word == "tree" and yaml:
             self.trees.append((text, unescaped(rest)))
 
-    def taken(self):
+    def taken(self) -> list[Pair]:
         """The trees to be compared next."""
         trees, self.trees = self.trees, []
         return trees
 
 
-def read_all(source, longest, failures):
+def read_all(source: Iterable[bytes], longest: int, failures: Failures) -> tuple[Tally, list[Compared]]:
     """Reads texts of at most so many bytes in one process, and compares their trees. Returns what was answered, and
     the comparisons."""
-    tally, probe, compared = Tally(), Probe(source, longest), []
+    tally, probe = Tally(), Probe(source, longest)
+    parts: list[Future[Compared]] = []
     with ProcessPoolExecutor(mp_context=multiprocessing.get_context("spawn")) as workers:
         for text, time, answer in probe.answers():
             tally.take(text, time, answer)
             if len(tally.trees) >= CHUNK:
-                compared.append(workers.submit(compare, tally.taken()))
+                parts.append(workers.submit(compare, tally.taken()))
         failures.expect("the status", probe.end(), 0)
-        compared.append(workers.submit(compare, tally.taken()))
-        compared = [each.result() for each in compared]
+        parts.append(workers.submit(compare, tally.taken()))
+        compared = [each.result() for each in parts]
     print(f"  {probe.peak} KiB of memory, of {probe.most // 1024}, for texts of up to {tally.longest} bytes")
     return tally, compared
 
 
-def try_texts(source, count, longest, failures):
+def try_texts(source: Iterable[bytes], count: int, longest: int, failures: Failures) -> None:
     """Reads so many texts, and looks at their answers."""
     tally, compared = read_all(source, longest, failures)
     failures.expect("texts answered", sum(tally.answers.values()), count)
@@ -269,7 +283,7 @@ def try_texts(source, count, longest, failures):
     report_comparisons(compared, failures)
 
 
-def main():
+def main() -> int:
     if not os.access(PROBE, os.X_OK):
         sys.exit("tree_probe is not built: run 'rt run' in crates/tree_probe first")
     count = int(sys.argv[1]) if len(sys.argv) > 1 else COUNT
@@ -282,11 +296,11 @@ def main():
     return failures.report()
 
 
-def report_comparisons(compared, failures):
+def report_comparisons(compared: Sequence[Compared], failures: Failures) -> None:
     if not yaml:
         print("  PyYAML is not installed: no tree was compared")
         return
-    counts = sum((count for count, _ in compared), Counter())
+    counts: Counter[str] = sum((count for count, _ in compared), Counter())
     print("  libyaml: " + ", ".join(f"{number} {word}" for word, number in counts.most_common()))
     for result, text, style in [each for _, wrong in compared for each in wrong]:
         failures.expect(f"{result}: {text[:200]!r}, {style[:200]!r}", False, True)

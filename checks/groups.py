@@ -19,6 +19,8 @@ A number of lists and a seed may follow; the same seed makes the same lists. The
 be.
 """
 
+from __future__ import annotations
+
 import os
 import random
 import re
@@ -26,6 +28,7 @@ import subprocess
 import sys
 import time
 from collections import Counter
+from collections.abc import Callable, Sequence
 from concurrent.futures import ProcessPoolExecutor
 
 from lib.lengths import SLICE, base_length, meant, record_length, styled
@@ -40,6 +43,9 @@ SECONDS = 60
 HANGS = 100
 LONGEST = 60
 
+# What was counted, how often something was tried, and what went wrong.
+Tried = tuple["Counter[str]", int, "list[str]"]
+
 NAMES = ["a", "b", "c"]
 # The lengths of texts: short ones, and such as make one slice, two, or several.
 LENGTHS = [1, 2, 3, 100, 128, 129, 1_500, 3_990, 4_044, 4_045, 5_000, 8_140, 9_948]
@@ -48,17 +54,17 @@ LENGTHS = [1, 2, 3, 100, 128, 129, 1_500, 3_990, 4_044, 4_045, 5_000, 8_140, 9_9
 ORDERS = {
     "submit": 12, "command": 4, "flush": 5, "begin": 6, "slice": 12, "slices": 1, "checkpoint": 1, "running": 2,
     "reopen": 1, "names": 1, "export": 4, "open": 2, "fused": 3, "crash": 2, "file": 1,
-}
+}  # fmt: skip
 
 
-def command_words(chance):
+def command_words(chance: random.Random) -> str:
     """An import, a set or a delete."""
     name, length = chance.choice(NAMES), chance.choice(LENGTHS)
     imports, sets, deletes = f"import;{name};*{length}*", f"set;{name};;*{length}*", f"delete;{name};"
     return chance.choice([imports, imports, sets, sets, deletes])
 
 
-def orders_of(chance):
+def orders_of(chance: random.Random) -> list[str]:
     """A list of calls. Behind each opening the count is asked, and behind all of them each configuration."""
     orders = ["folder", "open", "count"]
     for order in chance.choices(list(ORDERS), list(ORDERS.values()), k=chance.randrange(LONGEST)):
@@ -84,77 +90,89 @@ def orders_of(chance):
 class Model:
     """The accepted commands, by the states after each of them, and what is known of the store and its folder."""
 
-    def __init__(self):
-        self.states = [{}]          # the state after so many commands
-        self.flushed = 0            # how many commands no crash takes away
-        self.least = 0              # how many commands opening finds at least; at most it is all of them
-        self.left = None            # how many bytes a running checkpoint has left
+    def __init__(self) -> None:
+        self.states: list[dict[str, str]] = [{}]  # the state after so many commands
+        self.flushed = 0  # how many commands no crash takes away
+        self.least = 0  # how many commands opening finds at least; at most it is all of them
+        self.left: int | None = None  # how many bytes a running checkpoint has left
         self.is_open = self.needs_reopen = self.may_fail = False
-        self.has_failed = False     # whether a call failed since the last opening
+        self.has_failed = False  # whether a call failed since the last opening
 
-    count = property(lambda self: len(self.states) - 1)
+    @property
+    def count(self) -> int:
+        return len(self.states) - 1
 
-    def all_flushed(self):
+    def all_flushed(self) -> None:
         self.flushed = self.count
 
-    def fails(self, answer):
+    def fails(self, answer: str) -> bool:
         """Whether the answer is that the disk failed, if it may. The store has to be opened again then."""
         if answer != "Device" or not self.may_fail:
             return False
         self.needs_reopen = self.has_failed = True
         return True
 
-    def close(self):
+    def close(self) -> None:
         """The store is closed, if it is open. All its commands are read then, if no call failed."""
         if self.is_open:
             self.least = self.flushed if self.has_failed else self.count
         self.is_open = self.needs_reopen = False
         self.left = None
 
-    def allows(self, order, answer):
+    def allows(self, order: str, answer: str) -> bool:
         """Whether the answer to an order is right. The model is then that of the store after it."""
         kind, *words = order.split(";")
-        if kind == "folder":
-            self.__init__()
-            return answer == "no file"
         if kind in ("open", "image", "file"):
             self.close()
-            return getattr(self, kind)(words, answer)
+            return self.answer_to(kind, words, answer)
         if not self.is_open:
             return answer == "no store is open"
         if kind == "submit":
-            return self.command(words[1:], answer, False)
+            return self.command(words[1:], answer)
         if kind in ("import", "set", "delete"):
-            return self.command([kind, *words], answer, True)
-        return getattr(self, kind)(words, answer)
+            return self.single([kind, *words], answer)
+        return self.answer_to(kind, words, answer)
 
-    def open(self, words, answer):
+    def answer_to(self, kind: str, words: list[str], answer: str) -> bool:
+        """Whether the answer to an order is right, by the method of its name."""
+        method: Callable[[list[str], str], bool] = getattr(self, kind)
+        return method(words, answer)
+
+    def open(self, words: list[str], answer: str) -> bool:
         self.may_fail = bool(words)
         self.is_open = re.fullmatch(r"commands \d+, dropped 0", answer) is not None
         self.has_failed = not self.is_open
         return self.is_open or (self.may_fail and answer == "Device")
 
-    def image(self, words, answer):
+    def image(self, words: list[str], answer: str) -> bool:
         """A crash that keeps no pending byte. Every stage between calls has the same store."""
         if answer == "an image":
             self.least = self.flushed
             if not self.has_failed:
-                del self.states[self.flushed + 1:]
+                del self.states[self.flushed + 1 :]
         return answer == "an image" or (answer == "no image" and words != ["0"])
 
-    def file(self, _words, answer):
+    def file(self, _words: list[str], answer: str) -> bool:
         return answer.split()[0].isdigit() or answer == "no file"
 
-    def found(self, answer):
+    def found(self, answer: str) -> bool:
         """Behind an opening the count is found, and all its commands are flushed."""
         if not answer.isdigit() or not self.least <= int(answer) <= self.count:
             return False
         count = int(answer)
-        del self.states[count + 1:]
+        del self.states[count + 1 :]
         self.flushed = self.least = count
         return True
 
-    def command(self, words, answer, flushes):
+    def single(self, words: list[str], answer: str) -> bool:
+        """A command that is flushed at once."""
+        before = self.count
+        is_right = self.command(words, answer)
+        if self.count > before and not self.needs_reopen:
+            self.all_flushed()
+        return is_right
+
+    def command(self, words: list[str], answer: str) -> bool:
         if self.needs_reopen:
             return answer == "Reopen"
         kind, name, *rest = words = meant(words)
@@ -167,13 +185,9 @@ class Model:
         if self.left is not None:
             self.left += record_length(self.count + 1, words)
         self.states.append(after)
-        if self.fails(answer):
-            return True
-        if flushes:
-            self.all_flushed()
-        return answer == str(self.count)
+        return self.fails(answer) or answer == str(self.count)
 
-    def flush(self, _words, answer):
+    def flush(self, _words: list[str], answer: str) -> bool:
         if self.needs_reopen:
             return answer == "Reopen"
         if self.fails(answer):
@@ -181,7 +195,7 @@ class Model:
         self.all_flushed()
         return answer == "done"
 
-    def begin(self, _words, answer):
+    def begin(self, _words: list[str], answer: str) -> bool:
         if self.left is not None:
             return answer == "a checkpoint runs"
         if self.needs_reopen:
@@ -191,7 +205,7 @@ class Model:
         self.left = base_length(self.count, self.states[-1])
         return answer == "done"
 
-    def slice(self, _words, answer):
+    def slice(self, _words: list[str], answer: str) -> bool:
         if self.left is None:
             return answer == "no checkpoint runs"
         if self.needs_reopen:
@@ -205,7 +219,7 @@ class Model:
         self.all_flushed()
         return answer == "done"
 
-    def slices(self, _words, answer):
+    def slices(self, _words: list[str], answer: str) -> bool:
         if self.left is None:
             return answer == "0 slices"
         if self.needs_reopen:
@@ -217,7 +231,7 @@ class Model:
         self.all_flushed()
         return answer == f"{count} slices"
 
-    def checkpoint(self, _words, answer):
+    def checkpoint(self, _words: list[str], answer: str) -> bool:
         if self.needs_reopen:
             return answer == "Reopen"
         if self.fails(answer):
@@ -226,46 +240,51 @@ class Model:
         self.all_flushed()
         return answer == "done"
 
-    def running(self, _words, answer):
+    def running(self, _words: list[str], answer: str) -> bool:
         return answer == ("false" if self.left is None else "true")
 
-    def reopen(self, _words, answer):
+    def reopen(self, _words: list[str], answer: str) -> bool:
         return answer == ("true" if self.needs_reopen else "false")
 
-    def names(self, _words, answer):
+    def names(self, _words: list[str], answer: str) -> bool:
         return answer == "[" + ", ".join(f'"{name}"' for name in self.states[-1]) + "]"
 
-    def export(self, words, answer):
+    def export(self, words: list[str], answer: str) -> bool:
         text = self.states[-1].get(words[0])
         return answer == ("NoConfig" if text is None else measured(styled(text) + "\n"))
 
 
-def measured(text):
+def measured(text: str) -> str:
     """The length of a text, and the text if it has at most 1,000 bytes, as the program shows it."""
     shown = text.replace("\\", "\\\\").replace('"', '\\"').replace("\n", "\\n")
     return str(len(text)) if len(text) > 1_000 else f'{len(text)} "{shown}"'
 
 
-def look(orders, answers):
+def look(orders: Sequence[str], answers: Sequence[str]) -> tuple[str | None, Counter[str]]:
     """The first order of a list that is not answered as it has to be, if there is one, and what the answers were."""
-    model, counts = Model(), Counter()
+    model = Model()
+    counts: Counter[str] = Counter()
     for number, (order, answer) in enumerate(zip(orders, answers)):
         follows_open = number > 0 and orders[number - 1].split(";")[0] == "open"
-        if order == "count" and follows_open and model.is_open:
+        if order == "folder":
+            model = Model()
+            is_right = answer == "no file"
+        elif order == "count" and follows_open and model.is_open:
             is_right = model.found(answer)
         elif order == "count":
             is_right = answer == (str(model.count) if model.is_open else "no store is open")
         else:
             is_right = model.allows(order, answer)
         if not is_right:
-            return f"{number} {order}: {answer}, in {orders[:number + 1]}", counts
+            return f"{number} {order}: {answer}, in {orders[: number + 1]}", counts
         counts[answer if answer in ("Device", "Reopen", "NoConfig", "an image") else order.split(";")[0]] += 1
     return None, counts
 
 
-def try_lists(seed, count, end):
+def try_lists(seed: str, count: int, end: float) -> Tried:
     """Runs so many lists in one process, unless it is past the end. Returns what was counted, and what went wrong."""
-    chance, failures, counts = random.Random(seed), Failures(), Counter()
+    chance, failures = random.Random(seed), Failures()
+    counts: Counter[str] = Counter()
     if time.monotonic() > end:
         return counts, failures.tried, failures.wrong
     lists = [orders_of(chance) for _ in range(count)]
@@ -275,20 +294,21 @@ def try_lists(seed, count, end):
     failures.expect(f"seed {seed}: status and answers", (done.returncode, len(answers)), (0, sum(map(len, lists))))
     at = 0
     for orders in lists:
-        wrong, found = look(orders, answers[at:at + len(orders)])
+        wrong, found = look(orders, answers[at : at + len(orders)])
         failures.expect(f"seed {seed}", wrong, None)
         counts += found
         at += len(orders)
     return counts, failures.tried, failures.wrong
 
 
-def main():
+def main() -> int:
     if not os.access(PROGRAM, os.X_OK):
         sys.exit(f"{PROGRAM} is not built: run `rt run < stdin` in its crate first")
     count = int(sys.argv[1]) if len(sys.argv) > 1 else COUNT
     seed = int(sys.argv[2]) if len(sys.argv) > 2 else random.randrange(10**6)
     print(f"seed {seed}")
-    failures, counts, end = Failures(), Counter(), time.monotonic() + SECONDS
+    failures, end = Failures(), time.monotonic() + SECONDS
+    counts: Counter[str] = Counter()
     with ProcessPoolExecutor() as workers:
         parts = range(0, count, CHUNK)
         for part in [workers.submit(try_lists, f"{seed} {part}", min(CHUNK, count - part), end) for part in parts]:

@@ -12,11 +12,15 @@ shows. The program has to be built first:
 program. The last line is 'N passed, M failed', of commands; the status is 0 if M is 0.
 """
 
+from __future__ import annotations
+
 import os
 import re
 import subprocess
 import sys
 import tempfile
+from collections.abc import Mapping
+from typing import Union
 
 from lib.store_runs import PROGRAM, TOP, Failures, need_program
 
@@ -29,17 +33,21 @@ PATIENCE = 60
 class Command:
     """A command of a page: its lines there, what the shell is given, and what the page says that it prints."""
 
-    def __init__(self, line):
+    def __init__(self, line: str) -> None:
         self.lines = [line]
-        self.printed = []
+        self.printed: list[str] = []
 
-    def script(self):
+    def script(self) -> str:
         return "".join(line[len(MARGIN) + 2 :] + "\n" for line in self.lines)
 
 
-def parts_of(text):
+# A part of a page: a command, or a line between them.
+Part = Union[Command, str]
+
+
+def parts_of(text: str) -> list[Part]:
     """The page in order: commands, and the lines between them as texts."""
-    parts = []
+    parts: list[Part] = []
     for line in text.splitlines():
         last = parts[-1] if parts else None
         if line.startswith(MARGIN + "$ "):
@@ -53,7 +61,7 @@ def parts_of(text):
     return parts
 
 
-def environment(top):
+def environment(top: str) -> dict[str, str]:
     """An environment in which the word `confstore` is the program."""
     words = os.path.join(top, "bin")
     os.mkdir(words)
@@ -61,13 +69,14 @@ def environment(top):
     return {**os.environ, "PATH": f"{words}:{os.environ['PATH']}", "LC_ALL": "C.UTF-8"}
 
 
-def lines_printed(script, folder, settings):
+def lines_printed(script: str, folder: str, settings: Mapping[str, str]) -> list[str]:
     done = subprocess.run(["bash", "-c", script], cwd=folder, env=settings, stdin=subprocess.DEVNULL, check=False,
                           stdout=subprocess.PIPE, stderr=subprocess.STDOUT, timeout=PATIENCE)  # fmt: skip
     return done.stdout.decode().splitlines()
 
 
-def run_guide(failures, settings, writes):
+def run_guide(failures: Failures, settings: Mapping[str, str]) -> list[Part]:
+    """Runs the commands of the guide. Returns its parts with what the commands print."""
     with open(GUIDE, encoding="utf-8") as page:
         parts = parts_of(page.read())
     with tempfile.TemporaryDirectory() as folder:
@@ -76,14 +85,17 @@ def run_guide(failures, settings, writes):
                 printed = lines_printed(part.script(), folder, settings)
                 failures.expect(part.lines[0].strip(), printed, part.printed)
                 part.printed = printed
-    if writes:
-        with open(GUIDE, "w", encoding="utf-8") as page:
-            for part in parts:
-                lines = part.lines + [MARGIN + line for line in part.printed] if isinstance(part, Command) else [part]
-                page.write("".join(line.rstrip() + "\n" for line in lines))
+    return parts
 
 
-def run_readme(failures, settings):
+def write_guide(parts: list[Part]) -> None:
+    with open(GUIDE, "w", encoding="utf-8") as page:
+        for part in parts:
+            lines = part.lines + [MARGIN + line for line in part.printed] if isinstance(part, Command) else [part]
+            page.write("".join(line.rstrip() + "\n" for line in lines))
+
+
+def run_readme(failures: Failures, settings: Mapping[str, str]) -> None:
     """The first list of the README, and the file that it shows then."""
     with open(README, encoding="utf-8") as page:
         text = re.sub(r"^```.*?^```$", "", page.read(), flags=re.M | re.S)
@@ -95,13 +107,15 @@ def run_readme(failures, settings):
         failures.expect("README: the file", lines_printed(shown[0][2:], folder, settings), shown[1:])
 
 
-def main():
+def main() -> int:
     if "CONFSTORE" not in os.environ:
         need_program()
     failures = Failures()
     with tempfile.TemporaryDirectory() as top:
         settings = environment(top)
-        run_guide(failures, settings, "--write" in sys.argv[1:])
+        parts = run_guide(failures, settings)
+        if "--write" in sys.argv[1:]:
+            write_guide(parts)
         run_readme(failures, settings)
     return failures.report()
 

@@ -16,13 +16,15 @@ Run it from the repository's root after the program is built; it takes half a mi
 A folder for the store and a seed may follow. The status is 0 if all is as it should be.
 """
 
-import os
+from __future__ import annotations
+
 import random
 import subprocess
 import sys
 import tempfile
 import threading
 import time
+from collections.abc import Sequence
 
 from lib.store_runs import PROGRAM, SINGLE, SLICED, Failures, need_program, session
 
@@ -41,13 +43,13 @@ CHECKPOINT = 25
 LOOK = b'get: log\npath: ""\n...\n'
 
 
-def appending(number):
+def appending(number: int) -> str:
     """The command that appends a number, with a checkpoint now and then."""
     command = f"set: log\npath: /-\nvalue: n{number}\n...\n"
     return command + ("checkpoint:\n...\n" if number % CHECKPOINT == 0 else "")
 
 
-def numbers_of(folder):
+def numbers_of(folder: str) -> list[int] | tuple[int, bytes, str]:
     """The numbers of the list, or what was answered in their place."""
     status, output, errors = session(folder, LOOK)
     lines = output.decode().split("\n")
@@ -61,44 +63,46 @@ def numbers_of(folder):
 class Life:
     """A session that is killed. `first` is the first number that it is sent, `sent` the last one."""
 
-    def __init__(self, folder, first, moment, words):
+    def __init__(self, folder: str, first: int, moment: float, words: Sequence[str]) -> None:
         self.first = first
         self.sent = first - 1
         self.oks = 0
         self.process = subprocess.Popen([PROGRAM, *words, folder], stdin=subprocess.PIPE, stdout=subprocess.PIPE)
+        assert self.process.stdin is not None and self.process.stdout is not None
+        self.commands, self.answers = self.process.stdin, self.process.stdout
         self.killer = threading.Timer(moment, self.process.kill)
         self.killer.start()
 
-    def send(self, count):
+    def send(self, count: int) -> int:
         """Sends the next numbers; the session may be killed meanwhile."""
         numbers = range(self.sent + 1, self.sent + 1 + count)
         self.sent += count
         try:
-            self.process.stdin.write("".join(map(appending, numbers)).encode())
-            self.process.stdin.flush()
+            self.commands.write("".join(map(appending, numbers)).encode())
+            self.commands.flush()
         except BrokenPipeError:
             pass
         return sum(1 + (number % CHECKPOINT == 0) for number in numbers)
 
-    def read(self, answers):
+    def read(self, answers: int) -> None:
         """Reads so many answers, or those that come."""
         for _ in range(3 * answers):
-            line = self.process.stdout.readline()
+            line = self.answers.readline()
             self.oks += line.startswith(b"ok: ") and line.endswith(b"\n")
 
-    def end(self):
+    def end(self) -> int:
         """Waits for the kill. Returns the last number that was answered for certain."""
         self.killer.join()
-        self.oks += sum(line.startswith(b"ok: ") and line.endswith(b"\n") for line in self.process.stdout.readlines())
+        self.oks += sum(line.startswith(b"ok: ") and line.endswith(b"\n") for line in self.answers.readlines())
         self.process.wait()
         try:
-            self.process.stdin.close()
+            self.commands.close()
         except BrokenPipeError:
             pass
-        self.process.stdout.close()
+        self.answers.close()
         return self.answered()
 
-    def answered(self):
+    def answered(self) -> int:
         """The last number of those that the answers are for."""
         last, oks = self.first - 1, self.oks
         while oks > 0:
@@ -107,7 +111,7 @@ class Life:
         return last
 
 
-def live(folder, first, most, chance):
+def live(folder: str, first: int, most: int, chance: random.Random) -> tuple[int, int]:
     """A session from its start to its kill."""
     moment = chance.uniform(0, OPENING if chance.random() < 0.125 else LONGEST)
     life = Life(folder, first, moment, chance.choice([SINGLE, SLICED]))
@@ -122,7 +126,7 @@ def live(folder, first, most, chance):
     return life.end(), life.sent
 
 
-def kill_sessions(folder, chance, failures):
+def kill_sessions(folder: str, chance: random.Random, failures: Failures) -> tuple[int, int]:
     """Kills sessions one after the other. Returns the number that is held, and how many kills lost an answer."""
     held, unanswered = 0, 0
     for number in range(KILLS):
@@ -136,7 +140,7 @@ def kill_sessions(folder, chance, failures):
     return held, unanswered
 
 
-def main():
+def main() -> int:
     need_program()
     folder = sys.argv[1] if len(sys.argv) > 1 else None
     seed = int(sys.argv[2]) if len(sys.argv) > 2 else random.randrange(10**6)

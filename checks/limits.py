@@ -16,10 +16,13 @@ repository's root after the program is built; it takes two minutes:
 A folder may follow. The status is 0 if all is as it should be.
 """
 
+from __future__ import annotations
+
 import os
 import subprocess
 import sys
 import tempfile
+from collections.abc import Iterable, Iterator
 
 from lib.store_runs import EMPTY, PROGRAM, Failures, need_program, read_file, session
 
@@ -32,13 +35,15 @@ BAD_COMMAND = b"---\nrefused: BadCommand\n...\n"
 JOURNAL_LONG = b"---\nrefused: JournalLong\n...\n"
 
 
-def ok(count):
+def ok(count: int) -> bytes:
     return f'---\nok: "{count}"\n...\n'.encode()
 
 
-def streamed(folder, parts):
+def streamed(folder: str, parts: Iterable[bytes]) -> tuple[int, bytes, str]:
     """A session whose input comes in parts: its status, its answers, and what it wrote to standard error."""
-    process = subprocess.Popen([PROGRAM, "run", folder], stdin=subprocess.PIPE, stdout=subprocess.PIPE, stderr=subprocess.PIPE)
+    pipe = subprocess.PIPE
+    process = subprocess.Popen([PROGRAM, "run", folder], stdin=pipe, stdout=pipe, stderr=pipe)
+    assert process.stdin is not None
     try:
         for part in parts:
             process.stdin.write(part)
@@ -48,12 +53,12 @@ def streamed(folder, parts):
     return process.returncode, output, errors.decode()
 
 
-def comment(length):
+def comment(length: int) -> bytes:
     """A piece of so many bytes that is a comment, and so no command."""
     return b"#" + b"x" * (length - len(CLOSING) - 2) + b"\n" + CLOSING
 
 
-def sessions_have_a_greatest_length(top, failures):
+def sessions_have_a_greatest_length(top: str, failures: Failures) -> None:
     pieces = SESSION_LIMIT // PIECE_LIMIT
     longest = comment(PIECE_LIMIT)
     folder = os.path.join(top, "session")
@@ -64,16 +69,16 @@ def sessions_have_a_greatest_length(top, failures):
     failures.expect("a session of one byte more", longer, (1, BAD_COMMAND * pieces, "confstore: SessionLong\n"))
 
 
-def value_of(length):
+def value_of(length: int) -> bytes:
     """A text of so many bytes in the one style, with its quotes."""
     return b'"' + b"x" * (length - 2) + b'"'
 
 
-def setting(length):
+def setting(length: int) -> bytes:
     return b'set: c\npath: ""\nvalue: ' + value_of(length) + b"\n...\n"
 
 
-def record_length(count, length):
+def record_length(count: int, length: int) -> int:
     """The length of the record of such a command."""
     return len(b'---\nat: "%d"\n' % count) + len(setting(0)) - 2 + length
 
@@ -81,21 +86,21 @@ def record_length(count, length):
 class Filling:
     """A store that is filled by one command after the other: how long its file is, and how many commands it has."""
 
-    def __init__(self, folder):
+    def __init__(self, folder: str) -> None:
         self.folder = folder
         self.length = len(EMPTY)
         self.count = 0
 
-    def file(self):
+    def file(self) -> str:
         return os.path.join(self.folder, "store.yaml")
 
-    def take(self, command, record):
+    def take(self, command: bytes, record: int) -> bytes:
         """What a command adds."""
         self.count += 1
         self.length += record
         return command
 
-    def commands(self):
+    def commands(self) -> Iterator[bytes]:
         """Commands that leave room for one more record, of at most the greatest length."""
         yield self.take(b"import: c\ntext: x\n...\n", len(b'---\nat: "1"\nimport: c\ntree: x\n...\n'))
         # The value's line in the one style has a line feed.
@@ -105,12 +110,12 @@ class Filling:
         half = (STORE_LIMIT - self.length) // 2 - record_length(self.count + 1, 0)
         yield self.take(setting(half), record_length(self.count + 1, half))
 
-    def last(self):
+    def last(self) -> int:
         """How long a value may be so that its record fits to the byte."""
         return STORE_LIMIT - self.length - record_length(self.count + 1, 0)
 
 
-def fill(top, failures):
+def fill(top: str, failures: Failures) -> tuple[Filling, int]:
     """Fills a store to its limit."""
     filling = Filling(os.path.join(top, "store"))
     os.mkdir(filling.folder)
@@ -130,7 +135,7 @@ def fill(top, failures):
     return filling, room
 
 
-def longer_files_are_no_store(filling, failures):
+def longer_files_are_no_store(filling: Filling, failures: Failures) -> None:
     """The file with one byte more is refused and left, and is a store without it."""
     with open(filling.file(), "ab") as target:
         target.write(b"\n")
@@ -140,7 +145,7 @@ def longer_files_are_no_store(filling, failures):
     os.truncate(filling.file(), STORE_LIMIT)
 
 
-def stores_have_a_greatest_length(top, failures):
+def stores_have_a_greatest_length(top: str, failures: Failures) -> None:
     filling, room = fill(top, failures)
     longer_files_are_no_store(filling, failures)
     count = filling.count + 1
@@ -152,7 +157,7 @@ def stores_have_a_greatest_length(top, failures):
     failures.expect("the file after it", read_file(filling.file()) == base + record, True)
 
 
-def main():
+def main() -> int:
     need_program()
     failures = Failures()
     with tempfile.TemporaryDirectory(dir=sys.argv[1] if len(sys.argv) > 1 else None) as top:

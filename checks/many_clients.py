@@ -14,6 +14,8 @@ Run it from the repository's root after the program is built; it takes some seco
 A seed may follow. The status is 0 if all is as it should be.
 """
 
+from __future__ import annotations
+
 import os
 import random
 import signal
@@ -42,7 +44,7 @@ LOOK = 16
 class Client(threading.Thread):
     """A client that appends the numbers after `held` to its list, up to so many commands or until it is cut off."""
 
-    def __init__(self, path, number, held, commands):
+    def __init__(self, path: str, number: int, held: int, commands: int) -> None:
         super().__init__(daemon=True)
         self.connection = socket.socket(socket.AF_UNIX)
         self.connection.settimeout(PATIENCE)
@@ -52,9 +54,9 @@ class Client(threading.Thread):
         self.held = held
         self.sent = held
         self.commands = commands
-        self.wrong = []
+        self.wrong: list[list[str]] = []
 
-    def ask(self, command):
+    def ask(self, command: str) -> list[str] | None:
         """The lines between the first and the last of the answer, or None if the client is cut off."""
         try:
             self.connection.sendall(command.encode())
@@ -65,7 +67,7 @@ class Client(threading.Thread):
         except (BrokenPipeError, ConnectionResetError):
             return None
 
-    def append(self):
+    def append(self) -> bool:
         """Whether the next number was appended and answered."""
         self.sent += 1
         lines = self.ask(f"set: {self.name_of_list}\npath: /-\nvalue: n{self.sent}\n...\n")
@@ -76,7 +78,7 @@ class Client(threading.Thread):
             self.wrong.append(lines)
         return True
 
-    def look(self):
+    def look(self) -> bool:
         """Whether the list was answered."""
         lines = self.ask(f"get: {self.name_of_list}\npath: \"\"\n...\n")
         if lines is None:
@@ -85,14 +87,14 @@ class Client(threading.Thread):
             self.wrong.append(lines[-2:])
         return True
 
-    def run(self):
+    def run(self) -> None:
         with self.connection, self.stream:
             for turn in range(1, self.commands + 1):
                 if not self.append() or (turn % LOOK == 0 and not self.look()):
                     return
 
 
-def accepts(path):
+def accepts(path: str) -> bool:
     """Whether a server takes clients there."""
     with socket.socket(socket.AF_UNIX) as connection:
         return connection.connect_ex(path) == 0
@@ -101,23 +103,23 @@ def accepts(path):
 class Server:
     """The server, with its one session."""
 
-    def __init__(self, path, folder):
+    def __init__(self, path: str, folder: str) -> None:
         words = [sys.executable, os.path.join(TOP, "clients", "serve.py"), path, folder]
         self.process = subprocess.Popen(words, env=os.environ | {"CONFSTORE": PROGRAM})
         end = time.monotonic() + PATIENCE
         while not accepts(path) and time.monotonic() < end:
             time.sleep(0.005)
 
-    def kill_session(self):
+    def kill_session(self) -> None:
         with open(f"/proc/{self.process.pid}/task/{self.process.pid}/children", encoding="ascii") as children:
             os.kill(int(children.read()), signal.SIGKILL)
 
-    def end(self):
+    def end(self) -> int:
         return self.process.wait(PATIENCE)
 
 
-def held_by_store(folder, number):
-    """The numbers in the list of a client, as the store has them."""
+def held_by_store(folder: str, number: int) -> list[int] | tuple[int, bytes, str]:
+    """The numbers in the list of a client, as the store has them, or what was answered in their place."""
     status, output, errors = session(folder, f'get: list{number}\npath: ""\n...\n'.encode())
     lines = output.decode().split("\n")
     if lines == ["---", "value: []", "...", ""]:
@@ -127,8 +129,11 @@ def held_by_store(folder, number):
     return [int(line.removeprefix("  - n")) for line in lines[2:-2]]
 
 
-def serve_clients(path, folder, held, commands, moment, failures):
-    """One life of a server with all clients. Its session is killed at a moment, if one is given."""
+def serve_clients(
+    path: str, folder: str, held: list[int], commands: int, moment: float | None, failures: Failures
+) -> int:
+    """One life of a server with all clients. Its session is killed at a moment, if one is given. Returns how many
+    commands were answered in all lives."""
     server = Server(path, folder)
     clients = [Client(path, number, held[number], commands) for number in range(CLIENTS)]
     for client in clients:
@@ -156,7 +161,7 @@ def serve_clients(path, folder, held, commands, moment, failures):
     return sum(client.held for client in clients)
 
 
-def main():
+def main() -> int:
     need_program()
     seed = int(sys.argv[1]) if len(sys.argv) > 1 else random.randrange(10**9)
     print(f"seed {seed}")

@@ -15,6 +15,9 @@ libfyaml-utils, libyaml-cpp-dev, nodejs with node-yaml, golang-go with golang-go
 isn't installed is named and left out. The status is 0 if all is as it should be.
 """
 
+from __future__ import annotations
+
+import importlib
 import io
 import json
 import os
@@ -22,50 +25,60 @@ import shutil
 import subprocess
 import sys
 import tempfile
+from collections.abc import Callable, Iterator, Mapping
+from typing import Any
 
 from lib.store_runs import TOP, Failures, need_program, read_file, session
 
 READERS = os.path.join(TOP, "checks", "data", "readers")
 
 TEXTS = [
-    "", " ", "x", "-", "- a", "a: b", "a #b", "# c", "'", '"', "''", "\\", "true", "null", "~", "no", "12", "0x1F", "1e3",
-    ".inf", "2026-11-26", "<<", "=", "?", "!tag", "&anchor", "*alias", "|", ">", "%", "@", "`", "[", "]", "{", "}", ",",
-    "a\nb", "a\n", "\na", "a\n\n", " a\nb", "a \nb ", "\n", "...", "---", "a\n...\nb", "a\n---\nb\n", "tab\there",
-    "\u00e4\u20ac\U0001d11e", "\u0085\u2028", "\u0007\u001b", "x" * 300, "word " * 60,
+    "", " ", "x", "-", "- a", "a: b", "a #b", "# c", "'", '"', "''", "\\", "true", "null", "~", "no", "12", "0x1F",
+    "1e3", ".inf", "2026-11-26", "<<", "=", "?", "!tag", "&anchor", "*alias", "|", ">", "%", "@", "`", "[", "]", "{",
+    "}", ",", "a\nb", "a\n", "\na", "a\n\n", " a\nb", "a \nb ", "\n", "...", "---", "a\n...\nb", "a\n---\nb\n",
+    "tab\there", "\u00e4\u20ac\U0001d11e", "\u0085\u2028", "\u0007\u001b", "x" * 300, "word " * 60,
 ]  # fmt: skip
+
+# A document of a stream: a command, an answer, a record or a base.
+Document = Mapping[str, Any]
+# Reads a stream: its documents, or why it is refused.
+Reader = Callable[[bytes], object]
 
 
 class Stream:
     """A stream of commands. `answers` and `records` are what they are meant to make, `trees` the configurations."""
 
-    def __init__(self):
-        self.commands, self.answers, self.records, self.trees = [], [], [], {}
+    def __init__(self) -> None:
+        self.commands: list[Document] = []
+        self.answers: list[Document] = []
+        self.records: list[Document] = []
+        self.trees: dict[str, dict[str, Any]] = {}
 
-    def change(self, command, record):
+    def change(self, command: Document, record: Document) -> None:
         self.commands.append(command)
-        self.records.append({"at": str(len(self.records) + 1)} | record)
+        self.records.append({"at": str(len(self.records) + 1), **record})
         self.answers.append({"ok": str(len(self.records))})
 
-    def ask(self, command, answer):
+    def ask(self, command: Document, answer: Document) -> None:
         self.commands.append(command)
         self.answers.append(answer)
 
-    def put(self, name, tree):
+    def put(self, name: str, tree: Document) -> None:
         self.trees[name] = dict(tree)
         self.change({"import": name, "text": flow(tree)}, {"import": name, "tree": tree})
 
-    def set(self, name, key, value):
+    def set(self, name: str, key: str, value: str) -> None:
         self.trees[name][key] = value
         command = {"set": name, "path": f"/{key}", "value": value}
         self.change(command, command)
 
-    def delete(self, name, key):
+    def delete(self, name: str, key: str) -> None:
         del self.trees[name][key]
         command = {"delete": name, "path": f"/{key}"}
         self.change(command, command)
 
 
-def stream_of_all():
+def stream_of_all() -> Stream:
     """Commands with all the texts, as keys and as values."""
     stream = Stream()
     stream.put("deep", {"list": [[["a"], []], {}, {"k": ["v", {"w": "x"}]}], "texts": TEXTS})
@@ -81,16 +94,9 @@ def stream_of_all():
     return stream
 
 
-def from_json(words, stream):
-    done = subprocess.run(words, input=stream, capture_output=True, check=False)
-    if done.returncode != 0:
-        return f"{words[0]} ended with {done.returncode}: {done.stderr.decode()[-300:]}"
-    return json.loads(done.stdout)
-
-
-def values_of(text):
+def values_of(text: str) -> list[Any]:
     """The JSON values that follow each other in a text."""
-    decoder, values = json.JSONDecoder(), []
+    decoder, values = json.JSONDecoder(), list[Any]()
     while text := text.lstrip():
         value, end = decoder.raw_decode(text)
         values.append(value)
@@ -98,67 +104,71 @@ def values_of(text):
     return values
 
 
-def by_tool(words, stream):
-    """What a tool prints as JSON values, one after the other."""
-    done = subprocess.run(words, input=stream, capture_output=True, check=False)
-    if done.returncode != 0:
-        return f"{words[0]} ended with {done.returncode}: {done.stderr.decode()[-300:]}"
-    return values_of(done.stdout.decode())
+def by_tool(read_json: Callable[[str], object], words: list[str]) -> Reader:
+    """The reader that a tool is, whose output is read as JSON."""
+
+    def read(stream: bytes) -> object:
+        done = subprocess.run(words, input=stream, capture_output=True, check=False)
+        if done.returncode != 0:
+            return f"{words[0]} ended with {done.returncode}: {done.stderr.decode()[-300:]}"
+        return read_json(done.stdout.decode())
+
+    return read
 
 
-def python_readers():
+def python_readers() -> Iterator[tuple[str, Reader]]:
     try:
-        import yaml
-
+        yaml = importlib.import_module("yaml")
         yield f"PyYAML {yaml.__version__}", lambda stream: list(yaml.load_all(stream, yaml.BaseLoader))
         if yaml.__with_libyaml__:
             yield "libyaml", lambda stream: list(yaml.load_all(stream, yaml.CBaseLoader))
     except ImportError:
         print("left out: PyYAML, libyaml")
     try:
-        import ruamel.yaml
+        ruamel = importlib.import_module("ruamel.yaml")
 
-        def by_ruamel(stream):
-            return list(ruamel.yaml.YAML(typ="base", pure=True).load_all(io.BytesIO(stream)))
+        def by_ruamel(stream: bytes) -> object:
+            return list(ruamel.YAML(typ="base", pure=True).load_all(io.BytesIO(stream)))
 
-        yield f"ruamel {ruamel.yaml.__version__}", by_ruamel
+        yield f"ruamel {ruamel.__version__}", by_ruamel
     except ImportError:
         print("left out: ruamel")
 
 
-def built(words, program):
-    """Whether a reader's program could be built."""
-    return shutil.which(words[0]) and subprocess.run(words, capture_output=True, check=False).returncode == 0 and program
+def works(*words: str) -> bool:
+    """Whether a command is there and succeeds, as one that builds a reader has to."""
+    if shutil.which(words[0]) is None:
+        return False
+    return subprocess.run(words, capture_output=True, check=False).returncode == 0
 
 
-def other_readers(folder):
+def other_readers(folder: str) -> Iterator[tuple[str, Reader | None]]:
     cpp, go = os.path.join(folder, "cpp"), os.path.join(folder, "go")
     os.environ |= {"GO111MODULE": "off", "GOPATH": "/usr/share/gocode", "GOCACHE": os.path.join(folder, "cache")}
     os.environ |= {"NODE_PATH": "/usr/share/nodejs"}
-    yaml_cpp = built(["c++", "-o", cpp, os.path.join(READERS, "yaml_cpp.cpp"), "-lyaml-cpp"], cpp)
-    yaml_v3 = built(["go", "build", "-o", go, os.path.join(READERS, "yaml_v3.go")], go)
-    node = built(["node", "-e", 'require("yaml")'], ["node", os.path.join(READERS, "yaml_js.js")])
-    yield "yaml-cpp", yaml_cpp and (lambda stream: from_json([yaml_cpp], stream))
-    yield "yaml.v3 of Go", yaml_v3 and (lambda stream: from_json([yaml_v3], stream))
-    yield "yaml of Node", node and (lambda stream: from_json(node, stream))
-    yield "libfyaml", shutil.which("fy-dump") and (
-        lambda stream: by_tool(["fy-dump", "-m", "json", "--streaming", "-"], stream)
-    )
-    yield "yq", shutil.which("yq") and (lambda stream: by_tool(["yq", "-c", "."], stream))
+    has_cpp = works("c++", "-o", cpp, os.path.join(READERS, "yaml_cpp.cpp"), "-lyaml-cpp")
+    yield "yaml-cpp", by_tool(json.loads, [cpp]) if has_cpp else None
+    has_go = works("go", "build", "-o", go, os.path.join(READERS, "yaml_v3.go"))
+    yield "yaml.v3 of Go", by_tool(json.loads, [go]) if has_go else None
+    node = ["node", os.path.join(READERS, "yaml_js.js")]
+    yield "yaml of Node", by_tool(json.loads, node) if works("node", "-e", 'require("yaml")') else None
+    fy_dump = ["fy-dump", "-m", "json", "--streaming", "-"]
+    yield "libfyaml", by_tool(values_of, fy_dump) if shutil.which("fy-dump") else None
+    yield "yq", by_tool(values_of, ["yq", "-c", "."]) if shutil.which("yq") else None
 
 
-def flow(value):
+def flow(value: object) -> str:
     """A value as JSON, which every reader of YAML reads: older ones take two more characters for breaks."""
     return json.dumps(value, ensure_ascii=False).replace("\u0085", "\\u0085").replace("\u2028", "\\u2028")
 
 
-def document(tree):
+def document(tree: Document) -> str:
     """A document that a session reads as the tree."""
     lines = (f"{key}: {flow(value)}" for key, value in tree.items())
     return "---\n" + "\n".join(lines) + "\n...\n"
 
 
-def streams(folder, failures):
+def streams(folder: str, failures: Failures) -> Iterator[tuple[str, bytes, list[Document]]]:
     """The streams, each with the documents that it is meant to be."""
     stream = stream_of_all()
     commands = "".join(map(document, stream.commands)).encode()
@@ -167,15 +177,15 @@ def streams(folder, failures):
     store = os.path.join(folder, "store.yaml")
     journal = read_file(store)
     session(folder, b"---\ncheckpoint:\n...\n")
-    first = {"store": "confstore-2", "at": "0", "configs": {}}
-    base = {"store": "confstore-2", "at": str(len(stream.records)), "configs": stream.trees}
+    first: Document = {"store": "confstore-2", "at": "0", "configs": {}}
+    base: Document = {"store": "confstore-2", "at": str(len(stream.records)), "configs": stream.trees}
     yield "commands", commands, stream.commands
     yield "answers", answers, stream.answers
     yield "journal", journal, [first, *stream.records]
     yield "base", read_file(store), [base]
 
 
-def main():
+def main() -> int:
     need_program()
     failures = Failures()
     with tempfile.TemporaryDirectory() as top:
@@ -183,7 +193,7 @@ def main():
         os.mkdir(folder)
         given = list(streams(folder, failures))
         for name, reader in [*python_readers(), *other_readers(top)]:
-            if not reader:
+            if reader is None:
                 print(f"left out: {name}")
                 continue
             for kind, stream, wanted in given:

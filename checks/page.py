@@ -10,6 +10,8 @@ installed, or the program lacks the word `log`. Run it from the repository's roo
 The last line is 'N passed, M failed', and the status is 0 if M is 0.
 """
 
+from __future__ import annotations
+
 import html
 import os
 import re
@@ -52,7 +54,7 @@ DIFFERENCES = [
 PATIENCE = 120
 
 
-def shown(browser, page, top, address):
+def shown(browser: str, page: str, top: str, address: str) -> list[str | list[str]]:
     """What the page has in its two parts, as lines."""
     words = [browser, "--headless", "--no-sandbox", "--disable-gpu", f"--user-data-dir={top}/browser", "--dump-dom"]
     done = subprocess.run([*words, f"file://{page}#{address}"], capture_output=True, check=False, timeout=PATIENCE)
@@ -61,7 +63,7 @@ def shown(browser, page, top, address):
     return [html.unescape(re.sub(r"</?span[^>]*>", "", part[1])).splitlines() if part else text for part in parts]
 
 
-def main():
+def main() -> int:
     need_program()
     failures = Failures()
     browser = shutil.which("chromium")

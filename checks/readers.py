@@ -17,8 +17,11 @@ Run it from the repository's root after the program is built; it takes about a m
 
     ./confstore --version && python3 checks/readers.py
 
-A number of edits and a number of reads may follow. The last line is 'N passed, M failed', and the status is 0 if M is 0.
+A number of edits and a number of reads may follow. The last line is 'N passed, M failed', and the status is 0 if M is
+0.
 """
+
+from __future__ import annotations
 
 import os
 import re
@@ -27,6 +30,7 @@ import sys
 import tempfile
 import threading
 import time
+from collections.abc import Iterator
 from concurrent.futures import ThreadPoolExecutor
 
 from lib.store_runs import PROGRAM, Failures, need_program, session
@@ -49,7 +53,7 @@ MEMORY = "/dev/shm"
 NO_SUCH_COMMAND = (1, "", "confstore: NoSuchCommand\n")
 
 
-def edits(count):
+def edits(count: int) -> Iterator[str]:
     """The commands of the session, each with the number that it sets."""
     for number in range(1, count + 1):
         if number == 1:
@@ -60,7 +64,7 @@ def edits(count):
             yield "checkpoint:\n...\n"
 
 
-def log_line(number):
+def log_line(number: int) -> str:
     """The line of the log for an edit."""
     return f'{number} set web "/count"' if number > 1 else "1 import web"
 
@@ -68,14 +72,14 @@ def log_line(number):
 class Progress:
     """How many reads are done, of how many."""
 
-    def __init__(self, wanted):
+    def __init__(self, wanted: int) -> None:
         self.wanted, self.done, self.lock = wanted, 0, threading.Lock()
 
-    def read_one(self):
+    def read_one(self) -> None:
         with self.lock:
             self.done += 1
 
-    def await_share(self, number, count):
+    def await_share(self, number: int, count: int) -> None:
         """Waits until the readers have come as far as the edit with this number."""
         while number > AHEAD and number * self.wanted > (self.done + 1) * count and self.done < self.wanted:
             time.sleep(0.001)
@@ -84,14 +88,15 @@ class Progress:
 class Writer(threading.Thread):
     """A session that makes the edits one after the other, and ends about when the readers do."""
 
-    def __init__(self, folder, count, progress, done):
+    def __init__(self, folder: str, count: int, progress: Progress, done: threading.Event) -> None:
         super().__init__()
         self.folder, self.count, self.progress, self.done = folder, count, progress, done
-        self.refused = []
+        self.refused: list[tuple[str, bytes]] = []
 
-    def run(self):
+    def run(self) -> None:
         words = [PROGRAM, "run", self.folder]
         with subprocess.Popen(words, stdin=subprocess.PIPE, stdout=subprocess.PIPE) as run:
+            assert run.stdin is not None and run.stdout is not None
             for number, command in enumerate(edits(self.count)):
                 self.progress.await_share(number, self.count)
                 run.stdin.write(command.encode())
@@ -104,7 +109,7 @@ class Writer(threading.Thread):
         self.done.set()
 
 
-def read(*words):
+def read(*words: str) -> tuple[int, str, str]:
     """The status, the output and the errors of a word that reads."""
     done = subprocess.run([PROGRAM, *words], capture_output=True, check=False, timeout=HANGS)
     return done.returncode, done.stdout.decode(), done.stderr.decode()
@@ -113,23 +118,23 @@ def read(*words):
 class Reader:
     """One that reads the store again and again, and remembers the last edit that it saw."""
 
-    def __init__(self, folder, progress):
+    def __init__(self, folder: str, progress: Progress) -> None:
         self.folder, self.progress, self.failures, self.seen = folder, progress, Failures(), 1
 
-    def saw(self, what, number):
+    def saw(self, what: str, number: int) -> None:
         """The state after the edit of this number was seen: it is no earlier one than before."""
         self.failures.expect(f"{what}: edit {number} after {self.seen}", number >= self.seen, True)
         self.seen = max(self.seen, number)
 
-    def names(self):
+    def names(self) -> None:
         self.failures.expect("names", read("names", self.folder), (0, "web\n", ""))
 
-    def get(self):
+    def get(self) -> None:
         status, output, errors = read("get", self.folder, "web", "/count", "--raw")
         self.failures.expect("get", (status, errors, bool(re.fullmatch(r"\d+\n", output))), (0, "", True))
         self.saw("get", int(output or 0))
 
-    def log(self):
+    def log(self) -> None:
         status, output, errors = read("log", self.folder)
         self.failures.expect("log", (status, errors), (0, ""))
         lines = output.splitlines()
@@ -139,27 +144,27 @@ class Reader:
             self.failures.expect("the numbers of a log", numbers, list(range(numbers[0], numbers[0] + len(numbers))))
             self.saw("log", numbers[-1])
 
-    def verify(self):
+    def verify(self) -> None:
         status, output, errors = read("verify", self.folder)
         found = re.fullmatch(r'state: whole\nbase: "(\d+)"\ncommands: "(\d+)"\ndropped: "\d+"\n', output)
         self.failures.expect(f"verify: {output!r}", (status, errors, bool(found)), (0, "", True))
         if found:
             self.saw("verify", int(found[1]) + int(found[2]))
 
-    def get_at(self):
+    def get_at(self) -> None:
         number = self.seen
         found = read("get", self.folder, "web", "/count", "--raw", "--at", str(number))
         if found != NO_SUCH_COMMAND:
             self.failures.expect(f"get --at {number}", found, (0, f"{number}\n", ""))
 
-    def read_often(self, times):
+    def read_often(self, times: int) -> None:
         turns = (self.names, self.get, self.log, self.get, self.verify, self.get_at)
         for turn in range(times):
             turns[turn % len(turns)]()
             self.progress.read_one()
 
 
-def read_beside(folder, edit_count, read_count, failures):
+def read_beside(folder: str, edit_count: int, read_count: int, failures: Failures) -> None:
     """Readers beside a session."""
     reader_count = os.cpu_count() or 1
     each = max(1, read_count // reader_count)
@@ -170,7 +175,7 @@ def read_beside(folder, edit_count, read_count, failures):
     while not os.path.exists(os.path.join(folder, "store.yaml")) or read("get", folder, "web")[0] != 0:
         time.sleep(0.01)
     with ThreadPoolExecutor(reader_count) as pool:
-        list(pool.map(lambda reader: reader.read_often(each), readers))
+        list(pool.map(Reader.read_often, readers, [each] * reader_count))
     writer.join(PATIENCE)
     failures.expect("the session has ended", done.is_set(), True)
     failures.expect("refused edits", writer.refused, [])
@@ -179,7 +184,7 @@ def read_beside(folder, edit_count, read_count, failures):
         failures.wrong += reader.failures.wrong
 
 
-def read_at_rest(folder, edit_count, failures):
+def read_at_rest(folder: str, edit_count: int, failures: Failures) -> None:
     """What the words say once the session has ended."""
     base = edit_count - edit_count % CHECKPOINT
     lines = "".join(f"{log_line(number)}\n" for number in range(base + 1, edit_count + 1))
@@ -189,7 +194,7 @@ def read_at_rest(folder, edit_count, failures):
     failures.expect("files", sorted(os.listdir(folder)), ["store.lock", "store.yaml"])
 
 
-def main():
+def main() -> int:
     need_program()
     edit_count = int(sys.argv[1]) if len(sys.argv) > 1 else EDITS
     read_count = int(sys.argv[2]) if len(sys.argv) > 2 else READS
@@ -197,7 +202,8 @@ def main():
     with tempfile.TemporaryDirectory(dir=MEMORY if os.path.isdir(MEMORY) else None) as folder:
         read_beside(folder, edit_count, read_count, failures)
         read_at_rest(folder, edit_count, failures)
-        failures.expect("a session afterwards", session(folder, b"names:\n...\n"), (0, b"---\nnames:\n  - web\n...\n", ""))
+        found = session(folder, b"names:\n...\n")
+        failures.expect("a session afterwards", found, (0, b"---\nnames:\n  - web\n...\n", ""))
     return failures.report()
 
 

@@ -3,35 +3,13 @@
 // Words: `events`, `tree` or `copy`, the file, and how often. It prints how many events or bytes the last round gave, 1
 // for a document, or "refused".
 #include <libfyaml.h>
-#include <stdio.h>
-#include <stdlib.h>
-#include <string.h>
 
-struct text {
-    char *bytes;
-    size_t length;
-};
+#include "rounds.h"
 
 // Equal keys are allowed, since libfyaml looks for them in quadratic time.
 static const struct fy_parse_cfg QUIET = {
     .flags = FYPCF_QUIET | FYPCF_DISABLE_DEPTH_LIMIT | FYPCF_ALLOW_DUPLICATE_KEYS,
 };
-
-static struct text read_file(const char *name) {
-    struct text text = {NULL, 0};
-    FILE *file = fopen(name, "rb");
-    if (!file || fseek(file, 0, SEEK_END)) {
-        exit(1);
-    }
-    text.length = (size_t)ftell(file);
-    text.bytes = malloc(text.length + 1);
-    rewind(file);
-    if (!text.bytes || fread(text.bytes, 1, text.length, file) != text.length) {
-        exit(1);
-    }
-    fclose(file);
-    return text;
-}
 
 static long events(struct text text) {
     struct fy_parser *parser = fy_parser_create(&QUIET);
@@ -73,20 +51,5 @@ static long copy(struct text text) {
 }
 
 int main(int count, char **words) {
-    if (count != 4) {
-        return 2;
-    }
-    long (*work)(struct text) = !strcmp(words[1], "events") ? events : !strcmp(words[1], "tree") ? tree : copy;
-    struct text text = read_file(words[2]);
-    long last = 0;
-    for (long rounds = atol(words[3]); rounds > 0; rounds--) {
-        last = work(text);
-    }
-    free(text.bytes);
-    if (last < 0) {
-        puts("refused");
-    } else {
-        printf("%ld\n", last);
-    }
-    return 0;
+    return run_rounds(count, words, events, tree, copy);
 }

@@ -2,31 +2,9 @@
 //
 // Words: `events`, `tree` or `copy`, the file, and how often. It prints how many events, nodes or bytes the last round
 // gave, or "refused".
-#include <stdio.h>
-#include <stdlib.h>
-#include <string.h>
 #include <yaml.h>
 
-struct text {
-    unsigned char *bytes;
-    size_t length;
-};
-
-static struct text read_file(const char *name) {
-    struct text text = {NULL, 0};
-    FILE *file = fopen(name, "rb");
-    if (!file || fseek(file, 0, SEEK_END)) {
-        exit(1);
-    }
-    text.length = (size_t)ftell(file);
-    text.bytes = malloc(text.length + 1);
-    rewind(file);
-    if (!text.bytes || fread(text.bytes, 1, text.length, file) != text.length) {
-        exit(1);
-    }
-    fclose(file);
-    return text;
-}
+#include "rounds.h"
 
 static long events(struct text text) {
     yaml_parser_t parser;
@@ -34,7 +12,7 @@ static long events(struct text text) {
     long count = 0;
     int done = 0;
     yaml_parser_initialize(&parser);
-    yaml_parser_set_input_string(&parser, text.bytes, text.length);
+    yaml_parser_set_input_string(&parser, (const unsigned char *)text.bytes, text.length);
     while (!done) {
         if (!yaml_parser_parse(&parser, &event)) {
             count = -1;
@@ -53,7 +31,7 @@ static long tree(struct text text) {
     yaml_document_t document;
     long count = -1;
     yaml_parser_initialize(&parser);
-    yaml_parser_set_input_string(&parser, text.bytes, text.length);
+    yaml_parser_set_input_string(&parser, (const unsigned char *)text.bytes, text.length);
     if (yaml_parser_load(&parser, &document)) {
         count = document.nodes.top - document.nodes.start;
         yaml_document_delete(&document);
@@ -76,7 +54,7 @@ static long copy(struct text text) {
     int done = 0;
     yaml_parser_initialize(&parser);
     yaml_emitter_initialize(&emitter);
-    yaml_parser_set_input_string(&parser, text.bytes, text.length);
+    yaml_parser_set_input_string(&parser, (const unsigned char *)text.bytes, text.length);
     yaml_emitter_set_output(&emitter, count_bytes, &written);
     yaml_emitter_set_unicode(&emitter, 1);
     while (!done) {
@@ -96,20 +74,5 @@ static long copy(struct text text) {
 }
 
 int main(int count, char **words) {
-    if (count != 4) {
-        return 2;
-    }
-    long (*work)(struct text) = !strcmp(words[1], "events") ? events : !strcmp(words[1], "tree") ? tree : copy;
-    struct text text = read_file(words[2]);
-    long last = 0;
-    for (long rounds = atol(words[3]); rounds > 0; rounds--) {
-        last = work(text);
-    }
-    free(text.bytes);
-    if (last < 0) {
-        puts("refused");
-    } else {
-        printf("%ld\n", last);
-    }
-    return 0;
+    return run_rounds(count, words, events, tree, copy);
 }

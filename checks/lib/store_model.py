@@ -4,9 +4,22 @@ libyaml reads YAML 1.1, and it reads anchors and tags, which the profile refuses
 So it may read a piece that the program refuses, or the other way round; where both read it, the trees are the same.
 """
 
+from __future__ import annotations
+
 import re
+from collections.abc import Callable, Sequence
+from typing import Any, Union
 
 import yaml
+
+# PyYAML's function has no types.
+compose_all: Callable[..., Any] = yaml.compose_all
+
+# A text, a list of trees, or a tuple of pairs of a key and a tree.
+Tree = Union[str, "list[Tree]", "tuple[tuple[str, Tree], ...]"]
+Configs = dict[str, Tree]
+# A change of a collection, at the last step of a path.
+Change = Callable[[Tree, str], Tree]
 
 CLOSING = re.compile(rb"^\.\.\.\n", re.MULTILINE)
 
@@ -33,19 +46,20 @@ class Refused(Exception):
     """A command is refused, or a text has no tree."""
 
 
-def pieces_of(content):
+def pieces_of(content: bytes) -> tuple[list[bytes], bytes]:
     """The pieces, each through its closing line, and the bytes after the last one."""
-    pieces, start = [], 0
+    pieces: list[bytes] = []
+    start = 0
     for closing in CLOSING.finditer(content):
         pieces.append(content[start : closing.end()])
         start = closing.end()
     return pieces, content[start:]
 
 
-def tree_of(node):
-    """A text, a list of trees, or a tuple of pairs of a key and a tree."""
+def tree_of(node: Any) -> Tree:
+    """The tree of a node of PyYAML."""
     if isinstance(node, yaml.ScalarNode):
-        return node.value
+        return str(node.value)
     if isinstance(node, yaml.SequenceNode):
         return [tree_of(value) for value in node.value]
     if not all(isinstance(key, yaml.ScalarNode) for key, _ in node.value):
@@ -56,10 +70,10 @@ def tree_of(node):
     return pairs
 
 
-def read_tree(piece):
+def read_tree(piece: bytes) -> Tree:
     """The tree of a piece."""
     try:
-        documents = list(yaml.compose_all(piece, yaml.CBaseLoader))
+        documents = list(compose_all(piece, yaml.CBaseLoader))
     except (yaml.YAMLError, UnicodeError) as error:
         raise Refused from error
     if len(documents) != 1 or documents[0] is None:
@@ -67,21 +81,25 @@ def read_tree(piece):
     return tree_of(documents[0])
 
 
-def read_mapping(piece):
+def read_mapping(piece: bytes) -> tuple[tuple[str, ...], tuple[Tree, ...]]:
     """The keys and the values of a piece that is a mapping."""
     tree = read_tree(piece)
     if not isinstance(tree, tuple) or not tree:
         raise Refused
-    return zip(*tree)
+    return keys_and_values(tree)
 
 
-def number_of(text):
+def keys_and_values(pairs: tuple[tuple[str, Tree], ...]) -> tuple[tuple[str, ...], tuple[Tree, ...]]:
+    return tuple(key for key, _ in pairs), tuple(value for _, value in pairs)
+
+
+def number_of(text: Tree) -> int:
     if not isinstance(text, str) or not NUMBER.fullmatch(text) or int(text) > GREATEST:
         raise Refused
     return int(text)
 
 
-def read_base(piece):
+def read_base(piece: bytes) -> tuple[Configs, int]:
     """The configurations of a base, in order, and its count."""
     keys, values = read_mapping(piece)
     if keys != ("store", "at", "configs") or values[0] not in FORMATS or not isinstance(values[2], tuple):
@@ -91,20 +109,20 @@ def read_base(piece):
     return dict(values[2]), number_of(values[1])
 
 
-def steps_of(path):
+def steps_of(path: Tree) -> list[str]:
     """The steps of a pointer."""
     if not isinstance(path, str) or (path and path[0] != "/") or re.search("~(?![01])", path):
         raise Refused
     return [step.replace("~1", "/").replace("~0", "~") for step in path.split("/")[1:]]
 
 
-def index_of(tree, step):
+def index_of(tree: list[Tree], step: str) -> int:
     if not NUMBER.fullmatch(step) or int(step) >= len(tree):
         raise Refused
     return int(step)
 
 
-def with_change(tree, steps, change):
+def with_change(tree: Tree, steps: list[str], change: Change) -> Tree:
     """The tree with the value at a path changed: `change` takes the collection there and the last step."""
     if len(steps) == 1:
         return change(tree, steps[0])
@@ -116,10 +134,10 @@ def with_change(tree, steps, change):
     return tuple((key, with_change(value, steps[1:], change) if key == steps[0] else value) for key, value in tree)
 
 
-def setting(value):
+def setting(value: Tree) -> Change:
     """A change that sets a value."""
 
-    def change(tree, step):
+    def change(tree: Tree, step: str) -> Tree:
         if isinstance(tree, list):
             at = len(tree) if step == "-" else index_of(tree, step)
             return tree[:at] + [value] + tree[at + 1 :]
@@ -132,7 +150,7 @@ def setting(value):
     return change
 
 
-def deletion(tree, step):
+def deletion(tree: Tree, step: str) -> Tree:
     """The change that takes a value out."""
     if isinstance(tree, list):
         at = index_of(tree, step)
@@ -142,7 +160,7 @@ def deletion(tree, step):
     return tuple(pair for pair in tree if pair[0] != step)
 
 
-def edited(configs, keys, values):
+def edited(configs: Configs, keys: tuple[str, ...], values: Sequence[Tree]) -> Configs:
     """The configurations after an edit."""
     name = values[0]
     if not isinstance(name, str) or not NAME.fullmatch(name):
@@ -158,7 +176,7 @@ def edited(configs, keys, values):
     return {**configs, name: with_change(configs[name], steps, changed) if steps else values[2]}
 
 
-def perform(configs, keys, values):
+def perform(configs: Configs, keys: tuple[str, ...], values: Sequence[Tree]) -> Configs:
     """The configurations after a record's command: an edit, or a batch of at least one."""
     if keys != ("batch",):
         return edited(configs, keys, values)
@@ -167,11 +185,11 @@ def perform(configs, keys, values):
     for edit in values[0]:
         if not isinstance(edit, tuple) or not edit:
             raise Refused
-        configs = edited(configs, *zip(*edit))
+        configs = edited(configs, *keys_and_values(edit))
     return configs
 
 
-def meaning(content):
+def meaning(content: bytes) -> tuple[Configs, int, int]:
     """The configurations and the count that a store file means, and how many bytes come after its last piece."""
     pieces, rest = pieces_of(content)
     try:

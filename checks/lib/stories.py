@@ -1,6 +1,9 @@
 """Sessions whose every fault is tried: their commands, what is answered, and what the store then holds."""
 
+from __future__ import annotations
+
 import copy
+from collections.abc import Mapping, Sequence
 
 from lib.store_runs import EMPTY, IMPORT, SINGLE, SLICED, WORKED
 
@@ -9,32 +12,39 @@ class Story:
     """A session over a folder. `files` is what is in the folder before. `changes` has for each command whether it is
     accepted and changes the state. `states` has for each number of such commands what `LOOK` is answered then."""
 
-    def __init__(self, name, files, steps, changes, states):
+    def __init__(
+        self,
+        name: str,
+        files: Mapping[str, bytes],
+        steps: Sequence[tuple[str, str]],
+        changes: Sequence[bool],
+        states: Sequence[str],
+    ) -> None:
         self.name = name
         self.files = files
         self.commands = "".join(command for command, _ in steps).encode()
         self.answers = [answer.encode() for _, answer in steps]
         self.changes = changes
         self.states = [state.encode() for state in states]
-        self.words = SINGLE
+        self.words: Sequence[str] = SINGLE
 
-    def in_groups(self):
+    def in_groups(self) -> Story:
         """The same session in groups, with a checkpoint in slices beside it as often as it can."""
         story = copy.copy(self)
         story.name, story.words = f"{self.name}, in groups", SLICED
         return story
 
-    def accepted(self, performed):
+    def accepted(self, performed: int) -> int:
         """How many of the first so many commands changed the state."""
         return sum(self.changes[:performed])
 
-    def answered(self, written):
+    def answered(self, written: int) -> int:
         """How many answers are whole in the first so many bytes of output."""
         ends = [len(b"".join(self.answers[: count + 1])) for count in range(len(self.answers))]
         return sum(end <= written for end in ends)
 
     @property
-    def output(self):
+    def output(self) -> bytes:
         return b"".join(self.answers)
 
 
@@ -42,7 +52,7 @@ class Story:
 LOOK = b'checkpoint:\n...\nnames:\n...\nexport: app\n...\n'
 
 
-def looked(count, text):
+def looked(count: int, text: str | None) -> str:
     """What `LOOK` is answered."""
     end = "---\nnames: []\n...\n---\nrefused: NoConfig\n...\n"
     if text is not None:
@@ -59,10 +69,14 @@ NEW = Story(
     [looked(0, None), looked(1, 'port: "80"'), looked(2, 'port: "81"'), looked(3, None)],
 )
 
-# A store with a torn record, beside a left-over `next.yaml`: opening drops the record. Then come a checkpoint and edits.
+# A store with a torn record, beside a left-over `next.yaml`: opening drops the record. Then come a checkpoint and
+# edits.
 TORN = Story(
     "a torn store",
-    {"store.yaml": EMPTY + IMPORT.replace(b"import: a", b"import: app") + b'---\nat: "2"\nset: app\npa', "next.yaml": b"left over"},
+    {
+        "store.yaml": EMPTY + IMPORT.replace(b"import: a", b"import: app") + b'---\nat: "2"\nset: app\npa',
+        "next.yaml": b"left over",
+    },
     [
         ("checkpoint:\n...\n", '---\nok: "1"\n...\n'),
         ('set: app\npath: ""\nvalue: z\n...\n', '---\nok: "2"\n...\n'),
@@ -88,7 +102,8 @@ BATCHES = Story(
             "---\nrefused: NoConfig\n...\n",
         ),
         (
-            'batch:\n  - delete: app\n    path: ""\n  - import: app\n    text: "x: v"\n  - set: app\n    path: /z\n    value: w\n...\n',
+            'batch:\n  - delete: app\n    path: ""\n  - import: app\n    text: "x: v"\n'
+            "  - set: app\n    path: /z\n    value: w\n...\n",
             '---\nok: "2"\n...\n',
         ),
         ('delete: app\npath: ""\n...\n', '---\nok: "3"\n...\n'),

@@ -8,11 +8,14 @@ checkpoint. Nothing is changed, and a session may hold the store meanwhile. `#at
 shows the store after command 3, and what is different from command 1.
 """
 
+from __future__ import annotations
+
 import json
 import os
 import sys
+from typing import Any
 
-from confstore import ConfstoreError, NoSuchCommand, Reader
+from confstore import ConfstoreError, Edit, NoSuchCommand, Reader, Tree
 
 TEMPLATE = os.path.join(os.path.dirname(os.path.abspath(__file__)), "page.html")
 
@@ -20,19 +23,19 @@ TEMPLATE = os.path.join(os.path.dirname(os.path.abspath(__file__)), "page.html")
 TRIES = 10
 
 
-def packed(tree):
+def packed(tree: Tree) -> Any:
     """A tree as JSON, with mappings as lists of pairs, since JavaScript does not keep the order of all keys."""
     if isinstance(tree, list):
         return [packed(item) for item in tree]
     return {"pairs": [[key, packed(value)] for key, value in tree.items()]} if isinstance(tree, dict) else tree
 
 
-def edit_of(edit):
+def edit_of(edit: Edit) -> dict[str, Any]:
     tree = None if edit.tree is None else packed(edit.tree)
     return {"kind": edit.kind, "name": edit.name, "path": edit.path, "tree": tree}
 
 
-def history(reader):
+def history(reader: Reader) -> dict[str, Any]:
     """The state before the first record of the file, and the records."""
     for _ in range(TRIES):
         records = reader.log()
@@ -47,13 +50,13 @@ def history(reader):
     raise SystemExit("page.py: checkpoints come faster than the log is read")
 
 
-def page(told):
+def page(told: dict[str, Any]) -> str:
     data = json.dumps(told).replace("<", "\\u003c")  # so that no text ends the script that holds it
     with open(TEMPLATE, encoding="utf-8") as source:
         return source.read().replace("DATA", data, 1)
 
 
-def main(folder):
+def main(folder: str) -> None:
     try:
         sys.stdout.write(page(history(Reader(folder))))
     except ConfstoreError as fault:

@@ -11,25 +11,27 @@ What is read so may not be synced yet: after a crash of the machine the store ma
 numbers begin again there. So the service reads all again when the file is another one or has become shorter.
 """
 
+from __future__ import annotations
+
 import os
 import sys
 import time
 
-from confstore import ConfstoreError, NoConfig, Reader, Unsupported
+from confstore import ConfstoreError, NoConfig, Reader, Tree, Unsupported
 
 
 class Settings:
     """A configuration, with the number of the last record that was looked at."""
 
-    def __init__(self, folder, name):
+    def __init__(self, folder: str, name: str) -> None:
         self.reader = Reader(folder)
         self.file = os.path.join(self.reader.folder, "store.yaml")
         self.name = name
-        self.tree = {}
+        self.tree: Tree = {}
         self.number = 0
-        self.seen = None  # which file was read, and how long it was
+        self.seen: tuple[int, int] | None = None  # which file was read, and how long it was
 
-    def load(self):
+    def load(self) -> None:
         """Reads the settings. What was there stays if there are none."""
         try:
             self.tree = self.reader.get(self.name)
@@ -37,7 +39,7 @@ class Settings:
             print(f"no configuration {self.name}: the settings stay", flush=True)
         print(f"settings: {self.tree}", flush=True)
 
-    def look(self):
+    def look(self) -> None:
         """Reads the settings again if they were changed."""
         found = os.stat(self.file)
         now = (found.st_ino, found.st_size)
@@ -55,9 +57,9 @@ class Settings:
             self.load()
 
 
-def main(folder, name, seconds=1.0):
+def main(folder: str, name: str, seconds: str = "1") -> None:
     settings = Settings(folder, name)
-    told = None
+    told: str | None = None
     while True:
         try:
             settings.look()
