@@ -380,6 +380,9 @@ def try_version(failures: Failures) -> None:
         ("CHANGELOG.md", r"^## (\d\S*)"),
         ("docs/man/confstore.1", r'^\.TH .*"confstore (\S+)"'),
         ("docs/man/confstore-store.5", r'^\.TH .*"confstore (\S+)"'),
+        ("docs/man/confstore.3", r'^\.TH .*"confstore (\S+)"'),
+        ("clients/c/confstore.h", r'^#define CONFSTORE_VERSION "(.*)"'),
+        ("python/confstore/__init__.py", r'^__version__ = "(.*)"'),
     ):
         failures.expect(f"the version of {path}", version_in(path, pattern), version)
 
