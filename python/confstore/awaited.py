@@ -18,7 +18,7 @@ from .style import Tree, document
 
 
 class AsyncBatch(Edits):
-    """Edits that are performed together when their `async with` is left, or not at all. `AsyncStore.batch` makes one."""
+    """Edits that are performed together when their `async with` is left, or not at all: `AsyncStore.batch` makes it."""
 
     def __init__(self, store: "AsyncStore") -> None:
         super().__init__()
@@ -37,8 +37,8 @@ class AsyncBatch(Edits):
 class AsyncStore(Answers):
     """A store whose calls are coroutines, over one session. Use it in `async with`, which opens it.
 
-    It has the calls of a `Store`. Those that are awaited at once go to the session at once and share its next sync; no
-    thread waits for them. Any number of tasks may use it, of any number of event loops.
+    It has the calls of a `Store` but `log`, `at` and those that only a mapping has. Those that are awaited at once go
+    to the session at once and share its next sync; no thread waits for them. Any number of tasks may use it.
 
     Where an awaited call is cancelled, its command is performed once or never, and no other call gets its answer. What
     is not sent yet is taken back. The arguments are those of `Store`.
@@ -171,6 +171,17 @@ class AsyncStore(Answers):
         async with self.batch() as batch:
             for name, tree in trees.items():
                 batch.put(name, tree)
+
+    async def clear(self) -> None:
+        """Deletes all configurations in one batch, as `Store.clear` does."""
+        while names := await self.names():
+            try:
+                async with self.batch() as batch:
+                    for name in names:
+                        batch.delete(name)
+                return
+            except NoConfig:
+                continue
 
     async def _perform_batch(self, edits: List[Tree]) -> int:
         command: Tree = {"batch": edits}

@@ -128,7 +128,8 @@ class Reader(Configurations):
 
 
 class View(Configurations):
-    """A store as of one command, as a mapping. Each call reads it anew, so it raises `NoSuchCommand` once a checkpoint dropped it."""
+    """A store as of one command, as a mapping. Each call reads it anew, so it raises `NoSuchCommand` once a checkpoint
+    dropped it."""
 
     def __init__(self, reader: Reader, number: int) -> None:
         self._reader = reader

@@ -36,11 +36,14 @@ class Awaited(StoreTest):
                 await store.delete("b")
             self.assertEqual(caught.exception.name, "b")
             await store.update({"c": "x", "d": "x"})
+            self.assertEqual(await store.names(), ["a", "c", "d"])
+            await store.clear()
+            await store.clear()
             return await store.checkpoint()
 
-        self.assertEqual(self.run_with(task), 5)
+        self.assertEqual(self.run_with(task), 6)
         with self.store() as store:
-            self.assertEqual(store.names(), ["a", "c", "d"])
+            self.assertEqual(store.names(), [])
 
     def test_what_is_awaited_at_once_is_sent_at_once(self):
         body = "for _ in range(100): heard()\n"

@@ -25,7 +25,8 @@ class Mappings(StoreTest):
             self.assertIsInstance(mapping, collections.abc.Mapping)
             self.assertEqual(dict(mapping), {"b": "x", "a": ["y"], "c": {"k": "z"}})
             self.assertEqual(list(mapping.items()), [("b", "x"), ("a", ["y"]), ("c", {"k": "z"})])
-            self.assertEqual((list(mapping.keys()), list(mapping.values())), (["b", "a", "c"], ["x", ["y"], {"k": "z"}]))
+            self.assertEqual(list(mapping.keys()), ["b", "a", "c"])
+            self.assertEqual(list(mapping.values()), ["x", ["y"], {"k": "z"}])
             self.assertEqual(mapping.keys() & {"a", "d"}, {"a"})
             self.assertIn(("b", "x"), mapping.items())
             self.assertNotIn(("B", "x"), mapping.items())
@@ -97,7 +98,8 @@ class Mappings(StoreTest):
         store = self.store()
         store.update(a="x", b="y", c="z")
         self.assertEqual((store.pop("b"), store.pop("b", None), store.pop("B", 5)), ("y", None, 5))
-        self.assertEqual((store.popitem(), store.setdefault("a", "w"), store.setdefault("d", "v")), (("c", "z"), "x", "v"))
+        self.assertEqual(store.popitem(), ("c", "z"))
+        self.assertEqual((store.setdefault("a", "w"), store.setdefault("d", "v")), ("x", "v"))
         self.assertEqual(dict(store), {"a": "x", "d": "v"})
         store.clear()
         for call in (store.popitem, lambda: store.pop("a")):
@@ -130,14 +132,14 @@ class Sentences(StoreTest):
                 batch.delete("none")
 
         for call, kind, name, path, said in (
-            (lambda: store["none"], KeyError, "none", "", "`get` of 'none' was refused: NoConfig: no configuration"),
-            (lambda: store.get("web", "/l"), KeyError, "web", "/l", "`get` of 'web' at '/l' was refused: NoSuchPlace: n"),
-            (lambda: reader.get("web", "/l"), KeyError, "web", "/l", "`get` of 'web' at '/l' was refused: NoSuchPlace: n"),
+            (lambda: store["none"], KeyError, "none", "", "`get` of 'none' was refused: NoConfig: no"),
+            (lambda: store.get("web", "/l"), KeyError, "web", "/l", "`get` of 'web' at '/l' was refused: NoSuchPlace"),
+            (lambda: reader.get("web", "/l"), KeyError, "web", "/l", "`get` of 'web' at '/l' was refused: NoSuchPlace"),
             (lambda: reader.get("B"), ValueError, "B", "", "`get` of 'B' was refused: BadName: a name has 1 to 64"),
             (lambda: store.set("web", "k", "x"), ValueError, "web", "k", "`set` of 'web' at 'k' was refused: BadPath: "),
             (lambda: store.delete("none"), KeyError, "none", "", "`delete` of 'none' was refused: NoConfig: "),
             (lambda: store.import_text("a", "["), ValueError, "a", None, "`import` of 'a' was refused: Syntax: YAML"),
-            (batch, KeyError, None, None, "`batch` of 2 edits was refused: NoConfig: no configuration has the name"),
+            (batch, KeyError, None, None, "`batch` of 2 edits was refused: NoConfig: no conf"),
         ):
             fault = self.fault(call)
             self.assertIsInstance(fault, kind)

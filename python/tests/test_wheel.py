@@ -51,7 +51,8 @@ class Wheels(unittest.TestCase):
         words = [python, "-m", "pip", "install", "--quiet", "--no-index", "--no-deps", HERE]
         done = subprocess.run(words, capture_output=True, text=True, check=False, timeout=120)
         self.assertEqual(done.returncode, 0, done.stderr)
-        shown = subprocess.run([python, "-m", "pip", "show", "-f", "confstore"], capture_output=True, text=True, check=True)
+        words = [python, "-m", "pip", "show", "-f", "confstore"]
+        shown = subprocess.run(words, capture_output=True, text=True, check=True, timeout=60)
         self.assertIn("Requires: PyYAML", shown.stdout)
         self.assertIn("confstore/py.typed", shown.stdout)
 
