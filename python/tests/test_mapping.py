@@ -136,7 +136,7 @@ class Sentences(StoreTest):
             (lambda: store.get("web", "/l"), KeyError, "web", "/l", "`get` of 'web' at '/l' was refused: NoSuchPlace"),
             (lambda: reader.get("web", "/l"), KeyError, "web", "/l", "`get` of 'web' at '/l' was refused: NoSuchPlace"),
             (lambda: reader.get("B"), ValueError, "B", "", "`get` of 'B' was refused: BadName: a name has 1 to 64"),
-            (lambda: store.set("web", "k", "x"), ValueError, "web", "k", "`set` of 'web' at 'k' was refused: BadPath: "),
+            (lambda: store.set("web", "k", "x"), ValueError, "web", "k", "`set` of 'web' at 'k' was refused: BadPath"),
             (lambda: store.delete("none"), KeyError, "none", "", "`delete` of 'none' was refused: NoConfig: "),
             (lambda: store.import_text("a", "["), ValueError, "a", None, "`import` of 'a' was refused: Syntax: YAML"),
             (batch, KeyError, None, None, "`batch` of 2 edits was refused: NoConfig: no conf"),
