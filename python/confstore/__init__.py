@@ -7,21 +7,25 @@
         store.set("web", "/port", "81")
         print(store.get("web", "/port"))
 
-A tree is a str, a list of trees, or a dict of str to trees. The package starts `confstore run --group` and speaks to it
-in YAML documents; what it promises of the disk is that session's promise. See `Store`, `Reader` and `faults`.
+A `Store` is a mapping of names to configurations. A tree is a str, a list of trees, or a dict of str to trees. The
+package starts `confstore run --group` and speaks to it in YAML documents; what it promises of the disk is that
+session's promise. See `Store`, `AsyncStore` and `Reader` here, and `confstore.faults` for what can go wrong.
 """
 
 from . import faults
+from .awaited import AsyncBatch, AsyncStore
 from .faults import *  # noqa: F403
 from .faults import ConfstoreError, Refused, SessionEnded
 from .reader import Reader, View
 from .records import Edit, Record
 from .store import Batch, Store
 from .style import Tree, document, from_text, to_text
+from .texts import Place
 
 __version__ = "0.2.0"
 
+# What `help` shows, in this order. The other exceptions are in `faults`, and can be imported from here too.
 __all__ = [
-    "Batch", "ConfstoreError", "Edit", "Reader", "Record", "Refused", "SessionEnded", "Store", "Tree", "View",
-    "document", "from_text", "to_text", *faults.__all__,
+    "Store", "Batch", "AsyncStore", "AsyncBatch", "Reader", "View", "Record", "Edit", "Place", "Tree", "document",
+    "from_text", "to_text", "ConfstoreError", "Refused", "SessionEnded",
 ]  # fmt: skip

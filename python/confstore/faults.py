@@ -9,7 +9,10 @@ from __future__ import annotations
 
 import errno
 import re
-from typing import Dict, Optional, Type
+from typing import TYPE_CHECKING, Dict, Optional, Tuple, Type
+
+if TYPE_CHECKING:
+    from .texts import Place
 
 __all__ = [
     "AnswerCut", "AnswerLong", "BadAnswer", "BadCommand", "BadName", "BadPath", "Closed", "CommandLong", "ConfigLarge",
@@ -26,95 +29,164 @@ class ConfstoreError(Exception):
 
 
 class Refused(ConfstoreError):
-    """A command was refused by this word. It changed nothing, and the store goes on."""
+    """A command was refused. It changed nothing, and the store goes on.
+
+    As a text it is a sentence: what was refused, of what, by which word, and why. `word` is the refusal's name, and
+    `about` says what was refused, or is empty. `name` and `path` are those of the command, or None where it has none.
+    """
+
+    #: Why a command is refused by this word.
+    because = ""
 
     def __init__(self, word: str, about: str = "") -> None:
-        super().__init__(f"{word}: {about}" if about else word)
+        super().__init__(word, about)
         self.word = word
+        self.about = about
+        self.name: Optional[str] = None
+        self.path: Optional[str] = None
+        #: The texts that were refused, or one of them, and the program that knows where.
+        self.texts: Tuple[bytes, ...] = ()
+        self.program: Optional[str] = None
+
+    def __str__(self) -> str:
+        return ": ".join(part for part in (self.about, self.word, self.because) if part)
+
+    @property
+    def place(self) -> "Optional[Place]":
+        """Where a text was refused, or None: where no text was, the program names no place, or there is no program.
+
+        It is asked of the program whenever this is looked at, by `confstore check -`. It raises what a run of the
+        program may raise, as `TimedOut`.
+        """
+        from .texts import place_of
+
+        return place_of(self)
 
 
 class BadCommand(Refused):
     """The command is none, or its value is nested too deep for one."""
 
+    because = "it is no command, or its value is nested too deep for one"
+
 
 class BadName(Refused, ValueError):
     """A name has 1 to 64 of `a` to `z`, `0` to `9`, `_` and `-`, and begins with a letter; this one doesn't."""
 
+    because = "a name has 1 to 64 of a to z, 0 to 9, _ and -, and begins with a letter"
 
-class NoConfig(Refused, LookupError):
+
+class NoConfig(Refused, KeyError):
     """No configuration has the name."""
+
+    because = "no configuration has the name"
 
 
 class BadPath(Refused, ValueError):
     """The pointer is none of RFC 6901."""
 
+    because = "the path is no pointer of RFC 6901"
 
-class NoSuchPlace(Refused, LookupError):
+
+class NoSuchPlace(Refused, KeyError):
     """Nothing is at the path."""
+
+    because = "nothing is at the path"
 
 
 class NotIndex(Refused, LookupError):
     """A step into a list is no index."""
 
+    because = "a step into a list is no index"
+
 
 class TooLong(Refused):
     """The text of an import has more bytes than a configuration may have."""
+
+    because = "the text has more bytes than a configuration may have"
 
 
 class NotUtf8(Refused):
     """The bytes are not UTF-8."""
 
+    because = "the bytes are not UTF-8"
+
 
 class Syntax(Refused, ValueError):
     """YAML 1.2.2, or the profile, does not allow the text of an import."""
+
+    because = "YAML 1.2.2, or the profile, does not allow the text"
 
 
 class Documents(Refused, ValueError):
     """The text of an import has no document, or more than one."""
 
+    because = "the text has no document, or more than one"
+
 
 class KeyNotText(Refused, ValueError):
     """A key in the text of an import is a list or a mapping."""
+
+    because = "a key in the text is a list or a mapping"
 
 
 class KeyTwice(Refused, ValueError):
     """A mapping in the text of an import has a key twice."""
 
+    because = "a mapping in the text has a key twice"
+
 
 class TooDeep(Refused, ValueError):
     """Collections would be nested deeper than a configuration may be."""
+
+    because = "collections would be nested deeper than a configuration may be"
 
 
 class LargeInStyle(Refused):
     """The configuration would have too many bytes in the one style."""
 
+    because = "the configuration would have too many bytes in the one style"
+
 
 class ConfigLarge(Refused):
     """The configuration would have too many bytes in the one style."""
+
+    because = "the configuration would have too many bytes in the one style"
 
 
 class StoreFull(Refused):
     """All configurations together would be too long for a base."""
 
+    because = "all configurations together would be too long for a base"
+
 
 class JournalLong(Refused):
     """`store.yaml` would be too long. A checkpoint helps."""
+
+    because = "store.yaml would be too long; a checkpoint helps"
 
 
 class CountFull(Refused):
     """As many commands were accepted as can be counted."""
 
+    because = "as many commands were accepted as can be counted"
+
 
 class EmptyBatch(Refused, ValueError):
     """A batch has no edits."""
+
+    because = "a batch has no edits"
 
 
 class RecordLong(Refused):
     """The record of a batch would be too long."""
 
+    because = "the record of the batch would be too long"
+
 
 class NoSuchCommand(Refused, LookupError):
     """The file has no state of this number: it is beyond the last command, or a checkpoint dropped it."""
+
+    because = "the file has no state of this number: it is beyond the last command, or a checkpoint dropped it"
 
 
 class SessionEnded(ConfstoreError):

@@ -9,12 +9,14 @@ import errno
 import operator
 import os
 import re
-from typing import List, Optional
+from typing import Any, List, Optional, overload
 
 import yaml
 
-from .faults import BadAnswer, BadName, ConfstoreError, NotStarted, NotText, TooLongToSend
-from .faults import REFUSALS, Unsupported, end_of, refusal
+from .commands import get_of, refused
+from .faults import REFUSALS, BadAnswer, ConfstoreError, NotStarted, NotText, Refused, TooLongToSend, Unsupported
+from .faults import end_of, refusal
+from .mapping import MISSING, Configurations, D
 from .other import Cutter
 from .places import find_program, need_folder, path_of
 from .records import Record, record_of
@@ -37,8 +39,10 @@ GREATEST = 2**64 - 1
 LONGEST_LOG = 1_073_741_824
 
 
-class Reader:
+class Reader(Configurations):
     """Reads a store without holding it. It takes no lock, and writes, makes and removes nothing.
+
+    It is a mapping of names to configurations, each read anew. Where all have to be of one state, use `at`.
 
     Each call runs the program once, for at most `timeout` seconds. A call raises `Unsupported` where the program lacks
     the word.
@@ -78,15 +82,30 @@ class Reader:
         """The names of the configurations, in order."""
         return self._read("names", _at(at)).decode().splitlines()
 
-    def get(self, name: str, path: str = "", at: Optional[int] = None) -> Tree:
-        """The tree at a path of a configuration."""
+    @overload  # type: ignore[override]
+    def get(self, name: str, path: str = "", at: Optional[int] = None) -> Tree: ...
+
+    @overload
+    def get(self, name: str, path: str = "", at: Optional[int] = None, *, default: D) -> "Tree | D": ...
+
+    def get(self, name: str, path: str = "", at: Optional[int] = None, *, default: Any = MISSING) -> Any:
+        """The tree at a path of a configuration, as of a command if its number is given. `default` is returned as by
+        the `get` of a `Store`."""
+        if at is None:
+            return super().get(name, path, default=default)
+        return View(self, at).get(name, path, default=default)
+
+    def _read_at(self, name: str, path: str, at: Optional[int] = None) -> Tree:
         name, path = text_of(name), text_of(path)
         if not _NAME.fullmatch(name):
-            raise BadName("BadName")
+            raise refused("BadName", get_of(name, path), self.program)
         if path and not path.startswith("/"):
-            raise refusal("BadPath")
+            raise refused("BadPath", get_of(name, path), self.program)
         _check_word(path)
-        text = self._read("get", _at(at), name, *([path] if path else []))
+        try:
+            text = self._read("get", _at(at), name, *([path] if path else []))
+        except Refused as fault:
+            raise refused(fault.word, get_of(name, path), self.program) from None
         try:
             return from_text(text)
         except yaml.YAMLError:
@@ -108,8 +127,9 @@ class Reader:
         return view
 
 
-class View:
-    """A store as of one command. Each call reads it anew, so it raises `NoSuchCommand` once a checkpoint dropped it."""
+class View(Configurations):
+    """A store as of one command, as a mapping. Each call reads it anew, so it raises `NoSuchCommand` once a checkpoint
+    dropped it."""
 
     def __init__(self, reader: Reader, number: int) -> None:
         self._reader = reader
@@ -119,12 +139,8 @@ class View:
         """The names of the configurations, in order."""
         return self._reader.names(self.number)
 
-    def get(self, name: str, path: str = "") -> Tree:
-        """The tree at a path of a configuration."""
-        return self._reader.get(name, path, self.number)
-
-    def __getitem__(self, name: str) -> Tree:
-        return self.get(name)
+    def _read_at(self, name: str, path: str) -> Tree:
+        return self._reader._read_at(name, path, self.number)
 
 
 def _later(records: bytes, after: int) -> bytes:

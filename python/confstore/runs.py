@@ -5,12 +5,14 @@ from __future__ import annotations
 
 import _thread
 import errno
+import io
 import os
 import select
 import subprocess
+import tempfile
 import threading
 import time
-from typing import Optional, Sequence
+from typing import Optional, Sequence, Tuple
 
 from .faults import AnswerLong, ConfstoreError, NotStarted, TimedOut, Unknown
 from .other import finished, started, take, take_errors
@@ -22,11 +24,11 @@ LOOK = 0.1
 class Run:
     """A run of the program. `status`, `output` and the end of `errors` are there once it is done."""
 
-    def __init__(self, words: Sequence[str], timeout: float, longest: int) -> None:
+    def __init__(self, words: Sequence[str], timeout: float, longest: int, given: bytes = b"") -> None:
         self.status = 0
         self.output = bytearray()
         self.errors = bytearray()
-        self._words, self._longest = words, longest
+        self._words, self._longest, self._given = words, longest, given
         self._timeout, self._deadline = timeout, time.monotonic() + timeout
         self._fault: Optional[ConfstoreError] = None
         self._is_left = False
@@ -61,8 +63,17 @@ class Run:
         finally:
             self._done.release()
 
+    def _started(self) -> "Tuple[subprocess.Popen[bytes], io.FileIO, io.FileIO]":
+        """Starts the program with what it is given on standard input."""
+        if not self._given:
+            return started(self._words, subprocess.DEVNULL)
+        with tempfile.TemporaryFile() as source:
+            source.write(self._given)
+            source.seek(0)
+            return started(self._words, source.fileno())
+
     def _perform(self) -> None:
-        process, output, errors = started(self._words, subprocess.DEVNULL)
+        process, output, errors = self._started()
         with output, errors:
             os.set_blocking(errors.fileno(), False)
             os.set_blocking(output.fileno(), False)

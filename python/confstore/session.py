@@ -13,6 +13,7 @@ it was told to.
 from __future__ import annotations
 
 import _thread
+import asyncio
 import copy
 import errno
 import functools
@@ -77,6 +78,35 @@ class _Slot:
         """Whether this is told before the deadline. Only one thread waits, and only once."""
         left = min(max(deadline - time.monotonic(), 0), threading.TIMEOUT_MAX)
         return self._told.acquire(timeout=left)
+
+
+class _AwaitedSlot(_Slot):
+    """A slot whose caller awaits it in an event loop, and holds no thread meanwhile."""
+
+    __slots__ = ("_loop", "woken")
+
+    def __init__(self, document: bytes = b"") -> None:
+        super().__init__(document)
+        self._loop = asyncio.get_running_loop()
+        self.woken: "asyncio.Future[None]" = self._loop.create_future()
+
+    def tell(self) -> None:
+        try:
+            self._loop.call_soon_threadsafe(self.wake)
+        except RuntimeError:
+            pass  # the loop is closed, so nobody waits
+
+    def wake(self) -> None:
+        if not self.woken.done():
+            self.woken.set_result(None)
+
+    async def wait_awake(self, seconds: float) -> None:
+        """Waits until this is told, at most so long."""
+        timer = self._loop.call_later(seconds, self.wake)
+        try:
+            await self.woken
+        finally:
+            timer.cancel()
 
 
 class _Line:
@@ -275,6 +305,13 @@ def _forked() -> Closed:
     return Closed("this store was opened by another process")
 
 
+def _timed_out(slot: _Slot, timeout: float) -> TimedOut:
+    """The exception of a command that got no answer in time. It is taken back if it is not sent yet."""
+    if slot.withdraw():
+        return TimedOut("the session takes no commands", False)
+    return TimedOut(f"no answer within {timeout} seconds", True)
+
+
 os.register_at_fork(after_in_child=_end_all)
 
 
@@ -374,8 +411,29 @@ class Session:
                 slot.withdraw()
             raise
 
+    async def ask_awaited(self, document: bytes, timeout: float) -> bytes:
+        """As `ask`, for a caller in an event loop. Where the call is cancelled, what is not sent yet is taken back."""
+        session = self.latest()
+        session._check((document,))
+        slot = _AwaitedSlot(document)
+        try:
+            session._line.put(SEND, (slot,))
+            if session._line.end is None:
+                await slot.wait_awake(timeout)
+        except BaseException:
+            slot.withdraw()
+            raise
+        if slot.answer is None and session._line.end is None:
+            raise _timed_out(slot, timeout)
+        return session._answer_of(slot)
+
     def _checked(self, documents: Sequence[bytes]) -> Tuple[_Slot, ...]:
         """The slots of documents that may be sent."""
+        self._check(documents)
+        return tuple(map(_Slot, documents))
+
+    def _check(self, documents: Sequence[bytes]) -> None:
+        """Raises why documents may not be sent."""
         line = self._line
         for document in documents:
             if len(document) > LONGEST_COMMAND:
@@ -386,7 +444,6 @@ class Session:
             raise Closed("this store is closed")
         if line.end is not None:
             raise self._ended()
-        return tuple(map(_Slot, documents))
 
     def _answer_or_fault(self, slot: _Slot, deadline: float, timeout: float) -> Union[bytes, ConfstoreError]:
         try:
@@ -396,9 +453,10 @@ class Session:
 
     def _answer_in(self, slot: _Slot, deadline: float, timeout: float) -> bytes:
         if self._line.end is None and not slot.wait(deadline):
-            if slot.withdraw():
-                raise TimedOut("the session takes no commands", False)
-            raise TimedOut(f"no answer within {timeout} seconds", True)
+            raise _timed_out(slot, timeout)
+        return self._answer_of(slot)
+
+    def _answer_of(self, slot: _Slot) -> bytes:
         if slot.answer is None:
             raise self._ended()
         return slot.answer
@@ -424,6 +482,11 @@ class Session:
         """Ends the session at once, for this fault."""
         self._line.fault = self._line.fault or fault
         self._await(KILL, GOING)
+
+    def distrust_soon(self, fault: ConfstoreError) -> None:
+        """Has the session end for this fault, and does not wait for it."""
+        self._line.fault = self._line.fault or fault
+        self._await(KILL, 0)
 
     def close(self, timeout: float) -> None:
         """Has the session perform what it was sent, and end. It is killed if that takes longer than so many seconds.

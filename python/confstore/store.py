@@ -4,64 +4,36 @@ from __future__ import annotations
 
 import operator
 import os
-import re
 from types import TracebackType
-from typing import Any, Callable, Dict, Iterator, List, Optional, Sequence, Type
+from typing import Any, Callable, List, MutableMapping, Optional, Sequence, Tuple, Type, overload
 
-import yaml
-
-from .faults import BadAnswer, BadCommand, Closed, ConfstoreError, EmptyBatch, Unsupported, refusal
-from .places import make_folder, need_folder
+from .commands import CHECKPOINT, NAMES, Answers, delete_of, get_of, import_of, put_of, set_of
+from .edits import Edits
+from .faults import BadCommand, BadName, Closed, ConfstoreError, EmptyBatch, NoConfig, Unsupported, refusal
+from .mapping import MISSING, MISSING_HERE, Configurations, D, Missing
+from .places import find_program, make_folder, need_folder, path_of
 from .reader import Reader, View
 from .records import Record
 from .session import Session
-from .style import Tree, document, to_text, trees_of
+from .style import Tree, document
 
 # How many seconds a call may take, unless a store is opened with another number.
 TIMEOUT = 60.0
 
-_OK = re.compile(rb'---\nok: "([0-9]+)"\n\.\.\.\n')
+def words_of(path: "str | os.PathLike[str]", program: Optional[str], checkpoint_after: Optional[int]) -> List[str]:
+    """The words of a program that is a session over a folder."""
+    more = [] if checkpoint_after is None else ["--checkpoint-after", format(operator.index(checkpoint_after), "d")]
+    return [find_program(program), "run", "--group", *more, path_of(path)]
 
 
-def _import(name: str, text: str) -> Dict[str, Tree]:
-    return {"import": name, "text": text}
-
-
-def _set(name: str, path: str, tree: Tree) -> Dict[str, Tree]:
-    return {"set": name, "path": path, "value": tree}
-
-
-def _delete(name: str, path: str) -> Dict[str, Tree]:
-    return {"delete": name, "path": path}
-
-
-class Batch:
+class Batch(Edits):
     """Edits that are performed together when its block is left, or not at all. `Store.batch` makes one."""
 
     def __init__(self, perform: Callable[[List[Tree]], int]) -> None:
+        super().__init__()
         self._perform = perform
-        self._edits: List[Tree] = []
         #: The count of accepted commands after the batch, once it was performed.
         self.count: Optional[int] = None
-
-    def import_text(self, name: str, text: str) -> None:
-        """Puts the tree of a text under a name."""
-        self._edits.append(_import(name, text))
-
-    def put(self, name: str, tree: Tree) -> None:
-        """Puts a tree under a name."""
-        self._edits.append(_import(name, to_text(tree)))
-
-    def set(self, name: str, path: str, tree: Tree) -> None:
-        """Puts a tree at a path."""
-        self._edits.append(_set(name, path, tree))
-
-    def delete(self, name: str, path: str = "") -> None:
-        """Takes out what is at a path, or the configuration if the path is empty."""
-        self._edits.append(_delete(name, path))
-
-    def __len__(self) -> int:
-        return len(self._edits)
 
     def __enter__(self) -> "Batch":
         return self
@@ -71,8 +43,25 @@ class Batch:
             self.count = self._perform(self._edits)
 
 
-class Store:
+class Store(Answers, Configurations, MutableMapping[str, Tree]):
     """A store in a folder, held by one session until it is closed. Use it in `with`.
+
+    It is a mapping of names to configurations, whose values are dicts, lists and texts:
+
+    >>> with Store(folder) as store:
+    ...     store["web"] = {"port": "80", "hosts": ["a", "b"]}
+    ...     store.update(dns={"server": "a"}, mail={"port": "25"})
+    ...     print(list(store), "web" in store, store.pop("mail"))
+    ...     print(store.set("web", "/port", "81"), store.get("web", "/port"), store.get("none", default=None))
+    ['web', 'dns', 'mail'] True {'port': '25'}
+    4 81 None
+
+    What `store[name]` returns is a copy: a change of it is no change of the store.
+
+    >>> with Store(folder) as store:
+    ...     store.get("web", "/color")
+    Traceback (most recent call last):
+    confstore.faults.NoSuchPlace: `get` of 'web' at '/color' was refused: NoSuchPlace: nothing is at the path
 
     Any number of threads may use one `Store`; commands that come while the session syncs share the next sync. When a
     call that changes something returns, the change is on the disk. It returns the new count of accepted commands.
@@ -104,8 +93,8 @@ class Store:
         if make:
             make_folder(folder)
         need_folder(folder)
-        more = [] if checkpoint_after is None else ["--checkpoint-after", format(operator.index(checkpoint_after), "d")]
-        self._words: Sequence[str] = [self._reader.program, "run", "--group", *more, folder]
+        self._program = self._reader.program
+        self._words: Sequence[str] = words_of(folder, self._reader.program, checkpoint_after)
         self._socket: Optional[str] = None
         self._begin()
 
@@ -170,74 +159,44 @@ class Store:
     def _ask(self, command: Tree) -> bytes:
         return self._session.ask(document(command), self._timeout)
 
-    def _distrust(self, answer: bytes, about: str) -> BadAnswer:
-        """Ends the session, which gave an answer that is none."""
-        self._session.distrust(BadAnswer(about))
-        return BadAnswer(f"{about}: {answer[:200]!r}")
-
-    def _told(self, command: Tree, key: str) -> Tree:
-        """What the answer to a command has under the key that is expected."""
-        return self._value_in(self._ask(command), key)
-
-    def _value_in(self, answer: bytes, key: str) -> Tree:
-        try:
-            (tree,) = trees_of(answer)
-        except (yaml.YAMLError, ValueError, BadAnswer) as error:
-            raise self._distrust(answer, f"the answer is no YAML document: {type(error).__name__}") from None
-        if isinstance(tree, dict) and len(tree) == 1:
-            if key in tree:
-                return tree[key]
-            word = tree.get("refused")
-            if isinstance(word, str):
-                raise refusal(word)
-        raise self._distrust(answer, "the answer is none to the command")
+    def _end_for(self, fault: ConfstoreError) -> None:
+        self._session.distrust(fault)
 
     def _count(self, command: Tree) -> int:
-        return self._count_in(self._ask(command))
+        return self._count_in(self._ask(command), command)
 
-    def _count_in(self, answer: bytes) -> int:
-        found = _OK.fullmatch(answer)
-        if found:
-            return int(found[1])
-        raise self._distrust(answer, f"the answer has {self._value_in(answer, 'ok')!r} for a number")
+    def _read_at(self, name: str, path: str) -> Tree:
+        command = get_of(name, path)
+        return self._value_in(self._ask(command), "value", command)
 
     def import_text(self, name: str, text: str) -> int:
         """Reads a text of YAML and puts its tree under a name, which may be new."""
-        return self._count(_import(name, text))
+        return self._count(import_of(name, text))
 
     def put(self, name: str, tree: Tree) -> int:
         """Puts a tree under a name, which may be new."""
-        return self._count(_import(name, to_text(tree)))
+        return self._count(put_of(name, tree))
 
     def set(self, name: str, path: str, tree: Tree) -> int:
         """Puts a tree at a path (RFC 6901) of a configuration; the step `-` appends to a list."""
-        return self._count(_set(name, path, tree))
+        return self._count(set_of(name, path, tree))
 
     def delete(self, name: str, path: str = "") -> int:
         """Takes out what is at a path of a configuration, or the whole of it if the path is empty."""
-        return self._count(_delete(name, path))
-
-    def get(self, name: str, path: str = "") -> Tree:
-        """The tree at a path of a configuration."""
-        return self._told({"get": name, "path": path}, "value")
+        return self._count(delete_of(name, path))
 
     def export(self, name: str) -> str:
         """The text of a configuration in the one style."""
-        text = self._told({"export": name}, "text")
-        if not isinstance(text, str):
-            raise BadAnswer("the text of an export is a collection")
-        return text
+        command: Tree = {"export": name}
+        return self._text_in(self._ask(command), command)
 
     def names(self) -> List[str]:
         """The names of the configurations, in order."""
-        names = self._told({"names": ""}, "names")
-        if not isinstance(names, list):
-            raise BadAnswer("the names are no list")
-        return [str(name) for name in names]
+        return self._names_in(self._ask(NAMES))
 
     def checkpoint(self) -> int:
         """Writes a new `store.yaml` of the state alone. The log begins anew with it."""
-        return self._count({"checkpoint": ""})
+        return self._count(CHECKPOINT)
 
     def batch(self) -> Batch:
         """A context that lists edits, and performs them together when it is left, or not at all:
@@ -265,11 +224,12 @@ class Store:
         before the first is answered, so they share syncs; a batch that is refused keeps none of the others back. Where
         the session ended, its end is in the place of each batch that got no answer: it was performed or not.
         """
-        documents = [document({"batch": list(edits)}) for edits in batches]
+        commands: List[Tree] = [{"batch": list(edits)} for edits in batches]
         counts: List[int | ConfstoreError] = []
-        for answer in self._session.ask_all(documents, self._timeout):
+        answers = self._session.ask_all([document(command) for command in commands], self._timeout)
+        for command, answer in zip(commands, answers):
             try:
-                counts.append(answer if isinstance(answer, ConfstoreError) else self._count_in(answer))
+                counts.append(answer if isinstance(answer, ConfstoreError) else self._count_in(answer, command))
             except ConfstoreError as fault:
                 counts.append(fault)
         return counts
@@ -296,20 +256,61 @@ class Store:
         """The store as of the command with this number, if the file still has it."""
         return self._need_reader().at(number)
 
-    def __getitem__(self, name: str) -> Tree:
-        return self.get(name)
-
     def __setitem__(self, name: str, tree: Tree) -> None:
         self.put(name, tree)
 
     def __delitem__(self, name: str) -> None:
         self.delete(name)
 
-    def __contains__(self, name: Any) -> bool:
-        return name in self.names()
+    @overload  # type: ignore[override]
+    def pop(self, name: str, /) -> Tree: ...
 
-    def __iter__(self) -> Iterator[str]:
-        return iter(self.names())
+    @overload
+    def pop(self, name: str, /, default: "Tree | D") -> "Tree | D": ...
 
-    def __len__(self) -> int:
-        return len(self.names())
+    def pop(self, name: str, /, default: Any = MISSING) -> Any:
+        """Deletes a configuration, and returns what it was; or the default, if one is given, where it is not there.
+
+        These are two commands: what another user puts between them is deleted unseen. Where many pop one configuration
+        that nobody puts again, one of them gets it.
+        """
+        try:
+            tree = self[name]
+            del self[name]
+            return tree
+        except (BadName, NoConfig):
+            if default is MISSING:
+                raise
+            return default
+
+    def popitem(self) -> Tuple[str, Tree]:
+        """Deletes the last configuration, as `pop` does, and returns its name and what it was."""
+        while names := self.names():
+            tree = self.pop(names[-1], MISSING_HERE)
+            if not isinstance(tree, Missing):
+                return names[-1], tree
+        raise refusal("NoConfig", "`popitem` of an empty store")
+
+    def update(self, other: Any = (), /, **more: Tree) -> None:
+        """Puts each tree of a mapping, or of pairs, under its name: all in one batch, so all of them or none.
+
+        Without trees it sends nothing. It raises `TooLongToSend` where they are together longer than a command may be.
+        """
+        with self.batch() as batch:
+            for name, tree in dict(other, **more).items():
+                batch.put(name, tree)
+
+    def clear(self) -> None:
+        """Deletes all configurations in one batch, so all of them or none.
+
+        These are those that the store had before the batch. Where another user deletes one of them before it is
+        performed, the batch is refused, and made again of those that are left.
+        """
+        while names := self.names():
+            try:
+                with self.batch() as batch:
+                    for name in names:
+                        batch.delete(name)
+                return
+            except NoConfig:
+                continue
