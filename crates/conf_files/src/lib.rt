@@ -2,7 +2,6 @@
 //!
 //! [`OpenFolder`] is a folder that is open, with a path that leads to it whatever becomes of its name. [`look`],
 //! [`open_plain`] and [`open_to_read`] use plain files alone: a link, a FIFO or a folder is neither followed nor opened.
-//! [`write_over`] puts on the device what a failed sync may have left in memory alone.
 //!
 //! [`open_to_replace`] opens a file to be read, and [`replace_file`] puts a file of other bytes in its place. A crash at
 //! any moment leaves the old file or the new one, whole. [`take_after`] gives a new file the owner, the group and the
@@ -11,13 +10,11 @@
 //! No contract says what a file holds, so what a crash leaves is shown by trials alone.
 #![tactic(auto)]
 
-mod device;
 mod folder;
 mod owner;
 mod plain;
 mod replace;
 
-pub use device::write_over;
 pub use folder::{OpenFolder, parent_of};
 pub use owner::{OWNER_ALONE, give_owner_and_group, is_of_same_owner_and_group, take_after};
 pub use plain::{Identity, look, open_plain, open_to_read};

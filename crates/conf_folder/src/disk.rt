@@ -7,7 +7,7 @@ use crate::lock::{find_unlocked, lock_store};
 use crate::note::Note;
 use crate::reading::open_folder;
 use conf_disk::{Content, Disk, DiskFault, Name};
-use conf_files::{OWNER_ALONE, OpenFolder, look, open_plain, open_to_read, take_after, write_over};
+use conf_files::{OWNER_ALONE, OpenFolder, look, open_plain, open_to_read, take_after};
 use std::alloc::{AllocError, Global};
 use std::fs::{File, Metadata, OpenOptions};
 use std::io::{ErrorKind, Read, Write};
@@ -36,8 +36,8 @@ pub struct FolderDisk<'r, R: Files<File = File>> {
     access: Access,
     store: Appended,
     next: Appended,
-    /// What is noted in `store.lock`.
-    note: Note,
+    /// What is noted in `store.lock`. `None` if a note failed: either may stand there.
+    note: Option<Note>,
     replacing: Replacing,
     /// Whether `store.yaml` was not there when it was looked for last.
     is_missing: bool,
@@ -245,7 +245,7 @@ impl<'r, R: Files<File = File>> FolderDisk<'r, R> {
             access,
             store: Appended::closed(bytes),
             next: Appended::closed(Bytes::OnDevice),
-            note,
+            note: Some(note),
             replacing: Replacing::Nothing,
             is_missing: false,
             failures: 0,
@@ -253,9 +253,9 @@ impl<'r, R: Files<File = File>> FolderDisk<'r, R> {
     }
 
     /// Ends the run, and lets go of the locks. If the device has all bytes of `store.yaml`, it is noted in `store.lock`;
-    /// where the system refuses that, the next run writes them over once more.
+    /// where the system refuses that, the next run puts a copy in its place once more.
     pub fn release(self) {
-        if self.note == Note::Unsure && self.store.bytes == Bytes::OnDevice {
+        if self.note != Some(Note::OnDevice) && self.store.bytes == Bytes::OnDevice {
             if let Access::Changing { lock } = &self.access {
                 let _ = Note::OnDevice.write(lock);
             }
@@ -288,9 +288,10 @@ impl<'r, R: Files<File = File>> FolderDisk<'r, R> {
     fn have_noted(&mut self, note: Note) -> io::Result<()>
         ensures { self.new.failures ≡ self.old.failures }
     {
-        if self.note != note {
+        if self.note != Some(note) {
+            self.note = None;
             note.write(self.lock()?)?;
-            self.note = note;
+            self.note = Some(note);
         }
         Ok(())
     }
@@ -452,20 +453,28 @@ impl<'r, R: Files<File = File>> FolderDisk<'r, R> {
         let Content::Bytes(bytes) = content else {
             return Ok(());
         };
-        if let Err(error) = self.write_store_over(bytes.as_slice()) {
+        if let Err(error) = self.put_copy(bytes.as_slice()) {
             self.access = Access::Reading;
             return Err(error);
         }
-        self.store.bytes = Bytes::OnDevice;
         let _ = self.have_noted(Note::OnDevice);
         Ok(())
     }
 
-    /// Writes the bytes of `store.yaml` over themselves, and syncs it.
-    fn write_store_over(&self, bytes: &[u8]) -> io::Result<()> {
-        let path = self.path(Name::Store)?;
-        let file = open_plain(self.rt, OpenOptions::new().write(true), path)?;
-        write_over(file, bytes)
+    /// Puts a new file with the bytes of `store.yaml` in its place, all synced. Where a sync failed, a file system may
+    /// never write what is written again to the same file.
+    fn put_copy(&mut self, bytes: &[u8]) -> io::Result<()>
+        ensures { self.new.failures ≡ self.old.failures }
+    {
+        self.try_remove_next()?;
+        self.try_create_next()?;
+        self.try_append(Name::Next, bytes)?;
+        self.try_sync(Name::Next)?;
+        self.try_rename_next()?;
+        self.store.bytes = Bytes::Unsure;
+        self.try_sync_folder()?;
+        self.store.bytes = Bytes::OnDevice;
+        Ok(())
     }
 
     /// Reads the file under a name, if there is one. A file of more than `max` bytes is `TooLong`. A run that may
