@@ -26,7 +26,7 @@ from collections import Counter
 from concurrent.futures import ThreadPoolExecutor
 
 from lib.stories import LOOK, NEW, TORN
-from lib.store_runs import SINGLE, Failures, compiled, need_program, read_file, session, write_file
+from lib.store_runs import SINGLE, Failures, compiled, dropped, need_program, read_file, session, write_file
 
 # The status of a process that the library ended.
 ENDED = 99
@@ -40,8 +40,8 @@ OUTPUT = (3, "confstore: Output\n")
 STOPPED = (ENDED, "")
 
 # The calls of the session over a new folder that change the folder, sync a change, or answer, as docs/DISK.md and
-# docs/STORE.md have them: opening writes a base, and each of the three changes appends and syncs a record before its
-# answer.
+# docs/STORE.md have them: opening writes a base, each of the three changes appends and syncs a record before its
+# answer, and the end is noted in `store.lock`.
 CHANGES_OF_NEW = [
     "create store.lock", "fsync folder", "create next.yaml", "write next.yaml", "fsync next.yaml", "link next.yaml",
     "unlink next.yaml", "fsync folder",
@@ -51,6 +51,7 @@ CHANGES_OF_NEW = [
     "write store.yaml", "fsync store.yaml", "write output",
     "write output",
     "write output",
+    "write store.lock",
 ]
 
 
@@ -58,6 +59,7 @@ CHANGES_OF_NEW = [
 CHANGES_IN_A_GROUP = [
     *CHANGES_OF_NEW[:8],
     "write store.yaml", "write store.yaml", "write store.yaml", "fsync store.yaml", "write output", "create next.yaml",
+    "write store.lock",
 ]
 
 
@@ -110,15 +112,16 @@ OF_CALLS = {
 
 class Call:
     """A call of a session without faults: its number from 1, its name, the file that it is made on, and its place in
-    the session: whether it is the first on its file, how many bytes of input were read before, and how many bytes of
-    output were written."""
+    the session: whether it is the first on its file, the calls after it, how many bytes of input were read before, and
+    how many bytes of output were written."""
 
-    def __init__(self, number, name, file, size, first, taken, written):
+    def __init__(self, number, name, file, size, first, following, taken, written):
         self.number = number
         self.name = name
         self.file = file
         self.size = size
         self.first = first
+        self.following = following
         self.taken = taken
         self.begun = taken > 0 or self.reads_input()
         self.written = written
@@ -143,9 +146,23 @@ class Call:
     def answers(self):
         return (self.name, self.file) == ("write", "output")
 
+    def is_of_note(self):
+        """Whether the call reads or writes the note in `store.lock`."""
+        return self.name in ("read", "write") and self.file == "store.lock"
+
+    def is_append_next(self):
+        """Whether the next call appends to `store.yaml`."""
+        return bool(self.following) and self.following[0].startswith("write store.yaml ")
+
+    def is_last(self):
+        """Whether only handles are closed after the call."""
+        return all(line.startswith("close ") for line in self.following)
+
     def is_dispensable(self):
-        """Whether the program does without the call: a handle that is closed, the look whether there is a /proc, and the
-        mode of `store.lock`."""
+        """Whether the program does without the call: a handle that is closed, the look whether there is a /proc, the
+        mode of `store.lock`, and the note that the device has all bytes."""
+        if self.is_of_note():
+            return self.name == "write" and not self.is_append_next()
         is_mode_of_lock = (self.name, self.file) == ("fchmod", "store.lock")
         return self.name == "close" or (self.file == "proc" and self.first) or is_mode_of_lock
 
@@ -192,7 +209,7 @@ class Trial:
         for number, line in enumerate(lines, 1):
             name, file, asked = line.split(" ")
             size = min(int(asked), self.most or int(asked))
-            yield Call(number, name, file, size, file not in files, taken, written)
+            yield Call(number, name, file, size, file not in files, lines[number:], taken, written)
             files.add(file)
             taken = min(len(self.story.commands), taken + size) if (name, file) == ("read", "input") else taken
             written += size if (name, file) == ("write", "output") else 0
@@ -214,10 +231,17 @@ class Expected:
         if call.reads_input() and not whole:
             self.most = self.least
         if call.reads_input() and kind.answer == "zero":
-            self.ended = (0, dropped(story.commands[: call.taken]))
+            self.ended = (0, not_performed(story.commands[: call.taken]))
+        if whole or call.begun:
+            self.ended = (self.ended[0], dropped(rest_of(story.files)) + self.ended[1])
 
 
-def dropped(taken):
+def rest_of(files):
+    """The bytes after the last closing line of `store.yaml`, of the files of a folder."""
+    return files.get("store.yaml", b"").rpartition(b"\n...\n")[2]
+
+
+def not_performed(taken):
     """How the line on standard error begins where the input ends after these bytes, or no line if nothing is lost."""
     rest = taken.rpartition(b"\n...\n")[2]
     if not rest.strip():
@@ -247,13 +271,13 @@ def ending(call, kind):
 
 
 def goes_on(call, kind):
-    """Whether the program finishes the call, or does without it: one that was cut short, one on the folder that was
-    interrupted, and one that it doesn't need."""
+    """Whether the program finishes the call, or does without it: one that it doesn't need, one that was cut short, and
+    one on the folder that was interrupted, but for a note, which is one byte."""
     if kind.later:
-        return False
-    if kind.error == errno.EINTR:
-        return call.file != "output"
-    return kind.answer == "count" or call.is_dispensable()
+        return call.is_dispensable() and call.is_last()
+    if call.is_dispensable() or kind.answer == "count":
+        return True
+    return kind.error == errno.EINTR and call.file != "output" and not call.is_of_note()
 
 
 def try_fault(trial, call, kind):
@@ -266,20 +290,21 @@ def try_fault(trial, call, kind):
     begun = errors[: len(expected.ended[1])] if expected.ended[1].endswith(": ") else errors
     failures.expect(f"{name}: ending", (status, begun), expected.ended)
     failures.expect(f"{name}: output", output, trial.story.output[: expected.written])
+    left = {file: read_file(os.path.join(folder, file)) for file in os.listdir(folder)}
     status, output, errors = session(folder, LOOK)
     held = trial.story.states.index(output) if output in trial.story.states else output
     allowed = range(expected.least, expected.most + 1)
-    failures.expect(f"{name}: opened again", (status, errors), DONE)
+    failures.expect(f"{name}: opened again", (status, errors), (0, dropped(rest_of(left))))
     failures.expect(f"{name}: held {held}, of {list(allowed)}", held in allowed, True)
     shutil.rmtree(folder)
-    return failures, DONE if expected.ended[0] == 0 else expected.ended
+    return failures, name_of(expected.ended)
 
 
 def try_story(top, story, most, failures):
     """Tries each kind of fault at each call of a story."""
     trial = Trial(top, story, most)
     ended, calls = trial.calls()
-    failures.expect(f"{story.name} without faults", ended, (0, story.output, ""))
+    failures.expect(f"{story.name} without faults", ended, (0, story.output, dropped(rest_of(story.files))))
     if story.name.startswith(NEW.name) and not most:
         changing = [f"{call.name} {call.file}" for call in calls if is_change(call)]
         wanted = CHANGES_OF_NEW if story is NEW else CHANGES_IN_A_GROUP
@@ -291,7 +316,7 @@ def try_story(top, story, most, failures):
     for found, _ in results:
         failures.tried += found.tried
         failures.wrong += found.wrong
-    summary = ", ".join(f"{count} {name_of(ending)}" for ending, count in sorted(endings.items()))
+    summary = ", ".join(f"{count} {ending}" for ending, count in sorted(endings.items()))
     parts = f", at most {most} bytes at a time" if most else ""
     print(f"  {story.name}{parts}: {len(calls)} calls, {len(pairs)} faults: {summary}")
 
@@ -303,7 +328,7 @@ def is_change(call):
 
 def name_of(ending):
     status, fault = ending
-    return {0: "done", ENDED: "ended"}.get(status) or fault.removeprefix("confstore: ").strip()
+    return {0: "done", ENDED: "ended"}.get(status) or fault.splitlines()[-1].removeprefix("confstore: ")
 
 
 def main():

@@ -10,7 +10,7 @@
   is made over the one that is there, and what was acknowledged is held.
 
 The library that lets calls go wrong is shims/fail_calls.c. Run it from the repository's root after the program is
-built; run as root it tries more. It takes half a minute, and needs a C compiler:
+built; run as root it tries more. It takes a minute at most, and needs a C compiler:
 
     ./confstore --version && python3 checks/hostile_folders.py
 
@@ -61,7 +61,10 @@ def value_of(folder: Path) -> str:
 
 def lock_modes(top: Path, failures: Failures) -> None:
     """Who may open `store.lock`: those who may write the folder or the store."""
-    rows = [(0o755, 0o644, 0o600), (0o775, 0o644, 0o660), (0o755, 0o664, 0o660), (0o777, 0o666, 0o666), (0o700, 0o606, 0o606)]
+    rows = [
+        (0o755, 0o644, 0o600), (0o775, 0o644, 0o660), (0o755, 0o664, 0o660), (0o777, 0o666, 0o666),
+        (0o700, 0o606, 0o606),
+    ]
     for of_folder, of_store, wanted in rows:
         for left in (None, 0o644, 0o600):
             folder = new_store(top, f"{of_folder:o} {of_store:o} {left}")
@@ -104,25 +107,39 @@ def locks_of_others(top: Path, failures: Failures) -> None:
     os.close(held)
 
 
-def list_of_a_folder(top: Path, failures: Failures) -> None:
-    """A folder whose list lets `nobody` in, and not `daemon`, with files that all may read and write."""
-    program = str(top / "confstore")
-    folder = new_store(top, "with a list")
-    (folder / "x.yaml").write_text("a:   1\n")
-    for file in ("store.yaml", "x.yaml"):
-        (folder / file).chmod(0o666)
-    folder.chmod(0o700)
-    subprocess.run(["setfacl", "-m", f"u:{NOBODY}:rwx,g::---", str(folder)], check=True, timeout=SECONDS)
+def lists_of_a_folder(top: Path, failures: Failures) -> None:
+    """A folder whose list lets `nobody` in, and not `daemon`: with files that all may read and write, or with a default
+    list, which goes to each new file."""
+    for way in ("files for all", "a default list"):
+        folder = new_store(top, f"with a list and {way}")
+        (folder / "x.yaml").write_text("a:   1\n")
+        folder.chmod(0o700)
+        lists = [("-m", f"u:{NOBODY}:rwx,g::---", folder)]
+        files = [folder / "store.yaml", folder / "x.yaml"]
+        if way == "a default list":
+            entries = f"u:{NOBODY}:rw,g::---,o::---"
+            lists += [("-dm", entries, folder), *(("-m", entries, file) for file in files)]
+        for how, entries, path in lists:
+            subprocess.run(["setfacl", how, entries, str(path)], check=True, timeout=SECONDS)
+        for file in files:
+            file.chmod(0o666 if way == "files for all" else 0o660)
+        try_list(folder, str(top / "confstore"), way, failures)
+
+
+def try_list(folder: Path, program: str, way: str, failures: Failures) -> None:
+    """`nobody` may change the store, and `daemon` may not read it, also after its files were replaced."""
     ways = (("nothing",), ("checkpoint", str(folder)), ("format", "-i", str(folder / "x.yaml")))
     for number, words in enumerate(ways):
+        name = f"{way}, after {words[0]}"
         if number:
-            failures.expect(f"{words[0]} in a folder with a list", run(program, *words)[0], 0)
+            failures.expect(f"{name}: the status", run(program, *words)[0], 0)
         for file in ("store.yaml", "x.yaml"):
-            read = subprocess.run(["cat", str(folder / file)], user=OUTSIDER, group=pwd.getpwnam(OUTSIDER).pw_gid,
-                                  extra_groups=[], capture_output=True, check=False)
-            failures.expect(f"{OUTSIDER} reads {file} after {words[0]}", read.returncode, 1)
+            for user, wanted in ((OUTSIDER, 1), (NOBODY, 0)):
+                read = subprocess.run(["cat", str(folder / file)], user=user, group=pwd.getpwnam(user).pw_gid,
+                                      extra_groups=[], capture_output=True, check=False)
+                failures.expect(f"{name}: {user} reads {file}", read.returncode, wanted)
         changed = run(program, "set", str(folder), "a", "", "p", user=NOBODY)[0]
-        failures.expect(f"{NOBODY} changes the store after {words[0]}", changed, 0)
+        failures.expect(f"{name}: {NOBODY} changes the store", changed, 0)
 
 
 def calls(library: str, log: Path, *words: str, commands: bytes = b"") -> int:
@@ -191,7 +208,7 @@ def main() -> int:
         if os.geteuid() == 0:
             locks_of_others(top, failures)
             if shutil.which("setfacl"):
-                list_of_a_folder(top, failures)
+                lists_of_a_folder(top, failures)
         exchanged_folders(top, library, failures)
         hidden_files(top, library, failures)
     return failures.report()

@@ -35,7 +35,9 @@ import sys
 import tempfile
 import time
 
-from lib.store_runs import EMPTY, IMPORT, PROGRAM, WORKED, Failures, compiled, need_program, read_file, session, write_file
+from lib.store_runs import (
+    EMPTY, IMPORT, PROGRAM, WORKED, Failures, compiled, dropped, need_program, read_file, session, write_file,
+)
 
 # The user that owns no folder here.
 NOBODY = "nobody"
@@ -231,7 +233,7 @@ def a_full_device_is_read(top, failures):
     failures.expect("an export from a full device", limited(0, ["export", folder, "a"]), (0, b"x\n", ""))
     failures.expect("an unknown name", limited(0, ["export", folder, "b"]), (1, b"", "confstore: NoConfig\n"))
     failures.expect("the file", read_file(store), torn)
-    failures.expect("a session with space again", session(folder, LOOK), (0, b"---\nvalue: x\n...\n", ""))
+    failures.expect("a session with space again", session(folder, LOOK), (0, b"---\nvalue: x\n...\n", dropped(torn[-10:])))
 
 
 def folder_with_store(top, name):
@@ -384,22 +386,23 @@ def owners_and_modes_survive(top, failures):
     program_for_all(top)
     for number, (user, umask, given, wanted) in enumerate(kept_rows()):
         ways = (
-            ("checkpoint", "run", EMPTY + IMPORT, b"checkpoint:\n...\n", b'---\nok: "1"\n...\n'),
-            ("recovery", "export", EMPTY + IMPORT + b"---\nat", b"", b"x\n"),
+            ("checkpoint", "run", b"", b"checkpoint:\n...\n", b'---\nok: "1"\n...\n'),
+            ("recovery", "export", b"---\nat", b"", b"x\n"),
         )
-        for way, word, content, commands, answer in ways:
+        for way, word, rest, commands, answer in ways:
             folder = os.path.join(top, f"{way} {number}")
             os.mkdir(folder)
             store = os.path.join(folder, "store.yaml")
-            write_file(store, content)
+            write_file(store, EMPTY + IMPORT + rest)
             os.chown(store, given[0], given[1])
             os.chmod(store, given[2])
             os.chown(folder, user, -1)
-            inode = os.stat(store).st_ino
             words = [word, folder, "a"] if word == "export" else [word, folder]
             name = f"{way} by {user} with the umask {umask:o} over {given[0]}:{given[1]} {given[2]:o}"
-            failures.expect(name, run_as(user, umask, top, words, commands), (0, answer, b""))
-            failures.expect(f"{name}: a new file", os.stat(store).st_ino != inode, True)
+            with open(store, "rb") as old:
+                ended_as = run_as(user, umask, top, words, commands)
+                failures.expect(name, ended_as, (0, answer, dropped(rest).encode()))
+                failures.expect(f"{name}: names of the old file", os.fstat(old.fileno()).st_nlink, 0)
             failures.expect(f"{name}: its owner, group and mode", owner_group_and_mode(store), wanted)
 
 
@@ -435,6 +438,8 @@ def damage_is_named_or_harmless(top, failures):
 
 
 def a_command_is_synced_before_its_answer(top, failures):
+    """A run notes in `store.lock` that bytes may be in memory alone, appends, syncs, answers, and in the end notes that
+    the device has them."""
     if not shutil.which("strace"):
         print("  strace is not installed: the order of the system's calls was not looked at")
         return
@@ -448,10 +453,10 @@ def a_command_is_synced_before_its_answer(top, failures):
         input=b"import: a\ntext: x\n...\n", stdout=subprocess.DEVNULL, check=True,
     )
     with open(trace, encoding="utf-8", errors="replace") as source:
-        made = re.findall(r"(\w+)\((\d+)(, \"---\\n(at|ok))?", source.read())
-    order = [("sync" if "sync" in name else what) for name, _, _, what in made if "sync" in name or what]
-    end = [call for call in order if call in ("at", "sync", "ok")]
-    failures.expect("the calls of a command", end[end.index("at"):] if "at" in end else end, ["at", "sync", "ok"])
+        made = re.findall(r"(\w+)\((\d+)(?:, \"(---\\n(?:at|ok)|[!-]\"))?", source.read())
+    order = ["sync" if "sync" in name else what.strip('-\\n"') or what[0] for name, _, what in made if "sync" in name or what]
+    end = order[order.index("!"):] if "!" in order else order
+    failures.expect("the calls of a command", end, ["!", "at", "sync", "ok", "-"])
 
 
 def a_staged_file_is_narrow_before_it_is_written(top, failures):

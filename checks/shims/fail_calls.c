@@ -208,13 +208,6 @@ int link(const char *from, const char *to) {
     return (int)answer(turn, done);
 }
 
-// It returns the error's number.
-int posix_fadvise(int handle, off_t offset, off_t size, int advice) {
-    enum turn turn = next_turn("fadvise", name_of(handle), 0);
-    long done = answer(turn, is_made(turn) ? REAL(posix_fadvise)(handle, offset, size, advice) : 0);
-    return done == -1 ? errno : (int)done;
-}
-
 ssize_t read(int handle, void *bytes, size_t size) {
     enum turn turn = next_turn("read", name_of(handle), size);
     size_t part = moved(turn, size);
@@ -228,4 +221,26 @@ ssize_t write(int handle, const void *bytes, size_t size) {
     enum turn turn = next_turn("write", name_of(handle), size);
     size_t part = moved(turn, size);
     return answer(turn, turn == CLEAR || part ? REAL(write)(handle, bytes, part) : 0);
+}
+
+// A read or a write at a place of a file, which is logged as one without a place. The C library has each of them under
+// two names.
+ssize_t pread64(int handle, void *bytes, size_t size, off64_t place) {
+    enum turn turn = next_turn("read", name_of(handle), size);
+    size_t part = moved(turn, size);
+    return answer(turn, turn == CLEAR || part ? REAL(pread64)(handle, bytes, part, place) : 0);
+}
+
+ssize_t pread(int handle, void *bytes, size_t size, off_t place) {
+    return pread64(handle, bytes, size, place);
+}
+
+ssize_t pwrite64(int handle, const void *bytes, size_t size, off64_t place) {
+    enum turn turn = next_turn("write", name_of(handle), size);
+    size_t part = moved(turn, size);
+    return answer(turn, turn == CLEAR || part ? REAL(pwrite64)(handle, bytes, part, place) : 0);
+}
+
+ssize_t pwrite(int handle, const void *bytes, size_t size, off_t place) {
+    return pwrite64(handle, bytes, size, place);
 }
