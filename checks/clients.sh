@@ -37,10 +37,10 @@ trap 'exit 1' INT TERM
 passed=0
 failed=0
 
-# Python with PyYAML and setuptools: the system's, or the one on the PATH.
+# Python with PyYAML: the system's, or the one on the PATH.
 python=python3
 for candidate in /usr/bin/python3 python3; do
-    if "$candidate" -c 'import yaml, setuptools' 2>/dev/null; then python=$candidate; break; fi
+    if "$candidate" -c 'import yaml' 2>/dev/null; then python=$candidate; break; fi
 done
 
 step() { # NAME SECONDS COMMAND..
@@ -81,7 +81,7 @@ export python folder
 step "the Python package is installed without a network" 120 bash -c try_install
 types() {
     MYPYPATH=python:replicated mypy --config-file python/pyproject.toml python/confstore \
-        replicated/confstore_replicated replicated/model
+        python/wheel_of_confstore.py replicated/confstore_replicated replicated/model
 }
 server_types() { MYPYPATH=checks:clients mypy --strict --explicit-package-bases clients/serve.py checks/server.py; }
 export -f types server_types

@@ -5,7 +5,7 @@ import tempfile
 import unittest
 
 import confstore
-from confstore import Store
+from confstore import Refused as StoreRefused, Store
 from confstore_replicated.answers import answers_in, base_length_in, count_in
 from confstore_replicated.entries import LONGEST, MARK_LENGTH, NO_MARK, RESERVED, Refused, command_of, edits_in
 from confstore_replicated.entries import edits_of, entry_of, has_nonce, number_in
@@ -104,7 +104,10 @@ class StoreTest(unittest.TestCase):
 class Batches(StoreTest):
     def answers(self, store, *batches):
         given = store.perform_batches(batches)
-        return [str(answer) if isinstance(answer, Exception) else answer for answer in given]
+        return [
+            answer.word if isinstance(answer, StoreRefused) else str(answer) if isinstance(answer, Exception) else answer
+            for answer in given
+        ]
 
     def test_each_once_and_in_order(self):
         store = self.store()
