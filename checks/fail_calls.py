@@ -26,7 +26,7 @@ from collections import Counter
 from concurrent.futures import ThreadPoolExecutor
 
 from lib.stories import LOOK, NEW, TORN
-from lib.store_runs import SINGLE, Failures, compiled, dropped, need_program, read_file, session, write_file
+from lib.store_runs import SINGLE, Failures, compiled, dropped, need_program, read_file, rest_of, session, write_file
 
 # The status of a process that the library ended.
 ENDED = 99
@@ -234,11 +234,6 @@ class Expected:
             self.ended = (0, not_performed(story.commands[: call.taken]))
         if whole or call.begun:
             self.ended = (self.ended[0], dropped(rest_of(story.files)) + self.ended[1])
-
-
-def rest_of(files):
-    """The bytes after the last closing line of `store.yaml`, of the files of a folder."""
-    return files.get("store.yaml", b"").rpartition(b"\n...\n")[2]
 
 
 def not_performed(taken):

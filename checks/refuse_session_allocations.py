@@ -5,7 +5,8 @@ The sessions are those of lib/stories.py, one command at a time and in groups wi
 library under the built program (shims/refuse.c) refuses one allocation. Then the session ends with
 'confstore: OutOfMemory' and the status 1, or does without that allocation and answers everything. Its output is the
 answers to the commands before the one that met it. A new session has to find the state after exactly these commands:
-the one that met it changed nothing.
+the one that met it changed nothing. Where opening drops bytes, a line says so: of the session, or of the new one if
+memory ran out before.
 
 Run it from the repository's root after the program is built. It takes some 20 seconds, and needs a C compiler:
 
@@ -21,14 +22,14 @@ import sys
 import tempfile
 
 from lib.stories import BATCHES, LARGE, LOOK, NEW, TORN
-from lib.store_runs import Failures, compiled, need_program, session, write_file
+from lib.store_runs import Failures, compiled, dropped, need_program, read_file, rest_of, session, write_file
 
-OUT_OF_MEMORY = (1, "confstore: OutOfMemory\n")
+OUT_OF_MEMORY = "confstore: OutOfMemory\n"
 
 
 def refuse(top, story, number):
-    """A session with one allocation refused: whether it came to that, how it ended, its output, and the state that a
-    new session finds."""
+    """A session with one allocation refused: whether it came to that, how it ended, its output, the files that it left,
+    and the state that a new session finds."""
     folder = os.path.join(top, "folder")
     refused_file = os.path.join(top, "refused")
     os.mkdir(folder)
@@ -39,31 +40,45 @@ def refuse(top, story, number):
     was_refused = os.path.exists(refused_file)
     if was_refused:
         os.remove(refused_file)
+    files = {file: read_file(os.path.join(folder, file)) for file in os.listdir(folder)}
     left = session(folder, LOOK)
     shutil.rmtree(folder)
-    return was_refused, (status, errors), output, left
+    return was_refused, (status, errors), output, files, left
 
 
-def expect_prefix(story, name, output, left, failures):
+def expect_prefix(story, name, output, files, left, failures):
     """The output is the answers to some commands, and the state is the one after exactly these."""
     answered = story.answered(len(output))
     failures.expect(f"{name}: output", output, b"".join(story.answers[:answered]))
-    failures.expect(f"{name}: left", left, (0, story.states[story.accepted(answered)], ""))
+    expected = (0, story.states[story.accepted(answered)], dropped(rest_of(files)))
+    failures.expect(f"{name}: left", left, expected)
+
+
+def expect_end(story, name, ended, output, files, failures):
+    """The session said what opening dropped, if it came so far, and ended out of memory, or answered everything.
+    Returns whether memory ran out."""
+    torn = dropped(rest_of(story.files))
+    said = torn if not rest_of(files) else ""
+    is_out = ended[1].endswith(OUT_OF_MEMORY)
+    expected = (1, said + OUT_OF_MEMORY) if is_out else (0, torn)
+    failures.expect(f"{name}: ending", ended, expected)
+    if not is_out:
+        failures.expect(f"{name}: whole", output, story.output)
+    return is_out
 
 
 def refuse_each(top, story, failures):
     """Refuses each allocation of a story in turn, until there are no more."""
     refused = spared = 0
     for number in itertools.count(1):
-        was_refused, ended, output, left = refuse(top, story, number)
+        was_refused, ended, output, files, left = refuse(top, story, number)
         name = f"{story.name}, allocation {number}"
-        expect_prefix(story, name, output, left, failures)
-        if ended != OUT_OF_MEMORY:
-            failures.expect(f"{name}: whole", (ended, output), ((0, ""), story.output))
+        expect_prefix(story, name, output, files, left, failures)
+        is_out = expect_end(story, name, ended, output, files, failures)
         if not was_refused:
             break
-        refused += ended == OUT_OF_MEMORY
-        spared += ended == (0, "")
+        refused += is_out
+        spared += not is_out
     print(f"  {story.name}: {number - 1} allocations refused in turn: {refused} out of memory, {spared} done without")
 
 

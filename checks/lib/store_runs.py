@@ -9,7 +9,7 @@ import subprocess
 import sys
 import tempfile
 from collections import Counter
-from collections.abc import Callable, Sequence
+from collections.abc import Callable, Mapping, Sequence
 from os import PathLike
 from typing import Any
 
@@ -72,6 +72,11 @@ def session(folder: str | PathLike[str], commands: bytes, words: Sequence[str] =
     """A session from start to end: its status, its answers, and what it wrote to standard error."""
     done = subprocess.run([PROGRAM, *words, folder], input=commands, capture_output=True, check=False, **more)
     return done.returncode, done.stdout, done.stderr.decode()
+
+
+def rest_of(files: Mapping[str, bytes]) -> bytes:
+    """The bytes after the last closing line of `store.yaml`, of the files of a folder."""
+    return files.get("store.yaml", b"").rpartition(b"\n...\n")[2]
 
 
 def dropped(rest: bytes) -> str:
