@@ -29,12 +29,12 @@ try() { # NAME COMMAND..
 }
 
 # Installed for one place, and tried in another.
-root=$folder/root
-prefix=$root/opt/confstore
+stage=$folder/stage
+prefix=$stage/opt/confstore
 run_make() { # COMPILER TARGET
-    make -s -C "$here" CC="$1" CFLAGS="-O2 ${warnings[*]}" BUILD="$folder/$1" DESTDIR="$root" PREFIX=/opt/confstore "$2"
+    make -s -C "$here" CC="$1" CFLAGS="-O2 ${warnings[*]}" BUILD="$folder/$1" DESTDIR="$stage" PREFIX=/opt/confstore "$2"
 }
-installed() { (cd "$root" && find . ! -type d | LC_ALL=C sort); }
+installed() { (cd "$stage" && find . ! -type d | LC_ALL=C sort); }
 has_files() {
     diff <(installed) - <<FILES
 ./opt/confstore/include/confstore.h
@@ -47,7 +47,7 @@ has_files() {
 FILES
 }
 is_removed() { [ -z "$(installed)" ]; }
-names_no_folder() { ! grep -rlF "$folder" "$root"; }
+names_no_folder() { ! grep -rlF "$folder" "$stage"; }
 names_prefix() { grep -qx 'prefix=/opt/confstore' "$prefix/lib/pkgconfig/confstore.pc"; }
 is_moved() { # whether pkg-config finds the prefix by itself where the files are now
     diff <(PKG_CONFIG_LIBDIR=$prefix/lib/pkgconfig pkg-config --define-prefix --variable=includedir confstore) \
