@@ -15,19 +15,22 @@ Run it from the repository's root after the program is built. It takes some 20 s
 The status is 0 if all is as it should be.
 """
 
+from __future__ import annotations
+
 import itertools
 import os
 import shutil
 import sys
 import tempfile
+from collections.abc import Mapping
 
-from lib.stories import BATCHES, LARGE, LOOK, NEW, TORN
-from lib.store_runs import Failures, compiled, dropped, need_program, read_file, rest_of, session, write_file
+from lib.stories import BATCHES, LARGE, LOOK, NEW, TORN, Story
+from lib.store_runs import Ended, Failures, compiled, dropped, need_program, read_file, rest_of, session, write_file
 
 OUT_OF_MEMORY = "confstore: OutOfMemory\n"
 
 
-def refuse(top, story, number):
+def refuse(top: str, story: Story, number: int) -> tuple[bool, tuple[int, str], bytes, dict[str, bytes], Ended]:
     """A session with one allocation refused: whether it came to that, how it ended, its output, the files that it left,
     and the state that a new session finds."""
     folder = os.path.join(top, "folder")
@@ -46,7 +49,9 @@ def refuse(top, story, number):
     return was_refused, (status, errors), output, files, left
 
 
-def expect_prefix(story, name, output, files, left, failures):
+def expect_prefix(
+    story: Story, name: str, output: bytes, files: Mapping[str, bytes], left: Ended, failures: Failures
+) -> None:
     """The output is the answers to some commands, and the state is the one after exactly these."""
     answered = story.answered(len(output))
     failures.expect(f"{name}: output", output, b"".join(story.answers[:answered]))
@@ -54,7 +59,9 @@ def expect_prefix(story, name, output, files, left, failures):
     failures.expect(f"{name}: left", left, expected)
 
 
-def expect_end(story, name, ended, output, files, failures):
+def expect_end(
+    story: Story, name: str, ended: tuple[int, str], output: bytes, files: Mapping[str, bytes], failures: Failures
+) -> bool:
     """The session said what opening dropped, if it came so far, and ended out of memory, or answered everything.
     Returns whether memory ran out."""
     torn = dropped(rest_of(story.files))
@@ -67,7 +74,7 @@ def expect_end(story, name, ended, output, files, failures):
     return is_out
 
 
-def refuse_each(top, story, failures):
+def refuse_each(top: str, story: Story, failures: Failures) -> None:
     """Refuses each allocation of a story in turn, until there are no more."""
     refused = spared = 0
     for number in itertools.count(1):
@@ -82,7 +89,7 @@ def refuse_each(top, story, failures):
     print(f"  {story.name}: {number - 1} allocations refused in turn: {refused} out of memory, {spared} done without")
 
 
-def main():
+def main() -> int:
     need_program()
     failures = Failures()
     with tempfile.TemporaryDirectory() as top:
