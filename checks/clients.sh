@@ -11,6 +11,7 @@
 # - Sixteen clients of one session that is killed and started again.
 # - The types of the server and of its trials, where mypy is installed, and the server's bounds, socket, faults and ends.
 # - Exceptions from signal handlers in each call of the Python package.
+# - The Ansible collection, its types, and the playbook of the examples.
 # - The settings for editors, the hook, the examples, the page of a log, the completions, the man pages, and the Debian
 #   packages.
 #
@@ -128,6 +129,13 @@ if has mypy; then step "the types of the server and its trials" 120 bash -c serv
 step "sixteen clients of a session that is killed and started again" 300 "$python" checks/many_clients.py
 step "the server: clients, the socket, faults and signals" 300 "$python" checks/server.py
 step "exceptions from signal handlers" 900 "$python" checks/interrupts.py
+collection_types() {
+    MYPYPATH=checks:python:clients/ansible mypy --explicit-package-bases --config-file clients/ansible/mypy.ini \
+        clients/ansible/try.py clients/ansible/ansible_collections
+}
+export -f collection_types
+if has mypy; then step "the types of the Ansible collection" 120 bash -c collection_types; fi
+step "the Ansible collection" 600 "$python" clients/ansible/try.py
 step "editors, the hook and the examples" 300 "$python" checks/editors.py
 step "the page of a log" 300 "$python" checks/page.py
 step "completions" 300 "$python" checks/completions.py

@@ -1,0 +1,277 @@
+"""What a task wants, and the edits that a store lacks for it."""
+
+from __future__ import annotations
+
+import re
+from typing import Any, Callable, Dict, List, NamedTuple, Optional, Tuple
+
+from ansible_collections.confstore.store.plugins.module_utils.faults import Fault
+from ansible_collections.confstore.store.plugins.module_utils.style import Tree, depth, same, to_text
+
+# What a configuration may have: so many bytes in the one style, and so many levels.
+LONGEST_CONFIG = 4_194_304
+DEEPEST_CONFIG = 128
+
+# The step of a pointer that is behind the last element of a list.
+BEHIND = "-"
+
+_NAME = re.compile(r"[a-z][a-z0-9_-]{0,63}")
+_INDEX = re.compile(r"0|[1-9][0-9]*")
+
+# Reads the configuration under a name, which is None where there is none.
+Read = Callable[[str], Optional[Tree]]
+
+
+class Wish(NamedTuple):
+    """What a task wants at a path of a configuration: a tree, or nothing there. `has_parents` says that what is missing
+    above the path is made."""
+
+    name: str
+    path: str
+    tree: Optional[Tree]
+    is_present: bool = True
+    has_parents: bool = False
+
+
+class Edit(NamedTuple):
+    """An edit as the store makes it: `import`, `set` or `delete`. An import has the empty path, a delete no tree."""
+
+    kind: str
+    name: str
+    path: str
+    tree: Optional[Tree]
+
+
+def tree_of(value: Any, where: str = "") -> Tree:
+    """The tree of a value of a task: an integer is its digits, and a boolean `true` or `false`. Raises `Fault` for what
+    is none, as a number with a fraction, of which Ansible has dropped the spelling."""
+    if where.count("/") > DEEPEST_CONFIG:
+        raise Fault("TooDeep", "the value")
+    if isinstance(value, bool):
+        return "true" if value else "false"
+    if isinstance(value, (str, int)):
+        return _text_of(str(value), where)
+    if isinstance(value, (list, tuple)):
+        return [tree_of(item, f"{where}/{index}") for index, item in enumerate(value)]
+    if isinstance(value, dict):
+        keys = [_text_of(str(key), where) for key in value]
+        return {key: tree_of(item, f"{where}/{_step_text(key)}") for key, item in zip(keys, value.values())}
+    kind = "null" if value is None else f"of type {type(value).__name__}"
+    raise Fault("NotATree", f"the value at {where!r} is {kind}" if where else f"the value is {kind}")
+
+
+def _text_of(text: str, where: str) -> str:
+    try:
+        text.encode()
+    except UnicodeEncodeError:
+        raise Fault("NotText", f"the value at {where!r}") from None
+    return text
+
+
+def _step_text(step: str) -> str:
+    return step.replace("~", "~0").replace("/", "~1")
+
+
+def steps_of(name: str, path: str) -> List[str]:
+    """The steps of a pointer. Raises `Fault` where the name or the pointer is none."""
+    if not _NAME.fullmatch(name):
+        raise Fault("BadName", f"the name {name!r}")
+    if path and (not path.startswith("/") or re.search("~(?![01])", path)):
+        raise Fault("BadPath", f"the path {path!r} of {name!r}")
+    return [step.replace("~1", "/").replace("~0", "~") for step in path.split("/")[1:]]
+
+
+class Missing(Exception):
+    """A step leads to nothing: its place in the pointer, from 0."""
+
+    def __init__(self, step: int) -> None:
+        super().__init__(step)
+        self.step = step
+
+
+def _child(tree: Tree, step: str, at: int) -> Tree:
+    """What a step leads to. Raises `Missing`, or `Fault` for a step into a list that is no index."""
+    if isinstance(tree, dict) and step in tree:
+        return tree[step]
+    if isinstance(tree, list):
+        if step != BEHIND and not _INDEX.fullmatch(step):
+            raise Fault("NotIndex")
+        if step != BEHIND and int(step) < len(tree):
+            return tree[int(step)]
+    raise Missing(at)
+
+
+def value_at(tree: Tree, steps: List[str]) -> Tree:
+    """What is at a path. Raises `Missing`, or `Fault` for a step into a list that is no index."""
+    for at, step in enumerate(steps):
+        tree = _child(tree, step, at)
+    return tree
+
+
+def _with(tree: Tree, step: str, value: Optional[Tree]) -> Tree:
+    """A collection with a value at a step, or without the one that is there."""
+    if isinstance(tree, list):
+        end = len(tree) if step == BEHIND else int(step)
+        return tree[:end] + ([] if value is None else [value]) + tree[end + 1 :]
+    assert isinstance(tree, dict)
+    if value is not None:
+        return {**tree, step: value}
+    return {key: old for key, old in tree.items() if key != step}
+
+
+def edited(tree: Tree, steps: List[str], value: Optional[Tree]) -> Tree:
+    """The tree with a value at a path that has steps, or without what is there. What is above the path is there."""
+    above = [tree]
+    for at, step in enumerate(steps[:-1]):
+        above.append(_child(above[-1], step, at))
+    made = value
+    for around, step in zip(reversed(above), reversed(steps)):
+        made = _with(around, step, made)
+    assert made is not None
+    return made
+
+
+class Plan:
+    """What configurations were and would be, and the edits in between."""
+
+    def __init__(self, read: Read) -> None:
+        self.before: Dict[str, Optional[Tree]] = {}
+        self.after: Dict[str, Optional[Tree]] = {}
+        self.edits: List[Edit] = []
+        self._read = read
+
+    def add(self, wish: Wish) -> None:
+        """Adds the edits that a wish needs, after those before it. Raises `Fault` as the store would refuse them."""
+        steps = steps_of(wish.name, wish.path)
+        if wish.name not in self.before:
+            self.before[wish.name] = self.after[wish.name] = self._read(wish.name)
+        try:
+            if not wish.is_present:
+                self._remove(wish, steps)
+            elif steps:
+                self._put_at(wish, steps)
+            else:
+                self._put(wish.name, wish.tree)
+        except Fault as fault:
+            about = fault.about or f"{wish.path!r} of {wish.name!r}"
+            raise Fault(fault.name, about, fault.place) from None
+
+    def _make(self, edit: Edit, after: Optional[Tree]) -> None:
+        self.edits.append(edit)
+        self.after[edit.name] = after
+
+    def _put(self, name: str, tree: Optional[Tree]) -> None:
+        before = self.after[name]
+        assert tree is not None
+        if before is None or not same(before, tree):
+            self._make(Edit("import", name, "", tree), tree)
+
+    def _put_at(self, wish: Wish, steps: List[str]) -> None:
+        """Puts a tree at a path. Behind a list it is only put where the list has no equal element."""
+        config, tree = self.after[wish.name], wish.tree
+        assert tree is not None
+        if config is None:
+            if not wish.has_parents:
+                raise Fault("NoConfig", f"{wish.path!r} of {wish.name!r}")
+            self._put(wish.name, _nested(steps, tree))
+            return
+        steps, tree = _with_parents(config, steps, tree) if wish.has_parents else (steps, tree)
+        around = _around(config, steps)
+        if steps[-1] == BEHIND and isinstance(around, list):
+            if any(same(item, tree) for item in around):
+                return
+        elif _has(around, steps[-1], tree):
+            return
+        path = "".join(f"/{_step_text(step)}" for step in steps)
+        self._make(Edit("set", wish.name, path, tree), edited(config, steps, tree))
+
+    def _remove(self, wish: Wish, steps: List[str]) -> None:
+        """Takes out what is at a path, or of a list each element that is equal to a tree. What is missing stays so."""
+        config = self.after[wish.name]
+        if config is None:
+            return
+        if not steps:
+            self._make(Edit("delete", wish.name, "", None), None)
+            return
+        try:
+            if wish.tree is not None:
+                self._remove_equal(wish.name, steps[:-1], wish.tree, value_at(config, steps[:-1]))
+            else:
+                value_at(config, steps)
+                self._make(Edit("delete", wish.name, wish.path, None), edited(config, steps, None))
+        except Missing:
+            pass
+
+    def _remove_equal(self, name: str, steps: List[str], tree: Tree, around: Tree) -> None:
+        """Takes the elements of a list that are equal to a tree out, from the last one on."""
+        start = "".join(f"/{_step_text(step)}" for step in steps)
+        for index in reversed(range(len(around) if isinstance(around, list) else 0)):
+            assert isinstance(around, list)
+            config = self.after[name]
+            assert config is not None
+            if same(around[index], tree):
+                edit = Edit("delete", name, f"{start}/{index}", None)
+                self._make(edit, edited(config, [*steps, str(index)], None))
+
+
+def _around(config: Tree, steps: List[str]) -> Tree:
+    """The collection in which the last step of a path is to put a value."""
+    try:
+        around = value_at(config, steps[:-1])
+        if not isinstance(around, dict) and not (isinstance(around, list) and steps[-1] == BEHIND):
+            _child(around, steps[-1], len(steps) - 1)
+        return around
+    except Missing:
+        raise Fault("NoSuchPlace") from None
+
+
+def _has(around: Tree, step: str, tree: Tree) -> bool:
+    """Whether a step leads to an equal tree."""
+    try:
+        return same(_child(around, step, 0), tree)
+    except Missing:
+        return False
+
+
+def _nested(steps: List[str], tree: Tree) -> Tree:
+    """A tree inside mappings, and lists where a step is `-`, one for each step."""
+    for step in reversed(steps):
+        tree = [tree] if step == BEHIND else {step: tree}
+    return tree
+
+
+def _with_parents(config: Tree, steps: List[str], tree: Tree) -> Tuple[List[str], Tree]:
+    """The path to the first step that is missing, and what has to be there for the tree to be at the whole path."""
+    try:
+        value_at(config, steps)
+        return steps, tree
+    except Missing as missing:
+        first = missing.step + 1
+        return steps[:first], _nested(steps[first:], tree)
+
+
+def check_limits(name: str, tree: Tree) -> None:
+    """Raises `Fault` for a tree that no configuration may be."""
+    if depth(tree) > DEEPEST_CONFIG:
+        raise Fault("TooDeep", f"{name!r}")
+    if len(to_text(tree).encode()) > LONGEST_CONFIG:
+        raise Fault("ConfigLarge", f"{name!r}")
+
+
+def plan_of(wishes: List[Wish], read: Read) -> Plan:
+    """The plan of wishes, one after the other. Raises `Fault` for the first that can't be met."""
+    plan = Plan(read)
+    for wish in wishes:
+        plan.add(wish)
+    changed = [name for name, tree in plan.before.items() if not _is_same(tree, plan.after[name])]
+    if not changed:
+        plan.edits.clear()  # each edit was taken back by a later one
+    for name in changed:
+        tree = plan.after[name]
+        if tree is not None:
+            check_limits(name, tree)
+    return plan
+
+
+def _is_same(tree: Optional[Tree], other: Optional[Tree]) -> bool:
+    return tree is other or (tree is not None and other is not None and same(tree, other))

@@ -1,0 +1,371 @@
+#!/usr/bin/python
+"""The module `confstore`: puts values, texts and trees into a store, and takes them out."""
+
+from __future__ import annotations
+
+DOCUMENTATION = r"""
+module: confstore
+short_description: Changes configurations in a store of confstore
+description:
+  - A store holds named configurations, which are trees of texts, lists and mappings, and keeps them through a crash.
+  - The module reads what is there, and makes the edits that are lacking as one batch, so all of them or none. Where
+    nothing is lacking, nothing is written, and no lock is taken.
+  - It needs the program C(confstore) on the host, or the socket of a server such as C(clients/serve.py). It uses the
+    Python package C(confstore) where the host's Python can import it, and needs no package where not.
+options:
+  folder:
+    description:
+      - The folder of the store, on the host.
+      - Another run may not hold it while something is changed. Where a service holds it, use I(socket).
+    type: path
+  socket:
+    description: The Unix socket of a server that holds the store. One of I(folder) and I(socket) is needed.
+    type: path
+  create:
+    description: Makes the folder, and those above it, if it is missing.
+    type: bool
+    default: false
+  program:
+    description:
+      - The program. By default it is what the environment has as C(CONFSTORE), or C(confstore) on the PATH.
+      - With I(socket) it is only needed to read I(text) or I(src).
+    type: path
+  timeout:
+    description: How many seconds an answer may take.
+    type: float
+    default: 60
+  name:
+    description: The name of the configuration. Beside I(edits), that of each edit that has no name of its own.
+    type: str
+  path:
+    description:
+      - Where in the configuration, as a JSON Pointer (RFC 6901) such as C(/port) or C(/hosts/0). Without it the whole
+        configuration is meant, which may be new.
+      - "A path that ends in C(/-) is behind the last element of a list. The value is put there unless an element is
+        equal to it; with I(state=absent), each element that is equal to I(value) is taken out."
+      - With another path a value replaces what is there, or is a new last key. What is above it has to be there, or
+        see I(parents).
+    type: str
+    default: ''
+  value:
+    description:
+      - The tree that has to be there, a text, a list or a mapping. The order of keys counts.
+      - An integer is written as its digits, and a boolean as C(true) or C(false). A number with a fraction and null are
+        refused, and need quotes, since Ansible does not keep how they were written.
+    type: raw
+  text:
+    description:
+      - A YAML text whose tree has to be there, for example a template. The store reads it as YAML 1.2.2, so C(yes) and
+        C(1.10) stay as they are written.
+      - A template that gives a mapping in braces may reach the module as a mapping. The filter C(string) keeps it a
+        text.
+    type: raw
+  src:
+    description: A file on the host with such a text.
+    type: path
+  state:
+    description: Whether something has to be there, or nothing may be there.
+    type: str
+    choices: [present, absent]
+    default: present
+  parents:
+    description: Makes the mappings above I(path) that are missing, and the configuration.
+    type: bool
+    default: false
+  edits:
+    description:
+      - Several edits, made one after the other, as one batch. Each has I(path), I(value), I(text), I(src), I(state) and
+        I(parents), and I(name) unless the task has one.
+    type: list
+    elements: dict
+    suboptions:
+      name:
+        description: As I(name).
+        type: str
+      path:
+        description: As I(path).
+        type: str
+        default: ''
+      value:
+        description: As I(value).
+        type: raw
+      text:
+        description: As I(text).
+        type: raw
+      src:
+        description: As I(src).
+        type: path
+      state:
+        description: As I(state).
+        type: str
+        choices: [present, absent]
+        default: present
+      parents:
+        description: As I(parents).
+        type: bool
+        default: false
+attributes:
+  check_mode:
+    support: full
+    description: Changes nothing, and returns what would be. Limits of the whole store are not looked at.
+  diff_mode:
+    support: full
+    description: Shows each configuration before and after, in the one style of confstore.
+notes:
+  - Values are sent to the program by its standard input, and never stand among its words, where other users could see
+    them. C(no_log) on the task keeps them out of Ansible's output and log.
+  - Deleting an element of a list by its index is not idempotent, since the next element has that index then.
+author:
+  - The authors of confstore
+"""
+
+EXAMPLES = r"""
+- name: A template is the whole configuration
+  confstore.store.confstore:
+    folder: /var/lib/app
+    create: true
+    name: web
+    text: "{{ lookup('ansible.builtin.template', 'web.yaml.j2') | string }}"
+
+- name: One value
+  confstore.store.confstore:
+    folder: /var/lib/app
+    name: web
+    path: /port
+    value: "8080"
+
+- name: A host is in the list, once
+  confstore.store.confstore:
+    socket: /run/app/socket
+    name: web
+    path: /hosts/-
+    value: "{{ inventory_hostname }}"
+
+- name: Several edits, all of them or none
+  confstore.store.confstore:
+    folder: /var/lib/app
+    name: web
+    edits:
+      - path: /tls/certificate
+        value: /etc/ssl/app.pem
+        parents: true
+      - path: /old
+        state: absent
+      - name: mail
+        value: {host: mail.example.org, port: "25"}
+
+- name: A secret, which Ansible does not show
+  confstore.store.confstore:
+    folder: /var/lib/app
+    name: web
+    path: /password
+    value: "{{ vault_password }}"
+  no_log: true
+
+- name: A configuration is taken out
+  confstore.store.confstore:
+    folder: /var/lib/app
+    name: old
+    state: absent
+"""
+
+RETURN = r"""
+before:
+  description: Each configuration that the task names as it was, or null where there was none.
+  type: dict
+  returned: success
+  sample: {web: {port: "80"}}
+after:
+  description: The same as it is now, or would be in check mode.
+  type: dict
+  returned: success
+  sample: {web: {port: "81"}}
+edits:
+  description: The edits that were made, without their values.
+  type: list
+  elements: dict
+  returned: success
+  sample: [{edit: set, name: web, path: /port}]
+count:
+  description: The number of the store's command that made them.
+  type: int
+  returned: changed, and not in check mode
+  sample: 2
+fault:
+  description: The name of what went wrong, as in C(docs/FAULTS.md).
+  type: str
+  returned: failure
+  sample: Syntax
+place:
+  description: Where a text was refused. Line and column, in characters, count from 1.
+  type: dict
+  returned: failure of a text
+  sample: {line: 3, column: 7, reason: Flow}
+"""
+
+from contextlib import closing
+from typing import Any, Dict, List, Optional, Tuple
+
+from ansible.module_utils.basic import AnsibleModule
+from ansible_collections.confstore.store.plugins.module_utils.edits import Plan, Wish, plan_of, tree_of
+from ansible_collections.confstore.store.plugins.module_utils.faults import Fault
+from ansible_collections.confstore.store.plugins.module_utils.stores import (
+    Empty,
+    Store,
+    Target,
+    make_store,
+    reading,
+    session,
+    tree_of_text,
+)
+from ansible_collections.confstore.store.plugins.module_utils.style import Tree, to_text
+
+EDIT_OPTIONS: Dict[str, Dict[str, Any]] = {
+    "name": {"type": "str"},
+    "path": {"type": "str", "default": ""},
+    "value": {"type": "raw"},
+    "text": {"type": "raw"},
+    "src": {"type": "path"},
+    "state": {"type": "str", "choices": ["present", "absent"], "default": "present"},
+    "parents": {"type": "bool", "default": False},
+}
+OPTIONS: Dict[str, Dict[str, Any]] = {
+    **EDIT_OPTIONS,
+    "folder": {"type": "path"},
+    "socket": {"type": "path"},
+    "create": {"type": "bool", "default": False},
+    "program": {"type": "path"},
+    "timeout": {"type": "float", "default": 60.0},
+    "edits": {"type": "list", "elements": "dict", "options": EDIT_OPTIONS},
+}
+SOURCES = ("value", "text", "src")
+
+
+def wanted_tree(edit: Dict[str, Any], target: Target) -> Optional[Tree]:
+    """The tree that an edit has, or None."""
+    if edit["value"] is not None:
+        return tree_of(edit["value"])
+    name = edit["name"]
+    if edit["src"] is not None:
+        try:
+            with open(edit["src"], "rb") as source:
+                return tree_of_text(target, source.read(), f"the text {edit['src']} for {name!r}")
+        except OSError as error:
+            raise Fault("MissingFile", f"{edit['src']}: {error.strerror}") from None
+    if edit["text"] is not None:
+        if not isinstance(edit["text"], str):
+            raise Fault("BadTask", f"the text for {name!r} is no text: use the filter `string`, or `value`")
+        return tree_of_text(target, edit["text"].encode("utf-8", "surrogateescape"), f"the text for {name!r}")
+    return None
+
+
+def wish_of(edit: Dict[str, Any], name: Optional[str], target: Target) -> Wish:
+    """What an edit of the task wants, where `name` is that of the task."""
+    edit = {**edit, "name": edit["name"] or name}
+    path, is_present = edit["path"], edit["state"] == "present"
+    if not edit["name"]:
+        raise Fault("BadTask", "an edit has no `name`")
+    given = [source for source in SOURCES if edit[source] is not None]
+    if len(given) > 1:
+        raise Fault("BadTask", f"`{given[0]}` beside `{given[1]}` for {edit['name']!r}")
+    if is_present and not given:
+        raise Fault("BadTask", f"none of `value`, `text` and `src` for {edit['name']!r}")
+    if given and not is_present and not path.endswith("/-"):
+        raise Fault("BadTask", f"`{given[0]}` with `state: absent` at {path!r}, which does not end in `/-`")
+    return Wish(edit["name"], path, wanted_tree(edit, target), is_present, edit["parents"])
+
+
+def wishes_of(options: Dict[str, Any], target: Target) -> List[Wish]:
+    """What the task wants, in order."""
+    if options["edits"] is None:
+        return [wish_of(options, None, target)]
+    if any(options[source] is not None for source in SOURCES) or options["path"] or options["state"] != "present":
+        raise Fault("BadTask", "`edits` beside an edit of the task's own")
+    if not options["edits"]:
+        return []
+    return [wish_of(edit, options["name"], target) for edit in options["edits"]]
+
+
+def result_of(plan: Plan) -> Dict[str, Any]:
+    """What a task returns of a plan, in check mode too."""
+    names = [name for name in plan.before if plan.before[name] is not plan.after[name]]
+    diff = [
+        {
+            "before_header": f"{name} (before)",
+            "after_header": f"{name} (after)",
+            "before": _shown(plan.before[name]),
+            "after": _shown(plan.after[name]),
+        }
+        for name in names
+    ]
+    edits = [{"edit": edit.kind, "name": edit.name, "path": edit.path} for edit in plan.edits]
+    return {"changed": bool(edits), "before": plan.before, "after": plan.after, "edits": edits, "diff": diff}
+
+
+def _shown(tree: Optional[Tree]) -> str:
+    return "" if tree is None else to_text(tree)
+
+
+class Task:
+    """What a task wants of a store. Raises `Fault` for options that say nothing, and for a text that is refused."""
+
+    def __init__(self, options: Dict[str, Any]) -> None:
+        self._target = Target(options["folder"], options["socket"], options["program"], options["timeout"])
+        self._may_create: bool = options["create"]
+        self._wishes = wishes_of(options, self._target)
+
+    def check(self) -> Plan:
+        """What would be done. Nothing is changed."""
+        with closing(self._store()) as store:
+            return plan_of(self._wishes, store.read)
+
+    def perform(self) -> Tuple[Plan, Optional[int]]:
+        """What was done, and the number of the store's command, if there was one.
+
+        It is planned anew while the store is held, since another may have changed it.
+        """
+        if self._may_create:
+            make_store(self._target)
+        with closing(session(self._target)) as store:
+            plan = plan_of(self._wishes, store.read)
+            return plan, store.perform(plan.edits) if plan.edits else None
+
+    def _store(self) -> Store:
+        """The store as it is before the task, which is empty where its folder is still to be made."""
+        try:
+            return reading(self._target)
+        except Fault as fault:
+            if fault.name == "MissingFolder" and self._may_create:
+                return Empty()
+            raise
+
+
+def result_of_run(module: Any) -> Dict[str, Any]:
+    """What the task returns. Raises `Fault` for why it fails."""
+    task = Task(module.params)
+    plan = task.check()
+    if module.check_mode or not plan.edits:
+        return result_of(plan)
+    plan, count = task.perform()
+    return {**result_of(plan), **({} if count is None else {"count": count})}
+
+
+def main() -> None:
+    """Runs the module."""
+    module = AnsibleModule(
+        argument_spec=OPTIONS,
+        supports_check_mode=True,
+        mutually_exclusive=[("folder", "socket")],
+        required_one_of=[("folder", "socket")],
+    )
+    try:
+        result = result_of_run(module)
+    except Fault as fault:
+        module.fail_json(msg=str(fault), **fault.result())
+    if not module._diff:
+        del result["diff"]
+    module.exit_json(**result)
+
+
+if __name__ == "__main__":
+    main()

@@ -1,0 +1,537 @@
+#!/usr/bin/env python3
+"""Tries the Ansible collection: the modules and the lookup over folders and sockets, and the playbook of the examples.
+
+    ./confstore --version && clients/ansible/try.py
+
+- Texts in the one style beside `confstore format`, and planned edits beside a store.
+- The modules with the Python package and without it, over a folder and over the socket of `clients/serve.py`: a second
+  run changes nothing, check mode changes nothing, and refusals say what was refused, where, and what to do.
+- `clients/examples/deploy.yaml` by `ansible-playbook` on this host, the lookup, secrets, the documentation, and the
+  collection as `ansible-galaxy` installs it.
+
+It needs ansible-core, PyYAML, and the program: CONFSTORE, or the one that is built. What needs ansible-core is left out
+where that isn't installed. The last line is 'N passed, M failed', and the status is 0 if M is 0. It takes a minute.
+"""
+
+from __future__ import annotations
+
+import json
+import os
+import random
+import re
+import shutil
+import subprocess
+import sys
+import tempfile
+import time
+from collections.abc import Iterator
+from contextlib import contextmanager
+from typing import Any
+
+HERE = os.path.dirname(os.path.abspath(__file__))
+TOP = os.path.dirname(os.path.dirname(HERE))
+sys.path[:0] = [HERE, os.path.join(TOP, "checks"), os.path.join(TOP, "python")]
+
+from ansible_collections.confstore.store.plugins.module_utils import edits, faults, style  # noqa: E402
+from confstore import Refused, Store, __version__  # noqa: E402
+from lib.store_runs import EMPTY, PROGRAM, Failures, need_program, read_file, write_file  # noqa: E402
+
+COLLECTION = os.path.join(HERE, "ansible_collections", "confstore", "store")
+PLUGINS = "ansible_collections.confstore.store.plugins"
+PLAYBOOK = os.path.join(TOP, "clients", "examples", "deploy.yaml")
+PATIENCE = 120
+SECRET = "s3cret-of-the-trial"
+
+Result = dict[str, Any]
+
+
+# ---- The parts by themselves
+
+
+def random_text(choices: random.Random) -> str:
+    pieces = [*"ab-_./: #'\"\\\n\n \t\0\x7f\x85\xa0\u2028\ufeffé", "\U0001f600", "yes", "|", "- ", "? ", "..."]
+    pieces.append("k" * 999)
+    return "".join(choices.choice(pieces) for _ in range(choices.randrange(8)))
+
+
+def random_tree(choices: random.Random, depth: int = 0) -> style.Tree:
+    kind = choices.randrange(3) if depth < 5 else 0
+    if kind == 0:
+        return random_text(choices)
+    if kind == 1:
+        return [random_tree(choices, depth + 1) for _ in range(choices.randrange(4))]
+    return {random_text(choices): random_tree(choices, depth + 1) for _ in range(choices.randrange(4))}
+
+
+def in_flow(tree: style.Tree) -> str:
+    """A tree in flow style, with each character of a text as an escape."""
+    if isinstance(tree, str):
+        return '"' + "".join(f"\\U{ord(character):08X}" for character in tree) + '"'
+    if isinstance(tree, list):
+        return "[" + ", ".join(map(in_flow, tree)) + "]"
+    return "{" + ", ".join(f"? {in_flow(key)} : {in_flow(value)}" for key, value in tree.items()) + "}"
+
+
+def try_style(failures: Failures) -> None:
+    """Random trees beside `confstore format`."""
+    choices = random.Random(11)
+    trees = [random_tree(choices) for _ in range(2_000)]
+    for tree in [*trees[:100], *(trees[start : start + 100] for start in range(100, 2_000, 100))]:
+        done = subprocess.run([PROGRAM, "format"], input=in_flow(tree).encode(), capture_output=True, check=False)
+        text = style.to_text(tree)
+        failures.expect(f"the text of {str(tree)[:60]}", text.encode(), done.stdout)
+        failures.expect(f"the tree of {str(tree)[:60]}", style.same(style.from_text(text), tree), True)
+    for text in ("a: b: c\n", "- a\n  - b\n", '"\\q"\n', "a\nb\n", "a:\n b\n", "'a'\n", ""):
+        try:
+            failures.expect(f"{text!r} is not in the one style", style.from_text(text), "a fault")
+        except faults.Fault as fault:
+            failures.expect(f"{text!r} is not in the one style", fault.name, "BadAnswer")
+
+
+def random_wish(choices: random.Random) -> edits.Wish:
+    steps = ["a", "b", "-", "0", "1", "2", "01", "~0", "~1x", "", "x~"]
+    path = "".join(f"/{choices.choice(steps)}" for _ in range(choices.randrange(4)))
+    trees: list[style.Tree] = ["x", "y", [], {"a": ["x"]}, ["x", {"b": "y"}]]
+    tree = choices.choice(trees)
+    is_present = choices.random() < 0.6
+    return edits.Wish(choices.choice(["web"] * 20 + ["none", "Bad"]), path, tree if is_present else None, is_present)
+
+
+def told(store: Store, wish: edits.Wish) -> str:
+    """How the store takes what a wish says, as one edit."""
+    try:
+        if wish.tree is None:
+            store.delete(wish.name, wish.path)
+        elif wish.path:
+            store.set(wish.name, wish.path, wish.tree)
+        else:
+            store.put(wish.name, wish.tree)
+    except Refused as refused:
+        return refused.word
+    return "done"
+
+
+def planned(store: Store, wish: edits.Wish) -> tuple[str, style.Tree | None]:
+    """How a wish is planned, and the configuration then."""
+    try:
+        plan = edits.plan_of([wish], lambda name: store.get(name, default=None))
+    except faults.Fault as fault:
+        return fault.name, None
+    return "done", plan.after[wish.name]
+
+
+def try_plans(folder: str, failures: Failures) -> None:
+    """Random wishes beside what a store does with the same edits."""
+    choices = random.Random(13)
+    starts: list[style.Tree] = ["x", [], {"a": "x", "-": "y"}, ["x", "y"], {"a": ["x", {"b": "y"}], "b": {"a": "x"}}]
+    with Store(folder, make=True) as store:
+        for _ in range(1_500):
+            store["web"] = choices.choice(starts)
+            wish = random_wish(choices)
+            how, after = planned(store, wish)
+            taken = told(store, wish)
+            is_gone_already = not wish.is_present and taken in ("NoConfig", "NoSuchPlace") and how == "done"
+            if how == "BadPath" and taken == "NoConfig":
+                taken = how  # both are so, and which is said first is the module's own
+            failures.expect(f"{wish}", "done" if is_gone_already else taken, how)
+            if how == "done" and not wish.path.endswith("/-"):
+                failures.expect(f"after {wish}", store.get(wish.name, default=None), after)
+
+
+def reads(tree: style.Tree | None) -> edits.Read:
+    """Reads this as each configuration."""
+    return lambda _: tree
+
+
+def try_wishes(failures: Failures) -> None:
+    """What is the module's own: elements of lists, and what is missing above a path."""
+    rows: list[tuple[style.Tree | None, edits.Wish, style.Tree | None, list[str]]] = [
+        ({"l": ["a"]}, edits.Wish("web", "/l/-", "b"), {"l": ["a", "b"]}, ["set /l/-"]),
+        ({"l": ["a", "b"]}, edits.Wish("web", "/l/-", "b"), {"l": ["a", "b"]}, []),
+        ({"l": ["b", "a", "b"]}, edits.Wish("web", "/l/-", "b", False), {"l": ["a"]}, ["delete /l/2", "delete /l/0"]),
+        ({"l": ["a"]}, edits.Wish("web", "/l/-", "b", False), {"l": ["a"]}, []),
+        (None, edits.Wish("web", "/a/b", "x", True, True), {"a": {"b": "x"}}, ["import "]),
+        ({"c": "y"}, edits.Wish("web", "/a/b", "x", True, True), {"c": "y", "a": {"b": "x"}}, ["set /a"]),
+        ({"a": {"b": "x"}}, edits.Wish("web", "/a/b", "x", True, True), {"a": {"b": "x"}}, []),
+        ({}, edits.Wish("web", "/l/-", "x", True, True), {"l": ["x"]}, ["set /l"]),
+        ({"l": [{"b": "x"}]}, edits.Wish("web", "/l/-/b", "x", True, True), {"l": [{"b": "x"}]}, []),
+        ({"a": "x", "b": "y"}, edits.Wish("web", "", {"b": "y", "a": "x"}), {"b": "y", "a": "x"}, ["import "]),
+        (None, edits.Wish("web", "", None, False), None, []),
+    ]
+    for before, wish, after, wanted in rows:
+        plan = edits.plan_of([wish], reads(before))
+        failures.expect(f"{wish} of {before}", plan.after["web"], after)
+        failures.expect(f"edits of {wish}", [f"{edit.kind} {edit.path}" for edit in plan.edits], wanted)
+    back = [edits.Wish("web", "/a", "y"), edits.Wish("web", "/a", "x")]
+    failures.expect("an edit that is taken back", edits.plan_of(back, reads({"a": "x"})).edits, [])
+
+
+def try_names(failures: Failures) -> None:
+    """The names of docs/FAULTS.md are those of the module."""
+    page = read_file(os.path.join(TOP, "docs", "FAULTS.md")).decode()
+    tables = {
+        part.split("\n", 1)[0].strip(): re.findall(r"(?m)^\| (`[A-Z].*?`) \|", part) for part in page.split("\n## ")
+    }
+    found = {title: set(re.findall(r"`(\w+)`", " ".join(rows))) for title, rows in tables.items()}
+    reasons = set(faults.REASONS)
+    failures.expect("refusals", found["Of a text"] - reasons | found["Of a command"], set(faults.REFUSALS))
+    failures.expect("reasons", found["Of a text"] & reasons, reasons)
+    ends = found["Of a store and of the program"] - {"TooLong", "Reopen"}
+    failures.expect("ends", ends, set(faults.ENDS))
+
+
+# ---- The modules
+
+
+class Modules:
+    """Runs the modules as Ansible does on a host, with the Python package or without it."""
+
+    def __init__(self, interpreter: str, top: str, has_package: bool) -> None:
+        self._interpreter = interpreter
+        self._environment = {**os.environ, "CONFSTORE": PROGRAM, "TMPDIR": top}
+        paths = [HERE, os.path.join(TOP, "python")] if has_package else [HERE]
+        self._environment["PYTHONPATH"] = os.pathsep.join(paths)
+
+    def run(self, module: str, **options: Any) -> Result:
+        """What a module returns. `check` is the mode."""
+        words = {"_ansible_check_mode": options.pop("check", False), "_ansible_diff": True, **options}
+        done = subprocess.run(
+            [self._interpreter, "-m", f"{PLUGINS}.modules.{module}"],
+            input=json.dumps({"ANSIBLE_MODULE_ARGS": words}).encode(), env=self._environment, capture_output=True,
+            check=False, timeout=PATIENCE,
+        )  # fmt: skip
+        try:
+            found: Result = json.loads(done.stdout)
+        except ValueError:
+            return {"output": done.stdout, "errors": done.stderr}
+        found.pop("invocation", None)
+        return found
+
+    def change(self, **options: Any) -> Result:
+        return self.run("confstore", **options)
+
+
+@contextmanager
+def server(folder: str, path: str) -> Iterator[None]:
+    """A server of the store in a folder."""
+    words = [sys.executable, os.path.join(TOP, "clients", "serve.py"), path, folder]
+    process = subprocess.Popen(words, env={**os.environ, "CONFSTORE": PROGRAM})
+    try:
+        deadline = time.monotonic() + PATIENCE
+        while not os.path.exists(path) and time.monotonic() < deadline:
+            time.sleep(0.05)
+        yield
+    finally:
+        process.terminate()
+        process.wait()
+
+
+def short(result: Result) -> tuple[Any, Any, list[str]]:
+    """Whether something has changed, what is there then, and the edits."""
+    made = [f"{edit['edit']} {edit['name']} {edit['path']}" for edit in result.get("edits", [])]
+    return result.get("changed"), result.get("after", result), made
+
+
+# Tasks, one after the other, each with what is there after it, and the edits that it makes.
+TASKS: list[tuple[Result, Any, list[str]]] = [
+    ({"name": "web", "value": {"port": 80, "tls": True, "hosts": []}},
+     {"web": {"port": "80", "tls": "true", "hosts": []}}, ["import web "]),
+    ({"name": "web", "path": "/port", "value": "81"}, {"web": {"port": "81", "tls": "true", "hosts": []}},
+     ["set web /port"]),
+    ({"name": "web", "path": "/hosts/-", "value": "a"}, {"web": {"port": "81", "tls": "true", "hosts": ["a"]}},
+     ["set web /hosts/-"]),
+    ({"name": "web", "text": "v: 1.10\nw: yes\nx: |\n  two\n  lines\n"},
+     {"web": {"v": "1.10", "w": "yes", "x": "two\nlines\n"}}, ["import web "]),
+    ({"name": "web", "edits": [{"path": "/w", "state": "absent"}, {"path": "/t/s", "value": {}, "parents": True},
+                               {"name": "mail", "value": ["é\u2028\0"]}, {"path": "/v", "value": "1.10"}]},
+     {"web": {"v": "1.10", "x": "two\nlines\n", "t": {"s": {}}}, "mail": ["é\u2028\0"]},
+     ["delete web /w", "set web /t", "import mail "]),
+    ({"name": "mail", "state": "absent"}, {"mail": None}, ["delete mail "]),
+]  # fmt: skip
+
+
+def try_tasks(name: str, modules: Modules, where: Result, file: str, failures: Failures) -> None:
+    """Each task in check mode, then really, and then again."""
+    for number, (task, after, wanted) in enumerate(TASKS, 1):
+        held = read_file(file) if os.path.exists(file) else b""
+        checked = modules.change(check=True, **where, **task)
+        failures.expect(f"{name}: task {number} in check mode", short(checked), (True, after, wanted))
+        failures.expect(f"{name}: what check mode left", read_file(file) if os.path.exists(file) else b"", held)
+        made = modules.change(**where, **task)
+        failures.expect(f"{name}: task {number}", short(made), (True, after, wanted))
+        failures.expect(f"{name}: its number", made.get("count"), number)
+        failures.expect(f"{name}: the same before", made.get("before"), checked.get("before"))
+        held = read_file(file)
+        again = modules.change(**where, **task)
+        failures.expect(f"{name}: task {number} again", short(again), (False, after, []))
+        failures.expect(f"{name}: what it left", read_file(file), held)
+    shown = subprocess.run([PROGRAM, "get", os.path.dirname(file), "web"], capture_output=True, check=False)
+    failures.expect(f"{name}: the store", shown.stdout, b'v: "1.10"\nx: |\n  two\n  lines\nt:\n  s: {}\n')
+
+
+# Tasks that fail, each with the fault's name, the place, and what its message says.
+REFUSED: list[tuple[Result, str, Any, str]] = [
+    ({"name": "web", "text": "a: 1\nb: 2\nc: [d,,e]\n"}, "Syntax", {"line": 3, "column": 7, "reason": "Flow"},
+     "the text for 'web', at line 3, column 7: Syntax Flow: a bracket is not closed, or an entry in it is malformed. "
+     "What to do: close it, or put a comma."),
+    ({"name": "web", "text": "a: b\na: c\n"}, "KeyTwice", None, "the text for 'web': KeyTwice: "),
+    ({"name": "web", "path": "/no/where", "value": "x"}, "NoSuchPlace", None, "'/no/where' of 'web': NoSuchPlace: "),
+    ({"name": "none", "path": "/a", "value": "x"}, "NoConfig", None, "'/a' of 'none': NoConfig: "),
+    ({"name": "Web", "value": "x"}, "BadName", None, "the name 'Web': BadName: "),
+    ({"name": "web", "path": "a", "value": "x"}, "BadPath", None, "the path 'a' of 'web': BadPath: "),
+    ({"name": "web", "edits": [{"path": "/v", "value": "2"}, {"path": "/no/x", "value": "x"}]}, "NoSuchPlace", None,
+     "'/no/x' of 'web': NoSuchPlace: "),
+    ({"name": "web", "value": {"a": [1.5]}}, "NotATree", None, "the value at '/a/0' is of type float: NotATree: "),
+    ({"name": "web", "value": {"a": None}}, "NotATree", None, "the value at '/a' is null: NotATree: "),
+    ({"name": "web", "text": {"a": "b"}}, "BadTask", None, "the text for 'web' is no text: use the filter `string`"),
+    ({"name": "web"}, "BadTask", None, "none of `value`, `text` and `src` for 'web'"),
+    ({"value": "x"}, "BadTask", None, "an edit has no `name`"),
+    ({"name": "web", "value": "x", "text": "x"}, "BadTask", None, "`value` beside `text` for 'web'"),
+    ({"name": "web", "path": "/v", "value": "x", "state": "absent"}, "BadTask", None, "`value` with `state: absent`"),
+    ({"name": "web", "value": "x", "edits": []}, "BadTask", None, "`edits` beside an edit"),
+    ({"name": "web", "src": "/none/there"}, "MissingFile", None,
+     "/none/there: No such file or directory: MissingFile: "),
+    ({"name": "web", "value": "x" * 4_194_303}, "ConfigLarge", None, "'web': ConfigLarge: "),
+]  # fmt: skip
+
+
+def nested(depth: int) -> Any:
+    return [nested(depth - 1)] if depth > 1 else "x"
+
+
+def try_refusals(name: str, modules: Modules, where: Result, file: str, failures: Failures) -> None:
+    held = read_file(file)
+    deep = ({"name": "web", "value": nested(129)}, "TooDeep", None, "")
+    for task, fault, place, message in [*REFUSED, deep]:
+        for check in (True, False):
+            failed = modules.change(check=check, **where, **task)
+            found = failed.get("failed"), failed.get("fault"), failed.get("place")
+            failures.expect(f"{name}: {str(task)[:80]}", found, (True, fault, place))
+            failures.expect(f"{name}: the message", failed.get("msg", "")[: len(message)], message)
+    failures.expect(f"{name}: what refusals left", read_file(file), held)
+    deepest = modules.change(check=True, **where, name="web", value=nested(128))
+    failures.expect(f"{name}: the deepest tree", deepest.get("changed"), True)
+
+
+def try_reading(name: str, modules: Modules, where: Result, failures: Failures) -> None:
+    """The module that reads, on what the tasks left."""
+    rows: list[tuple[Result, Result]] = [
+        ({"name": "web", "path": "/v"}, {"value": "1.10"}),
+        ({"name": "web", "path": "/none", "default": ["x"]}, {"value": ["x"]}),
+        ({"name": "none", "default": "x"}, {"value": "x"}),
+        ({"name": "web", "path": "/none"}, {"fault": "NoSuchPlace"}),
+        ({"name": "none"}, {"fault": "NoConfig"}),
+        ({}, {"configs": {"web": {"v": "1.10", "x": "two\nlines\n", "t": {"s": {}}}}, "names": ["web"]}),
+    ]
+    for options, wanted in rows:
+        found = modules.run("confstore_info", **where, **options)
+        failures.expect(f"{name}: reading {options}", {key: found.get(key) for key in wanted}, wanted)
+
+
+def try_held(name: str, modules: Modules, folder: str, failures: Failures) -> None:
+    """A folder that a session holds: what is there already is fine, and a change is refused."""
+    session = subprocess.Popen([PROGRAM, "run", folder], stdin=subprocess.PIPE, stdout=subprocess.PIPE)
+    assert session.stdin is not None and session.stdout is not None
+    try:
+        session.stdin.write(b"names:\n...\n")
+        session.stdin.flush()
+        session.stdout.readline()
+        task = {"folder": folder, "name": "web", "path": "/v"}
+        failures.expect(f"{name}: beside a session", modules.change(**task, value="1.10").get("changed"), False)
+        failed = modules.change(**task, value="2")
+        failures.expect(f"{name}: a change beside it", failed.get("fault"), "Locked")
+        failures.expect(f"{name}: what it says", "`socket`" in failed.get("msg", ""), True)
+    finally:
+        session.communicate(timeout=PATIENCE)
+
+
+def try_places(name: str, modules: Modules, top: str, failures: Failures) -> None:
+    """Folders, programs and servers that are none."""
+    damaged, other = os.path.join(top, "damaged"), os.path.join(top, "other")
+    sleeper, spied = os.path.join(top, "sleeper"), os.path.join(top, "spy")
+    for folder, content in ((damaged, EMPTY + b"x\n...\n"), (other, b"x\n")):
+        os.makedirs(folder, exist_ok=True)
+        write_file(os.path.join(folder, "store.yaml"), content)
+    write_file(sleeper, b"#!/bin/sh\nexec sleep 60\n")
+    write_file(spied, f'#!/bin/sh\necho "$*" >>{spied}.words\nexec {PROGRAM} "$@"\n'.encode())
+    os.chmod(sleeper, 0o755)
+    os.chmod(spied, 0o755)
+    whole = {"name": "web", "value": "x"}
+    rows: list[tuple[Result, str]] = [
+        ({"folder": os.path.join(top, "none")}, "MissingFolder"),
+        ({"folder": damaged}, "Damaged"),
+        ({"folder": other}, "NotAStore"),
+        ({"folder": top, "program": "/none/confstore"}, "MissingProgram"),
+        ({"folder": top, "program": sleeper, "timeout": 0.5}, "TimedOut"),
+        ({"socket": os.path.join(top, "none")}, "Disconnected"),
+    ]
+    for where, fault in rows:
+        failures.expect(f"{name}: {where}", modules.change(**where, **whole).get("fault"), fault)
+    failures.expect(f"{name}: nowhere", modules.change(**whole).get("failed"), True)
+    both = modules.change(folder=top, socket=top, **whole)
+    failures.expect(f"{name}: a folder and a socket", both.get("failed"), True)
+    made = os.path.join(top, f"made-{name}", "deep")
+    checked = modules.change(folder=made, create=True, check=True, **whole)
+    failures.expect(f"{name}: a folder in check mode", (checked.get("changed"), os.path.exists(made)), (True, False))
+    source = os.path.join(top, "source.yaml")
+    write_file(source, f"password: {SECRET}\n".encode())
+    changed = modules.change(folder=made, create=True, program=spied, name="web", src=source)
+    failures.expect(f"{name}: a folder is made", changed.get("after"), {"web": {"password": SECRET}})
+    words = read_file(f"{spied}.words")
+    failures.expect(f"{name}: the program's words", (b"run" in words, SECRET.encode() in words), (True, False))
+
+
+def try_modules(interpreter: str, top: str, failures: Failures) -> None:
+    for name, has_package in (("words", False), ("package", True)):
+        modules = Modules(interpreter, top, has_package)
+        folder, served = os.path.join(top, name), os.path.join(top, f"served-{name}")
+        file = os.path.join(folder, "store.yaml")
+        try_tasks(name, modules, {"folder": folder, "create": True}, file, failures)
+        try_refusals(name, modules, {"folder": folder}, file, failures)
+        try_reading(name, modules, {"folder": folder}, failures)
+        try_held(name, modules, folder, failures)
+        try_places(name, modules, top, failures)
+        os.mkdir(served)
+        with server(served, f"{served}.socket"):
+            where, file = {"socket": f"{served}.socket"}, os.path.join(served, "store.yaml")
+            try_tasks(f"{name}, socket", modules, where, file, failures)
+            try_refusals(f"{name}, socket", modules, where, file, failures)
+            try_reading(f"{name}, socket", modules, where, failures)
+
+
+# ---- Ansible
+
+
+def ansible(program: str, *words: str, **more: str) -> tuple[int, str]:
+    """The status of one of Ansible's programs, and all that it prints."""
+    environment = {**os.environ, "CONFSTORE": PROGRAM, "ANSIBLE_COLLECTIONS_PATH": HERE, "ANSIBLE_NOCOLOR": "1", **more}
+    environment.setdefault("PYTHONPATH", "")
+    done = subprocess.run([program, *words], env=environment, capture_output=True, check=False, timeout=PATIENCE)
+    return done.returncode, (done.stdout + done.stderr).decode()
+
+
+def play(folder: str, *words: str, port: str = "8080", **more: str) -> tuple[int, str]:
+    given = ("-e", f"store={folder}", "-e", f"web_port={port}", "-e", f"secret={SECRET}")
+    return ansible("ansible-playbook", "-i", "localhost,", "-c", "local", PLAYBOOK, *given, *words, **more)
+
+
+def counts(said: str) -> tuple[str, ...]:
+    """How many tasks were well, changed and failed."""
+    found = re.search(r"ok=(\d+)\s+changed=(\d+)\s+unreachable=0\s+failed=(\d+)", said)
+    return found.groups() if found else (said,)
+
+
+def try_playbook(top: str, failures: Failures) -> None:
+    folder = os.path.join(top, "played")
+    status, said = play(folder, "--check", "--diff")
+    failures.expect("check mode on a fresh host", (status, counts(said)), (0, ("3", "3", "0")))
+    failures.expect("its difference", ('+port: "8080"\n' in said, '+version: "1.10"\n' in said), (True, True))
+    failures.expect("what it left", os.path.exists(folder), False)
+    status, said = play(folder, "-vvv")
+    failures.expect("the first run", (status, counts(said)), (0, ("4", "3", "0")))
+    failures.expect("the secret in the output", SECRET in said, False)
+    failures.expect("the lookup", re.findall(r'"(8080|localhost)"', said)[-2:], ["8080", "localhost"])
+    held = read_file(os.path.join(folder, "store.yaml"))
+    failures.expect("the secret in the store", held.count(SECRET.encode()), 1)
+    status, said = play(folder, PYTHONPATH=os.path.join(TOP, "python"))
+    failures.expect("the second run", (status, counts(said)), (0, ("4", "0", "0")))
+    status, said = play(folder, "--check", "--diff", port="8081")
+    failures.expect("check mode of a change", (status, counts(said)), (0, ("3", "1", "0")))
+    failures.expect("what it would be", '-port: "8080"\n+port: "8081"\n' in said, True)
+    failures.expect("what both left", read_file(os.path.join(folder, "store.yaml")), held)
+    status, said = play(folder, port="[a,,b]")
+    failures.expect("a template that is refused", (status, counts(said)), (2, ("0", "0", "1")))
+    failures.expect("where it is", "the text for 'web', at line 3, column 10: Syntax Flow: " in said, True)
+
+
+def lookup(folder: str, words: str) -> Any:
+    """What a lookup gives, or all that Ansible says."""
+    message = f"{{{{ query('confstore.store.confstore', {words}) | to_json }}}}"
+    status, said = ansible(
+        "ansible", "-i", "localhost,", "-c", "local", "all", "-m", "debug", "-a", f"msg={message}",
+        "-e", f"confstore_folder={folder}",
+    )  # fmt: skip
+    found = re.search(r'"msg": (.*)', said)
+    return json.loads(json.loads(found[1])) if status == 0 and found else said
+
+
+def try_lookup(top: str, failures: Failures) -> None:
+    folder = os.path.join(top, "played")
+    found = lookup(folder, "'web/version', 'mail/tls'")
+    failures.expect("values", found, ["1.10", {"certificate": "/etc/ssl/mail.pem"}])
+    failures.expect("a default", lookup(folder, "'web/none', 'none', default='x'"), ["x", "x"])
+    said = lookup(folder, "'web/none'")
+    failures.expect("none", "confstore: '/none' of 'web': NoSuchPlace: nothing is" in said, True)
+    said = lookup(os.path.join(top, "nowhere"), "'web'")
+    failures.expect("no folder", "MissingFolder: there is no such folder" in said, True)
+
+
+def options_of(documentation: Any) -> Any:
+    """The options of a documentation in the form of a module's."""
+    found: Result = {}
+    for name, option in documentation.items():
+        kept = {key: option[key] for key in ("type", "choices", "default", "elements") if key in option}
+        if "suboptions" in option:
+            kept["options"] = options_of(option["suboptions"])
+        found[name] = kept
+    return found
+
+
+def try_version(failures: Failures) -> None:
+    """The collection's version is the package's."""
+    found = re.search(r"(?m)^version: (.*)$", read_file(os.path.join(COLLECTION, "galaxy.yml")).decode())
+    failures.expect("the version", found[1] if found else None, __version__)
+
+
+def try_documentation(interpreter: str, top: str, failures: Failures) -> None:
+    for kind, name in (("module", "confstore"), ("module", "confstore_info"), ("lookup", "confstore")):
+        status, said = ansible("ansible-doc", "-t", kind, "--json", f"confstore.store.{name}")
+        failures.expect(f"the documentation of {kind} {name}", status, 0)
+        page = json.loads(said)[f"confstore.store.{name}"]
+        lacking = [part for part in ("doc", "examples", "return") if not page[part]]
+        failures.expect(f"what the documentation of {kind} {name} lacks", lacking, [])
+        if kind == "module":
+            say = f"import json; from {PLUGINS}.modules.{name} import OPTIONS; print(json.dumps(OPTIONS))"
+            done = subprocess.run(
+                [interpreter, "-c", say], env={**os.environ, "PYTHONPATH": HERE}, capture_output=True, check=False
+            )
+            failures.expect(f"the options of {name}", options_of(page["doc"]["options"]), json.loads(done.stdout))
+    installed = os.path.join(top, "installed")
+    status, said = ansible("ansible-galaxy", "collection", "install", "-p", installed, COLLECTION)
+    failures.expect("the collection is installed", (status, said if status else ""), (0, ""))
+    status, said = ansible("ansible-doc", "confstore.store.confstore", ANSIBLE_COLLECTIONS_PATH=installed)
+    failures.expect("what is installed", (status, installed in said), (0, True))
+
+
+def interpreter_of_ansible() -> str | None:
+    """The Python that has Ansible, or None."""
+    program = shutil.which("ansible-playbook")
+    if program is None:
+        return None
+    with open(program, encoding="utf-8") as source:
+        return source.readline().removeprefix("#!").strip()
+
+
+def main() -> int:
+    need_program()
+    os.environ["CONFSTORE"] = PROGRAM
+    failures = Failures()
+    with tempfile.TemporaryDirectory() as top:
+        try_style(failures)
+        try_plans(os.path.join(top, "plans"), failures)
+        try_wishes(failures)
+        try_names(failures)
+        try_version(failures)
+        interpreter = interpreter_of_ansible()
+        if interpreter is None:
+            print("left out: the modules and the playbook, since ansible-core is not installed")
+            return failures.report()
+        try_modules(interpreter, top, failures)
+        try_playbook(top, failures)
+        try_lookup(top, failures)
+        try_documentation(interpreter, top, failures)
+    return failures.report()
+
+
+if __name__ == "__main__":
+    sys.exit(main())
