@@ -1,17 +1,25 @@
 #!/usr/bin/env python3
-"""Makes a page of a store's log: who changed what by number, the store at each number, two numbers beside each other.
+"""Makes a page of a store's log: each command with the values before and after it, and the store at each number.
 
     page.py FOLDER > store.html
 
-The page is one file of HTML, and needs no network. It has the records of `store.yaml`, so what came since the last
-checkpoint. Nothing is changed, and a session may hold the store meanwhile. `#at=3&beside=1` after the page's address
-shows the store after command 3, and what is different from command 1.
+The page is one file of HTML, and its policy lets it reach no network. It has the records of `store.yaml`, so what came
+since the last checkpoint. Nothing is changed, and a session may hold the store meanwhile. Values stand there as
+`confstore get` prints them. What comes behind the page's address:
+
+    #at=3                 the command 3
+    #at=3&view=store      the store after it, and what it changed; `&whole=` shows all of the store
+    #at=3&beside=1        what is different from the store after command 1
+    #find=port            the commands that have this in a name, a path or a value
 """
 
 from __future__ import annotations
 
+import base64
+import hashlib
 import json
 import os
+import re
 import sys
 from typing import Any
 
@@ -46,14 +54,27 @@ def history(reader: Reader) -> dict[str, Any]:
         except NoSuchCommand:
             continue
         told = [{"number": record.number, "edits": [edit_of(edit) for edit in record.edits]} for record in records]
-        return {"start": start or 0, "configs": {"pairs": configs}, "records": told}
+        title = os.path.basename(reader.folder) or reader.folder
+        return {"title": title, "start": start or 0, "configs": {"pairs": configs}, "records": told}
     raise SystemExit("page.py: checkpoints come faster than the log is read")
+
+
+def policy(template: str) -> str:
+    """What the page may do: run its own script and use its own style, and nothing else."""
+    kinds = []
+    for kind in ("script", "style"):
+        found = re.search(f"<{kind}>(.*?)</{kind}>", template, re.DOTALL)
+        assert found is not None
+        checksum = base64.b64encode(hashlib.sha256(found[1].encode()).digest()).decode()
+        kinds.append(f"{kind}-src 'sha256-{checksum}'")
+    return "; ".join(["default-src 'none'", *kinds])
 
 
 def page(told: dict[str, Any]) -> str:
     data = json.dumps(told).replace("<", "\\u003c")  # so that no text ends the script that holds it
     with open(TEMPLATE, encoding="utf-8") as source:
-        return source.read().replace("DATA", data, 1)
+        template = source.read()
+    return template.replace("POLICY", policy(template), 1).replace(">DATA<", f">{data}<", 1)
 
 
 def main(folder: str) -> None:
