@@ -25,6 +25,7 @@ import sys
 import tempfile
 import time
 from collections.abc import Iterator
+from concurrent.futures import ThreadPoolExecutor
 from contextlib import contextmanager
 from typing import Any
 
@@ -338,11 +339,24 @@ def try_held(name: str, modules: Modules, folder: str, failures: Failures) -> No
         session.stdout.readline()
         task = {"folder": folder, "name": "web", "path": "/v"}
         failures.expect(f"{name}: beside a session", modules.change(**task, value="1.10").get("changed"), False)
-        failed = modules.change(**task, value="2")
+        failed = modules.change(**task, value="2", wait=0)
         failures.expect(f"{name}: a change beside it", failed.get("fault"), "Locked")
         failures.expect(f"{name}: what it says", "`socket`" in failed.get("msg", ""), True)
     finally:
         session.communicate(timeout=PATIENCE)
+
+
+def try_together(name: str, modules: Modules, folder: str, failures: Failures) -> None:
+    """Tasks of several hosts on one folder at once, which is still to be made."""
+
+    def add(number: int) -> Any:
+        task = {"folder": folder, "create": True, "wait": PATIENCE, "parents": True}
+        return modules.change(**task, name="web", path="/hosts/-", value=f"h{number}").get("changed")
+
+    with ThreadPoolExecutor(6) as hosts:
+        failures.expect(f"{name}: tasks at once", list(hosts.map(add, range(6))), [True] * 6)
+    found = modules.run("confstore_info", folder=folder, name="web", path="/hosts").get("value", [])
+    failures.expect(f"{name}: what they have made", sorted(found), [f"h{number}" for number in range(6)])
 
 
 def try_places(name: str, modules: Modules, top: str, failures: Failures) -> None:
@@ -390,6 +404,7 @@ def try_modules(interpreter: str, top: str, failures: Failures) -> None:
         try_refusals(name, modules, {"folder": folder}, file, failures)
         try_reading(name, modules, {"folder": folder}, failures)
         try_held(name, modules, folder, failures)
+        try_together(name, modules, os.path.join(top, f"together-{name}"), failures)
         try_places(name, modules, top, failures)
         os.mkdir(served)
         with server(served, f"{served}.socket"):

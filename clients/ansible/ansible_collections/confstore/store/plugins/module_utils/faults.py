@@ -75,7 +75,7 @@ ENDS: Dict[str, Tuple[str, str]] = {
         "a call of the system failed, as where the folder can't be written or the device is full",
         "mend that, and run the task again: it looks first what is there",
     ),
-    "Locked": ("another run holds the folder", "end it, or give the `socket` of the server that holds it"),
+    "Locked": ("another run holds the folder", "end it, set a longer `wait`, or give the `socket` of its server"),
     "Input": ("the program could not read its commands", "run the task again: it looks first what is there"),
     "Output": ("the program could not write", "run the task again: it looks first what is there"),
 }

@@ -103,9 +103,9 @@ def reading(target: Target) -> Store:
 
 
 def session(target: Target) -> Store:
-    """A store that is held by a session until it is closed, or shared by the server at a socket."""
+    """A store that is held by a session until it is closed, or shared by the server at a socket. It answers by then."""
     if package is None:
-        return BySession(Connection(target) if target.socket is not None else Program(target))
+        return BySession(Connection(target) if target.socket is not None else Program(target)).begun()
     if target.socket is not None:
         return ByPackage(package.Store.connect, target.socket, target)
     return ByPackage(package.Store, target.folder, target)
@@ -119,7 +119,11 @@ def make_store(target: Target) -> None:
         os.makedirs(os.path.dirname(os.path.abspath(target.folder)), exist_ok=True)
     except OSError as error:
         raise Fault("Device", f"{target.folder}: {error.strerror}") from None
-    run_words(target, ["init", "--", target.folder])
+    try:
+        run_words(target, ["init", "--", target.folder])
+    except Fault as fault:
+        if fault.name != "StoreExists":  # another run has made it meanwhile
+            raise
 
 
 def run_words(target: Target, words: List[str], given: bytes = b"") -> bytes:
@@ -264,6 +268,15 @@ class BySession(Store):
 
     def __init__(self, other: "Program | Connection") -> None:
         self._other = other
+
+    def begun(self) -> "BySession":
+        """The same, once it has answered. Raises `Fault` for why it does not, and lets go of the store."""
+        try:
+            self.names()
+        except Fault:
+            self.close()
+            raise
+        return self
 
     def _answer(self) -> bytes:
         """The next answer, without its first and its last line."""

@@ -16,7 +16,7 @@ options:
   folder:
     description:
       - The folder of the store, on the host.
-      - Another run may not hold it while something is changed. Where a service holds it, use I(socket).
+      - One run at a time may hold it to change something, see I(wait). Where a service holds it, use I(socket).
     type: path
   socket:
     description: The Unix socket of a server that holds the store. One of I(folder) and I(socket) is needed.
@@ -34,6 +34,12 @@ options:
     description: How many seconds an answer may take.
     type: float
     default: 60
+  wait:
+    description:
+      - How many seconds the task waits for another run that holds the folder, as one of another host that is delegated
+        to the same store. Then it fails, with the fault C(Locked).
+    type: float
+    default: 10
   name:
     description: The name of the configuration. Beside I(edits), that of each edit that has no name of its own.
     type: str
@@ -104,6 +110,8 @@ options:
         description: As I(parents).
         type: bool
         default: false
+requirements:
+  - Python 3.9 or later on the host
 attributes:
   check_mode:
     support: full
@@ -203,6 +211,7 @@ place:
   sample: {line: 3, column: 7, reason: Flow}
 """
 
+import time
 from contextlib import closing
 from typing import Any, Dict, List, Optional, Tuple
 
@@ -236,9 +245,13 @@ OPTIONS: Dict[str, Dict[str, Any]] = {
     "create": {"type": "bool", "default": False},
     "program": {"type": "path"},
     "timeout": {"type": "float", "default": 60.0},
+    "wait": {"type": "float", "default": 10.0},
     "edits": {"type": "list", "elements": "dict", "options": EDIT_OPTIONS},
 }
 SOURCES = ("value", "text", "src")
+
+# How often in seconds a task looks whether another run has let the folder go.
+LOOK = 0.05
 
 
 def wanted_tree(edit: Dict[str, Any], target: Target) -> Optional[Tree]:
@@ -312,6 +325,7 @@ class Task:
     def __init__(self, options: Dict[str, Any]) -> None:
         self._target = Target(options["folder"], options["socket"], options["program"], options["timeout"])
         self._may_create: bool = options["create"]
+        self._wait: float = options["wait"]
         self._wishes = wishes_of(options, self._target)
 
     def check(self) -> Plan:
@@ -324,11 +338,22 @@ class Task:
 
         It is planned anew while the store is held, since another may have changed it.
         """
-        if self._may_create:
-            make_store(self._target)
-        with closing(session(self._target)) as store:
+        with closing(self._session()) as store:
             plan = plan_of(self._wishes, store.read)
             return plan, store.perform(plan.edits) if plan.edits else None
+
+    def _session(self) -> Store:
+        """The store, made if it is missing, and held once another run has let it go."""
+        deadline = time.monotonic() + self._wait
+        while True:
+            try:
+                if self._may_create:
+                    make_store(self._target)
+                return session(self._target)
+            except Fault as fault:
+                if fault.name != "Locked" or time.monotonic() > deadline:
+                    raise
+            time.sleep(LOOK)
 
     def _store(self) -> Store:
         """The store as it is before the task, which is empty where its folder is still to be made."""
