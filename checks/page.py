@@ -315,10 +315,16 @@ def try_many(page: Page, folder: str, failures: Failures) -> None:
     failures.expect("a page after a checkpoint", made_page(folder, page._file), (0, b""))
     page.open()
     failures.expect("its cards", page.value("[shownCards(), editsOf(1001)[0][1]]"), [["1001"], ['-"1000"', "+x"]])
-    wrong = [said for said in page.browser.said if "Content Security Policy" not in said]
-    failures.expect("errors of the page", wrong, [])
     failures.expect("its numbers", page.value("document.getElementById('summary').textContent"),
                     "1 command, 1001 to 1001; 1 configuration")  # fmt: skip
+    session(folder, b"checkpoint:\n...\n")
+    failures.expect("a page without commands", made_page(folder, page._file), (0, b""))
+    page.open()
+    found = page.value("[shownCards(), document.getElementById('none').textContent, configsIn('state', wholeIn)]")
+    failures.expect("what it shows", found, [[], "No command was made since the last checkpoint.", {"n": [" x"]}])
+    failures.expect("its parts", (is_shown(page, "state"), is_shown(page, "numbers")), (True, False))
+    wrong = [said for said in page.browser.said if "Content Security Policy" not in said]
+    failures.expect("errors of the page", wrong, [])
 
 
 def main() -> int:
