@@ -185,13 +185,12 @@ def try_names(failures: Failures) -> None:
 
 
 class Modules:
-    """Runs the modules as Ansible does on a host, with the Python package or without it."""
+    """Runs the modules as Ansible does on a host, where Python finds what is in these folders too."""
 
-    def __init__(self, interpreter: str, top: str, has_package: bool) -> None:
+    def __init__(self, interpreter: str, top: str, *folders: str) -> None:
         self._interpreter = interpreter
         self._environment = {**os.environ, "CONFSTORE": PROGRAM, "TMPDIR": top}
-        paths = [HERE, os.path.join(TOP, "python")] if has_package else [HERE]
-        self._environment["PYTHONPATH"] = os.pathsep.join(paths)
+        self._environment["PYTHONPATH"] = os.pathsep.join([HERE, *folders])
 
     def run(self, module: str, **options: Any) -> Result:
         """What a module returns. `check` is the mode."""
@@ -210,6 +209,11 @@ class Modules:
 
     def change(self, **options: Any) -> Result:
         return self.run("confstore", **options)
+
+    def has_package(self) -> bool:
+        """Whether the modules find the Python package."""
+        say = f"import sys; from {PLUGINS}.module_utils.stores import package; sys.exit(package is None)"
+        return subprocess.run([self._interpreter, "-c", say], env=self._environment, check=False).returncode == 0
 
 
 @contextmanager
@@ -262,6 +266,7 @@ def try_tasks(name: str, modules: Modules, where: Result, file: str, failures: F
         failures.expect(f"{name}: task {number}", short(made), (True, after, wanted))
         failures.expect(f"{name}: its number", made.get("count"), number)
         failures.expect(f"{name}: the same before", made.get("before"), checked.get("before"))
+        failures.expect(f"{name}: the same difference", made.get("diff"), checked.get("diff"))
         held = read_file(file)
         again = modules.change(**where, **task)
         failures.expect(f"{name}: task {number} again", short(again), (False, after, []))
@@ -396,8 +401,13 @@ def try_places(name: str, modules: Modules, top: str, failures: Failures) -> Non
 
 
 def try_modules(interpreter: str, top: str, failures: Failures) -> None:
-    for name, has_package in (("words", False), ("package", True)):
-        modules = Modules(interpreter, top, has_package)
+    lacking = os.path.join(top, "lacking")  # a Python without PyYAML, which the package needs
+    os.mkdir(lacking)
+    write_file(os.path.join(lacking, "yaml.py"), b"raise ImportError\n")
+    package = os.path.join(TOP, "python")
+    for name, folders in (("words", [lacking, package]), ("package", [package])):
+        modules = Modules(interpreter, top, *folders)
+        failures.expect(f"{name}: the package is used", modules.has_package(), name == "package")
         folder, served = os.path.join(top, name), os.path.join(top, f"served-{name}")
         file = os.path.join(folder, "store.yaml")
         try_tasks(name, modules, {"folder": folder, "create": True}, file, failures)

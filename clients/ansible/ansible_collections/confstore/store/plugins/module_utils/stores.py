@@ -116,7 +116,7 @@ def make_store(target: Target) -> None:
     if target.folder is None or os.path.lexists(os.path.join(target.folder, "store.yaml")):
         return
     try:
-        os.makedirs(os.path.dirname(os.path.abspath(target.folder)), exist_ok=True)
+        _make_above(os.path.abspath(target.folder))
     except OSError as error:
         raise Fault("Device", f"{target.folder}: {error.strerror}") from None
     try:
@@ -124,6 +124,20 @@ def make_store(target: Target) -> None:
     except Fault as fault:
         if fault.name != "StoreExists":  # another run has made it meanwhile
             raise
+
+
+def _make_above(path: str) -> None:
+    """Makes the folders above a path that are missing, and syncs their names."""
+    folder = os.path.dirname(path)
+    if os.path.isdir(folder):
+        return
+    _make_above(folder)
+    os.makedirs(folder, exist_ok=True)
+    around = os.open(os.path.dirname(folder), os.O_RDONLY | os.O_DIRECTORY)
+    try:
+        os.fsync(around)
+    finally:
+        os.close(around)
 
 
 def run_words(target: Target, words: List[str], given: bytes = b"") -> bytes:

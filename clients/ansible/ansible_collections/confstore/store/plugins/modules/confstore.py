@@ -301,22 +301,21 @@ def wishes_of(options: Dict[str, Any], target: Target) -> List[Wish]:
 
 def result_of(plan: Plan) -> Dict[str, Any]:
     """What a task returns of a plan, in check mode too."""
-    names = [name for name in plan.before if plan.before[name] is not plan.after[name]]
-    diff = [
-        {
-            "before_header": f"{name} (before)",
-            "after_header": f"{name} (after)",
-            "before": _shown(plan.before[name]),
-            "after": _shown(plan.after[name]),
-        }
-        for name in names
-    ]
+    changed = dict.fromkeys(edit.name for edit in plan.edits)
+    diff = [_difference(name, plan.before[name], plan.after[name]) for name in changed]
     edits = [{"edit": edit.kind, "name": edit.name, "path": edit.path} for edit in plan.edits]
     return {"changed": bool(edits), "before": plan.before, "after": plan.after, "edits": edits, "diff": diff}
 
 
-def _shown(tree: Optional[Tree]) -> str:
-    return "" if tree is None else to_text(tree)
+def _difference(name: str, before: Optional[Tree], after: Optional[Tree]) -> Dict[str, str]:
+    """What Ansible shows with `--diff` of a configuration."""
+    texts = ["" if tree is None else to_text(tree) for tree in (before, after)]
+    return {
+        "before_header": f"{name} (before)",
+        "before": texts[0],
+        "after_header": f"{name} (after)",
+        "after": texts[1],
+    }
 
 
 class Task:
