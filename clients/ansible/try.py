@@ -469,26 +469,36 @@ def try_playbook(top: str, failures: Failures) -> None:
     failures.expect("where it is", "the text for 'web', at line 3, column 10: Syntax Flow: " in said, True)
 
 
-def lookup(folder: str, words: str) -> Any:
-    """What a lookup gives, or all that Ansible says."""
+def task(module: str, *words: str) -> tuple[int, str]:
+    """The status of one task on this host, and all that Ansible prints."""
+    return ansible("ansible", "-i", "localhost,", "-c", "local", "all", "-m", module, "-a", *words)
+
+
+def lookup(where: str, words: str) -> Any:
+    """What a lookup gives, or all that Ansible says. `where` is a variable and its value."""
     message = f"{{{{ query('confstore.store.confstore', {words}) | to_json }}}}"
-    status, said = ansible(
-        "ansible", "-i", "localhost,", "-c", "local", "all", "-m", "debug", "-a", f"msg={message}",
-        "-e", f"confstore_folder={folder}",
-    )  # fmt: skip
+    status, said = task("debug", f"msg={message}", "-e", where)
     found = re.search(r'"msg": (.*)', said)
     return json.loads(json.loads(found[1])) if status == 0 and found else said
 
 
 def try_lookup(top: str, failures: Failures) -> None:
-    folder = os.path.join(top, "played")
-    found = lookup(folder, "'web/version', 'mail/tls'")
+    folder, path = os.path.join(top, "played"), os.path.join(top, "played.socket")
+    where = f"confstore_folder={folder}"
+    found = lookup(where, "'web/version', 'mail/tls'")
     failures.expect("values", found, ["1.10", {"certificate": "/etc/ssl/mail.pem"}])
-    failures.expect("a default", lookup(folder, "'web/none', 'none', default='x'"), ["x", "x"])
-    said = lookup(folder, "'web/none'")
+    failures.expect("a default", lookup(where, "'web/none', 'none', default='x'"), ["x", "x"])
+    said = lookup(where, "'web/none'")
     failures.expect("none", "confstore: '/none' of 'web': NoSuchPlace: nothing is" in said, True)
-    said = lookup(os.path.join(top, "nowhere"), "'web'")
+    said = lookup(f"confstore_folder={folder}-none", "'web'")
     failures.expect("no folder", "MissingFolder: there is no such folder" in said, True)
+    with server(folder, path):
+        failures.expect("values of a server", lookup(f"confstore_socket={path}", "'web/version'"), ["1.10"])
+        words = f"socket={path} name=web path=/version value=1.20"
+        for wanted in ("CHANGED", "SUCCESS"):
+            status, said = task("confstore.store.confstore", words)
+            failures.expect(f"a task by a server: {wanted}", (status, f"| {wanted} =>" in said), (0, True))
+        failures.expect("the new value", lookup(f"confstore_socket={path}", "'web/version'"), ["1.20"])
 
 
 def options_of(documentation: Any) -> Any:
