@@ -287,12 +287,16 @@ def try_search(page: Page, failures: Failures) -> None:
     for text, cards, marks in rows:
         page.open()
         page.value("document.getElementById('search').focus()")
-        page.browser.write(text)
+        for letter in text:
+            page.browser.write(letter)
         page.after("0")
         failures.expect(f"a search for {text}", page.value("shownCards()"), cards)
         failures.expect(f"its marks for {text}", page.value("document.querySelectorAll('#log mark').length"), marks)
         failures.expect(f"nothing for {text}", is_shown(page, "none"), not cards)
     found = page.value("location.hash")
+    shown = page.browser.call("Page.getNavigationHistory")
+    before = shown["entries"][shown["currentIndex"] - 1]["url"]
+    failures.expect("the way back leads to the page before, and not to a letter less", before, "about:blank")
     page.open(found[1:])
     failures.expect("the address of a search", page.value("document.getElementById('search').value"), rows[-1][0])
 
