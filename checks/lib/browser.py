@@ -116,11 +116,6 @@ class Browser:
             raise ValueError(f"{expression}: {found['exceptionDetails']}")
         return found["result"].get("value")
 
-    def press(self, key: str) -> None:
-        """Presses a key that has a name, as `Enter`."""
-        for kind in ("rawKeyDown", "keyUp"):
-            self.call("Input.dispatchKeyEvent", type=kind, key=key, code=key)
-
     def write(self, text: str) -> None:
         """Types a text."""
         self.call("Input.insertText", text=text)
