@@ -16,6 +16,7 @@ import yaml
 from .commands import get_of, refused
 from .faults import REFUSALS, BadAnswer, ConfstoreError, NotStarted, NotText, Refused, TooLongToSend, Unsupported
 from .faults import end_of, refusal
+from .following import Changes
 from .mapping import MISSING, Configurations, D
 from .other import Cutter
 from .places import find_program, need_folder, path_of
@@ -119,6 +120,17 @@ class Reader(Configurations):
         except yaml.YAMLError:
             raise BadAnswer("what `log` printed is no YAML") from None
         return [record for record in records if record.number > after]
+
+    def follow(self, start: Optional[int] = None) -> Changes:
+        """The changes of the store as they are made, to loop over: from the number `start` on, or those that come after
+        this call where it is None.
+
+        It goes on over checkpoints, and over sessions that end and begin. Each change comes once, in order. Where a
+        checkpoint has dropped some before they were seen, a `Cut` says which. Close it, or use it in `with`. The last
+        changes may not be on the disk yet.
+        """
+        need_folder(self.folder)
+        return Changes(self.folder, self.program, self.timeout, start)
 
     def at(self, number: int) -> "View":
         """The store as of the command with this number. Raises `NoSuchCommand` if the file does not have it."""
