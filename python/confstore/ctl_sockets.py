@@ -33,6 +33,9 @@ PAUSE = 0.05
 
 PART = 1_048_576
 
+# The fault of a socket where nobody answers, or that this process may not use.
+NO_SERVER = "Disconnected"
+
 # The longest path that a socket may have, and where the units of packaging/ have stores and sockets.
 LONGEST_PATH = 107
 STORES, SOCKETS = "/var/lib/confstore", "/run/confstore"
@@ -145,8 +148,13 @@ class Connection:
             self._connect()
         except OSError as error:
             self._socket.close()
-            about = f"no server takes clients at {shown(place.path)}: {error.strerror or error}: start it"
-            raise Fault("Disconnected", about, error.errno in (errno.ECONNREFUSED, errno.ENOENT)) from None
+            raise self._refused(error) from None
+
+    def _refused(self, error: OSError) -> Fault:
+        about = f"no server takes clients at {shown(self._path)}: {error.strerror or error}"
+        if error.errno in (errno.EACCES, errno.EPERM):
+            return Fault(NO_SERVER, f"{about}: those may connect who may write in the store's folder", True)
+        return Fault(NO_SERVER, f"{about}: start one", error.errno in (errno.ECONNREFUSED, errno.ENOENT))
 
     def _connect(self) -> None:
         """Connects, and waits where as many others do as may wait."""
@@ -204,7 +212,7 @@ class Connection:
 
     def _cut_off(self, why: str) -> Fault:
         about = f"the server at {shown(self._path)} ended, or cut this client off ({why}); a change was made or not: look"
-        return Fault("Disconnected", about)
+        return Fault(NO_SERVER, about)
 
     def _hear(self) -> None:
         part = self._socket.recv(PART)
