@@ -23,10 +23,10 @@ from .ctl_asked import Asked, Help, Version, asked_of
 from .ctl_faults import DEVICE, Fault
 from .ctl_help import help_of, help_of_all
 from .ctl_program import edits_of, program_if_any, run, styled, tree_of
-from .ctl_sockets import Command, Connection, Place, Reply, SessionReply, answer_of, place_of
+from .ctl_sockets import NO_SERVER, Command, Connection, Place, Reply, SessionReply, answer_of, place_of
 from .ctl_streams import ClosedPipe, hold_closed, read_text, write, write_error
 from .ctl_watch import watch
-from .ctl_words import AT, BATCH, IMPORT, LOOKING_BACK, RAW, SET, WATCH, YAML_VALUE
+from .ctl_words import AT, BATCH, IMPORT, LOOKING_BACK, RAW, READING, SET, WATCH, YAML_VALUE
 from .session import LONGEST_COMMAND
 from .style import Tree, document
 
@@ -71,6 +71,10 @@ class Work:
         if self._command is None:
             self._command = _COMMANDS[self.asked.word.name](self)
         return self._command
+
+    def may_try_again(self, fault: Fault) -> bool:
+        """Whether it may be done once more: nothing was done, or it only reads and the server went."""
+        return fault.may_try_again or (fault.kind == NO_SERVER and self.asked.word in READING)
 
     def by_program(self) -> int:
         """Has the program do it. The status."""
@@ -204,7 +208,7 @@ def do(asked: Asked) -> int:
         try:
             return _try(work)
         except Fault as fault:
-            if not fault.may_try_again or time.monotonic() >= deadline:
+            if not work.may_try_again(fault) or time.monotonic() >= deadline:
                 raise
         time.sleep(min(PAUSE, max(deadline - time.monotonic(), 0)))
 

@@ -6,8 +6,10 @@ place. So one that is open can be read to its end after it was replaced, and wha
 
 from __future__ import annotations
 
+import io
 import os
 import re
+import stat
 from typing import Iterator, Optional, Tuple
 
 from .faults import BadAnswer, Damaged, Device, NotAStore, end_of
@@ -35,24 +37,33 @@ class StoreFile:
     def __init__(self, folder: str, program: str, timeout: float) -> None:
         self._path, self._folder = os.path.join(folder, NAME), folder
         self._program, self._timeout = program, timeout
-        try:
-            self._file = open(self._path, "rb", buffering=0)  # pylint: disable=consider-using-with
-        except FileNotFoundError:
-            raise NotAStore(f"{folder} has no {NAME}") from None
-        except OSError as error:
-            raise Device(f"{self._path} can't be read: {error.strerror}") from None
+        self._file = io.FileIO(self._opened())
         self._place = 0  # the end of the last whole piece that was read
         #: The number of the last command that was read: at first that of the base.
         self.number = 0
 
+    def _opened(self) -> int:
+        """The descriptor of the file. What is no plain file is refused, and not waited for."""
+        try:
+            opened = os.open(self._path, os.O_RDONLY | os.O_CLOEXEC | os.O_NOFOLLOW | os.O_NONBLOCK)
+        except FileNotFoundError:
+            raise NotAStore(f"{self._folder} has no {NAME}") from None
+        except OSError as error:
+            raise Device(f"{self._path} can't be read: {error.strerror}") from None
+        if not stat.S_ISREG(os.fstat(opened).st_mode):
+            os.close(opened)
+            raise Device(f"{self._path} is no plain file")
+        return opened
+
     def close(self) -> None:
+        """Closes the file. Does nothing the second time."""
         self._file.close()
 
     def is_replaced(self) -> bool:
         """Whether another file stands in its place now, or the same one is shorter than what was read of it."""
         mine = os.fstat(self._file.fileno())
         try:
-            there = os.stat(self._path)
+            there = os.lstat(self._path)
         except FileNotFoundError:
             raise NotAStore(f"{self._folder} has no {NAME} any more") from None
         except OSError as error:

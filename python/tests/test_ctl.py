@@ -173,14 +173,14 @@ class SocketTest(StoreTest):
         self.heard = []
 
     def listen(self, *answers):
-        """Gives each client what it is to be answered, one line of `...` after the other, and then closes."""
+        """Gives a client what it is to be answered, one line of `...` after the other, and then closes."""
         listener = socket.socket(socket.AF_UNIX)
         self.addCleanup(listener.close)
         listener.bind(self.path)
         listener.listen()
 
         def serve():
-            with contextlib.suppress(OSError):
+            with contextlib.suppress(OSError), listener:
                 connection, _ = listener.accept()
                 with connection, connection.makefile("rb") as stream:
                     for answer in answers:
@@ -240,6 +240,17 @@ class Sockets(SocketTest):
                 self.listen(answer)
                 self.assertEqual(self.fault("set", self.folder, "web", "/a", "b"), (3, "Disconnected"))
                 os.remove(self.path)
+
+    def test_a_server_that_goes_and_comes_again(self):
+        """A question is asked again, and a change isn't."""
+        self.listen(b"")
+        timer = threading.Timer(0.5, lambda: (os.remove(self.path), self.listen(b"---\nnames: []\n...\n")))
+        timer.start()
+        self.assertEqual(self.perform("--wait", str(PATIENCE), "names", self.folder), (0, b"", ""))
+        timer.join()
+        os.remove(self.path)
+        self.listen(b"")
+        self.assertEqual(self.fault("--wait", str(PATIENCE), "delete", self.folder, "web"), (3, "Disconnected"))
 
     def test_a_server_that_answers_something_else(self):
         for answer in (b"HTTP/1.1 400\n...\n", b"{}\n", b"{]\n", b'{"a": 1, "b": 2}\n'):

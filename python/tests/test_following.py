@@ -7,7 +7,7 @@ import threading
 import time
 import unittest
 
-from confstore import Cut, Damaged, Edit, MissingFolder, NotAStore, Reader, Record, Replaced, Store, waking
+from confstore import Cut, Damaged, Device, Edit, MissingFolder, NotAStore, Reader, Record, Replaced, Store, waking
 from confstore.following import Following
 
 from .places import StoreTest
@@ -207,6 +207,16 @@ class Faults(FollowTest):
             self.follow()
         with self.assertRaises(MissingFolder):
             Reader(os.path.join(self.top, "none")).follow()
+
+    def test_what_is_no_plain_file(self):
+        for make in (os.mkfifo, os.mkdir, lambda path: os.symlink("/dev/zero", path)):
+            if os.path.isdir(self.file):
+                os.rmdir(self.file)
+            else:
+                os.remove(self.file)
+            make(self.file)
+            with self.assertRaises(Device):
+                self.follow()
 
     def test_a_store_that_goes(self):
         changes = self.follow()
