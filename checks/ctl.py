@@ -7,7 +7,8 @@
   node's store has its own marks, and a node takes neither a checkpoint nor the words that look into the file.)
 - **Streams** that are closed, full, or that nobody reads.
 - **Waiting** for a store that is locked, and for a server that is not there; and which socket is taken.
-- **Clients.** Sixteen of them append 50 texts each to one list: it has all of them, those of each in their order.
+- **Clients.** Sixteen of them append 50 texts each to one list: it has all of them, those of each in their order. So
+  do four without a server, which wait for each other.
 - **Watching.** 2,000 changes, ten checkpoints and three ends of the server: `watch` and `Reader.follow` say each change
   once, or that it was cut. None is cut where a checkpoint comes a second after the changes before it.
 - **Pages.** The completions and the man page are those of the table of words, and keys are pressed in each shell.
@@ -58,6 +59,7 @@ PAGES = os.path.join(TOP, "python", "pages_of_confstorectl.py")
 PATIENCE = 60
 
 CLIENTS, APPENDS = 16, 50
+CLIENTS_ALONE, APPENDS_ALONE = 4, 10
 CHANGES, CHECKPOINTS, RESTARTS = 2_000, 10, 3
 
 # What does rows of words, each in a process of its own that is forked where all is imported.
@@ -139,7 +141,8 @@ def accepts(path: str) -> bool:
 @contextlib.contextmanager
 def running(words: Sequence[str], path: str) -> Iterator[subprocess.Popen[bytes]]:
     """A program that takes clients at a path, and is told to end."""
-    with subprocess.Popen(list(words), env=ENVIRONMENT, stderr=subprocess.DEVNULL, stdout=subprocess.DEVNULL) as process:
+    quiet = subprocess.DEVNULL
+    with subprocess.Popen(list(words), env=ENVIRONMENT, stderr=quiet, stdout=quiet) as process:
         try:
             if not until(lambda: accepts(path) or process.poll() is not None) or process.poll() is not None:
                 raise RuntimeError(f"no server: {words}")
@@ -342,23 +345,29 @@ def try_finding(folder: str, at: str, failures: Failures) -> None:
 # ---- clients
 
 
-def try_clients(top: str, failures: Failures) -> None:
-    folder = os.path.join(top, "clients")
-    with Store(folder, make=True, program=PROGRAM) as store:
-        store["app"] = {"list": []}
-    with serving(os.path.join(folder, "confstore.sock"), folder):
-        clients = [
-            subprocess.Popen([sys.executable, "-c", CLIENT, folder, f"c{number}", str(APPENDS)], env=ENVIRONMENT)
-            for number in range(CLIENTS)
-        ]
-        statuses = [client.wait(PATIENCE) for client in clients]
-    failures.expect("the statuses of clients", statuses, [0] * CLIENTS)
+def append_all(folder: str, clients: int, appends: int, failures: Failures) -> None:
+    """Clients that append to one list, side by side."""
+    started = [
+        subprocess.Popen([sys.executable, "-c", CLIENT, folder, f"c{number}", str(appends)], env=ENVIRONMENT)
+        for number in range(clients)
+    ]
+    failures.expect("the statuses of clients", [client.wait(PATIENCE) for client in started], [0] * clients)
     held = Reader(folder, program=PROGRAM).get("app", "/list")
     assert isinstance(held, list)
-    failures.expect("how many texts are held", len(held), CLIENTS * APPENDS)
-    for number in range(CLIENTS):
+    failures.expect("how many texts are held", len(held), clients * appends)
+    for number in range(clients):
         mine = [text for text in held if isinstance(text, str) and text.startswith(f"c{number}-")]
-        failures.expect(f"those of client {number}", mine, [f"c{number}-{turn}" for turn in range(APPENDS)])
+        failures.expect(f"those of client {number}", mine, [f"c{number}-{turn}" for turn in range(appends)])
+
+
+def try_clients(top: str, failures: Failures) -> None:
+    served, alone = os.path.join(top, "served"), os.path.join(top, "alone")
+    for folder in (served, alone):
+        with Store(folder, make=True, program=PROGRAM) as store:
+            store["app"] = {"list": []}
+    with serving(os.path.join(served, "confstore.sock"), served):
+        append_all(served, CLIENTS, APPENDS, failures)
+    append_all(alone, CLIENTS_ALONE, APPENDS_ALONE, failures)
 
 
 # ---- watching

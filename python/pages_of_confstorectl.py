@@ -223,8 +223,12 @@ def for_fish() -> str:
         rows += [f"complete -c confstorectl -n {place} {action}" for place in fish_places(argument)]
     rows += [f"complete -c confstorectl -n {place} -a '(__confstorectl_names)'" for place in fish_places("NAME")]
     rows.append(f"complete -c confstorectl -n '__confstorectl_at 0 help' -a '{' '.join(WORDS)}'")
-    lines = (re.sub(r" -([ad]) ", r" \\\n    -\1 ", row, count=1) if len(row) > WIDTH else row for row in [*starts, *rows])
-    return FISH.format(made=MADE, values=" ".join(WITH_VALUE), rows="\n".join(lines))
+    return FISH.format(made=MADE, values=" ".join(WITH_VALUE), rows="\n".join(map(fish_lines, [*starts, *rows])))
+
+
+def fish_lines(row: str) -> str:
+    """A row, in two lines where it is long."""
+    return re.sub(r" -([ad]) ", r" \\\n    -\1 ", row, count=1) if len(row) > WIDTH else row
 
 
 FISH = """\
@@ -321,7 +325,8 @@ def roff_options() -> Iterator[str]:
 def for_man() -> str:
     parts = [f'.TH CONFSTORECTL 1 "" "confstore {__version__}" "User Commands"']
     parts.append(".SH NAME\nconfstorectl \\- change and read a store of confstore, also one that a server holds")
-    parts.append(".SH SYNOPSIS\n.B confstorectl\n[\\fB\\-\\-socket\\fR \\fIPATH\\fR]\n[\\fB\\-\\-wait\\fR \\fISECONDS\\fR]")
+    parts.append(".SH SYNOPSIS\n.B confstorectl\n[\\fB\\-\\-socket\\fR \\fIPATH\\fR]")
+    parts.append("[\\fB\\-\\-wait\\fR \\fISECONDS\\fR]")
     parts.append("\\fIWORD\\fR \\fIFOLDER\\fR .\\|.\\|.\n.br\n.B confstorectl help\n[\\fIWORD\\fR]")
     parts.append(".SH DESCRIPTION\n" + "\n.PP\n".join(map(roff, DESCRIPTION)))
     for heading, words in GROUPS:

@@ -1,4 +1,4 @@
-"""The words that `checks/ctl.py` has done by confstore and by confstorectl, one after the other, on stores of their own.
+"""The words that `checks/ctl.py` has done by confstore and by confstorectl, one after the other, each on its own store.
 
 `STORE` stands for the store's folder, and `TOP` for the folder with the files that are named.
 """
@@ -23,7 +23,23 @@ def exact(*words: str, given: bytes = b"") -> Row:
     return Row(words, given)
 
 
-TREE = b"port: 80\ntags: [a, b]\ntext: |\n  two\n  lines\n\nempty: {}\nnone: []\n'no': ''\nsign: \"\\x85\\u2028\\U0001F600\\0\"\n"
+TREE = b"""\
+port: 80
+tags: [a, b]
+text: |
+  two
+  lines
+
+empty: {}
+none: []
+'no': ''
+sign: "\\x85\\u2028\\U0001F600\\0"
+"""
+
+# Texts that are refused, each for another reason.
+NO_TEXTS = (
+    b"a: [1\n", b"\xff", b"", b"a\n---\nb\n", b"? [a]\n: b\n", b"a: 1\na: 2\n", b"*a\n", b"!t a\n", b"a\0b",
+)  # fmt: skip
 
 # Changes, refusals and questions that a node answers as a session does.
 NODE_ROWS = [
@@ -36,10 +52,7 @@ NODE_ROWS = [
     row("import STORE web TOP/none.yaml"),
     row("import STORE web TOP", b"x"),
     row("import STORE 9web", b"x"),
-    *(
-        row("import STORE web", text)
-        for text in (b"a: [1\n", b"\xff", b"", b"a\n---\nb\n", b"? [a]\n: b\n", b"a: 1\na: 2\n", b"*a\n", b"!t a\n", b"a\0b")
-    ),
+    *(row("import STORE web", text) for text in NO_TEXTS),
     row("import STORE web TOP/deep.yaml"),
     row("set STORE web /port 81"),
     row("set STORE web /port -5"),

@@ -13,12 +13,11 @@ import signal
 if __name__ == "__main__":
     signal.signal(signal.SIGINT, signal.SIG_DFL)  # it ends this program as it ends confstore, without a trace
 
-import re  # noqa: E402
-import sys
+import sys  # noqa: E402
 import time
 from typing import Callable, Dict, List, Optional, Sequence
 
-from .commands import CHECKPOINT, NAMES, delete_of, get_of, import_of, set_of
+from .commands import CHECKPOINT, NAMES, delete_of, get_of, import_of, is_name, set_of
 from .ctl_asked import Asked, Help, Version, asked_of
 from .ctl_faults import DEVICE, Fault
 from .ctl_help import help_of, help_of_all
@@ -41,8 +40,6 @@ LONGEST_CHARACTER = 6
 
 # The text of an empty list.
 EMPTY = "[]\n"
-
-_NAME = re.compile(r"[a-z][a-z0-9_-]{0,63}")
 
 
 class Work:
@@ -118,7 +115,7 @@ def _import_command(work: Work) -> Command:
     program."""
     assert work.text is not None
     name = work.asked.arguments["NAME"]
-    if not _NAME.fullmatch(name):
+    if not is_name(name):
         return import_of(name, EMPTY)  # so that the name is what is refused
     try:
         text = work.text.decode()
@@ -170,7 +167,10 @@ def _value(work: Work, reply: Reply) -> bytes:
 
 
 def _text(_work: Work, reply: Reply) -> bytes:
-    return str(reply.tree()).encode()
+    text = reply.tree()
+    if not isinstance(text, str):
+        raise Fault("BadAnswer", "the text of an export is a collection")
+    return text.encode()
 
 
 def _names(_work: Work, reply: Reply) -> bytes:

@@ -99,4 +99,4 @@ def fault_of(error: ConfstoreError) -> Fault:
         name = type(error).__name__
         return Fault(_NAMES.get(name, name), shown(str(error)).removeprefix(f"{name}: "))
     place = error.place if error.word == "Syntax" else None
-    return Fault(f"Syntax {place.line}:{place.column} {place.reason}" if place else error.word)
+    return Fault(f"Syntax {place.line}:{place.column} {place.reason}" if place else shown(error.word))

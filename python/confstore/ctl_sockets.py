@@ -84,7 +84,10 @@ class Reply:
 
     def styled(self) -> bytes:
         """The text in the one style of what is under the key."""
-        return to_text(self.tree()).encode()
+        try:
+            return to_text(self.tree()).encode()
+        except ConfstoreError as error:
+            raise Fault("BadAnswer", f"the answer has no tree: {shown(str(error))}") from None
 
 
 class SessionReply(Reply):
@@ -118,7 +121,7 @@ class NodeReply(Reply):
     def __init__(self, line: bytes) -> None:
         try:
             answer = json.loads(line)
-        except ValueError:
+        except (ValueError, RecursionError):
             answer = None
         if not isinstance(answer, dict) or len(answer) != 1:
             raise Fault("BadAnswer", "the node's answer is no JSON object with one key")
@@ -211,8 +214,8 @@ class Connection:
             raise self._cut_off(error.strerror or str(error)) from None
 
     def _cut_off(self, why: str) -> Fault:
-        about = f"the server at {shown(self._path)} ended, or cut this client off ({why}); a change was made or not: look"
-        return Fault(NO_SERVER, about)
+        about = f"the server at {shown(self._path)} ended, or cut this client off ({why})"
+        return Fault(NO_SERVER, f"{about}; a change was made or not: look")
 
     def _hear(self) -> None:
         part = self._socket.recv(PART)
@@ -251,7 +254,7 @@ def answer_of(reply: Reply, command: Command, program: Optional[str]) -> Reply:
         raise _refusal_of(reply, command, program)
     if reply.key == "failed":
         about = "the node could not do it; a change may be in its log or not: look, or ask another node"
-        raise Fault(f"Failed {reply.tree()}", about)
+        raise Fault(shown(f"Failed {reply.tree()}"), about)
     return reply
 
 

@@ -6,8 +6,9 @@ import os
 import select
 from typing import Optional
 
+from .commands import is_name, is_pointer
 from .ctl_asked import Asked
-from .ctl_faults import fault_of
+from .ctl_faults import Fault, fault_of
 from .ctl_program import program
 from .ctl_streams import STANDARD_OUTPUT, ClosedPipe, write
 from .ctl_words import FROM, YAML_RECORDS
@@ -22,6 +23,10 @@ TIMEOUT = 60.0
 
 def watch(asked: Asked) -> None:
     """Writes each change as it is made, until whoever reads that closes its pipe. Raises a `Fault`."""
+    if asked.argument("NAME") and not is_name(asked.argument("NAME")):
+        raise Fault("BadName")
+    if not is_pointer(asked.argument("POINTER")):
+        raise Fault("BadPath")
     start = int(asked.options[FROM.name]) if asked.has(FROM) else None
     waker: Optional[Waker] = None
     following: Optional[Following] = None

@@ -183,9 +183,9 @@ WATCH = Word(
         " pointer, these are the changes that may change what is there. It begins after the last change that there is,"
         " and goes on over checkpoints and over servers that end and begin, until it is ended.",
         "Where a checkpoint dropped changes before they were seen, the line `5-9 cut` stands in their place; with"
-        " `--yaml` it is a document with the key `cut`, and the numbers `first` and `last`. The line `after 4 replaced`,"
-        " or the key `replaced`, says that the store has another history than before, as that of a backup, whose"
-        " changes after number 4 follow.",
+        " `--yaml` it is a document with the key `cut`, and the numbers `first` and `last`. The line"
+        " `after 4 replaced`, or the key `replaced`, says that the store has another history than before, as that of a"
+        " backup, whose changes after number 4 follow.",
     ),
     (
         "confstorectl watch store",
@@ -214,11 +214,11 @@ DESCRIPTION = (
     "The words are those of confstore, with the same arguments, output and statuses. Each goes to the server or the"
     " replicated node that holds the store, through its socket, if there is one; else it is done by the program"
     " confstore.",
-    "The socket is the one of `--socket`, else that of the environment's CONFSTORE_SOCKET, else FOLDER/confstore.sock if"
-    " a server listens there; and of a FOLDER in /var/lib/confstore it is /run/confstore/NAME/socket. With one that is"
-    " given FOLDER only counts for the words and options that look into the file of a store: `log`, `verify`, `watch`"
-    " and `--at`. These read the folder, also beside a server, by the program, which is CONFSTORE or confstore on the"
-    " PATH.",
+    "The socket is the one of `--socket`, else that of the environment's CONFSTORE_SOCKET, else"
+    " FOLDER/confstore.sock if a server listens there; and of a FOLDER in /var/lib/confstore it is"
+    " /run/confstore/NAME/socket. With one that is given FOLDER only counts for the words and options that look into"
+    " the file of a store: `log`, `verify`, `watch` and `--at`. These read the folder, also beside a server, by the"
+    " program, which is CONFSTORE or confstore on the PATH.",
     "With `--wait SECONDS` a word that finds the store locked, or no server at a socket that is given, tries again for"
     " so long. An argument that begins with `-` comes after `--`.",
 )

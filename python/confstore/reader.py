@@ -13,7 +13,7 @@ from typing import Any, List, Optional, overload
 
 import yaml
 
-from .commands import get_of, refused
+from .commands import get_of, is_name, refused
 from .faults import REFUSALS, BadAnswer, ConfstoreError, NotStarted, NotText, Refused, TooLongToSend, Unsupported
 from .faults import end_of, refusal
 from .following import Changes
@@ -25,7 +25,6 @@ from .runs import Run
 from .session import LONGEST_ANSWER
 from .style import Tree, from_text, text_of, trees_of
 
-_NAME = re.compile(r"[a-z][a-z0-9_-]{0,63}")
 _FAULT = re.compile(r"confstore: (\w+)")
 _AT = re.compile(rb'(?:---\n)?at: "([0-9]{1,20})"\n')
 
@@ -98,7 +97,7 @@ class Reader(Configurations):
 
     def _read_at(self, name: str, path: str, at: Optional[int] = None) -> Tree:
         name, path = text_of(name), text_of(path)
-        if not _NAME.fullmatch(name):
+        if not is_name(name):
             raise refused("BadName", get_of(name, path), self.program)
         if path and not path.startswith("/"):
             raise refused("BadPath", get_of(name, path), self.program)

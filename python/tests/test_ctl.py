@@ -111,7 +111,8 @@ class Faults(unittest.TestCase):
             for name in re.findall(r"`(\w+)`", names)
         ]
         refusals = text.partition("## Of a text")[2].partition("## Of a store")[0]
-        statuses += [(name, 1) for row in re.findall(r"(?m)^\| (`.*?) \|", refusals) for name in re.findall(r"\w+", row)]
+        rows = re.findall(r"(?m)^\| (`.*?) \|", refusals)
+        statuses += [(name, 1) for row in rows for name in re.findall(r"\w+", row)]
         self.assertGreater(len(statuses), 30)
         for name, status in statuses:
             self.assertEqual((name, Fault(name).status), (name, status))
@@ -259,6 +260,21 @@ class Sockets(SocketTest):
                 self.assertEqual(self.fault("names", self.folder), (3, "BadAnswer"))
                 os.remove(self.path)
 
+    def test_a_node_that_answers_something_else(self):
+        for answer in (b'{"value": 5}\n', b'{"value": {"a": null}}\n', b'{"value": "\\ud800"}\n', b"[" * 9_999 + b"\n"):
+            with self.subTest(answer[:30]):
+                self.listen(answer if answer[:1] == b"{" else b'{"value": ' + answer)
+                self.assertEqual(self.fault("get", self.folder, "web"), (3, "BadAnswer"))
+                os.remove(self.path)
+
+    def test_what_a_server_says_is_escaped(self):
+        hostile = b'"\\u001b[1m\\n"'
+        for answer in (b'{"refused": %s}\n', b'{"failed": %s}\n', b"---\nrefused: %s\n...\n"):
+            with self.subTest(answer):
+                self.listen(answer % hostile)
+                self.assertTrue(self.fault("names", self.folder)[1].endswith("\\u{1b}[1m\\n"))
+                os.remove(self.path)
+
     def test_a_server_that_says_nothing(self):
         self.listen()
         with mock.patch.object(ctl_sockets, "PATIENCE", 0.3):
@@ -320,6 +336,12 @@ class Programs(StoreTest):
         process.send_signal(signal.SIGINT)
         self.assertEqual(process.communicate(timeout=PATIENCE), (b"", b""))
         self.assertEqual(process.returncode, -signal.SIGINT)
+
+    def test_what_can_not_be_watched(self):
+        for words, name in ((["No"], b"BadName"), (["web", "port"], b"BadPath"), (["web", "/~"], b"BadPath")):
+            process = self.process("watch", self.folder, *words, stderr=subprocess.PIPE)
+            self.assertRegex(process.communicate(timeout=PATIENCE)[1], rb"\Aconfstorectl: %s: .*\n\Z" % name)
+            self.assertEqual(process.returncode, 1)
 
     def test_no_program(self):
         with mock.patch.dict(os.environ, {"CONFSTORE": os.path.join(self.top, "none")}):
