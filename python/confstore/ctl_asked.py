@@ -149,15 +149,18 @@ def _arguments_of(word: Word, words: Sequence[str]) -> Dict[str, str]:
     return {argument.name: given for argument, given in zip(word.arguments, words)}
 
 
+def _check_number(word: Word, name: str, number: str) -> None:
+    if not (number.isascii() and number.isdecimal()) or int(number) > GREATEST:
+        raise wrong(f"{name} wants a number, not {shown(number)}", word)
+
+
 def _check_options(word: Word, options: Dict[str, str]) -> None:
     """Raises `WrongWords` for an option that the word has not, or whose value is none."""
     for name in options:
         if all(name != option.name for option in (*word.options, *COMMON)):
             raise wrong(f"{word.name} has no option {name}", word)
-    for option in (AT, FROM):
-        number = options.get(option.name, "0")
-        if not (number.isascii() and number.isdecimal()) or int(number) > GREATEST:
-            raise wrong(f"{option.name} wants a number, not {shown(number)}", word)
+    _check_number(word, AT.name, options.get(AT.name, "0"))
+    _check_number(word, FROM.name, options.get(FROM.name, "0"))
     seconds = options.get(WAIT.name, "0")
     if not _SECONDS.fullmatch(seconds):
         raise wrong(f"{WAIT.name} wants a number of seconds, not {shown(seconds)}", word)

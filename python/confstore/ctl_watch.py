@@ -47,12 +47,13 @@ def watch(asked: Asked) -> None:
 
 def _watch(asked: Asked, following: Following, waker: Waker) -> None:
     while True:
-        told = [text for one in following.look() if (text := text_of(asked, one))]
-        if told:
-            write(b"".join(told))
+        told = following.look()
+        text = b"".join(text_of(asked, one) for one in told)
+        if text:
+            write(text)
         elif not _is_read():
             raise ClosedPipe
-        else:
+        elif not told:
             waker.wait(waker.longest)
 
 

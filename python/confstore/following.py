@@ -14,6 +14,10 @@ from .store_file import StoreFile
 from .waking import Waker
 
 
+# How many bytes of records are read before those that were read are told.
+MUCH = 4_194_304
+
+
 @dataclass(frozen=True)
 class Cut:
     """A checkpoint dropped the changes from the number `first` to the number `last` before they were seen."""
@@ -54,6 +58,7 @@ class Following:
         self._folder, self._program, self._timeout = folder, program, timeout
         self._told: List[Told] = []
         self._fault: Optional[ConfstoreError] = None
+        self._reached = 0  # the last number of the file that was read before this one
         self._mark: Optional[_Mark] = None  # of the last record that was read
         self._next = max(start or 1, 1)  # the number of the change that is told next
         self._file = self._opened()
@@ -82,8 +87,8 @@ class Following:
         self._file.close()
 
     def look(self) -> List[Told]:
-        """What is there now and was not told yet. Where the store is gone or damaged it raises why, after all that
-        comes before was told, and from then on."""
+        """What is there now and was not told yet, or the first part of it where it is much. Where the store is gone or
+        damaged it raises why, after all that comes before was told, and from then on."""
         if self._fault is None:
             try:
                 self._read_all()
@@ -95,16 +100,21 @@ class Following:
         return told
 
     def _read_all(self) -> None:
-        """Reads the file to its end, and those that were put in its place."""
+        """Reads the file to its end, and those that were put in its place, until much is to be told."""
         was_replaced = True
         while was_replaced:
             was_replaced = self._file.is_replaced()  # nothing is appended to it from then on
-            self._read()
+            if not self._read():
+                return
+            if self._file.number < self._reached:
+                self._tell_replaced(self._file.number)
+            self._reached = self._file.number
             if was_replaced:
                 self._go_on()
 
-    def _read(self) -> None:
-        """Reads the records that follow in the file, and tells those that were not."""
+    def _read(self) -> bool:
+        """Reads the records that follow in the file, and tells those that were not. Whether these are all."""
+        length = 0
         for number, piece in self._file.records():
             mark = _mark_of(number, piece)
             if self._mark is not None and self._mark.number == number and self._mark != mark:
@@ -112,17 +122,18 @@ class Following:
             if number >= self._next:
                 self._told.append(Told(self._file.record_of(piece), piece))
                 self._next = number + 1
+                length += len(piece)
             if self._mark is None or number >= self._mark.number:
                 self._mark = mark
+            if length >= MUCH:
+                return False
+        return True
 
     def _go_on(self) -> None:
         """Goes on with the file that stands in the place of the one that was read to its end."""
-        reached, old, self._file = self._file.number, self._file, self._opened()
+        old, self._file = self._file, self._opened()
         old.close()
         self._tell_cut(self._file.read_base())
-        self._read()
-        if self._file.number < reached:
-            self._tell_replaced(self._file.number)
 
     def _tell_cut(self, base: int) -> None:
         """Tells of the changes that a base stands for, and that were to be told."""
@@ -144,7 +155,8 @@ class Changes(Iterator[Event]):
 
     Where a checkpoint dropped changes before they were seen there is a `Cut` in their place, and a `Replaced` where the
     store has another history than before. `Reader.follow` makes one. A loop over it waits for the next change, and ends
-    with the exception of what has become of the store: `NotAStore`, `Damaged` or `Device`.
+    with the exception of what has become of the store: `NotAStore`, `Damaged` or `Device`. One thread at a time may use
+    it.
     """
 
     def __init__(self, folder: str, program: str, timeout: float, start: Optional[int]) -> None:

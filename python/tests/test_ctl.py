@@ -2,6 +2,7 @@
 
 import contextlib
 import io
+import itertools
 import json
 import os
 import re
@@ -165,6 +166,12 @@ class Sessions(StoreTest):
                 SessionReply(piece).tree()
 
 
+def command_in(stream):
+    """The lines of the next command, up to the closing line or the end."""
+    lines = itertools.takewhile(lambda line: line not in (b"...\n", b""), iter(stream.readline, None))
+    return b"".join(lines)
+
+
 class SocketTest(StoreTest):
     """A test with a socket where somebody answers each client in a way of its own."""
 
@@ -185,12 +192,14 @@ class SocketTest(StoreTest):
                 connection, _ = listener.accept()
                 with connection, connection.makefile("rb") as stream:
                     for answer in answers:
-                        self.heard.append(b"".join(iter(stream.readline, b"...\n")))
+                        self.heard.append(command_in(stream))
                         connection.sendall(answer)
                     if not answers:
-                        time.sleep(PATIENCE)
+                        stream.read()  # until the client goes
 
-        threading.Thread(target=serve, daemon=True).start()
+        thread = threading.Thread(target=serve, daemon=True)
+        thread.start()
+        self.addCleanup(thread.join, PATIENCE)
 
     def perform(self, *words):
         """The status of words that go to the socket, and what they wrote."""

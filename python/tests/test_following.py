@@ -6,9 +6,10 @@ import subprocess
 import threading
 import time
 import unittest
+from unittest import mock
 
-from confstore import Cut, Damaged, Device, Edit, MissingFolder, NotAStore, Reader, Record, Replaced, Store, waking
-from confstore.following import Following
+from confstore import Cut, Damaged, Device, Edit, MissingFolder, NotAStore, Reader, Record, Replaced, Store
+from confstore import following, waking
 
 from .places import StoreTest
 
@@ -123,6 +124,27 @@ class Changes(FollowTest):
         with self.follow() as changes:
             pass
         changes.close()
+
+
+class Much(FollowTest):
+    def test_in_parts_over_checkpoints(self):
+        """Where a look tells one record at most, all are told all the same, and a file is left when it was read."""
+        with mock.patch.object(following, "MUCH", 1):
+            changes = self.follow()
+            self.set(*range(20))
+            self.checkpoint()
+            self.set(*range(20, 30))
+            self.assertEqual(self.all_of(changes), [self.was_set(number + 2, number) for number in range(30)])
+
+    def test_a_backup_in_parts(self):
+        self.set(1)
+        shutil.copy(self.file, self.file + ".old")
+        self.set(2, 3)
+        with mock.patch.object(following, "MUCH", 1):
+            changes = self.follow(1)
+            self.assertEqual(len(self.all_of(changes)), 4)
+            os.rename(self.file + ".old", self.file)
+            self.assertEqual(self.all_of(changes), [Replaced(2)])
 
 
 class Cuts(FollowTest):
@@ -252,11 +274,11 @@ class Lines(FollowTest):
 
     def test_the_bytes_of_records(self):
         self.set(1, 2)
-        following = Following(self.folder, os.environ["CONFSTORE"], PATIENCE, 1)
-        self.addCleanup(following.close)
+        read = following.Following(self.folder, os.environ["CONFSTORE"], PATIENCE, 1)
+        self.addCleanup(read.close)
         words = [os.environ["CONFSTORE"], "log", "--yaml", self.folder]
         log = subprocess.run(words, capture_output=True, check=True).stdout
-        self.assertEqual(b"".join(told.text for told in following.look()), log)
+        self.assertEqual(b"".join(told.text for told in read.look()), log)
 
     def test_what_may_change_a_place(self):
         for kind, path, asked, wanted in (
