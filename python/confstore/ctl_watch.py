@@ -53,7 +53,9 @@ def _watch(asked: Asked, following: Following, waker: Waker) -> None:
             write(text)
         elif not _is_read():
             raise ClosedPipe
-        elif not told:
+        if told:
+            waker.found()
+        else:
             waker.wait(waker.longest)
 
 

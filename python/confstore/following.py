@@ -183,9 +183,12 @@ class Changes(Iterator[Event]):
         while not self._ready:
             self._ready.extend(told.event for told in self._following.look())
             left = deadline - time.monotonic()
-            if self._ready or left <= 0:
+            if self._ready:
+                self._waker.found()
+            elif left > 0:
+                self._waker.wait(left)
+            else:
                 break
-            self._waker.wait(left)
         return self._ready.popleft() if self._ready else None
 
     def close(self) -> None:

@@ -11,9 +11,11 @@ import threading
 import time
 from typing import Any, Callable, Optional
 
-# How many seconds lie between two looks: without anything that wakes, and at most with it.
+# How many seconds lie between two looks: at most without anything that wakes, at most with it, and after a change. Each
+# wait is twice as long as the one before, until it is as long as it may be.
 LOOK = 0.2
 LOOK_AWAKE = 1.0
+LOOK_SOON = 0.01
 
 # How the waiting is woken: what returns after so many seconds at most, and what ends it.
 Wait = Callable[[float], None]
@@ -28,17 +30,24 @@ class Waker:
         self._end: Optional[End] = None
         #: How many seconds `wait` takes at most where nothing changes.
         self.longest = LOOK
+        self._pause = LOOK
         for begin in (_by_inotify, _by_watchdog):
             try:
                 self._wait, self._end = begin(folder)
             except Exception:  # it isn't installed, or the system has no room for one more
                 continue
-            self.longest = LOOK_AWAKE
+            self.longest = self._pause = LOOK_AWAKE
             return
 
     def wait(self, seconds: float) -> None:
         """Waits until something may have changed, for so many seconds at most."""
-        self._wait(max(min(seconds, self.longest), 0.0))
+        self._wait(max(min(seconds, self._pause), 0.0))
+        self._pause = min(2 * self._pause, self.longest)
+
+    def found(self) -> None:
+        """Notes that something had changed, so that the next wait is short: where many changes come, a checkpoint drops
+        fewer of them unseen."""
+        self._pause = LOOK_SOON
 
     def close(self) -> None:
         """Ends what was started. Does nothing the second time."""
