@@ -7,6 +7,7 @@ of the closing line, which is no command for it, is not read.
 
 from __future__ import annotations
 
+import contextlib
 import errno
 import json
 import os
@@ -147,6 +148,7 @@ class Connection:
         self._socket = socket.socket(socket.AF_UNIX)
         self._socket.settimeout(PATIENCE)
         self._heard = bytearray()
+        self._count = 0  # of the bytes of the answer
         try:
             self._connect()
         except OSError as error:
@@ -202,8 +204,10 @@ class Connection:
         return reply
 
     def _answer_to(self, sent: bytes) -> Union[SessionReply, NodeReply]:
+        self._count = 0
         try:
-            self._socket.sendall(sent)
+            with contextlib.suppress(BrokenPipeError, ConnectionResetError):  # what it said before it went is read
+                self._socket.sendall(sent)
             if not self._heard:
                 self._hear()
             return NodeReply(self._line()) if self._heard[:1] == b"{" else SessionReply(self._piece())
@@ -222,7 +226,8 @@ class Connection:
         if not part:
             raise self._cut_off("it closed the connection")
         self._heard += part
-        if len(self._heard) > LONGEST_ANSWER:
+        self._count += len(part)
+        if self._count > LONGEST_ANSWER:
             raise Fault("BadAnswer", f"the answer has more than {LONGEST_ANSWER} bytes")
 
     def _line(self) -> bytes:

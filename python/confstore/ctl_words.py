@@ -244,5 +244,6 @@ OWN_FAULTS = (
     ("BadAnswer", "3", "what the server said is no answer"),
     ("Failed", "3", "a replicated node could not perform a command; the word behind it says why"),
     ("MissingProgram", "3", "there is no program confstore where it was looked for"),
+    ("NotStarted", "3", "the system did not start the program"),
     ("Unsupported", "1", "a replicated node has no such word"),
 )

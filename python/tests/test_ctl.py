@@ -269,6 +269,29 @@ class Sockets(SocketTest):
                 self.assertEqual(self.fault("names", self.folder), (3, "BadAnswer"))
                 os.remove(self.path)
 
+    def test_an_answer_before_all_was_sent(self):
+        """As of a node to a line that is too long for it."""
+        with socket.socket(socket.AF_UNIX) as listener:
+            listener.bind(self.path)
+            listener.listen()
+
+            def refuse():
+                with listener.accept()[0] as connection:
+                    connection.sendall(b'{"refused": "TooLong"}\n')
+
+            thread = threading.Thread(target=refuse)
+            thread.start()
+            found = self.fault("set", self.folder, "web", "/a", "b" * 5_000_000)
+            thread.join(PATIENCE)
+        self.assertEqual(found, (1, "TooLong"))
+
+    def test_an_answer_that_is_too_long(self):
+        for start in (b"---\nvalue: ", b'{"value": "'):
+            self.listen(start + b"x" * 3_000_000)
+            with mock.patch.object(ctl_sockets, "LONGEST_ANSWER", 2_000_000):
+                self.assertEqual(self.fault("get", self.folder, "web"), (3, "BadAnswer"))
+            os.remove(self.path)
+
     def test_a_node_that_answers_something_else(self):
         for answer in (b'{"value": 5}\n', b'{"value": {"a": null}}\n', b'{"value": "\\ud800"}\n', b"[" * 9_999 + b"\n"):
             with self.subTest(answer[:30]):
