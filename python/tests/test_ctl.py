@@ -5,6 +5,7 @@ import io
 import itertools
 import json
 import os
+import random
 import re
 import shlex
 import signal
@@ -25,6 +26,7 @@ from confstore.ctl_faults import Fault, shown
 from confstore.ctl_help import help_of, help_of_all
 from confstore.ctl_sockets import Connection, Place, SessionReply, line_of, place_of
 from confstore.ctl_words import COMMON, WORDS
+from confstore.other import Cutter
 
 from . import TOP
 from .places import StoreTest, python_path
@@ -139,6 +141,20 @@ class Lines(unittest.TestCase):
             self.assertEqual(yaml.load(line.replace(b"\x7f", b"\\x7f"), yaml.BaseLoader), command)
 
 
+def random_text(chance):
+    signs = [*range(0x30), 0x3A, 0x5B, 0x5C, 0x7B, 0x7F, 0x80, 0x85, 0x9F, 0xA0, 0xE4, 0x2028, 0x2029, 0x202E]
+    signs += [0xD7FF, 0xE000, 0xFEFF, 0xFFFD, 0xFFFE, 0xFFFF, 0x10000, 0x1F600, 0x10FFFF, 0x61, 0x6E, 0x7E]
+    return "".join(chr(chance.choice(signs)) for _ in range(chance.randrange(8)))
+
+
+def random_tree(chance, depth):
+    kind = chance.randrange(3) if depth < 4 else 0
+    if kind == 0:
+        return random_text(chance)
+    parts = [random_tree(chance, depth + 1) for _ in range(chance.randrange(4))]
+    return parts if kind == 1 else {random_text(chance): part for part in parts}
+
+
 class Sessions(StoreTest):
     TREES = (
         "x", "", "two\nlines", "two\n\n lines\n\n", [], {}, ["a", ["b", {"c": "d\ne\n"}], []], {"k": {"l": ["m\n\nn"]}},
@@ -155,6 +171,23 @@ class Sessions(StoreTest):
                 store["web"] = tree
             reply = self.answer({"get": "web", "path": ""})
             self.assertEqual((reply.key, reply.tree(), reply.styled().decode()), ("value", tree, to_text(tree)))
+
+    def test_a_session_reads_a_line_as_json_does(self):
+        """Random trees, of signs that a reader of YAML or of JSON may take for something else."""
+        seed = random.randrange(10**9)
+        chance = random.Random(seed)
+        trees = [random_tree(chance, 0) for _ in range(300)]
+        sent = b"".join(line_of({"import": "a", "text": to_text(tree)}) + b"...\n" for tree in trees[::2])
+        sent += b"".join(
+            line_of({"set": "a", "path": "", "value": tree}) + b'...\n{"get": "a", "path": ""}\n...\n' for tree in trees
+        )
+        words = [os.environ["CONFSTORE"], "run", self.folder]
+        done = subprocess.run(words, input=sent, capture_output=True, check=True, timeout=PATIENCE)
+        answers = Cutter().cut(done.stdout)
+        counts, rest = answers[: len(trees[::2])], answers[len(trees[::2]) :]
+        self.assertEqual([answer for answer in [*counts, *rest[::2]] if not answer.startswith(b"---\nok: ")], [])
+        found = [SessionReply(answer).tree() for answer in rest[1::2]]
+        self.assertEqual(found, trees, f"seed {seed}")
 
     def test_what_is_no_answer(self):
         for piece in (b"", b"x\n...\n", b"---\nvalue: x\n", b"---\n- a\n...\n", b"---\nVALUE: x\n...\n"):
