@@ -252,7 +252,10 @@ class Faults(FollowTest):
             file.write(b"{store: confstore-2, at: 4, configs: {web: {n: 0}}}\n...\n")
             file.write(b"# by hand\nat:   '5'\nset: web\n\"path\": /n\nvalue: >\n  a\n  b\n...\n")
             file.write(b"{at: 6, delete: web, path: ''}\n...\n")
+            # A line separator is no line break in YAML 1.2 (5.4), and is one for PyYAML.
+            file.write('at: "7"\nimport: web\ntree: "a\u2028b\u0085c"\n...\n'.encode())
         wanted = [Record(5, (Edit("set", "web", "/n", "a b\n"),)), Record(6, (Edit("delete", "web", "", None),))]
+        wanted.append(Record(7, (Edit("import", "web", "", "a\u2028b\x85c"),)))
         self.assertEqual(self.all_of(self.follow(1)), [Cut(1, 4), *wanted])
         self.assertEqual(self.all_of(self.follow(6)), wanted[1:])
 
