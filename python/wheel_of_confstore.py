@@ -57,6 +57,13 @@ def _metadata() -> bytes:
     return METADATA.format(version=_version(), readme=_bytes_of("README.md").decode()).encode()
 
 
+def _entry_points() -> bytes:
+    """The programs of the package, as an installer reads them: the table `project.scripts` of `pyproject.toml`."""
+    found = re.search(r"(?ms)^\[project\.scripts\]\n(.*?)(?:^\[|\Z)", _bytes_of("pyproject.toml").decode())
+    assert found is not None, "pyproject.toml has no scripts"
+    return ("[console_scripts]\n" + found[1].replace('"', "").strip() + "\n").encode()
+
+
 def _record(files: Dict[str, bytes], name: str) -> bytes:
     """The list of a wheel's files with their hashes."""
     lines = []
@@ -74,6 +81,7 @@ def build_wheel(
     files = {path: _bytes_of(path) for path in _sources()}
     files[f"{info}/METADATA"] = _metadata()
     files[f"{info}/WHEEL"] = WHEEL.encode()
+    files[f"{info}/entry_points.txt"] = _entry_points()
     files[f"{info}/RECORD"] = _record(files, f"{info}/RECORD")
     name = f"confstore-{_version()}-{TAG}.whl"
     with zipfile.ZipFile(os.path.join(wheel_directory, name), "w") as wheel:

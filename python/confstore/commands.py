@@ -12,8 +12,21 @@ from .style import Tree, text_of, to_text, trees_of
 
 _OK = re.compile(rb'---\nok: "([0-9]+)"\n\.\.\.\n')
 
+_NAME = re.compile(r"[a-z][a-z0-9_-]{0,63}")
+_POINTER = re.compile(r"(?:/(?:[^~/]|~[01])*)*")
+
 NAMES: Tree = {"names": ""}
 CHECKPOINT: Tree = {"checkpoint": ""}
+
+
+def is_name(text: str) -> bool:
+    """Whether a configuration may have this name."""
+    return _NAME.fullmatch(text) is not None
+
+
+def is_pointer(text: str) -> bool:
+    """Whether a text is a pointer of RFC 6901."""
+    return _POINTER.fullmatch(text) is not None
 
 
 def import_of(name: str, text: str) -> Dict[str, Tree]:

@@ -13,9 +13,10 @@ from typing import Any, List, Optional, overload
 
 import yaml
 
-from .commands import get_of, refused
+from .commands import get_of, is_name, refused
 from .faults import REFUSALS, BadAnswer, ConfstoreError, NotStarted, NotText, Refused, TooLongToSend, Unsupported
 from .faults import end_of, refusal
+from .following import Changes
 from .mapping import MISSING, Configurations, D
 from .other import Cutter
 from .places import find_program, need_folder, path_of
@@ -24,7 +25,6 @@ from .runs import Run
 from .session import LONGEST_ANSWER
 from .style import Tree, from_text, text_of, trees_of
 
-_NAME = re.compile(r"[a-z][a-z0-9_-]{0,63}")
 _FAULT = re.compile(r"confstore: (\w+)")
 _AT = re.compile(rb'(?:---\n)?at: "([0-9]{1,20})"\n')
 
@@ -97,7 +97,7 @@ class Reader(Configurations):
 
     def _read_at(self, name: str, path: str, at: Optional[int] = None) -> Tree:
         name, path = text_of(name), text_of(path)
-        if not _NAME.fullmatch(name):
+        if not is_name(name):
             raise refused("BadName", get_of(name, path), self.program)
         if path and not path.startswith("/"):
             raise refused("BadPath", get_of(name, path), self.program)
@@ -119,6 +119,17 @@ class Reader(Configurations):
         except yaml.YAMLError:
             raise BadAnswer("what `log` printed is no YAML") from None
         return [record for record in records if record.number > after]
+
+    def follow(self, start: Optional[int] = None) -> Changes:
+        """The changes of the store as they are made, to loop over: from the number `start` on, or those that come after
+        this call where it is None.
+
+        It goes on over checkpoints, and over sessions that end and begin. Each change comes once, in order. Where a
+        checkpoint has dropped some before they were seen, a `Cut` says which. Close it, or use it in `with`. The last
+        changes may not be on the disk yet.
+        """
+        need_folder(self.folder)
+        return Changes(self.folder, self.program, self.timeout, start)
 
     def at(self, number: int) -> "View":
         """The store as of the command with this number. Raises `NoSuchCommand` if the file does not have it."""

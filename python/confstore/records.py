@@ -2,11 +2,11 @@
 
 from __future__ import annotations
 
-from dataclasses import dataclass
-from typing import Optional, Tuple
+from dataclasses import dataclass, field
+from typing import List, Optional, Tuple
 
 from .faults import BadAnswer
-from .style import Tree
+from .style import Tree, quoted
 
 # Of each form of an edit: the key of its name, and the keys that follow.
 _FORMS = {"import": ("import", "tree"), "set": ("set", "path", "value"), "delete": ("delete", "path")}
@@ -21,6 +21,35 @@ class Edit:
     path: str
     tree: Optional[Tree]
 
+    @property
+    def line(self) -> str:
+        """What it does, and where, as `confstore log` writes it."""
+        return f"import {self.name}" if self.kind == "import" else f"{self.kind} {self.name} {quoted(self.path)}"
+
+    def may_change(self, name: str, path: str = "") -> bool:
+        """Whether it may change what is at a path of a configuration: it was made there, above it or below it, or it
+        took an element out of a list, or put one at its end, where the path leads through that list."""
+        if name != self.name:
+            return False
+        made, asked = _steps_of(self.path), _steps_of(path)
+        shared = min(len(made), len(asked))
+        if made[:shared] == asked[:shared]:
+            return True
+        if len(made) > len(asked) or made[:-1] != asked[: len(made) - 1]:
+            return False
+        return _moves(self.kind, made[-1], asked[len(made) - 1])
+
+
+def _steps_of(path: str) -> List[str]:
+    return path.split("/")[1:]
+
+
+def _moves(kind: str, step: str, asked: str) -> bool:
+    """Whether an edit at a step of what may be a list may change what is at another step."""
+    if not asked.isdecimal():
+        return asked == "-"
+    return step == "-" or (kind == "delete" and step.isdecimal() and int(step) <= int(asked))
+
 
 @dataclass(frozen=True)
 class Record:
@@ -28,6 +57,18 @@ class Record:
 
     number: int
     edits: Tuple[Edit, ...]
+    #: Whether it is that of a batch, which may have one edit too.
+    is_batch: bool = field(default=False, compare=False, repr=False)
+
+    @property
+    def line(self) -> str:
+        """The number, what was done, and where, as `confstore log` writes it."""
+        done = "; ".join(edit.line for edit in self.edits)
+        return f"{self.number} batch {done}" if self.is_batch else f"{self.number} {done}"
+
+    def may_change(self, name: str, path: str = "") -> bool:
+        """Whether one of its edits may change what is at a path of a configuration."""
+        return any(edit.may_change(name, path) for edit in self.edits)
 
 
 def _edit_of(pairs: Tree) -> Edit:
@@ -47,5 +88,5 @@ def record_of(tree: Tree) -> Record:
     rest = {key: value for key, value in tree.items() if key != "at"}
     batch = rest.get("batch")
     if tuple(rest) == ("batch",) and isinstance(batch, list):
-        return Record(int(number), tuple(_edit_of(edit) for edit in batch))
+        return Record(int(number), tuple(_edit_of(edit) for edit in batch), True)
     return Record(int(number), (_edit_of(rest),))

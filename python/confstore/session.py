@@ -13,7 +13,6 @@ it was told to.
 from __future__ import annotations
 
 import _thread
-import asyncio
 import copy
 import errno
 import functools
@@ -24,11 +23,14 @@ import threading
 import time
 import weakref
 from collections import deque
-from typing import Callable, Deque, Dict, List, Optional, Sequence, Tuple, Union
+from typing import TYPE_CHECKING, Callable, Deque, Dict, List, Optional, Sequence, Tuple, Union
 
 from .faults import AnswerLong, BadAnswer, Closed, ConfstoreError, NotStarted, SessionEnded, TimedOut, TooLongToSend
 from .faults import Unknown
 from .other import GOING, PART, Cutter, Other, Program, Server, take, take_errors
+
+if TYPE_CHECKING:
+    import asyncio
 
 __all__ = ["LONGEST_ANSWER", "LONGEST_COMMAND", "Cutter", "Session"]
 
@@ -86,8 +88,10 @@ class _AwaitedSlot(_Slot):
     __slots__ = ("_loop", "woken")
 
     def __init__(self, document: bytes = b"") -> None:
+        from asyncio import get_running_loop  # by those alone who have a loop: it takes long to import
+
         super().__init__(document)
-        self._loop = asyncio.get_running_loop()
+        self._loop = get_running_loop()
         self.woken: "asyncio.Future[None]" = self._loop.create_future()
 
     def tell(self) -> None:

@@ -58,10 +58,15 @@ def _check_text(text: str) -> None:
         raise NotText(f"character {error.start} is a lone surrogate, which no YAML can hold") from None
 
 
+def quoted(text: str) -> str:
+    """A text in double quotes, as the one style has it there."""
+    return f'"{_SPELLED.sub(_escape, text)}"'
+
+
 def _word_or_quoted(text: str) -> str:
     if _WORD.fullmatch(text) and text.lower() not in _NO_WORDS:
         return text
-    return f'"{_SPELLED.sub(_escape, text)}"'
+    return quoted(text)
 
 
 def scalar(text: str, indentation: int = 2) -> str:

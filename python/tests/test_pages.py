@@ -45,6 +45,21 @@ class Pages(StoreTest):
         with Store(os.path.join(self.top, "app")) as store:
             self.assertEqual(store["web"], {"port": "81", "hosts": ["a", "b", "c"]})
 
+    def test_following(self):
+        """The example of the package's page, for three changes."""
+        code = re.search(r"```python\nfrom confstore import Cut.*?```", self.page("python", "README.md"), re.DOTALL)[0]
+        code = code.strip("`").replace("python\n", "", 1).replace(".follow()", ".follow(2)")
+        folder = os.path.join(self.top, "app")
+        with Store(folder, make=True) as store:
+            store["web"] = {"port": "80"}
+            store.set("web", "/port", "81")
+            store.checkpoint()
+            store.set("web", "/port", "82")
+            store["dns"] = "x"
+        code = code.replace("    for change in changes:\n", "    for change in [changes.within(9) for _ in range(3)]:\n")
+        wanted = "a checkpoint dropped 2 to 2 before they were seen\n3 [('set', '/port', '82')]\n"
+        self.assertEqual(self.run_example(code), wanted)
+
     def test_docstring(self):
         page = self.page("python", "confstore", "__init__.py")
         code = re.search(r"(?m)^    from confstore import Store\n(?:    .*\n|\n)*", page)[0]

@@ -55,6 +55,21 @@ class Wheels(unittest.TestCase):
         shown = subprocess.run(words, capture_output=True, text=True, check=True, timeout=60)
         self.assertIn("Requires: PyYAML", shown.stdout)
         self.assertIn("confstore/py.typed", shown.stdout)
+        self.assertTrue(os.access(os.path.join(folder, "bin", "confstorectl"), os.X_OK))
+
+    def test_the_program_of_the_wheel(self):
+        (wheel,) = (name for name in self.built("one") if name.endswith(".whl"))
+        folder = os.path.join(self.top, "site")
+        words = [sys.executable, "-m", "pip", "install", "--quiet", "--no-index", "--no-deps", "--target", folder]
+        done = subprocess.run(
+            [*words, os.path.join(self.top, "one", wheel)], capture_output=True, text=True, check=False, timeout=120
+        )
+        if "No module named pip" in done.stderr:
+            self.skipTest("this Python has no pip")
+        self.assertEqual(done.returncode, 0, done.stderr)
+        program, environment = os.path.join(folder, "bin", "confstorectl"), {**os.environ, "PYTHONPATH": folder}
+        done = subprocess.run([program, "--version"], env=environment, capture_output=True, text=True, check=True)
+        self.assertRegex(done.stdout, r"\Aconfstorectl [0-9.]+\n\Z")
 
 
 if __name__ == "__main__":

@@ -1,0 +1,581 @@
+#!/usr/bin/env python3
+"""Tries confstorectl, the program of the Python package, beside the program.
+
+- **Words.** Each row of `lib/ctl_rows.py` is done four times, on stores of their own: by confstore, by confstorectl
+  without a server, through the socket of `clients/serve.py`, and through a node of a replicated store. The status, the
+  output and the name of the fault are those of confstore, and in the end so is the store's file, byte by byte. (A
+  node's store has its own marks, and a node takes neither a checkpoint nor the words that look into the file.)
+- **Streams** that are closed, full, or that nobody reads.
+- **Waiting** for a store that is locked, and for a server that is not there; and which socket is taken.
+- **Clients.** Sixteen of them append 50 texts each to one list: it has all of them, those of each in their order. So
+  do four without a server, which wait for each other.
+- **Watching.** 2,000 changes, ten checkpoints and three ends of the server: `watch` and `Reader.follow` say each change
+  once, or that it was cut. None is cut where a checkpoint comes a second after the changes before it.
+- **Pages.** The completions and the man page are those of the table of words, and keys are pressed in each shell.
+
+Run it from the repository's root after the program is built; it needs PyYAML, and takes a minute:
+
+    ./confstore --version && python3 checks/ctl.py
+
+The last line is 'N passed, M failed', and the status is 0 if M is 0.
+"""
+
+from __future__ import annotations
+
+import contextlib
+import importlib.util
+import os
+import pickle
+import re
+import shutil
+import signal
+import socket
+import subprocess
+import sys
+import tempfile
+import threading
+import time
+from collections.abc import Callable, Iterator, Sequence
+from concurrent.futures import ThreadPoolExecutor
+from typing import Any, NamedTuple
+
+from lib.ctl_rows import NODE_ROWS, ROWS, Row
+from lib.store_runs import PROGRAM, TOP, Failures, need_program, read_file, write_file
+
+sys.path.insert(0, os.path.join(TOP, "python"))
+
+from confstore import Cut, Reader, Record, Store, Tree  # noqa: E402
+
+ENVIRONMENT = {
+    **{name: value for name, value in os.environ.items() if name != "CONFSTORE_SOCKET"},
+    "CONFSTORE": PROGRAM,
+    "PYTHONPATH": os.pathsep.join(os.path.join(TOP, part) for part in ("python", "replicated")),
+}
+CTL = [sys.executable, "-m", "confstore.ctl"]
+SERVER = os.path.join(TOP, "clients", "serve.py")
+PAGES = os.path.join(TOP, "python", "pages_of_confstorectl.py")
+
+# How long anything here is waited for, in seconds.
+PATIENCE = 60
+
+CLIENTS, APPENDS = 16, 50
+CLIENTS_ALONE, APPENDS_ALONE = 4, 10
+CHANGES, CHECKPOINTS, RESTARTS = 2_000, 10, 3
+
+# What does rows of words, each in a process of its own that is forked where all is imported.
+DRIVER = """
+import os, pickle, sys, tempfile
+from confstore import ctl, ctl_help
+results = []
+for words, given in pickle.load(sys.stdin.buffer):
+    with tempfile.TemporaryFile() as source, tempfile.TemporaryFile() as output, tempfile.TemporaryFile() as errors:
+        source.write(given)
+        source.seek(0)
+        child = os.fork()
+        if child == 0:
+            for number, stream in enumerate((source, output, errors)):
+                os.dup2(stream.fileno(), number)
+            sys.argv[1:] = words
+            os._exit(ctl.main())
+        status = os.waitstatus_to_exitcode(os.waitpid(child, 0)[1])
+        output.seek(0)
+        errors.seek(0)
+        results.append((status, output.read(), errors.read().decode()))
+pickle.dump(results, sys.stdout.buffer)
+"""
+
+# What a client runs that appends its texts to a list, one word of confstorectl after the other.
+CLIENT = """
+import sys
+from confstore.ctl import perform_words
+folder, client, count = sys.argv[1:]
+for number in range(int(count)):
+    status = perform_words(["--wait", "30", "set", folder, "app", "/list/-", f"{client}-{number}"])
+    if status:
+        sys.exit(status)
+"""
+
+
+class Done(NamedTuple):
+    """What became of a program."""
+
+    status: int
+    output: bytes
+    errors: str
+
+    def fault(self, program: str) -> list[str]:
+        """The faults on its lines, without what is said of them: of wrong words that is the status alone."""
+        begin = f"{program}: "
+        lines = [line[len(begin) :] for line in self.errors.splitlines() if line.startswith(begin)]
+        return [] if self.status == 2 else [line.partition(": ")[0] for line in lines]
+
+
+def done(words: Sequence[str], given: bytes = b"", **more: Any) -> Done:
+    """A program that is run to its end."""
+    environment = {**ENVIRONMENT, **more.pop("environment", {})}
+    ended = subprocess.run(
+        list(words), input=given, capture_output=True, check=False, env=environment, timeout=PATIENCE, **more
+    )
+    return Done(ended.returncode, ended.stdout, ended.stderr.decode())
+
+
+def ctl(*words: str, given: bytes = b"", **more: Any) -> Done:
+    return done([*CTL, *words], given, **more)
+
+
+def until(holds: Callable[[], bool]) -> bool:
+    """Whether something comes to hold."""
+    deadline = time.monotonic() + PATIENCE
+    while not holds():
+        if time.monotonic() > deadline:
+            return False
+        time.sleep(0.01)
+    return True
+
+
+def accepts(path: str) -> bool:
+    with socket.socket(socket.AF_UNIX) as connection:
+        return connection.connect_ex(path) == 0
+
+
+@contextlib.contextmanager
+def running(words: Sequence[str], path: str) -> Iterator[subprocess.Popen[bytes]]:
+    """A program that takes clients at a path, and is told to end."""
+    quiet = subprocess.DEVNULL
+    with subprocess.Popen(list(words), env=ENVIRONMENT, stderr=quiet, stdout=quiet) as process:
+        try:
+            if not until(lambda: accepts(path) or process.poll() is not None) or process.poll() is not None:
+                raise RuntimeError(f"no server: {words}")
+            yield process
+        finally:
+            process.terminate()
+
+
+def serving(path: str, folder: str) -> contextlib.AbstractContextManager[subprocess.Popen[bytes]]:
+    return running([sys.executable, SERVER, path, folder], path)
+
+
+def session_of(server: subprocess.Popen[bytes]) -> int:
+    with open(f"/proc/{server.pid}/task/{server.pid}/children", encoding="ascii") as children:
+        return int(children.read().split()[0])
+
+
+# ---- words
+
+
+class Side:
+    """A program with a store of its own, on which the rows are done."""
+
+    def __init__(self, top: str, name: str, program: str, words: Sequence[str]) -> None:
+        self.name, self.program, self.words = name, program, words
+        self.folder = os.path.join(top, name)
+        os.mkdir(self.folder)
+        self.results: list[Done] = []
+
+    def do(self, rows: Sequence[Row], top: str) -> None:
+        todo = []
+        for row in rows:
+            words = [word.replace("STORE", self.folder).replace("TOP", top) for word in row.words]
+            todo.append(([*self.words, *words], row.given))
+        self.results = [self.do_one(*one) for one in todo] if self.program == "confstore" else do_forked(todo)
+
+    def do_one(self, words: list[str], given: bytes) -> Done:
+        return batch_by_session(self.folder, given) if words[1] == "batch" else done(words, given)
+
+
+def do_forked(todo: Sequence[tuple[list[str], bytes]]) -> list[Done]:
+    """What becomes of words of confstorectl."""
+    driven = done([sys.executable, "-c", DRIVER], pickle.dumps(todo))
+    if driven.status:
+        raise RuntimeError(driven.errors)
+    return [Done(*result) for result in pickle.loads(driven.output)]
+
+
+def batch_by_session(folder: str, text: bytes) -> Done:
+    """What confstore does of a batch that is valid YAML: in a session, since it has no such word."""
+    listed = done([PROGRAM, "format"], text)
+    if listed.status:
+        return listed
+    indented = b"".join(b"  " + line for line in listed.output.splitlines(keepends=True))
+    answer = done([PROGRAM, "run", folder], b"---\nbatch:\n" + indented + b"...\n")
+    refused = re.search(rb"(?m)^refused: (\w+)$", answer.output)
+    if refused is None:
+        return Done(answer.status, b"", answer.errors)
+    return Done(1, b"", f"confstore: {refused[1].decode()}\n")
+
+
+def compare(side: Side, model: Side, rows: Sequence[Row], failures: Failures) -> None:
+    for row, found, wanted in zip(rows, side.results, model.results):
+        name = f"{side.name}: {' '.join(row.words)[:80]}"
+        failures.expect(f"{name}: status", found.status, wanted.status)
+        failures.expect(f"{name}: output", found.output, wanted.output)
+        faults = [found.fault("confstorectl"), wanted.fault("confstore")]
+        if row.words[0] == "batch":  # a session does not say where
+            faults = [[fault.split()[0] for fault in said] for said in faults]
+        failures.expect(f"{name}: fault", *faults)
+
+
+def fill(top: str) -> None:
+    """The files that rows name."""
+    write_file(os.path.join(top, "web.yaml"), b"a: 1\nb: [x, y]\n")
+    write_file(os.path.join(top, "long.yaml"), b"? " + b"k" * 3_000 + b"\n: v\n")
+    write_file(os.path.join(top, "too-long.yaml"), b"#" * 4_194_305)
+    write_file(os.path.join(top, "deep.yaml"), b"[" * 129 + b"]" * 129)
+    write_file(os.path.join(top, "large.yaml"), b'"' + b"\\0" * 2_000_000 + b'"')
+    write_file(os.path.join(top, "controls.yaml"), b'"' + b"\x7f" * 700_000 + "\x85\u2028".encode() * 100_000 + b'"')
+
+
+@contextlib.contextmanager
+def node_on(top: str, folder: str) -> Iterator[str]:
+    """A node of a replicated store, over a member of etcd that keeps its keys in memory."""
+    path = os.path.join(TOP, "replicated", "tests", "fake_etcd.py")
+    spec = importlib.util.spec_from_file_location("fake_etcd", path)
+    assert spec is not None and spec.loader is not None
+    module: Any = importlib.util.module_from_spec(spec)
+    spec.loader.exec_module(module)
+    etcd, at = module.FakeEtcd(), os.path.join(top, "node.sock")
+    try:
+        with running([sys.executable, "-m", "confstore_replicated.node", at, folder, etcd.address], at):
+            yield at
+    finally:
+        etcd.close()
+
+
+def try_words(top: str, failures: Failures) -> None:
+    fill(top)
+    model = Side(top, "model", "confstore", [PROGRAM])
+    alone = Side(top, "alone", "confstorectl", [])
+    served = Side(top, "served", "confstorectl", [])
+    node_model = Side(top, "node-model", "confstore", [PROGRAM])
+    with serving(os.path.join(served.folder, "confstore.sock"), served.folder):
+        threads = [threading.Thread(target=side.do, args=(ROWS, top)) for side in (model, alone, served)]
+        for thread in threads:
+            thread.start()
+        os.mkdir(os.path.join(top, "node-store"))
+        with node_on(top, os.path.join(top, "node-store")) as at:
+            asked = Side(top, "node", "confstorectl", ["--socket", at])
+            node_model.do(NODE_ROWS, top)
+            asked.do(NODE_ROWS, top)
+        for thread in threads:
+            thread.join()
+    compare(asked, node_model, NODE_ROWS, failures)
+    compare(alone, model, ROWS, failures)
+    compare(served, model, ROWS, failures)
+    files = [read_file(os.path.join(side.folder, "store.yaml")) for side in (model, alone, served)]
+    failures.expect("the file without a server", files[1] == files[0], True)
+    failures.expect("the file of the server", files[2] == files[0], True)
+
+
+# ---- streams, waiting, sockets
+
+
+def through_shell(line: str, folder: str, program: str) -> Done:
+    """What a line of a shell says, with $CTL for the program and $S for the store."""
+    return done(["bash", "-o", "pipefail", "-c", line], environment={"CTL": program, "S": folder})
+
+
+def try_streams(top: str, failures: Failures) -> None:
+    folder = os.path.join(top, "streams")
+    with Store(folder, make=True, program=PROGRAM) as store:
+        store["web"] = {"port": "80"}
+    at = os.path.join(top, "streams.sock")
+    with serving(at, folder):
+        by_socket = " ".join([*CTL, "--socket", at])
+        lines = ["$CTL names $S >/dev/full", "$CTL get $S web >&-", "$CTL names $S | true; sleep 0.2; true"]
+        for line in lines:
+            wanted, found = (through_shell(line, folder, program) for program in (PROGRAM, by_socket))
+            failures.expect(f"streams: {line}", (found.status, found.output), (wanted.status, wanted.output))
+            failures.expect(f"the fault of {line}", found.fault("confstorectl"), wanted.fault("confstore"))
+        closed = through_shell("$CTL import $S web <&-", folder, by_socket)
+        failures.expect("closed input", (closed.status, closed.fault("confstorectl")), (3, ["Input"]))
+        closed = through_shell("$CTL get $S web 2>&-", folder, by_socket)
+        failures.expect("closed errors", (closed.status, closed.output), (0, b'port: "80"\n'))
+
+
+def try_waiting(top: str, failures: Failures) -> None:
+    folder, at = os.path.join(top, "held"), os.path.join(top, "held.sock")
+    with Store(folder, make=True, program=PROGRAM) as store:
+        store["web"] = {"n": "0"}
+        found = ctl("set", folder, "web", "/n", "1")
+        failures.expect("locked", (found.status, found.fault("confstorectl")), (3, ["Locked"]))
+        found = ctl("set", folder, "web", "/n", "1", "--wait", "0.3")
+        failures.expect("locked for long", (found.status, found.fault("confstorectl")), (3, ["Locked"]))
+        failures.expect("get beside a session", ctl("get", folder, "web", "/n", "--raw").output, b"0\n")
+        timer = threading.Timer(0.7, store.close)
+        timer.start()
+        began = time.monotonic()
+        found = ctl("--wait", "30", "set", folder, "web", "/n", "2")
+        failures.expect("locked for a while", (found.status, found.errors), (0, ""))
+        failures.expect("it has waited", time.monotonic() - began > 0.5, True)
+        timer.join()
+    found = ctl("--socket", at, "set", folder, "web", "/n", "3")
+    failures.expect("no server", (found.status, found.fault("confstorectl")), (3, ["Disconnected"]))
+    with contextlib.ExitStack() as stack:
+        timer = threading.Timer(0.5, lambda: stack.enter_context(serving(at, folder)))
+        timer.start()
+        found = ctl("--socket", at, "--wait", "30", "set", folder, "web", "/n", "3")
+        failures.expect("a server that comes", (found.status, found.errors), (0, ""))
+        timer.join()
+        try_finding(folder, at, failures)
+    failures.expect("what was set", ctl("get", folder, "web", "/n", "--raw").output, b"5\n")
+
+
+def try_finding(folder: str, at: str, failures: Failures) -> None:
+    """The socket of the environment, the one in the folder, and one that nobody listens to."""
+    environment = {"CONFSTORE_SOCKET": at}
+    failures.expect("the environment's", ctl("set", folder, "web", "/n", "4", environment=environment).status, 0)
+    link = os.path.join(folder, "confstore.sock")
+    os.symlink(at, link)
+    failures.expect("the folder's", ctl("set", folder, "web", "/n", "5").status, 0)
+    os.remove(link)
+    other = os.path.join(os.path.dirname(folder), "x" * 120)
+    with Store(other, make=True, program=PROGRAM) as store:
+        store["web"] = "x"
+    here = os.getcwd()
+    os.chdir(other)
+    try:
+        with socket.socket(socket.AF_UNIX) as left:
+            left.bind("confstore.sock")
+    finally:
+        os.chdir(here)
+    failures.expect("one that was left", ctl("set", other, "web", "", "y").status, 0)
+    failures.expect("what was set there", ctl("get", other, "web").output, b'"y"\n')
+
+
+# ---- clients
+
+
+def append_all(folder: str, clients: int, appends: int, failures: Failures) -> None:
+    """Clients that append to one list, side by side."""
+    started = [
+        subprocess.Popen([sys.executable, "-c", CLIENT, folder, f"c{number}", str(appends)], env=ENVIRONMENT)
+        for number in range(clients)
+    ]
+    failures.expect("the statuses of clients", [client.wait(PATIENCE) for client in started], [0] * clients)
+    held = Reader(folder, program=PROGRAM).get("app", "/list")
+    assert isinstance(held, list)
+    failures.expect("how many texts are held", len(held), clients * appends)
+    for number in range(clients):
+        mine = [text for text in held if isinstance(text, str) and text.startswith(f"c{number}-")]
+        failures.expect(f"those of client {number}", mine, [f"c{number}-{turn}" for turn in range(appends)])
+
+
+def try_clients(top: str, failures: Failures) -> None:
+    served, alone = os.path.join(top, "served"), os.path.join(top, "alone")
+    for folder in (served, alone):
+        with Store(folder, make=True, program=PROGRAM) as store:
+            store["app"] = {"list": []}
+    with serving(os.path.join(served, "confstore.sock"), served):
+        append_all(served, CLIENTS, APPENDS, failures)
+    append_all(alone, CLIENTS_ALONE, APPENDS_ALONE, failures)
+
+
+# ---- watching
+
+
+class Writer:
+    """Makes changes of a store that is served, each `set` with its own number as the value."""
+
+    def __init__(self, folder: str, at: str) -> None:
+        self.folder, self.at, self.number, self.cuts = folder, at, 1, 0
+
+    def change(self, count: int) -> None:
+        with Store.connect(self.at) as store:
+            batches: list[list[Tree]] = [
+                [{"set": "web", "path": "/n", "value": str(number)}]
+                for number in range(self.number + 1, self.number + count + 1)
+            ]
+            for batch in batches[: count // 2]:
+                store.perform_batches([batch])
+            store.perform_batches(batches[count // 2 :])
+        self.number += count
+
+    def checkpoint(self) -> None:
+        with Store.connect(self.at) as store:
+            store.checkpoint()
+
+
+def change_all(writer: Writer, watch: subprocess.Popen[bytes]) -> int:
+    """The changes and checkpoints, through servers that end. Before the last two checkpoints the watch is stopped. How
+    many changes came before the hasty ones."""
+    share, calm = (CHANGES - 1) // CHECKPOINTS, 0
+    turns, lives = iter(range(CHECKPOINTS)), RESTARTS + 1
+    for life in range(lives):
+        with serving(writer.at, writer.folder) as server:
+            count = CHECKPOINTS // lives + (life < CHECKPOINTS % lives)
+            for turn in [next(turns) for _ in range(count)]:
+                if turn == CHECKPOINTS - 2:
+                    watch.send_signal(signal.SIGSTOP)
+                writer.change(share if turn < CHECKPOINTS - 1 else CHANGES - writer.number)
+                if turn < CHECKPOINTS // 2:
+                    time.sleep(1)
+                    calm = writer.number
+                writer.checkpoint()
+            if life == 1:
+                os.kill(session_of(server), signal.SIGKILL)
+                server.wait(PATIENCE)
+    watch.send_signal(signal.SIGCONT)
+    return calm
+
+
+def numbers_of(lines: Sequence[str], failures: Failures) -> list[int]:
+    """The numbers that a watch has told, where each number from 1 on comes once, told or cut."""
+    seen, following = [], 1
+    for line in lines:
+        cut = re.fullmatch(r"(\d+)-(\d+) cut", line)
+        first, last = (int(cut[1]), int(cut[2])) if cut else (following, following)
+        wanted = "1 import web" if following == 1 else f'{following} batch set web "/n"'
+        failures.expect(f"the line {line!r}", cut is not None or line == wanted, True)
+        failures.expect(f"the number after {following - 1}", first, following)
+        seen += [] if cut else [following]
+        following = last + 1
+    failures.expect("the last number", following - 1, CHANGES)
+    return seen
+
+
+def follow(reader: Reader, told: list[str], wrong: list[str]) -> None:
+    """Follows the changes until the last one, and compares each value with its number."""
+    with reader.follow(1) as changes:
+        while not told or not re.match(rf"{CHANGES} |\d+-{CHANGES} cut", told[-1]):
+            event = changes.within(PATIENCE)
+            if event is None:
+                wrong.append("nothing comes")
+                return
+            if isinstance(event, Cut):
+                told.append(f"{event.first}-{event.last} cut")
+            elif isinstance(event, Record):
+                told.append(event.line)
+                if event.number > 1 and event.edits[0].tree != str(event.number):
+                    wrong.append(f"{event}")
+
+
+def try_watching(top: str, failures: Failures) -> None:
+    folder, output = os.path.join(top, "watched"), os.path.join(top, "watch.txt")
+    with Store(folder, make=True, program=PROGRAM) as store:
+        store["web"] = {"n": "1"}
+    writer = Writer(folder, os.path.join(folder, "confstore.sock"))
+    told: list[str] = []
+    wrong: list[str] = []
+    thread = threading.Thread(target=follow, args=(Reader(folder, program=PROGRAM), told, wrong), daemon=True)
+    with open(output, "wb") as target:
+        watch = subprocess.Popen([*CTL, "watch", folder, "--from", "1"], stdout=target, env=ENVIRONMENT)
+    try:
+        thread.start()
+        calm = change_all(writer, watch)
+        ends = re.compile(rf"(?m)^({CHANGES} .*|\d+-{CHANGES} cut)\n\Z".encode())
+        failures.expect("the watch comes to the end", until(lambda: bool(ends.search(read_file(output)))), True)
+        thread.join(PATIENCE)
+    finally:
+        watch.send_signal(signal.SIGINT)
+        failures.expect("the watch ends as it is told", watch.wait(PATIENCE), -signal.SIGINT)
+    failures.expect("the values", wrong, [])
+    watched = read_file(output).decode().splitlines()
+    failures.expect("what the watch missed while it was stopped", any(line.endswith(" cut") for line in watched), True)
+    for name, lines in (("watch", watched), ("follow", told)):
+        seen = numbers_of(lines, failures)
+        failures.expect(f"{name}: those before a calm checkpoint", seen[:calm] == list(range(1, calm + 1)), True)
+        print(f"{name}: {len(seen)} of {CHANGES} changes were told, and {CHANGES - len(seen)} cut")
+
+
+def try_one_watch(top: str, failures: Failures) -> None:
+    """What a watch of one place tells, its records, and its end where nobody reads any more."""
+    folder = os.path.join(top, "one")
+    with Store(folder, make=True, program=PROGRAM) as store:
+        store["web"] = {"port": "80", "tags": ["a", "b"]}
+        store["dns"] = {"server": "a"}
+        store.set("web", "/port", "81")
+        store.set("web", "/tags/0", "c")
+        store.delete("web", "/tags/0")
+        store.set("dns", "/server", "b")
+    log = done([PROGRAM, "log", folder]).output.splitlines(keepends=True)
+    records = done([PROGRAM, "log", "--yaml", folder]).output
+    for words, wanted in (
+        (["--from", "1"], b"".join(log)),
+        (["--from", "1", "--yaml"], records),
+        (["--from", "3", "web"], b"".join(log[2:5])),
+        (["--from", "1", "web", "/port"], log[0] + log[2]),
+        (["--from", "1", "web", "/tags/1"], log[0] + log[4]),
+        (["--from", "4", "dns"], log[5]),
+    ):
+        count = wanted.count(b"\n")
+        line = " ".join([*CTL, "watch", folder, *words, "|", "head", "-n", str(count)])
+        found = through_shell(line, folder, "")
+        failures.expect(f"watch {words}", (found.status, found.output, found.errors), (3, wanted, ""))
+    found = ctl("watch", os.path.join(top, "none"))
+    failures.expect("watch of no folder", (found.status, found.fault("confstorectl")), (3, ["Device"]))
+    os.mkdir(os.path.join(top, "empty"))
+    found = ctl("watch", os.path.join(top, "empty"))
+    failures.expect("watch of no store", (found.status, found.fault("confstorectl")), (1, ["NotAStore"]))
+
+
+# ---- pages
+
+# What is typed before a TAB, and the words that confstorectl is called with then.
+LINES = [
+    ("exp", "export"),
+    ("--wait 5 che", "--wait 5 checkpoint"),
+    ("get store we", "get store web"),
+    ("get --at 1 --ra", "get --at 1 --raw"),
+    ("--socket fil", "--socket file.yaml"),
+    ("import store app fil", "import store app file.yaml"),
+    ("watch sto", "watch store"),
+    ("help ver", "help verify"),
+]
+
+
+def press_keys(shell: str, top: str, programs: str, failures: Failures) -> None:
+    """Presses keys in a shell with the file of completions alone."""
+    from completions import PATIENCE as KEY_PATIENCE, SHELLS, START, Terminal
+
+    words, first = SHELLS[shell]
+    terminal = Terminal(words, top, programs)
+    try:
+        terminal.type(f"{first.replace('confstore.', 'confstorectl.')}; echo rea''dy\r")
+        if not terminal.await_text(r"(?m)^ready", START):
+            failures.expect(f"{shell} starts", terminal.seen, "ready")
+            return
+        for typed, wanted in LINES:
+            terminal.type(f"confstorectl {typed}\t")
+            time.sleep(0.7)
+            terminal.type("\r")
+            found = terminal.await_text(r"called: (.*?)\.\r?\n", KEY_PATIENCE)
+            failures.expect(f"{shell}: {typed}", found and found[1].strip().removesuffix("/"), wanted)
+    finally:
+        terminal.close()
+
+
+def try_pages(top: str, failures: Failures) -> None:
+    checked = done([sys.executable, PAGES, "--check"])
+    failures.expect("the pages", (checked.status, checked.output, checked.errors), (0, b"", ""))
+    room, programs = os.path.join(top, "keys"), os.path.join(top, "programs")
+    os.mkdir(room)
+    os.mkdir(programs)
+    with Store(os.path.join(room, "store"), make=True, program=PROGRAM) as store:
+        store.update({"web": "x", "app": "x"})
+    write_file(os.path.join(room, "file.yaml"), b"a: b\n")
+    script = f'#!/bin/sh\nif [ "$1" = names ]; then exec "{PROGRAM}" "$@"; fi\necho "called: $*."\n'
+    write_file(os.path.join(programs, "confstorectl"), script.encode())
+    os.chmod(os.path.join(programs, "confstorectl"), 0o755)
+    shells = {shell: shutil.which(shell) for shell in ("bash", "zsh", "fish")}
+    print("".join(f"left out: {shell}\n" for shell, path in shells.items() if path is None), end="")
+    there = [shell for shell, path in shells.items() if path is not None]
+    with ThreadPoolExecutor() as pool:
+        list(pool.map(lambda shell: press_keys(shell, room, programs, failures), there))
+
+
+def main() -> int:
+    need_program()
+    failures = Failures()
+    with tempfile.TemporaryDirectory() as top:
+        trials = (try_words, try_streams, try_waiting, try_clients, try_watching, try_one_watch, try_pages)
+        for trial in trials:
+            room = os.path.join(top, trial.__name__)
+            os.mkdir(room)
+            began = time.monotonic()
+            trial(room, failures)
+            print(f"{trial.__name__.removeprefix('try_').replace('_', ' ')}: {time.monotonic() - began:.0f} s")
+    return failures.report()
+
+
+if __name__ == "__main__":
+    sys.exit(main())

@@ -1,0 +1,68 @@
+# Completion of confstorectl for bash: `source` it, or put it as `confstorectl` where bash-completion looks for such
+# files.
+# python/pages_of_confstorectl.py makes this file of the table of words.
+
+_confstorectl_words='import set delete batch checkpoint export names get log verify watch help'
+
+_confstorectl_options() {
+    case $1 in
+    set) echo '--yaml --socket --wait --help' ;;
+    names) echo '--at --socket --wait --help' ;;
+    get) echo '--raw --at --socket --wait --help' ;;
+    log) echo '--yaml --at --socket --wait --help' ;;
+    watch) echo '--yaml --from --socket --wait --help' ;;
+    *) echo '--socket --wait --help' ;;
+    esac
+}
+
+# The names of the configurations in a folder as it was typed, perhaps in quotes or with a `~`.
+_confstorectl_names() {
+    local folder=${1//[\\\"\']/}
+    [[ $folder != '~'* ]] || folder=$HOME${folder#'~'}
+    confstorectl names -- "$folder" 2>/dev/null
+}
+
+_confstorectl() {
+    local current=${COMP_WORDS[COMP_CWORD]} word='' place=-1 index folder='' more=''
+    COMPREPLY=()
+    for ((index = 1; index < COMP_CWORD; index++)); do
+        case ${COMP_WORDS[index]} in
+        --at | --from | --socket | --wait) index=$((index + 1)) ;;
+        -?*) ;;
+        *)
+            place=$((place + 1))
+            [ "$place" -ne 0 ] || word=${COMP_WORDS[index]}
+            [ "$place" -ne 1 ] || folder=${COMP_WORDS[index]}
+            ;;
+        esac
+    done
+    case ${COMP_WORDS[COMP_CWORD - 1]} in
+    --socket)
+        compopt -o filenames
+        mapfile -t COMPREPLY < <(compgen -f -- "$current")
+        return
+        ;;
+    --at | --from | --wait) return ;;
+    esac
+    if [[ $current == -* ]]; then
+        [ -n "$word" ] || more=--version
+        mapfile -t COMPREPLY < <(compgen -W "$(_confstorectl_options "$word") $more" -- "$current")
+        return
+    fi
+    case $word:$place in
+    :-1 | help:0) mapfile -t COMPREPLY < <(compgen -W "$_confstorectl_words" -- "$current") ;;
+    import:2 | batch:1)
+        compopt -o filenames
+        mapfile -t COMPREPLY < <(compgen -f -- "$current")
+        ;;
+    import:1 | set:1 | delete:1 | export:1 | get:1 | watch:1)
+        mapfile -t COMPREPLY < <(compgen -W "$(_confstorectl_names "$folder")" -- "$current")
+        ;;
+    *:0)
+        compopt -o filenames
+        mapfile -t COMPREPLY < <(compgen -d -- "$current")
+        ;;
+    esac
+}
+
+complete -F _confstorectl confstorectl

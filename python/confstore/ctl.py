@@ -1,0 +1,250 @@
+"""confstorectl: changes and reads a store, also one that a server or a replicated node holds.
+
+    confstorectl set /var/lib/app web /port 81
+
+It has the words of confstore, with the same arguments, output and statuses (`ctl_words.py`). Each is asked of the
+server at a socket, if there is one, and else of the program. `python3 -m confstore.ctl` runs it too.
+"""
+
+from __future__ import annotations
+
+import signal
+
+if __name__ == "__main__":
+    signal.signal(signal.SIGINT, signal.SIG_DFL)  # it ends this program as it ends confstore, without a trace
+
+import sys  # noqa: E402
+import time
+from typing import Callable, Dict, List, Optional, Sequence
+
+from .commands import CHECKPOINT, NAMES, delete_of, get_of, import_of, is_name, set_of
+from .ctl_asked import Asked, Help, Version, asked_of
+from .ctl_faults import DEVICE, Fault
+from .ctl_help import help_of, help_of_all
+from .ctl_program import edits_of, program_if_any, run, styled, tree_of
+from .ctl_sockets import NO_SERVER, Command, Connection, Place, Reply, SessionReply, answer_of, place_of
+from .ctl_streams import ClosedPipe, hold_closed, read_text, write, write_error
+from .ctl_watch import watch
+from .ctl_words import AT, BATCH, IMPORT, LOOKING_BACK, RAW, READING, SET, WATCH, YAML_VALUE
+from .session import LONGEST_COMMAND
+from .style import Tree, document
+
+# How many seconds lie between two tries of a word.
+PAUSE = 0.1
+
+# What a shell adds to the number of the signal that ended a program.
+BY_SIGNAL = 128
+
+# How many bytes a character of a text has at most in a command.
+LONGEST_CHARACTER = 6
+
+# The text of an empty list.
+EMPTY = "[]\n"
+
+
+class Work:
+    """A word that is to be done, with the text that it reads."""
+
+    def __init__(self, asked: Asked) -> None:
+        self.asked = asked
+        self.text: Optional[bytes] = None
+        if asked.word in (IMPORT, BATCH):
+            self.text = read_text(asked.argument("FILE") or "-")
+        elif asked.word is SET and asked.has(YAML_VALUE):
+            value = asked.arguments["VALUE"]
+            self.text = read_text("-") if value == "-" else value.encode()
+        self._command: Optional[Command] = None
+
+    @property
+    def place(self) -> Optional[Place]:
+        """The socket that it is asked through, if there is one."""
+        if self.asked.word in LOOKING_BACK or self.asked.has(AT):
+            return None
+        return place_of(self.asked.socket, self.asked.folder)
+
+    @property
+    def command(self) -> Command:
+        """The command of a session. Raises the `Fault` of a text that is refused."""
+        if self._command is None:
+            self._command = _COMMANDS[self.asked.word.name](self)
+        return self._command
+
+    def may_try_again(self, fault: Fault) -> bool:
+        """Whether it may be done once more: nothing was done, or it only reads and the server went."""
+        return fault.may_try_again or (fault.kind == NO_SERVER and self.asked.word in READING)
+
+    def by_program(self) -> int:
+        """Has the program do it. The status."""
+        if self.asked.word is BATCH:
+            ended = run(["run", "--", self.asked.folder], document(self.command))
+        else:
+            ended = run(self._words(), self.text, None)
+        if ended.was_locked:
+            raise Fault("Locked", None, True)
+        write_error(ended.lines())
+        if ended.output:
+            answer_of(SessionReply(ended.output), self.command, program_if_any())
+        return ended.status if ended.status >= 0 else BY_SIGNAL - ended.status
+
+    def _words(self) -> List[str]:
+        """The words for the program. What is read is on its standard input."""
+        asked, options = self.asked, []
+        for option in asked.word.options:
+            if asked.has(option):
+                options += [option.name, asked.options[option.name]] if option.value else [option.name]
+        arguments = dict(asked.arguments)
+        if self.text is not None:
+            arguments.pop("FILE", None)
+            if "VALUE" in arguments:
+                arguments["VALUE"] = "-"
+        return [asked.word.name, *options, "--", *arguments.values()]
+
+    def by_socket(self, place: Place) -> int:
+        """Asks the server. The status."""
+        with Connection(place) as connection:
+            reply = answer_of(connection.ask(self.command), self.command, program_if_any())
+        write(_OUTPUTS.get(self.asked.word.name, _nothing)(self, reply))
+        return 0
+
+
+# ---- the commands of the words
+
+
+def _import_command(work: Work) -> Command:
+    """The import of the text. One that is not UTF-8, or that is longer than a command as it stands, is looked at by the
+    program."""
+    assert work.text is not None
+    name = work.asked.arguments["NAME"]
+    if not is_name(name):
+        return import_of(name, EMPTY)  # so that the name is what is refused
+    try:
+        text = work.text.decode()
+    except UnicodeDecodeError:
+        text = styled(work.text).decode()
+    if len(text) * LONGEST_CHARACTER > LONGEST_COMMAND:
+        text = styled(work.text).decode()
+    return import_of(name, text)
+
+
+def _set_command(work: Work) -> Command:
+    given = work.asked.arguments
+    value: Tree = given["VALUE"] if work.text is None else tree_of(work.text)
+    return set_of(given["NAME"], given["POINTER"], value)
+
+
+def _batch_command(work: Work) -> Command:
+    assert work.text is not None
+    return {"batch": edits_of(work.text)}
+
+
+_COMMANDS: Dict[str, Callable[[Work], Command]] = {
+    "import": _import_command,
+    "set": _set_command,
+    "batch": _batch_command,
+    "delete": lambda work: delete_of(work.asked.arguments["NAME"], work.asked.argument("POINTER")),
+    "get": lambda work: get_of(work.asked.arguments["NAME"], work.asked.argument("POINTER")),
+    "export": lambda work: {"export": work.asked.arguments["NAME"]},
+    "names": lambda _: dict(_mapping(NAMES)),
+    "checkpoint": lambda _: dict(_mapping(CHECKPOINT)),
+}
+
+
+def _mapping(command: Tree) -> Command:
+    assert isinstance(command, dict)
+    return command
+
+
+# ---- what the words write
+
+
+def _nothing(_work: Work, _reply: Reply) -> bytes:
+    return b""
+
+
+def _value(work: Work, reply: Reply) -> bytes:
+    tree = reply.tree() if work.asked.has(RAW) else None
+    return f"{tree}\n".encode() if isinstance(tree, str) else reply.styled()
+
+
+def _text(_work: Work, reply: Reply) -> bytes:
+    text = reply.tree()
+    if not isinstance(text, str):
+        raise Fault("BadAnswer", "the text of an export is a collection")
+    return text.encode()
+
+
+def _names(_work: Work, reply: Reply) -> bytes:
+    names = reply.tree()
+    if not isinstance(names, list):
+        raise Fault("BadAnswer", "the names are no list")
+    return "".join(f"{name}\n" for name in names).encode()
+
+
+_OUTPUTS: Dict[str, Callable[[Work, Reply], bytes]] = {"get": _value, "export": _text, "names": _names}
+
+
+# ---- the whole
+
+
+def _try(work: Work) -> int:
+    """Does a word once. The status. Raises a `Fault`."""
+    place = work.place
+    if place is None:
+        return work.by_program()
+    try:
+        return work.by_socket(place)
+    except Fault as fault:
+        if place.is_given or not fault.may_try_again:
+            raise
+    return work.by_program()  # the server that was there has ended
+
+
+def do(asked: Asked) -> int:
+    """Does what is asked. The status. Raises a `Fault`."""
+    if asked.word is WATCH:
+        watch(asked)
+    work, deadline = Work(asked), time.monotonic() + asked.wait
+    while True:
+        try:
+            return _try(work)
+        except Fault as fault:
+            if not work.may_try_again(fault) or time.monotonic() >= deadline:
+                raise
+        time.sleep(min(PAUSE, max(deadline - time.monotonic(), 0)))
+
+
+def perform_words(words: Sequence[str]) -> int:
+    """Does what the words ask for, and writes why it can't. The status."""
+    try:
+        asked = asked_of(words)
+        if isinstance(asked, Asked):
+            return do(asked)
+        write(_help(asked).encode())
+        return 0
+    except ClosedPipe:
+        return DEVICE
+    except Fault as fault:
+        write_error(f"{fault.line}\n")
+        return fault.status
+    except MemoryError:
+        write_error("confstorectl: OutOfMemory\n")
+        return 1
+
+
+def _help(asked: "Help | Version") -> str:
+    if isinstance(asked, Version):
+        from . import __version__
+
+        return f"confstorectl {__version__}\n"
+    return help_of(asked.word) if asked.word else help_of_all()
+
+
+def main() -> int:
+    """The program. The status."""
+    signal.signal(signal.SIGINT, signal.SIG_DFL)
+    hold_closed()
+    return perform_words(sys.argv[1:])
+
+
+if __name__ == "__main__":
+    sys.exit(main())

@@ -1,0 +1,168 @@
+"""What confstorectl is asked to do, by the words that it is given."""
+
+from __future__ import annotations
+
+import re
+from typing import Dict, List, NamedTuple, Sequence
+
+from .ctl_faults import Fault, shown
+from .ctl_words import AT, COMMON, FROM, HELP, SOCKET, VERSION, WAIT, WORDS, Option, Word
+
+_OPTIONS: Dict[str, Option] = {
+    option.name: option for word in WORDS.values() for option in (*word.options, *COMMON, VERSION)
+}
+_SHORT = {"-h": HELP.name, "-V": VERSION.name}
+
+_NUMBER = re.compile(r"-[0-9]+(\.[0-9]*)?([eE][-+]?[0-9]+)?")
+_SECONDS = re.compile(r"[0-9]+(\.[0-9]*)?|\.[0-9]+")
+
+# The greatest number that a command can have.
+GREATEST = 2**64 - 1
+
+
+class Asked(NamedTuple):
+    """A word with its arguments and options, by their names. An option without a value has an empty one."""
+
+    word: Word
+    arguments: Dict[str, str]
+    options: Dict[str, str]
+
+    @property
+    def folder(self) -> str:
+        return self.arguments["FOLDER"]
+
+    def argument(self, name: str) -> str:
+        """An argument, or an empty text where it was left out."""
+        return self.arguments.get(name, "")
+
+    def has(self, option: Option) -> bool:
+        return option.name in self.options
+
+    @property
+    def socket(self) -> str:
+        return self.options.get(SOCKET.name, "")
+
+    @property
+    def wait(self) -> float:
+        return float(self.options.get(WAIT.name, "0"))
+
+
+class Help(NamedTuple):
+    """Help is asked for: of a word, or of all if that is empty."""
+
+    word: str
+
+
+class Version(NamedTuple):
+    """The version is asked for."""
+
+
+def wrong(about: str, word: "Word | None" = None) -> Fault:
+    """The fault of wrong words."""
+    rest = word.usage if word is not None else "see confstorectl --help"
+    return Fault("WrongWords", f"{about}: {rest}")
+
+
+class _Cut:
+    """Words that are cut into arguments and options."""
+
+    def __init__(self, words: Sequence[str]) -> None:
+        self.arguments: List[str] = []
+        self.options: Dict[str, str] = {}
+        self._left = list(reversed(words))
+        while self._left:
+            self._take(self._left.pop())
+
+    def _take(self, word: str) -> None:
+        if word == "--":
+            self.arguments += reversed(self._left)
+            self._left.clear()
+        elif word.startswith("--"):
+            self._take_option(*word.partition("="))
+        elif word in _SHORT:
+            self.options[_SHORT[word]] = ""
+        elif word.startswith("-") and word != "-" and not self._may_be_number(word):
+            raise wrong(f"there is no option {shown(word)}", self._word())
+        else:
+            self.arguments.append(word)
+
+    def _word(self) -> "Word | None":
+        return WORDS.get(self.arguments[0]) if self.arguments else None
+
+    def _may_be_number(self, word: str) -> bool:
+        """Whether the next argument is a value, which may be a negative number."""
+        of = self._word()
+        place = len(self.arguments) - 1
+        if of is None or place >= len(of.arguments) or of.arguments[place].name != "VALUE":
+            return False
+        return _NUMBER.fullmatch(word) is not None
+
+    def _take_option(self, name: str, mark: str, value: str) -> None:
+        option = _OPTIONS.get(name)
+        if option is None:
+            raise wrong(f"there is no option {shown(name)}", self._word())
+        if name in self.options:
+            raise wrong(f"{name} is there twice", self._word())
+        if not option.value and mark:
+            raise wrong(f"{name} takes no value", self._word())
+        if option.value and not mark:
+            if not self._left:
+                raise wrong(f"{name} wants {option.value}", self._word())
+            value = self._left.pop()
+        self.options[name] = value
+
+
+def asked_of(words: Sequence[str]) -> "Asked | Help | Version":
+    """What the words ask for. Raises `WrongWords`."""
+    if any("\udc80" <= sign <= "\udcff" for word in words for sign in word):
+        raise Fault("WrongWords", "the words are not UTF-8")
+    cut = _Cut(words)
+    name = cut.arguments[0] if cut.arguments else ""
+    if VERSION.name in cut.options:
+        return Version()
+    if name == "help" or (HELP.name in cut.options and not name):
+        return _help_of(cut.arguments[1:])
+    if not name:
+        raise wrong("a word is missing")
+    word = WORDS.get(name)
+    if word is None:
+        raise wrong(f"there is no word {shown(name)}")
+    if HELP.name in cut.options:
+        return Help(name)
+    _check_options(word, cut.options)
+    return Asked(word, _arguments_of(word, cut.arguments[1:]), cut.options)
+
+
+def _help_of(words: Sequence[str]) -> Help:
+    if len(words) > 1 or (words and words[0] not in WORDS):
+        raise wrong(f"there is no word {shown(words[-1])}")
+    return Help(words[0] if words else "")
+
+
+def _arguments_of(word: Word, words: Sequence[str]) -> Dict[str, str]:
+    """The arguments of a word by their names."""
+    needed = [argument.name for argument in word.arguments if not argument.is_optional]
+    if len(words) < len(needed):
+        raise wrong(f"{needed[len(words)]} is missing", word)
+    if len(words) > len(word.arguments):
+        raise wrong(f"{shown(words[len(word.arguments)])} is one argument too many", word)
+    return {argument.name: given for argument, given in zip(word.arguments, words)}
+
+
+def _check_number(word: Word, name: str, number: str) -> None:
+    if not (number.isascii() and number.isdecimal()) or int(number) > GREATEST:
+        raise wrong(f"{name} wants a number, not {shown(number)}", word)
+
+
+def _check_options(word: Word, options: Dict[str, str]) -> None:
+    """Raises `WrongWords` for an option that the word has not, or whose value is none."""
+    for name in options:
+        if all(name != option.name for option in (*word.options, *COMMON)):
+            raise wrong(f"{word.name} has no option {name}", word)
+    _check_number(word, AT.name, options.get(AT.name, "0"))
+    _check_number(word, FROM.name, options.get(FROM.name, "0"))
+    seconds = options.get(WAIT.name, "0")
+    if not _SECONDS.fullmatch(seconds):
+        raise wrong(f"{WAIT.name} wants a number of seconds, not {shown(seconds)}", word)
+    if options.get(SOCKET.name) == "":
+        raise wrong(f"{SOCKET.name} wants a path", word)

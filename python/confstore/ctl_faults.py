@@ -1,0 +1,102 @@
+"""What confstorectl says where something goes wrong: a name, and what to do."""
+
+from __future__ import annotations
+
+import re
+from typing import Dict, Optional
+
+from .faults import ConfstoreError, Refused
+
+DEVICE, REFUSED, WRONG_WORDS = 3, 1, 2
+
+# The statuses of names that are neither refusals nor about a store.
+_STATUSES: Dict[str, int] = {
+    "WrongWords": WRONG_WORDS,
+    **dict.fromkeys(
+        ("Device", "Locked", "Input", "Output", "Reopen", "Disconnected", "TimedOut", "BadAnswer", "Failed"), DEVICE
+    ),
+    **dict.fromkeys(("MissingProgram", "NotStarted"), DEVICE),
+}
+
+# What to do, where it isn't plain.
+_HINTS: Dict[str, str] = {
+    "Locked": "another run holds the store: name its socket with --socket, or wait for it with --wait SECONDS",
+    "BadCommand": "compare the keys of each edit, and their order, with `confstorectl help batch`",
+    "EmptyBatch": "the list has no edit",
+    "BadName": "a name has 1 to 64 of a-z, 0-9, _ and -, a letter first",
+    "NoConfig": "no configuration has the name; `confstorectl names` lists those that are there",
+    "BadPath": "begin the pointer with `/`; write `~` as `~0`, and `/` in a key as `~1`",
+    "NoSuchPlace": "nothing is at the pointer",
+    "NotIndex": "an element of a list is named by its number, or `-` for the place behind the last",
+    "NotUtf8": "save the text as UTF-8",
+    "Documents": "a text has one document",
+    "KeyTwice": "a mapping of the text has a key twice",
+    "KeyNotText": "a key of the text is a list or a mapping",
+    "JournalLong": "the store file is too long: `confstorectl checkpoint` makes it short",
+    "StoreFull": "use a second store",
+    "RecordLong": "make two batches of it",
+    "NotAStore": "the folder has no store; `confstore init` makes one",
+    "NoSuchCommand": "`confstorectl verify` says which commands the file has",
+    "Device": "the folder is missing or can't be used, or its device failed",
+    "IdTaken": "send the command again",
+    "NotText": "a text has a lone surrogate",
+    "MissingProgram": "install confstore, or name it in CONFSTORE",
+}
+
+_HIDDEN = re.compile("[\0-\x1f\x7f-\x9f\u061c\u200e\u200f\u2028-\u202e\u2066-\u2069\\\\]")
+
+
+def shown(text: str) -> str:
+    """A word or a path for a line: what could change what a terminal shows is escaped, as by confstore."""
+    return _HIDDEN.sub(lambda found: _escape(found.group()), text.encode("utf-8", "replace").decode())
+
+
+def _escape(sign: str) -> str:
+    plain = {"\n": "\\n", "\r": "\\r", "\t": "\\t", "\\": "\\\\"}.get(sign)
+    return plain or f"\\u{{{ord(sign):x}}}"
+
+
+class Fault(Exception):
+    """A word could not be done: by the name of what went wrong, with a line about it.
+
+    `may_try_again` says that nothing was done, and that it may go well later.
+    """
+
+    def __init__(self, name: str, about: Optional[str] = None, may_try_again: bool = False) -> None:
+        super().__init__(name)
+        self.name = name
+        self.about = about
+        self.may_try_again = may_try_again
+
+    @property
+    def kind(self) -> str:
+        """The name without what may follow it, as a line and a column."""
+        return self.name.partition(" ")[0]
+
+    @property
+    def status(self) -> int:
+        return _STATUSES.get(self.kind, REFUSED)
+
+    @property
+    def line(self) -> str:
+        """The line for standard error."""
+        about = self.about if self.about is not None else _HINTS.get(self.kind, "")
+        return f"confstorectl: {self.name}" + (f": {about}" if about else "")
+
+
+def hint_of(name: str) -> str:
+    """What to do about a fault of the program, or nothing where that is plain."""
+    return _HINTS.get(name, "")
+
+
+# The names of the program for what the package has other names for.
+_NAMES = {"MissingFolder": "Device", "UnusablePath": "Device", "InputFailed": "Input", "OutputFailed": "Output"}
+
+
+def fault_of(error: ConfstoreError) -> Fault:
+    """The fault of an exception of the package."""
+    if not isinstance(error, Refused):
+        name = type(error).__name__
+        return Fault(_NAMES.get(name, name), shown(str(error)).removeprefix(f"{name}: "))
+    place = error.place if error.word == "Syntax" else None
+    return Fault(f"Syntax {place.line}:{place.column} {place.reason}" if place else shown(error.word))

@@ -1,0 +1,279 @@
+"""What confstorectl asks through a socket: a server of a session, or a node of a replicated store.
+
+A session takes YAML documents, and a node JSON, a line each. A command is sent as one line that is both, and the line
+that closes a document. So whoever listens takes it, and the first byte of the answer says who that is. What a node says
+of the closing line, which is no command for it, is not read.
+"""
+
+from __future__ import annotations
+
+import contextlib
+import errno
+import json
+import os
+import re
+import socket
+import stat
+import time
+from typing import Dict, List, NamedTuple, Optional, Union
+
+import yaml
+
+from .ctl_faults import Fault, fault_of, shown
+from .commands import refused
+from .faults import BadAnswer, ConfstoreError
+from .other import Cutter
+from .session import LONGEST_ANSWER, LONGEST_COMMAND
+from .style import Tree, document, to_text, trees_of
+
+Command = Dict[str, Tree]
+
+# How many seconds an answer is waited for, and how long it is between two tries to be taken where many others wait.
+PATIENCE = 60.0
+PAUSE = 0.05
+
+PART = 1_048_576
+
+# The fault of a socket where nobody answers, or that this process may not use.
+NO_SERVER = "Disconnected"
+
+# The longest path that a socket may have, and where the units of packaging/ have stores and sockets.
+LONGEST_PATH = 107
+STORES, SOCKETS = "/var/lib/confstore", "/run/confstore"
+
+# What JSON and YAML both have to have escaped, or what a reader of the one might not take as the other does.
+_ESCAPED = re.compile("[\x80-\x9f\u2028\u2029\ufeff\ufffe\uffff]")
+_KEY = re.compile(rb"---\n([a-z]+):")
+
+
+class Place(NamedTuple):
+    """Where a server may be, and whether it was named by the user."""
+
+    path: str
+    is_given: bool
+
+
+def place_of(given: str, folder: str) -> Optional[Place]:
+    """The socket for a store: the one that was given, or the one that is found."""
+    given = given or os.environ.get("CONFSTORE_SOCKET", "")
+    if given:
+        return Place(given, True)
+    folder = os.path.abspath(folder)
+    above, name = os.path.split(folder)
+    likely = [os.path.join(folder, "confstore.sock")]
+    if above == STORES:
+        likely.append(os.path.join(SOCKETS, name, "socket"))
+    return next((Place(path, False) for path in likely if _is_socket(path)), None)
+
+
+def _is_socket(path: str) -> bool:
+    try:
+        return stat.S_ISSOCK(os.stat(path).st_mode)
+    except OSError:
+        return False
+
+
+class Reply:
+    """An answer: its one key, and what is under it."""
+
+    def __init__(self, key: str) -> None:
+        self.key = key
+
+    def tree(self) -> Tree:
+        """What is under the key."""
+        raise NotImplementedError
+
+    def styled(self) -> bytes:
+        """The text in the one style of what is under the key."""
+        try:
+            return to_text(self.tree()).encode()
+        except ConfstoreError as error:
+            raise Fault("BadAnswer", f"the answer has no tree: {shown(str(error))}") from None
+
+
+class SessionReply(Reply):
+    """An answer of a session. Its text is in the one style, and so is each part of it."""
+
+    def __init__(self, piece: bytes) -> None:
+        found = _KEY.match(piece)
+        if found is None or not piece.endswith(b"\n...\n"):
+            raise Fault("BadAnswer", "the server's answer is no document of a session")
+        super().__init__(found[1].decode())
+        self._piece, self._rest = piece, piece[found.end() : -len(b"...\n")]
+
+    def tree(self) -> Tree:
+        try:
+            (tree,) = trees_of(self._piece)
+        except (yaml.YAMLError, ValueError, BadAnswer):
+            raise Fault("BadAnswer", "the server's answer is no YAML") from None
+        if not isinstance(tree, dict) or tuple(tree) != (self.key,):
+            raise Fault("BadAnswer", "the server's answer has other keys than one")
+        return tree[self.key]
+
+    def styled(self) -> bytes:
+        if self._rest.startswith(b" "):
+            return self._rest[1:]
+        return re.sub(rb"(?m)^  ", b"", self._rest[1:])
+
+
+class NodeReply(Reply):
+    """An answer of a node."""
+
+    def __init__(self, line: bytes) -> None:
+        try:
+            answer = json.loads(line)
+        except (ValueError, RecursionError):
+            answer = None
+        if not isinstance(answer, dict) or len(answer) != 1:
+            raise Fault("BadAnswer", "the node's answer is no JSON object with one key")
+        (key,) = answer
+        self._tree: Tree = answer[key]
+        super().__init__(key)
+
+    def tree(self) -> Tree:
+        return self._tree
+
+
+def line_of(command: Command) -> bytes:
+    """A command as a line of JSON that is YAML too."""
+    line = json.dumps(command, ensure_ascii=False, separators=(", ", ": "))
+    return _ESCAPED.sub(lambda found: f"\\u{ord(found.group()):04x}", line).encode() + b"\n"
+
+
+class Connection:
+    """A connection to whoever listens at a socket."""
+
+    def __init__(self, place: Place) -> None:
+        self._path = place.path
+        self._socket = socket.socket(socket.AF_UNIX)
+        self._socket.settimeout(PATIENCE)
+        self._heard = bytearray()
+        self._count = 0  # of the bytes of the answer
+        try:
+            self._connect()
+        except OSError as error:
+            self._socket.close()
+            raise self._refused(error) from None
+
+    def _refused(self, error: OSError) -> Fault:
+        about = f"no server takes clients at {shown(self._path)}: {error.strerror or error}"
+        if error.errno in (errno.EACCES, errno.EPERM):
+            return Fault(NO_SERVER, f"{about}: those may connect who may write in the store's folder", True)
+        return Fault(NO_SERVER, f"{about}: start one", error.errno in (errno.ECONNREFUSED, errno.ENOENT))
+
+    def _connect(self) -> None:
+        """Connects, and waits where as many others do as may wait."""
+        deadline = time.monotonic() + PATIENCE
+        while True:
+            try:
+                self._connect_once()
+                return
+            except BlockingIOError:
+                if time.monotonic() > deadline:
+                    raise
+            time.sleep(PAUSE)
+
+    def _connect_once(self) -> None:
+        if len(os.fsencode(self._path)) <= LONGEST_PATH:
+            self._socket.connect(self._path)
+            return
+        folder, name = os.path.split(self._path)
+        above = os.open(folder, os.O_PATH | os.O_DIRECTORY)
+        try:
+            self._socket.connect(f"/proc/self/fd/{above}/{name}")
+        finally:
+            os.close(above)
+
+    def close(self) -> None:
+        self._socket.close()
+
+    def __enter__(self) -> "Connection":
+        return self
+
+    def __exit__(self, *_: object) -> None:
+        self.close()
+
+    def ask(self, command: Command) -> Reply:
+        """The answer to a command. Raises a `Fault` where none comes."""
+        line = line_of(command)
+        if len(line) + len(b"...\n") > LONGEST_COMMAND:
+            raise Fault("TooLong", "the command is longer than a session takes")
+        reply = self._answer_to(line + b"...\n")
+        if isinstance(reply, SessionReply) and (reply.key, reply.styled()) == ("refused", b"BadCommand\n"):
+            return self._answer_to(document(command))  # as where a key is too long to stand in one line
+        return reply
+
+    def _answer_to(self, sent: bytes) -> Union[SessionReply, NodeReply]:
+        self._count = 0
+        try:
+            with contextlib.suppress(BrokenPipeError, ConnectionResetError):  # what it said before it went is read
+                self._socket.sendall(sent)
+            if not self._heard:
+                self._hear()
+            return NodeReply(self._line()) if self._heard[:1] == b"{" else SessionReply(self._piece())
+        except socket.timeout:
+            about = f"no answer within {PATIENCE:g} seconds; a change was made or not, or will be: look"
+            raise Fault("TimedOut", about) from None
+        except OSError as error:
+            raise self._cut_off(error.strerror or str(error)) from None
+
+    def _cut_off(self, why: str) -> Fault:
+        about = f"the server at {shown(self._path)} ended, or cut this client off ({why})"
+        return Fault(NO_SERVER, f"{about}; a change was made or not: look")
+
+    def _hear(self) -> None:
+        part = self._socket.recv(PART)
+        if not part:
+            raise self._cut_off("it closed the connection")
+        self._heard += part
+        self._count += len(part)
+        if self._count > LONGEST_ANSWER:
+            raise Fault("BadAnswer", f"the answer has more than {LONGEST_ANSWER} bytes")
+
+    def _line(self) -> bytes:
+        looked = 0
+        while (found := self._heard.find(b"\n", looked)) < 0:
+            looked = len(self._heard)
+            self._hear()
+        line = bytes(self._heard[: found + 1])
+        del self._heard[: found + 1]
+        return line
+
+    def _piece(self) -> bytes:
+        cutter = Cutter()
+        pieces: List[bytes] = []
+        while not pieces:
+            heard, self._heard = bytes(self._heard), bytearray()
+            pieces = cutter.cut(heard)
+            if not pieces:
+                self._hear()
+        return pieces[0]
+
+
+def answer_of(reply: Reply, command: Command, program: Optional[str]) -> Reply:
+    """The answer to a command, which was not refused. Raises the `Fault` of one that was, or that failed.
+
+    The program says where a text was refused.
+    """
+    if reply.key == "refused":
+        raise _refusal_of(reply, command, program)
+    if reply.key == "failed":
+        about = "the node could not do it; a change may be in its log or not: look, or ask another node"
+        raise Fault(shown(f"Failed {reply.tree()}"), about)
+    return reply
+
+
+def _refusal_of(reply: Reply, command: Command, program: Optional[str]) -> Fault:
+    """The fault of a command that was refused."""
+    word = reply.tree()
+    if not isinstance(word, str):
+        raise Fault("BadAnswer", "a refusal has no name")
+    if isinstance(reply, NodeReply) and word == "BadCommand" and "checkpoint" in command:
+        return Fault("Unsupported", "a replicated node makes its checkpoints itself")
+    try:
+        fault = fault_of(refused(word, command, program))
+    except ConfstoreError as error:
+        return fault_of(error)
+    if "batch" in command and fault.kind == "Syntax":
+        fault.about = "this is the place in a text that an edit imports"
+    return fault

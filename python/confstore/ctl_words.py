@@ -1,0 +1,249 @@
+"""The words of confstorectl, as a table: its help, its completions and its man page are made of it."""
+
+from __future__ import annotations
+
+from typing import Dict, NamedTuple, Tuple
+
+
+class Argument(NamedTuple):
+    """An argument of a word."""
+
+    name: str
+    about: str
+    is_optional: bool = False
+
+
+class Option(NamedTuple):
+    """An option. What comes after it is named `value`, if anything does."""
+
+    name: str
+    about: str
+    value: str = ""
+
+
+class Word(NamedTuple):
+    """A word, with a line about it, its options and arguments, further sentences, and lines that show it."""
+
+    name: str
+    about: str
+    options: Tuple[Option, ...]
+    arguments: Tuple[Argument, ...]
+    details: Tuple[str, ...]
+    examples: Tuple[str, ...]
+
+    @property
+    def usage(self) -> str:
+        """How it is written, without the options that all words have."""
+        options = [f"[{option.name} {option.value}]" if option.value else f"[{option.name}]" for option in self.options]
+        needed = [argument.name for argument in self.arguments if not argument.is_optional]
+        more = [argument.name for argument in self.arguments if argument.is_optional]
+        shown = " [".join(["", *more])[1:] + "]" * len(more)
+        return " ".join(["confstorectl", self.name, *options, *needed, *([shown] if more else [])])
+
+
+SOCKET = Option("--socket", "The socket of the server or the node that holds the store", "PATH")
+WAIT = Option("--wait", "Tries again for so many seconds while another run holds the store", "SECONDS")
+HELP = Option("--help", "Says what the word does")
+VERSION = Option("--version", "Writes the version")
+
+# The options that every word has.
+COMMON = (SOCKET, WAIT, HELP)
+
+AT = Option("--at", "Reads the store as it was after command number N", "N")
+FROM = Option("--from", "Begins with change number N, which may have been made already", "N")
+RAW = Option("--raw", "Writes a text as it is, with a line feed after it")
+YAML_VALUE = Option("--yaml", "Reads VALUE, or standard input if that is `-`, as a YAML text")
+YAML_RECORDS = Option("--yaml", "Writes the records as they stand in store.yaml")
+
+FOLDER = Argument("FOLDER", "The store's folder")
+NAME = Argument("NAME", "The name of the configuration")
+POINTER = Argument("POINTER", "A JSON Pointer (RFC 6901), as /port or /tags/0")
+WHOLE_POINTER = Argument("POINTER", "A JSON Pointer, as /port; the whole configuration if it is left out", True)
+VALUE = Argument("VALUE", "The value; after `--` if it begins with `-` and is no number")
+FILE = Argument("FILE", "The file of the text; standard input if it is left out or `-`", True)
+WATCHED_NAME = Argument("NAME", "The configuration; all of them if it is left out", True)
+
+IMPORT = Word(
+    "import",
+    "Reads a YAML text, and puts its tree under a name",
+    (),
+    (FOLDER, NAME, FILE),
+    ("A configuration that has the name is replaced. Nothing is printed where it is done.",),
+    (
+        "confstorectl import store web web.yaml",
+        "printf 'port: 80\\n' | confstorectl import store web",
+    ),
+)
+SET = Word(
+    "set",
+    "Sets the value at a JSON Pointer of a configuration",
+    (YAML_VALUE,),
+    (FOLDER, NAME, POINTER, VALUE),
+    (
+        "VALUE is the text itself. With `--yaml` it is read as a YAML text, so that a list or a mapping can be set;"
+        " then `-` stands for standard input. The pointer \"\" stands for the whole configuration, and the step `-` for"
+        " the place behind the last element of a list. Nothing is printed where it is done.",
+    ),
+    (
+        "confstorectl set store web /port 80",
+        "confstorectl set store web /tags '[a, b]' --yaml",
+        "confstorectl set store web /tags/- c",
+    ),
+)
+DELETE = Word(
+    "delete",
+    "Removes a configuration, or what is at a JSON Pointer of it",
+    (),
+    (FOLDER, NAME, WHOLE_POINTER),
+    ("Nothing is printed where it is done.",),
+    (
+        "confstorectl delete store web /tags/0",
+        "confstorectl delete store web",
+    ),
+)
+BATCH = Word(
+    "batch",
+    "Makes all edits of a list, or none of them",
+    (),
+    (FOLDER, FILE),
+    (
+        "The text is a YAML list. Each edit is a mapping with the keys `import` and `text`, or `import` and `tree`; or"
+        " `set`, `path` and `value`; or `delete` and `path`; in this order. Nothing is printed where it is done.",
+    ),
+    (
+        "confstorectl batch store edits.yaml",
+        "echo '[{set: web, path: /port, value: 81}, {delete: old, path: \"\"}]' | confstorectl batch store",
+    ),
+)
+CHECKPOINT = Word(
+    "checkpoint",
+    "Makes the store file as short as its state",
+    (),
+    (FOLDER,),
+    ("What earlier commands were is gone then. A replicated node makes its checkpoints itself.",),
+    ("confstorectl checkpoint store",),
+)
+EXPORT = Word(
+    "export",
+    "Writes a configuration in the one style",
+    (),
+    (FOLDER, NAME),
+    (),
+    ("confstorectl export store web",),
+)
+NAMES = Word(
+    "names",
+    "Writes the names of the configurations, a line each",
+    (AT,),
+    (FOLDER,),
+    (),
+    (
+        "confstorectl names store",
+        "confstorectl names store --at 12",
+    ),
+)
+GET = Word(
+    "get",
+    "Writes the value at a JSON Pointer of a configuration",
+    (RAW, AT),
+    (FOLDER, NAME, WHOLE_POINTER),
+    ("The value is written in the one style.",),
+    (
+        "confstorectl get store web /port --raw",
+        "confstorectl get store web",
+        "confstorectl get store web /port --at 12",
+    ),
+)
+LOG = Word(
+    "log",
+    "Writes the commands since the last checkpoint",
+    (YAML_RECORDS, AT),
+    (FOLDER,),
+    ("Each command is one line, as `2 set web \"/port\"`: its number, what it did, and where.",),
+    (
+        "confstorectl log store",
+        "confstorectl log store --yaml",
+    ),
+)
+VERIFY = Word(
+    "verify",
+    "Reads the whole store file, and writes whether it can be opened",
+    (),
+    (FOLDER,),
+    ("The answer is a YAML mapping. Of a damaged store it says where the damage begins; then the status is 1.",),
+    ("confstorectl verify store",),
+)
+WATCH = Word(
+    "watch",
+    "Writes each change as it is made",
+    (YAML_RECORDS, FROM),
+    (FOLDER, WATCHED_NAME, Argument("POINTER", "A JSON Pointer; what is at, above or below it is watched", True)),
+    (
+        "Each change is one line, as of `log`; with `--yaml` it is its record, which has the values. With a name, and a"
+        " pointer, these are the changes that may change what is there. It begins after the last change that there is,"
+        " and goes on over checkpoints and over servers that end and begin, until it is ended.",
+        "Where a checkpoint dropped changes before they were seen, the line `5-9 cut` stands in their place; with"
+        " `--yaml` it is a document with the key `cut`, and the numbers `first` and `last`. The line"
+        " `after 4 replaced`, or the key `replaced`, says that the store has another history than before, as that of a"
+        " backup, whose changes after number 4 follow.",
+    ),
+    (
+        "confstorectl watch store",
+        "confstorectl watch store web /port --yaml",
+        "confstorectl watch store --from 1",
+    ),
+)
+
+CHANGING = (IMPORT, SET, DELETE, BATCH, CHECKPOINT)
+READING = (EXPORT, NAMES, GET)
+LOOKING_BACK = (LOG, VERIFY, WATCH)
+
+WORDS: Dict[str, Word] = {word.name: word for word in (*CHANGING, *READING, *LOOKING_BACK)}
+
+# Each group of words, with its heading.
+GROUPS = (
+    ("change a store", CHANGING),
+    ("read a store", READING),
+    ("look into its file", LOOKING_BACK),
+)
+
+ABOUT = "Changes and reads a store of confstore, also one that a server holds."
+
+# What is said of all words, a paragraph each.
+DESCRIPTION = (
+    "The words are those of confstore, with the same arguments, output and statuses. Each goes to the server or the"
+    " replicated node that holds the store, through its socket, if there is one; else it is done by the program"
+    " confstore.",
+    "The socket is the one of `--socket`, else that of the environment's CONFSTORE_SOCKET, else"
+    " FOLDER/confstore.sock if a server listens there; and of a FOLDER in /var/lib/confstore it is"
+    " /run/confstore/NAME/socket. With one that is given FOLDER only counts for the words and options that look into"
+    " the file of a store: `log`, `verify`, `watch` and `--at`. These read the folder, also beside a server, by the"
+    " program, which is CONFSTORE or confstore on the PATH.",
+    "With `--wait SECONDS` a word that finds the store locked, or no server at a socket that is given, tries again for"
+    " so long. An argument that begins with `-` comes after `--`.",
+)
+
+# Each status, with what it means.
+STATUSES = (
+    ("0", "Done."),
+    ("1", "A text, a command or a store was refused, or memory ran out."),
+    ("2", "Wrong words."),
+    ("3", "Reading or writing failed, the folder is missing or held, or no server answered."),
+)
+
+FAULTS = (
+    "A fault is one line on standard error, as `confstorectl: Locked: ..`: its name, and what to do where that isn't"
+    " plain. The names are those of confstore, and a few more."
+)
+
+# The faults that confstore does not have, each with its status and with what it says.
+OWN_FAULTS = (
+    ("WrongWords", "2", "the words are none that confstorectl takes"),
+    ("Disconnected", "3", "no server answers at the socket; a change that was sent was made or not"),
+    ("TimedOut", "3", "no answer came within a minute; a change was made or not, or will be"),
+    ("BadAnswer", "3", "what the server said is no answer"),
+    ("Failed", "3", "a replicated node could not perform a command; the word behind it says why"),
+    ("MissingProgram", "3", "there is no program confstore where it was looked for"),
+    ("NotStarted", "3", "the system did not start the program"),
+    ("Unsupported", "1", "a replicated node has no such word"),
+)

@@ -1,0 +1,382 @@
+#!/usr/bin/env python3
+"""Makes the completions and the man page of confstorectl of the table of its words.
+
+    python/pages_of_confstorectl.py             writes them into completions/ and docs/man
+    python/pages_of_confstorectl.py --check     says which of them are not as the table has them
+
+The status is 1 if one isn't, or could not be written.
+"""
+
+from __future__ import annotations
+
+import os
+import re
+import sys
+import textwrap
+from typing import Dict, Iterator, List, Sequence
+
+HERE = os.path.dirname(os.path.abspath(__file__))
+TOP = os.path.dirname(HERE)
+sys.path.insert(0, HERE)
+
+from confstore import __version__  # noqa: E402
+from confstore.ctl_words import COMMON, DESCRIPTION, FAULTS, GROUPS, HELP, OWN_FAULTS, STATUSES  # noqa: E402
+from confstore.ctl_words import VERSION, WORDS, Argument, Option, Word  # noqa: E402
+
+MADE = "# python/pages_of_confstorectl.py makes this file of the table of words."
+WIDTH = 110
+
+ALL = list(WORDS.values())
+OPTIONS: List[Option] = list(dict.fromkeys(option for word in ALL for option in (*word.options, *COMMON)))
+WITH_VALUE = sorted({option.name for option in OPTIONS if option.value})
+HELP_ABOUT = "Says what a word does"
+
+
+def names_of(options: Sequence[Option]) -> str:
+    return " ".join(option.name for option in options)
+
+
+def places(argument: str) -> Iterator[str]:
+    """Where an argument stands: each word with the number of arguments before it."""
+    for word in ALL:
+        for place, found in enumerate(word.arguments):
+            if found.name == argument:
+                yield f"{word.name}:{place}"
+
+
+# ---- completions
+
+
+def for_bash() -> str:
+    cases = [f"    {word.name}) echo '{names_of([*word.options, *COMMON])}' ;;" for word in ALL if word.options]
+    return BASH.format(
+        made=MADE,
+        words=" ".join([*WORDS, "help"]),
+        options="\n".join(cases),
+        common=names_of(COMMON),
+        values=" | ".join(WITH_VALUE),
+        no_files=" | ".join(name for name in WITH_VALUE if name != "--socket"),
+        files=" | ".join(places("FILE")),
+        names=" | ".join(places("NAME")),
+        version=VERSION.name,
+    )
+
+
+BASH = """\
+# Completion of confstorectl for bash: `source` it, or put it as `confstorectl` where bash-completion looks for such
+# files.
+{made}
+
+_confstorectl_words='{words}'
+
+_confstorectl_options() {{
+    case $1 in
+{options}
+    *) echo '{common}' ;;
+    esac
+}}
+
+# The names of the configurations in a folder as it was typed, perhaps in quotes or with a `~`.
+_confstorectl_names() {{
+    local folder=${{1//[\\\\\\"\\']/}}
+    [[ $folder != '~'* ]] || folder=$HOME${{folder#'~'}}
+    confstorectl names -- "$folder" 2>/dev/null
+}}
+
+_confstorectl() {{
+    local current=${{COMP_WORDS[COMP_CWORD]}} word='' place=-1 index folder='' more=''
+    COMPREPLY=()
+    for ((index = 1; index < COMP_CWORD; index++)); do
+        case ${{COMP_WORDS[index]}} in
+        {values}) index=$((index + 1)) ;;
+        -?*) ;;
+        *)
+            place=$((place + 1))
+            [ "$place" -ne 0 ] || word=${{COMP_WORDS[index]}}
+            [ "$place" -ne 1 ] || folder=${{COMP_WORDS[index]}}
+            ;;
+        esac
+    done
+    case ${{COMP_WORDS[COMP_CWORD - 1]}} in
+    --socket)
+        compopt -o filenames
+        mapfile -t COMPREPLY < <(compgen -f -- "$current")
+        return
+        ;;
+    {no_files}) return ;;
+    esac
+    if [[ $current == -* ]]; then
+        [ -n "$word" ] || more={version}
+        mapfile -t COMPREPLY < <(compgen -W "$(_confstorectl_options "$word") $more" -- "$current")
+        return
+    fi
+    case $word:$place in
+    :-1 | help:0) mapfile -t COMPREPLY < <(compgen -W "$_confstorectl_words" -- "$current") ;;
+    {files})
+        compopt -o filenames
+        mapfile -t COMPREPLY < <(compgen -f -- "$current")
+        ;;
+    {names})
+        mapfile -t COMPREPLY < <(compgen -W "$(_confstorectl_names "$folder")" -- "$current")
+        ;;
+    *:0)
+        compopt -o filenames
+        mapfile -t COMPREPLY < <(compgen -d -- "$current")
+        ;;
+    esac
+}}
+
+complete -F _confstorectl confstorectl
+"""
+
+ZSH_PLACES = {"FOLDER": "folder:_files -/", "NAME": "name:_confstorectl_names", "FILE": "file:_files"}
+
+
+def zsh_option(option: Option) -> str:
+    action = "_files" if option.name == "--socket" else ""
+    value = f":{option.value.lower()}:{action}" if option.value else ""
+    return f"'{option.name}[{option.about}]{value}'"
+
+
+def zsh_argument(place: int, argument: Argument) -> str:
+    return f"'{place}:{ZSH_PLACES.get(argument.name, argument.name.lower() + ':')}'"
+
+
+def zsh_case(word: Word) -> str:
+    parts = [zsh_option(option) for option in word.options]
+    parts += [zsh_argument(place, argument) for place, argument in enumerate(word.arguments, 1)]
+    lines = " \\\n            ".join(parts)
+    return f"        {word.name}) _arguments $common \\\n            {lines} ;;"
+
+
+def for_zsh() -> str:
+    return ZSH.format(
+        made=MADE,
+        words="\n".join(f"        '{word.name}:{word.about}'" for word in ALL),
+        help_about=HELP_ABOUT,
+        common="\n".join(f"        {zsh_option(option)}" for option in COMMON),
+        version=zsh_option(VERSION),
+        cases="\n".join(map(zsh_case, ALL)),
+    )
+
+
+ZSH = """\
+#compdef confstorectl
+# Completion of confstorectl for zsh: put it into a folder of `fpath`.
+{made}
+
+# The names of the configurations in the folder that was typed.
+_confstorectl_names() {{
+    local -a names_there
+    names_there=(${{(f)"$(_call_program names confstorectl names -- ${{(q)${{(Q)line[1]}}}} 2>/dev/null)"}})
+    compadd -a names_there
+}}
+
+_confstorectl() {{
+    local context state line curcontext=$curcontext
+    local -a words_of common
+    words_of=(
+{words}
+        'help:{help_about}'
+    )
+    common=(
+{common}
+    )
+    _arguments -C $common {version} '1: :->word' '*:: :->rest'
+    case $state in
+    word) _describe -t words word words_of ;;
+    rest)
+        case $words[1] in
+{cases}
+        help) _describe -t words word words_of ;;
+        esac
+        ;;
+    esac
+}}
+
+_confstorectl "$@"
+"""
+
+
+def fish_option(condition: str, option: Option) -> str:
+    value = " -r -F" if option.name == "--socket" else " -x" if option.value else ""
+    return f"complete -c confstorectl{condition} -l {option.name[2:]}{value} -d '{option.about}'"
+
+
+def fish_places(argument: str) -> Iterator[str]:
+    """The conditions under which an argument is written."""
+    where: Dict[str, List[str]] = {}
+    for place in places(argument):
+        word, _, number = place.partition(":")
+        where.setdefault(number, []).append(word)
+    return (f"'__confstorectl_at {number} {' '.join(words)}'" for number, words in where.items())
+
+
+def for_fish() -> str:
+    starts = [f"complete -c confstorectl -n '__confstorectl_at -1' -a {word.name} -d '{word.about}'" for word in ALL]
+    starts.append(f"complete -c confstorectl -n '__confstorectl_at -1' -a help -d '{HELP_ABOUT}'")
+    rows = [fish_option("", option) for option in COMMON]
+    rows.append(fish_option(" -n '__confstorectl_at -1'", VERSION))
+    for word in ALL:
+        rows += [fish_option(f" -n '__confstorectl_is {word.name}'", option) for option in word.options]
+    for argument, action in (("FOLDER", "-a '(__fish_complete_directories)'"), ("FILE", "-F")):
+        rows += [f"complete -c confstorectl -n {place} {action}" for place in fish_places(argument)]
+    rows += [f"complete -c confstorectl -n {place} -a '(__confstorectl_names)'" for place in fish_places("NAME")]
+    rows.append(f"complete -c confstorectl -n '__confstorectl_at 0 help' -a '{' '.join(WORDS)}'")
+    return FISH.format(made=MADE, values=" ".join(WITH_VALUE), rows="\n".join(map(fish_lines, [*starts, *rows])))
+
+
+def fish_lines(row: str) -> str:
+    """A row, in two lines where it is long."""
+    return re.sub(r" -([ad]) ", r" \\\n    -\1 ", row, count=1) if len(row) > WIDTH else row
+
+
+FISH = """\
+# Completion of confstorectl for fish: put it into a folder of `fish_complete_path`.
+{made}
+
+# The words that were written that are no options and no option's value: the word, and its arguments.
+function __confstorectl_places
+    set -l places
+    set -l is_value 0
+    for word in (commandline -opc)[2..-1]
+        if test $is_value = 1
+            set is_value 0
+        else if contains -- $word {values}
+            set is_value 1
+        else if not string match -q -- '-?*' $word
+            set -a places $word
+        end
+    end
+    for place in $places
+        echo $place
+    end
+end
+
+# Whether so many arguments come before the one that is being written, after one of these words.
+function __confstorectl_at
+    set -l places (__confstorectl_places)
+    test (count $places) -eq (math $argv[1] + 1)
+    and begin
+        test (count $argv) -eq 1
+        or contains -- "$places[1]" $argv[2..-1]
+    end
+end
+
+# Whether this is the word that was written.
+function __confstorectl_is
+    set -l places (__confstorectl_places)
+    test "$places[1]" = $argv[1]
+end
+
+# The names of the configurations in the folder that was written.
+function __confstorectl_names
+    set -l places (__confstorectl_places)
+    confstorectl names -- $places[2] 2>/dev/null
+end
+
+complete -c confstorectl -f
+{rows}
+"""
+
+
+# ---- the man page
+
+
+def escaped(text: str) -> str:
+    return text.replace("\\", "\\e").replace("-", "\\-")
+
+
+def roff(text: str) -> str:
+    """A paragraph in the lines of a man page. What is between backticks is bold."""
+    parts = [escaped(part) for part in text.split("`")]
+    shown = "".join(f"\\fB{part}\\fR" if place % 2 else part for place, part in enumerate(parts))
+    lines = textwrap.wrap(shown, WIDTH, break_long_words=False, break_on_hyphens=False)
+    return "\n".join(f"\\&{line}" if line[:1] in (".", "'") else line for line in lines)
+
+
+def roff_usage(word: Word) -> str:
+    """A usage: what is typed in bold, and what stands for something else in italics."""
+    usage = escaped(word.usage.partition(" ")[2])
+    return re.sub(r"[A-Z]+|(?:\\-\\-)?[a-z]+", lambda found: roff_part(found.group()), usage)
+
+
+def roff_part(part: str) -> str:
+    return f"\\fI{part}\\fR" if part.isupper() else f"\\fB{part}\\fR"
+
+
+def roff_word(word: Word) -> str:
+    paragraphs = [f"{word.about}.", *word.details]
+    return f".TP\n{roff_usage(word)}\n" + "\n.IP\n".join(map(roff, paragraphs))
+
+
+def roff_option(option: Option, words: str = "") -> str:
+    value = f" \\fI{option.value}\\fR" if option.value else ""
+    return f".TP\n\\fB{escaped(option.name)}\\fR{value}\n{roff(words + option.about + '.')}"
+
+
+def roff_options() -> Iterator[str]:
+    for option in OPTIONS:
+        words = [word.name for word in ALL if option in word.options]
+        yield roff_option(option, f"Of {' and '.join(f'`{word}`' for word in words)}: " if words else "")
+    yield roff_option(VERSION)
+
+
+def for_man() -> str:
+    parts = [f'.TH CONFSTORECTL 1 "" "confstore {__version__}" "User Commands"']
+    parts.append(".SH NAME\nconfstorectl \\- change and read a store of confstore, also one that a server holds")
+    parts.append(".SH SYNOPSIS\n.B confstorectl\n[\\fB\\-\\-socket\\fR \\fIPATH\\fR]")
+    parts.append("[\\fB\\-\\-wait\\fR \\fISECONDS\\fR]")
+    parts.append("\\fIWORD\\fR \\fIFOLDER\\fR .\\|.\\|.\n.br\n.B confstorectl help\n[\\fIWORD\\fR]")
+    parts.append(".SH DESCRIPTION\n" + "\n.PP\n".join(map(roff, DESCRIPTION)))
+    for heading, words in GROUPS:
+        parts.append(f".SH WORDS THAT {heading.upper()}")
+        parts += map(roff_word, words)
+    parts.append(f".TP\n\\fBhelp\\fR [\\fIWORD\\fR]\n{HELP_ABOUT}, as\n.B {escaped(HELP.name)}\nafter it.")
+    parts.append(".SH OPTIONS")
+    parts += roff_options()
+    parts.append(".SH EXIT STATUS")
+    parts += [f".TP\n.B {status}\n{roff(meaning)}" for status, meaning in STATUSES]
+    parts.append(f".SH FAULTS\n{roff(FAULTS)}\nThese few are:")
+    parts += [f".TP\n.B {name}\n{roff(f'Status {status}: {about}.')}" for name, status, about in OWN_FAULTS]
+    parts.append(".SH EXAMPLES\n.EX")
+    parts += [escaped(line) for word in ALL for line in word.examples]
+    parts.append(".EE\n.SH ENVIRONMENT\n.TP\n.B CONFSTORE_SOCKET\nThe socket, where\n.B \\-\\-socket\nnames none.")
+    parts.append(".TP\n.B CONFSTORE\nThe program confstore.")
+    parts.append(".SH FILES\n.TP\n.I FOLDER/confstore.sock\nThe socket of a server, where none is named.")
+    parts.append(".SH SEE ALSO\n.BR confstore (1),\n.BR confstore\\-store (5)")
+    return "\n".join(parts) + "\n"
+
+
+PAGES = {
+    "completions/confstorectl.bash": for_bash,
+    "completions/_confstorectl": for_zsh,
+    "completions/confstorectl.fish": for_fish,
+    "docs/man/confstorectl.1": for_man,
+}
+
+
+def is_made(path: str, text: str) -> bool:
+    """Whether a file is as the table has it."""
+    try:
+        with open(os.path.join(TOP, path), encoding="utf-8") as source:
+            return source.read() == text
+    except FileNotFoundError:
+        return False
+
+
+def main() -> int:
+    made = {path: make() for path, make in PAGES.items()}
+    if sys.argv[1:] == ["--check"]:
+        other = [path for path, text in made.items() if not is_made(path, text)]
+        for path in other:
+            print(f"{path} is not as the table of words has it: run python/pages_of_confstorectl.py")
+        return 1 if other else 0
+    for path, text in made.items():
+        with open(os.path.join(TOP, path), "w", encoding="utf-8") as target:
+            target.write(text)
+    return 0
+
+
+if __name__ == "__main__":
+    sys.exit(main())

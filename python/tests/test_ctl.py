@@ -1,0 +1,428 @@
+"""confstorectl: its words, its faults, and whom it asks. `checks/ctl.py` tries it beside the program."""
+
+import contextlib
+import io
+import itertools
+import json
+import os
+import random
+import re
+import shlex
+import signal
+import socket
+import subprocess
+import sys
+import threading
+import time
+import unittest
+from unittest import mock
+
+import yaml
+from confstore import Store, to_text
+from confstore import ctl_sockets, ctl_streams
+from confstore.ctl import perform_words
+from confstore.ctl_asked import Asked, Help, Version, asked_of
+from confstore.ctl_faults import Fault, shown
+from confstore.ctl_help import help_of, help_of_all
+from confstore.ctl_sockets import Connection, Place, SessionReply, line_of, place_of
+from confstore.ctl_words import COMMON, WORDS
+from confstore.other import Cutter
+
+from . import TOP
+from .places import StoreTest, python_path
+
+PATIENCE = 20
+
+
+class Words(unittest.TestCase):
+    def asked(self, line):
+        asked = asked_of(shlex.split(line))
+        self.assertIsInstance(asked, Asked)
+        return asked.word.name, asked.arguments, asked.options
+
+    def test_arguments_and_options(self):
+        set_port = {"FOLDER": "s", "NAME": "web", "POINTER": "/port"}
+        for line, wanted in (
+            ("set s web /port 80", ("set", {**set_port, "VALUE": "80"}, {})),
+            ("set --yaml s web /port -", ("set", {**set_port, "VALUE": "-"}, {"--yaml": ""})),
+            ("set s web /port -8.5e3", ("set", {**set_port, "VALUE": "-8.5e3"}, {})),
+            ("set s web /port -- --yaml", ("set", {**set_port, "VALUE": "--yaml"}, {})),
+            ("set s web /port ''", ("set", {**set_port, "VALUE": ""}, {})),
+            ("get s web", ("get", {"FOLDER": "s", "NAME": "web"}, {})),
+            ("get s --raw web --at=5", ("get", {"FOLDER": "s", "NAME": "web"}, {"--raw": "", "--at": "5"})),
+            ("--wait .5 names s", ("names", {"FOLDER": "s"}, {"--wait": ".5"})),
+            ("names s --socket /x", ("names", {"FOLDER": "s"}, {"--socket": "/x"})),
+            ("names -- -s", ("names", {"FOLDER": "-s"}, {})),
+            ("watch s --from 18446744073709551615", ("watch", {"FOLDER": "s"}, {"--from": "18446744073709551615"})),
+        ):
+            with self.subTest(line):
+                self.assertEqual(self.asked(line), wanted)
+
+    def test_wrong_words(self):
+        for line in (
+            "", "nothing s", "get", "get s", "get s web /a /b", "get s web --foo", "get s web -x", "get s -5",
+            "set s web /port -x", "get s web --raw=x", "get s web --raw --raw", "get s web --at", "get s web --at x",
+            "get s web --at -1", "names s --at 18446744073709551616", "names s --raw", "names s --wait x",
+            "names s --wait -1", "names s --wait inf", "names s --socket ''", "log s --from 1", "help nothing",
+            "help get set", "watch s --from ''",
+        ):  # fmt: skip
+            with self.subTest(line):
+                with self.assertRaises(Fault) as caught:
+                    asked_of(shlex.split(line))
+                self.assertEqual(caught.exception.status, 2)
+                self.assertRegex(caught.exception.line, r"\Aconfstorectl: WrongWords: .*confstorectl")
+                self.assertNotIn("\n", caught.exception.line)
+
+    def test_help_and_version(self):
+        for line, wanted in (
+            ("--help", Help("")), ("-h", Help("")), ("help", Help("")), ("help get", Help("get")),
+            ("get --help", Help("get")), ("get s web -h", Help("get")), ("--version", Version()), ("-V", Version()),
+        ):  # fmt: skip
+            with self.subTest(line):
+                self.assertEqual(asked_of(shlex.split(line)), wanted)
+
+    def test_words_that_are_not_utf8(self):
+        with self.assertRaises(Fault) as caught:
+            asked_of(["get", "s", b"\xff".decode("utf-8", "surrogateescape")])
+        self.assertEqual((caught.exception.status, caught.exception.name), (2, "WrongWords"))
+
+    def test_the_examples_are_right(self):
+        for word in WORDS.values():
+            for example in word.examples:
+                with self.subTest(example):
+                    (_, _, line) = example.rpartition("| ")
+                    self.assertEqual(self.asked(line.partition(" ")[2])[0], word.name)
+
+    def test_help_has_all(self):
+        for word in WORDS.values():
+            self.assertRegex(help_of_all(), rf"(?m)^  {word.name} +{re.escape(word.about)}$")
+            for name in [*(option.name for option in (*word.options, *COMMON)), *(one.name for one in word.arguments)]:
+                self.assertRegex(help_of(word.name), rf"(?m)^  {name}\b")
+        for text in (help_of_all(), *map(help_of, WORDS)):
+            self.assertLess(max(map(len, text.splitlines())), 120)
+
+
+class Faults(unittest.TestCase):
+    def test_the_statuses_of_the_page(self):
+        """docs/FAULTS.md has those of each name of the program."""
+        with open(os.path.join(TOP, "docs", "FAULTS.md"), encoding="utf-8") as page:
+            text = page.read()
+        of_stores = text.partition("## Of a store and of the program")[2]
+        statuses = [
+            (name, int(status))
+            for names, status in re.findall(r"(?m)^\| (`.*?) \| (\d) \|", of_stores)
+            for name in re.findall(r"`(\w+)`", names)
+        ]
+        refusals = text.partition("## Of a text")[2].partition("## Of a store")[0]
+        rows = re.findall(r"(?m)^\| (`.*?) \|", refusals)
+        statuses += [(name, 1) for row in rows for name in re.findall(r"\w+", row)]
+        self.assertGreater(len(statuses), 30)
+        for name, status in statuses:
+            self.assertEqual((name, Fault(name).status), (name, status))
+
+    def test_what_a_line_shows(self):
+        self.assertEqual(shown("a\x1b[1m\n\\\u202e\x85ä"), "a\\u{1b}[1m\\n\\\\\\u{202e}\\u{85}ä")
+        self.assertEqual(Fault("Syntax 3:7 Flow").line, "confstorectl: Syntax 3:7 Flow")
+
+
+class Lines(unittest.TestCase):
+    COMMANDS = (
+        {"set": "web", "path": "/a", "value": "\x7f\x80\x9f\u2028\ufeff\U0001f600\\\"\n\t\r\b\f/ # : - [ { '"},
+        {"set": "web", "path": "", "value": {"a": ["", {}, [], {"": "b: c"}], "no": "~", "- x": "# y"}},
+        {"names": ""},
+        {"batch": [{"import": "a", "text": "--- \n...\n"}, {"delete": "a", "path": ""}]},
+    )
+
+    def test_a_command_is_one_line_of_json_and_yaml(self):
+        for command in self.COMMANDS:
+            line = line_of(command)
+            self.assertEqual(line.count(b"\n"), 1)
+            self.assertEqual(json.loads(line), command)
+            self.assertEqual(yaml.load(line.replace(b"\x7f", b"\\x7f"), yaml.BaseLoader), command)
+
+
+def random_text(chance):
+    signs = [*range(0x30), 0x3A, 0x5B, 0x5C, 0x7B, 0x7F, 0x80, 0x85, 0x9F, 0xA0, 0xE4, 0x2028, 0x2029, 0x202E]
+    signs += [0xD7FF, 0xE000, 0xFEFF, 0xFFFD, 0xFFFE, 0xFFFF, 0x10000, 0x1F600, 0x10FFFF, 0x61, 0x6E, 0x7E]
+    return "".join(chr(chance.choice(signs)) for _ in range(chance.randrange(8)))
+
+
+def random_tree(chance, depth):
+    kind = chance.randrange(3) if depth < 4 else 0
+    if kind == 0:
+        return random_text(chance)
+    parts = [random_tree(chance, depth + 1) for _ in range(chance.randrange(4))]
+    return parts if kind == 1 else {random_text(chance): part for part in parts}
+
+
+class Sessions(StoreTest):
+    TREES = (
+        "x", "", "two\nlines", "two\n\n lines\n\n", [], {}, ["a", ["b", {"c": "d\ne\n"}], []], {"k": {"l": ["m\n\nn"]}},
+        {"no": "", "k" * 1_100: {"a": "b"}, "\x85": ["\u2028"]},
+    )  # fmt: skip
+
+    def answer(self, command):
+        with Store(self.folder) as store:
+            return SessionReply(store._ask(command))
+
+    def test_the_text_of_a_value(self):
+        for tree in self.TREES:
+            with Store(self.folder) as store:
+                store["web"] = tree
+            reply = self.answer({"get": "web", "path": ""})
+            self.assertEqual((reply.key, reply.tree(), reply.styled().decode()), ("value", tree, to_text(tree)))
+
+    def test_a_session_reads_a_line_as_json_does(self):
+        """Random trees, of signs that a reader of YAML or of JSON may take for something else."""
+        seed = random.randrange(10**9)
+        chance = random.Random(seed)
+        trees = [random_tree(chance, 0) for _ in range(300)]
+        sent = b"".join(line_of({"import": "a", "text": to_text(tree)}) + b"...\n" for tree in trees[::2])
+        sent += b"".join(
+            line_of({"set": "a", "path": "", "value": tree}) + b'...\n{"get": "a", "path": ""}\n...\n' for tree in trees
+        )
+        words = [os.environ["CONFSTORE"], "run", self.folder]
+        done = subprocess.run(words, input=sent, capture_output=True, check=True, timeout=PATIENCE)
+        answers = Cutter().cut(done.stdout)
+        counts, rest = answers[: len(trees[::2])], answers[len(trees[::2]) :]
+        self.assertEqual([answer for answer in [*counts, *rest[::2]] if not answer.startswith(b"---\nok: ")], [])
+        found = [SessionReply(answer).tree() for answer in rest[1::2]]
+        self.assertEqual(found, trees, f"seed {seed}")
+
+    def test_what_is_no_answer(self):
+        for piece in (b"", b"x\n...\n", b"---\nvalue: x\n", b"---\n- a\n...\n", b"---\nVALUE: x\n...\n"):
+            with self.assertRaises(Fault) as caught:
+                SessionReply(piece)
+            self.assertEqual(caught.exception.status, 3)
+        for piece in (b"---\nvalue: x\nmore: y\n...\n", b"---\nvalue: *a\n...\n", b"---\nvalue: [\n...\n"):
+            with self.assertRaises(Fault):
+                SessionReply(piece).tree()
+
+
+def command_in(stream):
+    """The lines of the next command, up to the closing line or the end."""
+    lines = itertools.takewhile(lambda line: line not in (b"...\n", b""), iter(stream.readline, None))
+    return b"".join(lines)
+
+
+class SocketTest(StoreTest):
+    """A test with a socket where somebody answers each client in a way of its own."""
+
+    def setUp(self):
+        super().setUp()
+        self.path = os.path.join(self.top, "socket")
+        self.heard = []
+
+    def listen(self, *answers):
+        """Gives a client what it is to be answered, one line of `...` after the other, and then closes."""
+        listener = socket.socket(socket.AF_UNIX)
+        self.addCleanup(listener.close)
+        listener.bind(self.path)
+        listener.listen()
+
+        def serve():
+            with contextlib.suppress(OSError), listener:
+                connection, _ = listener.accept()
+                with connection, connection.makefile("rb") as stream:
+                    for answer in answers:
+                        self.heard.append(command_in(stream))
+                        connection.sendall(answer)
+                    if not answers:
+                        stream.read()  # until the client goes
+
+        thread = threading.Thread(target=serve, daemon=True)
+        thread.start()
+        self.addCleanup(thread.join, PATIENCE)
+
+    def perform(self, *words):
+        """The status of words that go to the socket, and what they wrote."""
+        output, errors = io.BytesIO(), io.StringIO()
+        with mock.patch("confstore.ctl.write", output.write), mock.patch("confstore.ctl.write_error", errors.write):
+            status = perform_words(["--socket", self.path, *words])
+        return status, output.getvalue(), errors.getvalue()
+
+    def fault(self, *words):
+        status, output, errors = self.perform(*words)
+        self.assertEqual(output, b"")
+        self.assertRegex(errors, r"\Aconfstorectl: .*\n\Z")
+        return status, errors.split(": ")[1].strip()
+
+
+class Sockets(SocketTest):
+    def test_a_session_answers(self):
+        self.listen(b'---\nvalue: "81"\n...\n')
+        self.assertEqual(self.perform("get", self.folder, "web", "/port"), (0, b'"81"\n', ""))
+        self.assertEqual(json.loads(self.heard[0]), {"get": "web", "path": "/port"})
+
+    def test_a_node_answers(self):
+        self.listen(b'{"value": {"a": ["b", "\xc3\xa4"]}}\n{"refused": "BadCommand"}\n')
+        self.assertEqual(self.perform("get", self.folder, "web"), (0, 'a:\n  - b\n  - "ä"\n'.encode(), ""))
+
+    def test_a_node_refuses(self):
+        self.listen(b'{"refused": "IdTaken"}\n')
+        self.assertEqual(self.fault("set", self.folder, "web", "/a", "b"), (1, "IdTaken"))
+
+    def test_a_node_fails(self):
+        self.listen(b'{"failed": "OtherHistory"}\n')
+        self.assertEqual(self.fault("set", self.folder, "web", "/a", "b"), (3, "Failed OtherHistory"))
+
+    def test_a_node_has_no_checkpoint(self):
+        self.listen(b'{"refused": "BadCommand"}\n')
+        self.assertEqual(self.fault("checkpoint", self.folder), (1, "Unsupported"))
+
+    def test_what_no_line_can_hold_is_sent_as_a_document(self):
+        self.listen(b"---\nrefused: BadCommand\n...\n", b'---\nok: "2"\n...\n')
+        command = {"set": "web", "path": "", "value": {"k" * 2_000: "v"}}
+        with Connection(Place(self.path, True)) as connection:
+            self.assertEqual(connection.ask(command).key, "ok")
+        self.assertEqual(self.heard[1].decode(), f"---\n{to_text(command)}")
+
+    def test_a_server_that_goes(self):
+        for answer in (b"", b"---\nok: "):
+            with self.subTest(answer):
+                self.listen(answer)
+                self.assertEqual(self.fault("set", self.folder, "web", "/a", "b"), (3, "Disconnected"))
+                os.remove(self.path)
+
+    def test_a_server_that_goes_and_comes_again(self):
+        """A question is asked again, and a change isn't."""
+        self.listen(b"")
+        timer = threading.Timer(0.5, lambda: (os.remove(self.path), self.listen(b"---\nnames: []\n...\n")))
+        timer.start()
+        self.assertEqual(self.perform("--wait", str(PATIENCE), "names", self.folder), (0, b"", ""))
+        timer.join()
+        os.remove(self.path)
+        self.listen(b"")
+        self.assertEqual(self.fault("--wait", str(PATIENCE), "delete", self.folder, "web"), (3, "Disconnected"))
+
+    def test_a_server_that_answers_something_else(self):
+        for answer in (b"HTTP/1.1 400\n...\n", b"{}\n", b"{]\n", b'{"a": 1, "b": 2}\n'):
+            with self.subTest(answer):
+                self.listen(answer)
+                self.assertEqual(self.fault("names", self.folder), (3, "BadAnswer"))
+                os.remove(self.path)
+
+    def test_an_answer_before_all_was_sent(self):
+        """As of a node to a line that is too long for it."""
+        with socket.socket(socket.AF_UNIX) as listener:
+            listener.bind(self.path)
+            listener.listen()
+
+            def refuse():
+                with listener.accept()[0] as connection:
+                    connection.sendall(b'{"refused": "TooLong"}\n')
+
+            thread = threading.Thread(target=refuse)
+            thread.start()
+            found = self.fault("set", self.folder, "web", "/a", "b" * 5_000_000)
+            thread.join(PATIENCE)
+        self.assertEqual(found, (1, "TooLong"))
+
+    def test_an_answer_that_is_too_long(self):
+        for start in (b"---\nvalue: ", b'{"value": "'):
+            self.listen(start + b"x" * 3_000_000)
+            with mock.patch.object(ctl_sockets, "LONGEST_ANSWER", 2_000_000):
+                self.assertEqual(self.fault("get", self.folder, "web"), (3, "BadAnswer"))
+            os.remove(self.path)
+
+    def test_a_node_that_answers_something_else(self):
+        for answer in (b'{"value": 5}\n', b'{"value": {"a": null}}\n', b'{"value": "\\ud800"}\n', b"[" * 9_999 + b"\n"):
+            with self.subTest(answer[:30]):
+                self.listen(answer if answer[:1] == b"{" else b'{"value": ' + answer)
+                self.assertEqual(self.fault("get", self.folder, "web"), (3, "BadAnswer"))
+                os.remove(self.path)
+
+    def test_what_a_server_says_is_escaped(self):
+        hostile = b'"\\u001b[1m\\n"'
+        for answer in (b'{"refused": %s}\n', b'{"failed": %s}\n', b"---\nrefused: %s\n...\n"):
+            with self.subTest(answer):
+                self.listen(answer % hostile)
+                self.assertTrue(self.fault("names", self.folder)[1].endswith("\\u{1b}[1m\\n"))
+                os.remove(self.path)
+
+    def test_a_server_that_says_nothing(self):
+        self.listen()
+        with mock.patch.object(ctl_sockets, "PATIENCE", 0.3):
+            self.assertEqual(self.fault("names", self.folder), (3, "TimedOut"))
+
+    def test_no_server(self):
+        self.assertEqual(self.fault("names", self.folder), (3, "Disconnected"))
+        began = time.monotonic()
+        self.assertEqual(self.fault("--wait", "0.4", "names", self.folder), (3, "Disconnected"))
+        self.assertGreaterEqual(time.monotonic() - began, 0.4)
+
+    def test_a_command_that_is_too_long(self):
+        self.listen(b"")
+        with mock.patch.object(ctl_sockets, "LONGEST_COMMAND", 100):
+            self.assertEqual(self.fault("set", self.folder, "web", "/a", "b" * 100), (1, "TooLong"))
+
+
+class Places(SocketTest):
+    def test_which_socket(self):
+        place_in_folder = os.path.join(self.folder, "confstore.sock")
+        with mock.patch.dict(os.environ, {"CONFSTORE_SOCKET": ""}):
+            self.assertIsNone(place_of("", self.folder))
+            with socket.socket(socket.AF_UNIX) as listener:
+                listener.bind(place_in_folder)
+                self.assertEqual(place_of("", self.folder), Place(place_in_folder, False))
+                self.assertEqual(place_of("/x", self.folder), Place("/x", True))
+                os.environ["CONFSTORE_SOCKET"] = "/y"
+                self.assertEqual(place_of("", self.folder), Place("/y", True))
+                self.assertEqual(place_of("/x", self.folder), Place("/x", True))
+
+    def test_that_of_the_unit(self):
+        """packaging/confstore@.service has stores and sockets there."""
+        stores, sockets = os.path.join(self.top, "lib"), os.path.join(self.top, "run")
+        os.makedirs(os.path.join(sockets, "app"))
+        with open(os.path.join(TOP, "packaging", "confstore@.service"), encoding="utf-8") as unit:
+            self.assertIn(f"{ctl_sockets.SOCKETS}/%i/socket {ctl_sockets.STORES}/%i\n", unit.read())
+        with mock.patch.multiple(ctl_sockets, STORES=stores, SOCKETS=sockets):
+            with socket.socket(socket.AF_UNIX) as listener:
+                listener.bind(os.path.join(sockets, "app", "socket"))
+                found = place_of("", os.path.join(stores, "app", ""))
+                self.assertEqual(found, Place(os.path.join(sockets, "app", "socket"), False))
+                self.assertIsNone(place_of("", os.path.join(stores, "other")))
+
+
+class Programs(StoreTest):
+    """confstorectl as a process."""
+
+    def process(self, *words, **more):
+        environment = {**os.environ, "PYTHONPATH": python_path()}
+        process = subprocess.Popen([sys.executable, "-m", "confstore.ctl", *words], env=environment, **more)
+        self.addCleanup(process.wait)
+        self.addCleanup(process.kill)
+        return process
+
+    def test_it_is_interrupted_without_a_trace(self):
+        self.store()["web"] = "x"
+        process = self.process("watch", self.folder, "--from", "1", stdout=subprocess.PIPE, stderr=subprocess.PIPE)
+        self.assertEqual(process.stdout.readline(), b"1 import web\n")
+        process.send_signal(signal.SIGINT)
+        self.assertEqual(process.communicate(timeout=PATIENCE), (b"", b""))
+        self.assertEqual(process.returncode, -signal.SIGINT)
+
+    def test_what_can_not_be_watched(self):
+        for words, name in ((["No"], b"BadName"), (["web", "port"], b"BadPath"), (["web", "/~"], b"BadPath")):
+            process = self.process("watch", self.folder, *words, stderr=subprocess.PIPE)
+            self.assertRegex(process.communicate(timeout=PATIENCE)[1], rb"\Aconfstorectl: %s: .*\n\Z" % name)
+            self.assertEqual(process.returncode, 1)
+
+    def test_no_program(self):
+        with mock.patch.dict(os.environ, {"CONFSTORE": os.path.join(self.top, "none")}):
+            process = self.process("names", self.folder, stderr=subprocess.PIPE)
+        self.assertRegex(process.communicate(timeout=PATIENCE)[1], rb"\Aconfstorectl: MissingProgram: .*\n\Z")
+        self.assertEqual(process.returncode, 3)
+
+    def test_a_text_is_read_up_to_its_limit(self):
+        path = os.path.join(self.top, "text")
+        with open(path, "wb") as file:
+            file.truncate(5_000_000)
+        self.assertEqual(len(ctl_streams.read_text(path)), 4_194_305)
+        with self.assertRaises(Fault) as caught:
+            ctl_streams.read_text(self.folder)
+        self.assertEqual(caught.exception.name, "Input")
+
+
+if __name__ == "__main__":
+    unittest.main()
