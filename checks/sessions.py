@@ -205,7 +205,7 @@ def outputs_and_folders_fail(top: str, failures: Failures) -> None:
 def program_for_all(top: str) -> str:
     """A copy of the program that every user can reach."""
     os.chmod(top, 0o755)
-    program = shutil.copy(PROGRAM, os.path.join(top, "confstore"))
+    program: str = shutil.copy(PROGRAM, os.path.join(top, "confstore"))
     os.chmod(program, 0o755)
     return program
 
