@@ -37,8 +37,8 @@ import time
 import unittest
 from typing import Optional
 
-from lib.server_sockets import Access, Names
-from lib.servers import BOUNDED, MEGABYTE, NAMES, PATIENCE, PROGRAM, SERVER, TOP, Client, ServerTest, accepts
+from lib.server_sockets import Access, Names, shut_out
+from lib.servers import BOUNDED, MEGABYTE, NAMES, PATIENCE, PROGRAM, PYTHON, SERVER, TOP, Client, ServerTest, accepts
 
 __all__ = ["Access", "Names"]
 
@@ -490,7 +490,7 @@ class Ends(ServerTest):
                 os.write(writing, b"x" * 4_096)
         os.set_blocking(writing, True)
         self.addCleanup(os.close, reading)
-        words = [sys.executable, SERVER, self.path, self.folder]
+        words = [PYTHON, SERVER, self.path, self.folder]
         environment = {**os.environ, "CONFSTORE": PROGRAM, "NOTIFY_SOCKET": "/nowhere"}
         with subprocess.Popen(words, stderr=writing, env=environment) as process:
             os.close(writing)
@@ -593,6 +593,8 @@ class Unit(ServerTest):
 def main() -> Optional[str]:
     if not os.access(PROGRAM, os.X_OK):
         return "the program is not built: run ./confstore --version first"
+    if shut_out():
+        print(f"left out: who may connect, since {shut_out()}")
     unittest.main(verbosity=1)
     return None
 
