@@ -89,7 +89,7 @@ if has mypy; then step "its types, and those of the replicated store" 120 bash -
 step "its tests" 600 env -C python "$python" -m unittest
 step "the replicated store's tests without etcd" 300 env -C replicated "$python" -m unittest
 readme_lines() {
-    mkdir "$folder/lines" && sed -n 's/^    //p' clients/README.md | grep -v '^clients/serve.py' |
+    mkdir "$folder/lines" && sed -n 's/^    //p' clients/README.md | grep -Ev '^(clients/serve.py|curl) ' |
         sed "s|/tmp/|$folder/lines/|g; s#python3 clients/examples/service.py.*#timeout 3 & || [ \$? -eq 124 ]#" \
             >"$folder/lines.sh" || return 1
     bash -e "$folder/lines.sh" && [ -s "$folder/lines/app.html" ]
