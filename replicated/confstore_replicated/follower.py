@@ -18,7 +18,7 @@ import threading
 import time
 from collections import deque
 from dataclasses import dataclass, field
-from typing import Callable, Deque, List, Optional, Sequence
+from typing import Callable, Deque, List, NamedTuple, Optional, Sequence
 
 from confstore import ConfstoreError, NoConfig, Refused as StoreRefused, Store
 
@@ -27,6 +27,7 @@ from .bases import NAMES_KEPT, Bases, install
 from .entries import RESERVED, Edit, Refused, digest_of, edits_in, marked, number_in, refused
 from .etcd import MOST_ENTRIES, Access, Etcd, Item, Look, Unavailable
 from .history import Behind, OtherHistory, Place, base_in, judge, mark_of, short_of
+from .metrics import OLDEST_LOOK, Counts
 from .stream import Stream
 
 # How many bytes of entries are sent to the session before the first is answered.
@@ -42,6 +43,9 @@ LONGEST_PAUSE = 5.0
 # How many seconds lie between two looks at the log, whatever a stream tells, and how many a stream has to begin.
 LOOK = 1.0
 BEGINNING = 2.0
+
+# How many entries behind a store are counted at most.
+MOST_COUNTED = 1_000
 
 # The words that a store refuses a command by which depend on its state, its count and the command alone, which are the
 # same at all nodes. `JournalLong` is not one of them: it depends on the file of one node.
@@ -93,6 +97,18 @@ class _Turn:
             raise ConfstoreError(f"the number of entry {self.entry.created} is refused: {word}")
 
 
+class Standing(NamedTuple):
+    """How a follower stands: the number of the last entry that it performed, how many entries it has still to perform,
+    of those that the log had when they were counted last, how many seconds ago it looked at the log, and the lengths of
+    its file and of the base in it, in bytes. What isn't known is None."""
+
+    position: int
+    behind: Optional[int]
+    looked_ago: Optional[float]
+    length: Optional[int]
+    base: Optional[int]
+
+
 def _groups(entries: Sequence[Item]) -> List[List[Item]]:
     """The entries in order, in groups that are sent at once."""
     groups: List[List[Item]] = []
@@ -122,14 +138,16 @@ class Follower(threading.Thread):
         told: Callable[[int, Performed], None] = lambda _number, _performed: None,
         forget: Callable[[], None] = lambda: None,
         access: Optional[Access] = None,
+        counts: Optional[Counts] = None,
     ) -> None:
         super().__init__(name="confstore follower", daemon=True)
+        self._counts = counts or Counts()
         self._folder = folder
         self._program = program
         self._etcd = Etcd(members, access=access)
         prefix = f"/confstore/{cluster}/".encode()
         self._log, self._base_key = prefix + b"log/", prefix + b"base"
-        self._bases = Bases(self._etcd, prefix, base_after, names_kept)
+        self._bases = Bases(self._etcd, prefix, base_after, names_kept, self._counts)
         self._base_after = base_after
         self._told, self._forget = told, forget
         self._state = threading.Condition()  # the three below are changed with it held
@@ -142,7 +160,8 @@ class Follower(threading.Thread):
         self._count = 0
         self._since_base = 0
         self._checkpoint_length = 0
-        self._looked = 0.0
+        self._looked = self._counted = 0.0
+        self._behind: Optional[int] = None
         self._pause = PAUSE
         self._said = ""
         #: The store, which others may read. None while there is no session.
@@ -187,6 +206,28 @@ class Follower(threading.Thread):
         with self._state:
             self._raise_fault()
 
+    def standing(self) -> Standing:
+        """How it stands now. Nothing is asked of etcd, and no lock is waited for that a thread keeps for long."""
+        with self._state:
+            place, behind = self._place.number, self._behind
+        looked_ago = time.monotonic() - self._looked if self._looked else None
+        try:
+            length = self._length()
+        except OSError:
+            return Standing(place, behind, looked_ago, None, None)
+        return Standing(place, behind, looked_ago, length, self._checkpoint_length if self.store else None)
+
+    def trouble(self) -> str:
+        """Why this node doesn't serve, or nothing."""
+        if self.store is None:
+            return "no session holds the store"
+        with self._state:
+            if self._fault is not None:
+                return "etcd does not have the log that this store has performed"
+        if time.monotonic() - self._looked > OLDEST_LOOK:
+            return f"the log was not looked at for {OLDEST_LOOK:g} seconds"
+        return ""
+
     def _raise_fault(self) -> None:
         if self._fault is not None:
             raise OtherHistory(*self._fault.args)
@@ -220,6 +261,7 @@ class Follower(threading.Thread):
 
     def _say(self, fault: Exception) -> None:
         """Prints what went wrong, the same thing once, and waits; the longer the more often."""
+        self._counts.name("faults", type(fault).__name__)
         about = f"follower: {type(fault).__name__}: {fault}"
         if about != self._said:
             print(about, file=sys.stderr, flush=True)
@@ -248,6 +290,7 @@ class Follower(threading.Thread):
         """Opens the store, and tells what the entries in its file were answered. Raises `NotReplicated`."""
         os.makedirs(self._folder, exist_ok=True)
         self.store = store = Store(self._folder, program=self._program)
+        self._counts.add("sessions")
         try:
             place = self._place_in(store)
             for number, performed in answers_in(self._folder):
@@ -284,7 +327,19 @@ class Follower(threading.Thread):
         with self._state:
             self._fault, self._has_looked = None, True
             self._state.notify_all()
+        self._count_behind(len(look.after), most)
         return look
+
+    def _count_behind(self, found: int, most: int) -> None:
+        """Notes how many entries the log has behind the store's, where a look has found so many of at most so many."""
+        behind: Optional[int] = found
+        if found == most:
+            if not self._counts.is_told or self._looked - self._counted < LOOK:
+                return
+            self._counted = self._looked
+            behind = self._etcd.count_after(self._log, self._place.number, MOST_COUNTED)
+        with self._state:
+            self._behind = behind
 
     def _follow(self) -> None:
         """Performs what the log has, and then each entry as it comes, until the member that tells of them goes."""
@@ -376,8 +431,10 @@ class Follower(threading.Thread):
         self._told(entry.created, Performed(turn.mark, answer, entry.key, turn.digest))
         self._last, self._count = entry, count
         self._since_base += 1
+        self._counts.add("entries_applied")
         with self._state:
             self._place = Place(entry.created, turn.mark, entry.key)
+            self._behind = self._behind - 1 if self._behind else self._behind
             self._state.notify_all()
 
     # ---- bases
