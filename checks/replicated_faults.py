@@ -13,7 +13,8 @@ Each part has one member of etcd and nodes of its own:
 - a node is started over a store that has commands and no position;
 - etcd wants TLS, certificates of clients, and a user with a password, and forgets its tokens;
 - a node is told to end by signals, also while etcd is stopped;
-- clients connect and say nothing, or half a line, and the node has to answer others.
+- clients connect and say nothing, or half a line, and the node has to answer others;
+- what a node tells of itself, beside what etcd has, while it is behind and while etcd is gone.
 
     checks/replicated.sh, or checks/replicated_faults.py [WORD ..], which has the parts with these words in their names
 
@@ -47,6 +48,7 @@ sys.path.insert(0, os.path.dirname(os.path.abspath(__file__)))
 
 from replicated import LOG, PROGRAM, Answers, Checks, Process, Request  # noqa: E402  (it finds the packages)
 from replicated import free_port, one_session, some_command  # noqa: E402
+from lib.stand_ins import SLOW, TOO_LONG  # noqa: E402
 
 from confstore import Reader, Store  # noqa: E402
 from confstore_replicated import Client  # noqa: E402
@@ -59,38 +61,6 @@ CHECKS = Checks()
 
 # Answers to a client that have no place in a history that a node's store has not performed.
 REFUSES = {"failed": "OtherHistory"}
-
-# A program in the place of confstore, which says at every fourth batch of a session that the file is too long.
-TOO_LONG = '''#!{python}
-import os, subprocess, sys
-if sys.argv[1] != "run":
-    os.execv({program!r}, [{program!r}, *sys.argv[1:]])
-words = [{program!r}, *[word for word in sys.argv[1:] if word != "--group"]]
-session = subprocess.Popen(words, stdin=subprocess.PIPE, stdout=subprocess.PIPE)
-def take(stream):
-    lines = []
-    while not lines or lines[-1] != b"...\\n":
-        lines.append(stream.readline())
-        if not lines[-1]:
-            sys.exit(session.wait() if stream is session.stdout else session.stdin.close() or session.wait())
-    return b"".join(lines)
-count, again = 0, False
-while True:
-    document = take(sys.stdin.buffer)
-    is_batch = b"batch:" in document[:20]
-    count += is_batch
-    if is_batch and count % 4 == 0 and not again:
-        again, answer = True, b"---\\nrefused: JournalLong\\n...\\n"
-        count -= 1
-    else:
-        again = again and is_batch is False and b"checkpoint" not in document
-        session.stdin.write(document)
-        session.stdin.flush()
-        answer = take(session.stdout)
-        count += b"checkpoint" in document
-    sys.stdout.buffer.write(answer)
-    sys.stdout.buffer.flush()
-'''
 
 
 def eventually(call: Callable[[], Any], wanted: object, seconds: float = 30) -> Any:
@@ -240,6 +210,14 @@ class Part:
         node = Node(self.top, name, member, *more, **words)
         self.things.append(node)
         return node
+
+    def program(self, text: str) -> str:
+        """The path of a program in the place of confstore."""
+        path = self.path(f"program{len(self.things)}")
+        with open(path, "w", encoding="utf-8") as file:
+            file.write(text.format(python=sys.executable, program=os.path.abspath(PROGRAM)))
+        os.chmod(path, 0o755)
+        return path
 
     def path(self, name: str) -> str:
         return os.path.join(self.top, name)
@@ -520,10 +498,7 @@ def expiring_ids() -> None:
 def too_long_at_one() -> None:
     """`JournalLong` at one node, at any batch, is the answer of no entry."""
     with Part() as part:
-        program = part.path("too-long")
-        with open(program, "w", encoding="utf-8") as file:
-            file.write(TOO_LONG.format(python=sys.executable, program=os.path.abspath(PROGRAM)))
-        os.chmod(program, 0o755)
+        program = part.program(TOO_LONG)
         member = part.member()
         member.start()
         one, other = part.node("a", member, program=program), part.node("b", member)
@@ -697,6 +672,54 @@ def memory_of(node: Node) -> int:
         return int(next(line for line in status if line.startswith("VmRSS")).split()[1]) // 1024
 
 
+def told_at(path: str, page: str) -> bytes:
+    """What is told over HTTP at a Unix socket."""
+    with socket.socket(socket.AF_UNIX) as connection:
+        connection.settimeout(10)
+        connection.connect(path)
+        connection.sendall(f"GET {page} HTTP/1.1\r\n\r\n".encode())
+        with connection.makefile("rb") as stream:
+            return stream.read()
+
+
+def figures_at(path: str) -> dict[str, float]:
+    body = told_at(path, "/metrics").partition(b"\r\n\r\n")[2].decode()
+    lines = [line.split(" ") for line in body.splitlines()]
+    return {words[0].removeprefix("confstore_node_"): float(words[1]) for words in lines if len(words) == 2}
+
+
+def told_of_itself() -> None:
+    """A slow node tells how many entries it has still to perform, and at which it is; and that etcd is gone."""
+    with Part() as part:
+        member, where = part.member(), part.path("metrics")
+        member.start()
+        one, late = part.node("a", member), part.node("b", member, "--metrics", where, program=part.program(SLOW))
+        one.start()
+        is_so(one.ask({"import": "web", "text": "port: 0"}), {"ok": "1"}, "told of itself")
+        change(one, range(1, 300))
+        late.start()
+        seen: set[float] = set()
+        while "entries_behind" not in (found := figures_at(where)) or found["entries_behind"] > 0:
+            if "entries_behind" in found:
+                seen.add(found["entries_behind"])
+                is_so(found["entries_behind"] + found["entries_applied_total"], 300, "entries behind, and performed")
+            time.sleep(0.05)
+        CHECKS.is_so(len(seen) > 2, f"entries behind: only {seen}")
+        etcd = Etcd([member.address])
+        newest = etcd.created_after(LOG, 0, 100_000)[-1].created
+        etcd.close()
+        found = figures_at(where)
+        is_so((found["position"], found["entries_applied_total"], found["healthy"]), (newest, 300, 1), "the position")
+        member.stop()
+        gone = b"HTTP/1.1 503 Service Unavailable"
+        is_so(eventually(lambda: told_at(where, "/health").split(b"\r\n")[0], gone, 60), gone, "health without etcd")
+        unavailable = 'faults_total{name="Unavailable"}'
+        is_so(eventually(lambda: figures_at(where)[unavailable] > 0, True, 60), True, "etcd is unavailable")
+        member.start()
+        there = b"HTTP/1.1 200 OK"
+        is_so(eventually(lambda: told_at(where, "/health").split(b"\r\n")[0], there, 60), there, "health with etcd")
+
+
 def give_up(*_: object) -> NoReturn:
     raise TimeoutError(f"not done after {LONGEST} seconds")
 
@@ -716,6 +739,7 @@ def main() -> int:
         "too long at one node": too_long_at_one,
         "ids": expiring_ids,
         "clients that say nothing": clients_that_say_nothing,
+        "told of itself": told_of_itself,
     }
     if shutil.which("etcdctl"):
         etcdctl = "older snapshot of etcdctl, nodes running"

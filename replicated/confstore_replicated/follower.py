@@ -11,6 +11,7 @@ Before it performs anything, and each second, it looks whether the log is still 
 
 from __future__ import annotations
 
+import contextlib
 import os
 import random
 import sys
@@ -98,11 +99,12 @@ class _Turn:
 
 
 class Standing(NamedTuple):
-    """How a follower stands: the number of the last entry that it performed, how many entries it has still to perform,
-    of those that the log had when they were counted last, how many seconds ago it looked at the log, and the lengths of
-    its file and of the base in it, in bytes. What isn't known is None."""
+    """How a follower stands: the number of the last entry that it performed, how many it has performed since it began,
+    how many it has still to perform, of those that the log had when they were counted last, how many seconds ago it
+    looked at the log, and the lengths of its file and of the base in it, in bytes. What isn't known is None."""
 
     position: int
+    applied: int
     behind: Optional[int]
     looked_ago: Optional[float]
     length: Optional[int]
@@ -160,8 +162,10 @@ class Follower(threading.Thread):
         self._count = 0
         self._since_base = 0
         self._checkpoint_length = 0
+        self._base_length: Optional[int] = None  # the same while a session holds the store and writes no checkpoint
         self._looked = self._counted = 0.0
         self._behind: Optional[int] = None
+        self._applied = 0
         self._pause = PAUSE
         self._said = ""
         #: The store, which others may read. None while there is no session.
@@ -208,14 +212,14 @@ class Follower(threading.Thread):
 
     def standing(self) -> Standing:
         """How it stands now. Nothing is asked of etcd, and no lock is waited for that a thread keeps for long."""
-        with self._state:
-            place, behind = self._place.number, self._behind
         looked_ago = time.monotonic() - self._looked if self._looked else None
-        try:
+        base, length = self._base_length, None
+        with contextlib.suppress(OSError):
             length = self._length()
-        except OSError:
-            return Standing(place, behind, looked_ago, None, None)
-        return Standing(place, behind, looked_ago, length, self._checkpoint_length if self.store else None)
+        if self._base_length != base:  # a checkpoint is being written
+            base = None
+        with self._state:
+            return Standing(self._place.number, self._applied, self._behind, looked_ago, length, base)
 
     def trouble(self) -> str:
         """Why this node doesn't serve, or nothing."""
@@ -282,7 +286,7 @@ class Follower(threading.Thread):
         self._say(OtherHistory(f"{self._folder}: {fault}; {remedy}"))
 
     def close(self) -> None:
-        store, self.store = self.store, None
+        store, self.store, self._base_length = self.store, None, None
         if store is not None:
             store.close()
 
@@ -299,6 +303,7 @@ class Follower(threading.Thread):
             self.close()
             raise
         self._last, self._checkpoint_length = None, base_length_in(self._folder)
+        self._base_length = self._checkpoint_length
         with self._state:
             self._place = place
             self._state.notify_all()
@@ -422,8 +427,9 @@ class Follower(threading.Thread):
         return os.path.getsize(os.path.join(self._folder, "store.yaml"))
 
     def _checkpoint(self, store: Store) -> None:
+        self._base_length = None
         store.checkpoint()
-        self._checkpoint_length = self._length()
+        self._checkpoint_length = self._base_length = self._length()
 
     def _is_done(self, turn: _Turn, count: int) -> None:
         entry = turn.entry
@@ -431,9 +437,9 @@ class Follower(threading.Thread):
         self._told(entry.created, Performed(turn.mark, answer, entry.key, turn.digest))
         self._last, self._count = entry, count
         self._since_base += 1
-        self._counts.add("entries_applied")
         with self._state:
             self._place = Place(entry.created, turn.mark, entry.key)
+            self._applied += 1
             self._behind = self._behind - 1 if self._behind else self._behind
             self._state.notify_all()
 

@@ -225,7 +225,7 @@ def metrics_of(node: Node) -> str:
             known(counts.longest()),
         ),
         ("position", "gauge", "Number of the last entry that was performed.", known(standing.position)),
-        ("entries_applied_total", "counter", "Entries that were performed.", known(counts.number("entries_applied"))),
+        ("entries_applied_total", "counter", "Entries that were performed.", known(standing.applied)),
         (
             "entries_behind", "gauge", "Entries of etcd's log that were not performed; 1000 stands for more.",
             known(standing.behind),

@@ -142,14 +142,17 @@ class Figures(NodeTest):
                     answer += client.recv(65_536)
                 self.assertEqual(b"refused" in answer, bool(word), answer)
                 sent, received = sent + len(line), received + len(answer)
-            found = figures_in(metrics_of(node))
-            counted = {
+            counted: Dict[str, float] = {
                 "requests_total": 7, "clients": 2, 'refusals_total{name="NoConfig"}': 2,
                 'refusals_total{name="NoSuchPlace"}': 1, 'refusals_total{name="BadCommand"}': 1,
                 'failures_total{name="Unavailable"}': 0, "received_bytes_total": sent, "sent_bytes_total": received,
                 "request_wait_seconds_count": 7, 'request_wait_seconds_bucket{le="+Inf"}': 7, "sessions_total": 1,
                 "entries_applied_total": 3, "healthy": 1, "position": self.newest(), "entries_behind": 0,
             }  # fmt: skip
+            # What was sent is counted just after it was sent.
+            until(lambda: figures_in(metrics_of(node))["sent_bytes_total"] == received)
+            found = figures_in(metrics_of(node))
+            self.maxDiff = None
             self.assertEqual({name: found.get(name) for name in counted}, counted)
         until(lambda: figures_in(metrics_of(node))["clients"] == 0)
 
