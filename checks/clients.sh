@@ -9,7 +9,8 @@
 # - C: the library and its test under the sanitizers of each compiler that is there, and under valgrind, over sessions
 #   of its own and over a socket; the library as its Makefile installs it, shared and static, and its version.
 # - Sixteen clients of one session that is killed and started again.
-# - The types of the server and of its trials, where mypy is installed, and the server's bounds, socket, faults and ends.
+# - The types of the server and of the scripts in checks/, where mypy is installed, and the server's bounds, sockets,
+#   faults and ends, its health and its counters.
 # - Exceptions from signal handlers in each call of the Python package.
 # - The settings for editors, the hook, the examples, the page of a log, the completions, the man pages, and the Debian
 #   packages.
@@ -83,8 +84,11 @@ types() {
     MYPYPATH=python:replicated mypy --config-file python/pyproject.toml python/confstore \
         python/wheel_of_confstore.py replicated/confstore_replicated replicated/model
 }
-server_types() { MYPYPATH=checks:clients mypy --strict --explicit-package-bases clients/serve.py checks/server.py; }
-export -f types server_types
+script_types() {
+    MYPYPATH=checks:clients:python:replicated mypy --strict --explicit-package-bases \
+        --config-file python/pyproject.toml clients/serve.py checks/*.py checks/lib/*.py
+}
+export -f types script_types
 if has mypy; then step "its types, and those of the replicated store" 120 bash -c types; fi
 step "its tests" 600 env -C python "$python" -m unittest
 step "the replicated store's tests without etcd" 300 env -C replicated "$python" -m unittest
@@ -124,7 +128,7 @@ if has c++; then step "the header in C++" 60 c++ -fsyntax-only -Wall -Wextra -We
 kill "$server" && wait "$server"
 server=
 
-if has mypy; then step "the types of the server and its trials" 120 bash -c server_types; fi
+if has mypy; then step "the types of the server and of the scripts in checks/" 120 bash -c script_types; fi
 step "sixteen clients of a session that is killed and started again" 300 "$python" checks/many_clients.py
 step "the server: clients, the socket, faults and signals" 300 "$python" checks/server.py
 step "exceptions from signal handlers" 900 "$python" checks/interrupts.py
