@@ -98,6 +98,22 @@ class _Turn:
             raise ConfstoreError(f"the number of entry {self.entry.created} is refused: {word}")
 
 
+@dataclass
+class _Progress:
+    """What is told of a follower: how many entries it has performed since it began, how many the log has behind them of
+    those that it had when they were counted, when that was, and how long the base in the file of its store is. What
+    isn't known is None."""
+
+    applied: int = 0
+    behind: Optional[int] = None
+    counted: float = 0.0
+    base: Optional[int] = None
+
+    def perform(self) -> None:
+        self.applied += 1
+        self.behind = self.behind - 1 if self.behind else self.behind
+
+
 class Standing(NamedTuple):
     """How a follower stands: the number of the last entry that it performed, how many it has performed since it began,
     how many it has still to perform, of those that the log had when they were counted last, how many seconds ago it
@@ -162,10 +178,8 @@ class Follower(threading.Thread):
         self._count = 0
         self._since_base = 0
         self._checkpoint_length = 0
-        self._base_length: Optional[int] = None  # the same while a session holds the store and writes no checkpoint
-        self._looked = self._counted = 0.0
-        self._behind: Optional[int] = None
-        self._applied = 0
+        self._looked = 0.0
+        self._progress = _Progress()
         self._pause = PAUSE
         self._said = ""
         #: The store, which others may read. None while there is no session.
@@ -213,13 +227,13 @@ class Follower(threading.Thread):
     def standing(self) -> Standing:
         """How it stands now. Nothing is asked of etcd, and no lock is waited for that a thread keeps for long."""
         looked_ago = time.monotonic() - self._looked if self._looked else None
-        base, length = self._base_length, None
+        progress, base, length = self._progress, self._progress.base, None
         with contextlib.suppress(OSError):
             length = self._length()
-        if self._base_length != base:  # a checkpoint is being written
+        if progress.base != base:  # a checkpoint is being written
             base = None
         with self._state:
-            return Standing(self._place.number, self._applied, self._behind, looked_ago, length, base)
+            return Standing(self._place.number, progress.applied, progress.behind, looked_ago, length, base)
 
     def trouble(self) -> str:
         """Why this node doesn't serve, or nothing."""
@@ -286,7 +300,7 @@ class Follower(threading.Thread):
         self._say(OtherHistory(f"{self._folder}: {fault}; {remedy}"))
 
     def close(self) -> None:
-        store, self.store, self._base_length = self.store, None, None
+        store, self.store, self._progress.base = self.store, None, None
         if store is not None:
             store.close()
 
@@ -303,7 +317,7 @@ class Follower(threading.Thread):
             self.close()
             raise
         self._last, self._checkpoint_length = None, base_length_in(self._folder)
-        self._base_length = self._checkpoint_length
+        self._progress.base = self._checkpoint_length
         with self._state:
             self._place = place
             self._state.notify_all()
@@ -339,12 +353,12 @@ class Follower(threading.Thread):
         """Notes how many entries the log has behind the store's, where a look has found so many of at most so many."""
         behind: Optional[int] = found
         if found == most:
-            if not self._counts.is_told or self._looked - self._counted < LOOK:
+            if not self._counts.is_told or self._looked - self._progress.counted < LOOK:
                 return
-            self._counted = self._looked
+            self._progress.counted = self._looked
             behind = self._etcd.count_after(self._log, self._place.number, MOST_COUNTED)
         with self._state:
-            self._behind = behind
+            self._progress.behind = behind
 
     def _follow(self) -> None:
         """Performs what the log has, and then each entry as it comes, until the member that tells of them goes."""
@@ -427,9 +441,9 @@ class Follower(threading.Thread):
         return os.path.getsize(os.path.join(self._folder, "store.yaml"))
 
     def _checkpoint(self, store: Store) -> None:
-        self._base_length = None
+        self._progress.base = None
         store.checkpoint()
-        self._checkpoint_length = self._base_length = self._length()
+        self._checkpoint_length = self._progress.base = self._length()
 
     def _is_done(self, turn: _Turn, count: int) -> None:
         entry = turn.entry
@@ -439,8 +453,7 @@ class Follower(threading.Thread):
         self._since_base += 1
         with self._state:
             self._place = Place(entry.created, turn.mark, entry.key)
-            self._applied += 1
-            self._behind = self._behind - 1 if self._behind else self._behind
+            self._progress.perform()
             self._state.notify_all()
 
     # ---- bases
