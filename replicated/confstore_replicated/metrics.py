@@ -7,6 +7,9 @@ read what is counted, which says nothing of what is stored.
 
 Four threads answer, each one who asks at a time, for a second at most, and rest then. So those who ask never hold up
 the clients or the follower. Nothing is asked of etcd for them.
+
+`clients/serve_metrics.py` does the same for a server of one store. Neither can have the other's code: that server is
+installed without this package, and answers in the one loop that serves its clients.
 """
 
 from __future__ import annotations
