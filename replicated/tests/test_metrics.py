@@ -185,21 +185,26 @@ class Figures(NodeTest):
                 first.end()
                 for number in range(count):
                     writer.answer({"set": "a", "path": "/n", "value": str(number)})
-                late, go_on = self.told(f"first{count}"), threading.Event()
+                late, some, all_of_them = self.told(f"first{count}"), threading.Event(), threading.Event()
                 before = late.follower._perform
 
                 def held(entries: Any) -> None:
-                    go_on.wait(30)
-                    before(entries)
+                    some.wait(30)
+                    before(entries[:4])
+                    all_of_them.wait(30)
+                    before(entries[4:])
 
-                self.addCleanup(go_on.set)
+                self.addCleanup(all_of_them.set)
+                self.addCleanup(some.set)
                 late.follower._perform = held  # type: ignore[method-assign]
                 late.follower.open()
                 wanted = self.entries(late.follower.place().number)
                 self.assertEqual(wanted, count)
                 late.follower.start()
                 until(lambda: figures_in(metrics_of(late)).get("entries_behind") == count)
-                go_on.set()
+                some.set()
+                until(lambda: figures_in(metrics_of(late)).get("entries_behind") == count - 4)
+                all_of_them.set()
                 until(lambda: figures_in(metrics_of(late))["entries_behind"] == 0)
                 self.assertEqual(figures_in(metrics_of(late))["position"], self.newest())
                 self.assertEqual(figures_in(metrics_of(late))["entries_applied_total"], count)
