@@ -17,36 +17,44 @@ reader of the grammar and from hand, never from these programs, which have to be
 The last line is 'N passed, M failed', of cases; the status is 0 where M is 0.
 """
 
+from __future__ import annotations
+
 import os
 import re
 import subprocess
 import sys
+from collections.abc import Sequence
 
 TOP = os.path.dirname(os.path.dirname(os.path.abspath(__file__)))
 PROGRAM = os.path.join(TOP, "crates", "confstore", "out", "confstore")
 PROBE = os.path.join(TOP, "crates", "text_probe", "out", "text_probe")
 CASES = os.path.join(TOP, "checks", "data", "cases")
+
+# A case: what follows each of its words, and as `line` the number of its first line.
+Case = dict[str, str]
+
 ESCAPES = {"n": "\n", "r": "\r", "t": "\t", "\\": "\\"}
 
 
-def long_runs(line):
+def long_runs(line: str) -> str:
     """The line with what is repeated written out."""
     return re.sub(r"\\\{(.+?)\*(\d+)\}", lambda found: found[1] * int(found[2]), line)
 
 
-def bytes_of(line):
+def bytes_of(line: str) -> bytes:
     """The bytes that a line means."""
 
-    def byte(found):
+    def byte(found: re.Match[bytes]) -> bytes:
         word = found[1].decode()
         return ESCAPES[word].encode() if word in ESCAPES else bytes([int(word[1:], 16)])
 
     return re.sub(rb"\\(n|r|t|\\|x..)", byte, line.encode())
 
 
-def read_cases(path):
-    """The cases of a file: of each the number of its first line, and what follows each word."""
-    cases, case = [], {}
+def read_cases(path: str) -> list[Case]:
+    """The cases of a file."""
+    cases: list[Case] = []
+    case: Case = {}
     with open(path, encoding="utf-8") as source:
         for number, line in enumerate(source, 1):
             line = line.rstrip("\n")
@@ -56,20 +64,20 @@ def read_cases(path):
                 cases.append(case)
                 case = {}
                 continue
-            case.setdefault("line", number)
+            case.setdefault("line", str(number))
             word, _, rest = line.partition(" ")
             case[word] = long_runs(rest)
     cases.append(case)
     return [case for case in cases if case]
 
 
-def run(words, text):
+def run(words: Sequence[str], text: bytes) -> tuple[int, bytes, str]:
     """The status of a program, what it prints, and its line on standard error."""
     done = subprocess.run(words, input=text, capture_output=True, check=False)
     return done.returncode, done.stdout, done.stderr.decode()
 
 
-def shown_events(cases):
+def shown_events(cases: Sequence[Case]) -> list[str]:
     """What `show` of `text_probe` prints for the text of each case."""
     lines = "".join(f"node;show;{case['text']}\n" for case in cases)
     status, shown, errors = run([PROBE], lines.encode())
@@ -78,7 +86,7 @@ def shown_events(cases):
     return shown.decode().split("\n")
 
 
-def reading_faults(case, shown):
+def reading_faults(case: Case, shown: str) -> list[str]:
     """What is wrong with the events, or the refusal, that `show` printed."""
     if "events" in case:
         expected = f"events {case['events']}".strip()
@@ -87,30 +95,30 @@ def reading_faults(case, shown):
     return [] if word == case["fault"] else [f"not refused by {case['fault']}: {shown}"]
 
 
-def refusal_faults(case, subcommand):
+def refusal_faults(case: Case, subcommand: str) -> list[str]:
     """What is wrong with how a subcommand refuses the text."""
     status, output, errors = run([PROGRAM, subcommand], bytes_of(case["text"]))
     words = errors.split()
     named = words[:1] == ["confstore:"] and words[1:2] == [case["fault"]] and errors.count("\n") == 1
-    return [] if status == 1 and not output and named else [f"{subcommand}: status {status}, {output}, {errors}"]
+    return [] if status == 1 and not output and named else [f"{subcommand}: status {status}, {output!r}, {errors}"]
 
 
-def format_faults(case):
+def format_faults(case: Case) -> list[str]:
     """What is wrong with the text that `format` prints."""
     expected = bytes_of(case["format"])
     answers = [run([PROGRAM, "format"], text) for text in (bytes_of(case["text"]), expected)]
     return [f"format: {answer}" for answer in answers if answer != (0, expected, "")]
 
 
-def check_faults(case):
+def check_faults(case: Case) -> list[str]:
     """What is wrong with the findings that `check` prints."""
     findings = [finding for finding in case["check"].split(", ") if finding]
     status, output, errors = run([PROGRAM, "check"], bytes_of(case["text"]))
     good = output.decode().splitlines() == findings and status == (1 if findings else 0) and not errors
-    return [] if good else [f"check: status {status}, {output}, {errors}"]
+    return [] if good else [f"check: status {status}, {output!r}, {errors}"]
 
 
-def faults_of(case, shown):
+def faults_of(case: Case, shown: str) -> list[str]:
     """What is wrong with the answers to a case."""
     faults = reading_faults(case, shown)
     if "fault" in case:
@@ -118,7 +126,7 @@ def faults_of(case, shown):
     return faults + format_faults(case) + check_faults(case)
 
 
-def main():
+def main() -> int:
     for program in (PROGRAM, PROBE):
         if not os.access(program, os.X_OK):
             sys.exit(f"{program} is not built")

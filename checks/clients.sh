@@ -9,7 +9,8 @@
 # - C: the library and its test under the sanitizers of each compiler that is there, and under valgrind, over sessions
 #   of its own and over a socket; the library as its Makefile installs it, shared and static, and its version.
 # - Sixteen clients of one session that is killed and started again.
-# - The types of the server and of its trials, where mypy is installed, and the server's bounds, socket, faults and ends.
+# - The types of the server and of the scripts in checks/, where mypy is installed, and the server's bounds, sockets,
+#   faults and ends, its health and its counters.
 # - confstorectl beside the program: alone, through a server and through a node; and its watch.
 # - Exceptions from signal handlers in each call of the Python package.
 # - The Ansible collection, its types, and the playbook of the examples.
@@ -85,17 +86,16 @@ types() {
     MYPYPATH=python:replicated mypy --config-file python/pyproject.toml python/confstore \
         python/wheel_of_confstore.py replicated/confstore_replicated replicated/model
 }
-ctl_types() {
-    MYPYPATH=checks:python mypy --strict --explicit-package-bases --config-file python/pyproject.toml \
-        python/pages_of_confstorectl.py checks/ctl.py
+script_types() {
+    MYPYPATH=checks:clients:python:replicated mypy --strict --explicit-package-bases \
+        --config-file python/pyproject.toml clients/serve.py python/pages_of_confstorectl.py checks/*.py checks/lib/*.py
 }
-server_types() { MYPYPATH=checks:clients mypy --strict --explicit-package-bases clients/serve.py checks/server.py; }
-export -f types ctl_types server_types
+export -f types script_types
 if has mypy; then step "its types, and those of the replicated store" 120 bash -c types; fi
 step "its tests" 600 env -C python "$python" -m unittest
 step "the replicated store's tests without etcd" 300 env -C replicated "$python" -m unittest
 readme_lines() {
-    mkdir "$folder/lines" && sed -n 's/^    //p' clients/README.md | grep -v '^clients/serve.py\|^confstorectl' |
+    mkdir "$folder/lines" && sed -n 's/^    //p' clients/README.md | grep -Ev '^(clients/serve.py|curl|confstorectl) ' |
         sed "s|/tmp/|$folder/lines/|g; s#python3 clients/examples/service.py.*#timeout 3 & || [ \$? -eq 124 ]#" \
             >"$folder/lines.sh" || return 1
     bash -e "$folder/lines.sh" && [ -s "$folder/lines/app.html" ]
@@ -130,10 +130,9 @@ if has c++; then step "the header in C++" 60 c++ -fsyntax-only -Wall -Wextra -We
 kill "$server" && wait "$server"
 server=
 
-if has mypy; then step "the types of the server and its trials" 120 bash -c server_types; fi
+if has mypy; then step "the types of the server and of the scripts in checks/" 120 bash -c script_types; fi
 step "sixteen clients of a session that is killed and started again" 300 "$python" checks/many_clients.py
 step "the server: clients, the socket, faults and signals" 300 "$python" checks/server.py
-if has mypy; then step "the types of the trials of confstorectl" 120 bash -c ctl_types; fi
 step "confstorectl beside the program" 300 "$python" checks/ctl.py
 step "exceptions from signal handlers" 900 "$python" checks/interrupts.py
 collection_types() {

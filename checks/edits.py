@@ -8,11 +8,14 @@ alone. A module that the toolchain writes, or one that exports another whole, is
 'N edits, M wrong', and the status is 1 if M is above 0. It takes a second.
 """
 
+from __future__ import annotations
+
 import functools
 import glob
 import os
 import re
 import sys
+from collections.abc import Iterator
 
 TOP = os.path.dirname(os.path.dirname(os.path.abspath(__file__)))
 IMPORT = re.compile(r"\buse\s+Rattle\.(\w+)\.(specs|proofs)\.([\w.]+?)(?:\.\{([^}]*)\}|\s+as\s|;|\s*$)", re.M)
@@ -22,12 +25,12 @@ DECLARED = re.compile(
 )
 
 
-def read(path):
+def read(path: str) -> str:
     with open(os.path.join(TOP, path), encoding="utf-8") as file:
         return file.read()
 
 
-def names_in(entries):
+def names_in(entries: str) -> Iterator[tuple[str, str]]:
     """Each imported name, and the name that it has here."""
     for entry in entries.split(","):
         name, _, alias = entry.partition(" as ")
@@ -36,10 +39,10 @@ def names_in(entries):
 
 
 @functools.lru_cache(maxsize=None)
-def defined(path):
+def defined(path: str) -> set[str] | None:
     """The names that a module defines or exports, or None if it exports another module whole."""
     text = re.sub(r"^\s*--.*$", "", read(path), flags=re.M)
-    found = set()
+    found: set[str] = set()
     for match in EXPORT.finditer(text):
         if match[1] is None:
             return None
@@ -49,12 +52,12 @@ def defined(path):
     return found
 
 
-def is_generated(module):
+def is_generated(module: str) -> bool:
     """The toolchain writes modules of the crate's types and functions, whose paths have their names."""
     return re.search(r"(^|\.)[a-z]", module) is not None
 
 
-def missing_imports(text):
+def missing_imports(text: str) -> Iterator[str]:
     """What the text imports from this repository that is not there."""
     for crate, folder, module, entries in IMPORT.findall(text):
         path = f"crates/{crate}/{folder}/{module.replace('.', '/')}.antt"
@@ -70,7 +73,7 @@ def missing_imports(text):
                 yield f"imports {name}, which {path} does not define"
 
 
-def faults(path, crate):
+def faults(path: str, crate: str) -> Iterator[str]:
     """What is wrong with one edit."""
     lines = read(path).splitlines()
     file = next((line[len("file: "):] for line in lines if line.startswith("file: ")), None)
@@ -91,7 +94,7 @@ def faults(path, crate):
     yield from missing_imports(edited)
 
 
-def all_edits():
+def all_edits() -> Iterator[tuple[str, str]]:
     """The edits, each with its crate."""
     for pattern in ("crates/*/must-fail/*.edit", "crates/*/must-fail-beside/*.edit"):
         for path in sorted(glob.glob(os.path.join(TOP, pattern))):
@@ -99,7 +102,7 @@ def all_edits():
             yield path, path.split(os.sep)[1]
 
 
-def main():
+def main() -> int:
     edits = list(all_edits())
     wrong = 0
     for path, crate in edits:

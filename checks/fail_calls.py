@@ -17,21 +17,27 @@ Run it from the repository's root after the program is built. It takes half a mi
 The status is 0 if all is as it should be.
 """
 
+from __future__ import annotations
+
 import errno
 import os
 import shutil
 import sys
 import tempfile
 from collections import Counter
+from collections.abc import Iterator, Mapping, Sequence
 from concurrent.futures import ThreadPoolExecutor
 
-from lib.stories import LOOK, NEW, TORN
-from lib.store_runs import SINGLE, Failures, compiled, dropped, need_program, read_file, rest_of, session, write_file
+from lib.stories import LOOK, NEW, TORN, Story
+from lib.store_runs import (
+    SINGLE, Ended, Failures, compiled, dropped, need_program, read_file, rest_of, session, write_file,
+)
 
 # The status of a process that the library ended.
 ENDED = 99
 
 # How a session ends: its status and its line on standard error.
+Ending = tuple[int, str]
 DONE = (0, "")
 DEVICE = (3, "confstore: Device\n")
 LOCKED = (3, "confstore: Locked\n")
@@ -67,18 +73,19 @@ class Kind:
     """A way in which a call goes wrong: what of it is done, what it returns, and the error's number. With `later`,
     all later calls fail."""
 
-    def __init__(self, done, answer, error=0, later=False):
+    def __init__(self, done: str, answer: str, error: int = 0, later: bool = False) -> None:
         self.done = done
         self.answer = answer
         self.error = error
         self.later = later
 
-    def __str__(self):
+    def __str__(self) -> str:
         error = f" {errno.errorcode[self.error]}" if self.error else ""
         return f"{self.done} done, {self.answer}{error}{', then every call fails' if self.later else ''}"
 
-    def environment(self, call):
-        names = {"FAULT_CALL": str(call), "FAULT_DONE": self.done, "FAULT_ANSWER": self.answer, "FAULT_ERROR": str(self.error)}
+    def environment(self, call: int) -> dict[str, str]:
+        names = {"FAULT_CALL": str(call), "FAULT_DONE": self.done, "FAULT_ANSWER": self.answer}
+        names["FAULT_ERROR"] = str(self.error)
         return {**names, **({"FAULT_LATER": "1"} if self.later else {})}
 
 
@@ -115,7 +122,10 @@ class Call:
     the session: whether it is the first on its file, the calls after it, how many bytes of input were read before, and
     how many bytes of output were written."""
 
-    def __init__(self, number, name, file, size, first, following, taken, written):
+    def __init__(
+        self, number: int, name: str, file: str, size: int, first: bool, following: Sequence[str], taken: int,
+        written: int,
+    ) -> None:  # fmt: skip
         self.number = number
         self.name = name
         self.file = file
@@ -126,10 +136,10 @@ class Call:
         self.begun = taken > 0 or self.reads_input()
         self.written = written
 
-    def __str__(self):
+    def __str__(self) -> str:
         return f"call {self.number}, {self.name} {self.file}"
 
-    def kinds(self):
+    def kinds(self) -> list[Kind]:
         """The faults of this call. The input may end anywhere, a file may not. One byte has no half. A handle that is
         not closed shows nothing before the next call."""
         kinds = OF_CALLS.get(self.name, ANY_CALL)
@@ -140,25 +150,25 @@ class Call:
             if not (kind.done == "half" and self.size == 1) and not (kind.later and self.name == "close")
         ]
 
-    def reads_input(self):
+    def reads_input(self) -> bool:
         return (self.name, self.file) == ("read", "input")
 
-    def answers(self):
+    def answers(self) -> bool:
         return (self.name, self.file) == ("write", "output")
 
-    def is_of_note(self):
+    def is_of_note(self) -> bool:
         """Whether the call reads or writes the note in `store.lock`."""
         return self.name in ("read", "write") and self.file == "store.lock"
 
-    def is_append_next(self):
+    def is_append_next(self) -> bool:
         """Whether the next call appends to `store.yaml`."""
         return bool(self.following) and self.following[0].startswith("write store.yaml ")
 
-    def is_last(self):
+    def is_last(self) -> bool:
         """Whether only handles are closed after the call."""
         return all(line.startswith("close ") for line in self.following)
 
-    def is_dispensable(self):
+    def is_dispensable(self) -> bool:
         """Whether the program does without the call: a handle that is closed, the look whether there is a /proc, the
         mode of `store.lock`, and the note that the device has all bytes."""
         if self.is_of_note():
@@ -170,13 +180,13 @@ class Call:
 class Trial:
     """A story in a folder of its own, where a read or a write moves at most so many bytes (0: any number)."""
 
-    def __init__(self, top, story, most):
+    def __init__(self, top: str, story: Story, most: int) -> None:
         self.top = top
         self.story = story
         self.most = most
         self.library = os.path.join(top, "fail_calls.so")
 
-    def folder(self, name):
+    def folder(self, name: str) -> str:
         """A new folder with the story's files."""
         folder = os.path.join(self.top, name)
         os.mkdir(folder)
@@ -184,17 +194,17 @@ class Trial:
             write_file(os.path.join(folder, file), content)
         return folder
 
-    def run(self, folder, faults):
+    def run(self, folder: str, faults: Mapping[str, str]) -> Ended:
         environment = {**os.environ, "LD_PRELOAD": self.library, **faults}
         if self.most:
             environment["FAULT_MOST"] = str(self.most)
         return session(folder, self.story.commands, self.story.words, env=environment)
 
-    def is_one_group(self):
+    def is_one_group(self) -> bool:
         """Whether all commands are one group: they come by one read."""
         return self.story.words != SINGLE and not self.most
 
-    def calls(self):
+    def calls(self) -> tuple[Ended, list[Call]]:
         """The calls of the session without faults, and what it answers."""
         log = os.path.join(self.top, "log")
         folder = self.folder("folder")
@@ -204,8 +214,9 @@ class Trial:
         shutil.rmtree(folder)
         return ended, list(self.placed(lines))
 
-    def placed(self, lines):
-        taken, written, files = 0, 0, set()
+    def placed(self, lines: Sequence[str]) -> Iterator[Call]:
+        files: set[str] = set()
+        taken = written = 0
         for number, line in enumerate(lines, 1):
             name, file, asked = line.split(" ")
             size = min(int(asked), self.most or int(asked))
@@ -218,8 +229,9 @@ class Trial:
 class Expected:
     """How a session with a fault ends, how many bytes of output it writes, and how many commands may be held."""
 
-    def __init__(self, trial, call, kind):
+    def __init__(self, trial: Trial, call: Call, kind: Kind) -> None:
         story = trial.story
+        self.ended: Ending
         self.ended, whole = ending(call, kind)
         self.written = len(story.output) if whole else call.written + written_by(call, kind)
         performed = len(story.changes) if whole else story.answered(call.written)
@@ -236,7 +248,7 @@ class Expected:
             self.ended = (self.ended[0], dropped(rest_of(story.files)) + self.ended[1])
 
 
-def not_performed(taken):
+def not_performed(taken: bytes) -> str:
     """How the line on standard error begins where the input ends after these bytes, or no line if nothing is lost."""
     rest = taken.rpartition(b"\n...\n")[2]
     if not rest.strip():
@@ -245,14 +257,14 @@ def not_performed(taken):
     return f"confstore: the {what} not performed: "
 
 
-def written_by(call, kind):
+def written_by(call: Call, kind: Kind) -> int:
     """How many bytes of output the call writes."""
     if not call.answers():
         return 0
     return {"none": 0, "half": call.size // 2, "whole": call.size}[kind.done]
 
 
-def ending(call, kind):
+def ending(call: Call, kind: Kind) -> tuple[Ending, bool]:
     """How a session with this fault ends, and whether it is performed whole."""
     if kind.answer == "exit":
         return STOPPED, False
@@ -265,7 +277,7 @@ def ending(call, kind):
     return (DONE, True) if goes_on(call, kind) else (DEVICE, False)
 
 
-def goes_on(call, kind):
+def goes_on(call: Call, kind: Kind) -> bool:
     """Whether the program finishes the call, or does without it: one that it doesn't need, one that was cut short, and
     one on the folder that was interrupted, but for a note, which is one byte."""
     if kind.later:
@@ -275,7 +287,7 @@ def goes_on(call, kind):
     return kind.error == errno.EINTR and call.file != "output" and not call.is_of_note()
 
 
-def try_fault(trial, call, kind):
+def try_fault(trial: Trial, call: Call, kind: Kind) -> tuple[Failures, str]:
     """A session with a fault: what is wrong with it, and how many commands are held after it."""
     name = f"{trial.story.name}, {call}, {kind}"
     folder = trial.folder(f"{call.number} {kind}")
@@ -287,15 +299,15 @@ def try_fault(trial, call, kind):
     failures.expect(f"{name}: output", output, trial.story.output[: expected.written])
     left = {file: read_file(os.path.join(folder, file)) for file in os.listdir(folder)}
     status, output, errors = session(folder, LOOK)
-    held = trial.story.states.index(output) if output in trial.story.states else output
+    held: int | bytes = trial.story.states.index(output) if output in trial.story.states else output
     allowed = range(expected.least, expected.most + 1)
     failures.expect(f"{name}: opened again", (status, errors), (0, dropped(rest_of(left))))
-    failures.expect(f"{name}: held {held}, of {list(allowed)}", held in allowed, True)
+    failures.expect(f"{name}: held {held!r}, of {list(allowed)}", held in allowed, True)
     shutil.rmtree(folder)
     return failures, name_of(expected.ended)
 
 
-def try_story(top, story, most, failures):
+def try_story(top: str, story: Story, most: int, failures: Failures) -> None:
     """Tries each kind of fault at each call of a story."""
     trial = Trial(top, story, most)
     ended, calls = trial.calls()
@@ -316,17 +328,17 @@ def try_story(top, story, most, failures):
     print(f"  {story.name}{parts}: {len(calls)} calls, {len(pairs)} faults: {summary}")
 
 
-def is_change(call):
+def is_change(call: Call) -> bool:
     """Whether a call changes the folder, syncs a change, or answers."""
     return call.name in ("fsync", "unlink", "create", "link", "rename", "write")
 
 
-def name_of(ending):
+def name_of(ending: Ending) -> str:
     status, fault = ending
     return {0: "done", ENDED: "ended"}.get(status) or fault.splitlines()[-1].removeprefix("confstore: ")
 
 
-def main():
+def main() -> int:
     need_program()
     failures = Failures()
     with tempfile.TemporaryDirectory() as top:

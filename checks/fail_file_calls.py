@@ -20,6 +20,8 @@ Run it from the repository's root after the program is built. It takes some seco
 The status is 0 if all is as it should be.
 """
 
+from __future__ import annotations
+
 import itertools
 import os
 import shutil
@@ -28,9 +30,10 @@ import subprocess
 import sys
 import tempfile
 from collections import Counter
+from collections.abc import Collection
 from concurrent.futures import ThreadPoolExecutor
 
-from fail_calls import ANY_CALL, ENDED, OF_CALLS
+from fail_calls import ANY_CALL, ENDED, OF_CALLS, Kind
 from lib.store_runs import PROGRAM, Failures, compiled, need_program, read_file, write_file
 
 # The files: the name that the program is given, the file that it means, its old text, and its new one.
@@ -53,19 +56,19 @@ class Call:
     """A call of a run without faults: its number from 1, its name, the file that it is made on, and how many bytes it
     moves."""
 
-    def __init__(self, number, line):
+    def __init__(self, number: int, line: str) -> None:
         self.number = number
         self.name, self.file, size = line.split(" ")
         self.size = int(size)
 
-    def __str__(self):
+    def __str__(self) -> str:
         return f"call {self.number}, {self.name} {self.file}"
 
-    def may_replace(self):
+    def may_replace(self) -> bool:
         """Whether a file may be new though the call failed: it is the rename, or the sync of the folder after it."""
         return self.name == "rename" or (self.name == "fsync" and not self.file.endswith(".tmp"))
 
-    def kinds(self):
+    def kinds(self) -> list[Kind]:
         """The faults of this call. One byte has no half. A handle that is not closed shows nothing before the next
         call."""
         return [
@@ -74,7 +77,7 @@ class Call:
         ]
 
 
-def new_folder(top, name):
+def new_folder(top: str, name: str) -> str:
     """A folder with the two files, and a link to the first."""
     folder = os.path.join(top, name)
     os.mkdir(folder)
@@ -86,14 +89,14 @@ def new_folder(top, name):
     return folder
 
 
-def run(folder, **faults):
+def run(folder: str, **faults: str) -> tuple[int, bytes]:
     """The program on both files: its status, and what it wrote to standard error."""
     words = [PROGRAM, "format", "-i", *(name for name, *_ in FILES)]
     done = subprocess.run(words, cwd=folder, capture_output=True, check=False, env={**os.environ, **faults})
     return done.returncode, done.stdout + done.stderr
 
 
-def calls_of(top, library, failures):
+def calls_of(top: str, library: str, failures: Failures) -> list[Call]:
     """The calls of a run without faults."""
     log = os.path.join(top, "log")
     folder = new_folder(top, "plain")
@@ -109,7 +112,9 @@ def calls_of(top, library, failures):
     return calls
 
 
-def expect_files(name, folder, named, failures, may_be_either=()):
+def expect_files(
+    name: str, folder: str, named: Collection[str], failures: Failures, may_be_either: Collection[str] = ()
+) -> None:
     """The files: new, or old where they are named, or either where that is allowed."""
     failures.expect(f"{name}: the link", os.readlink(os.path.join(folder, "link.yaml")), "one.yaml")
     for given, file, old, new in FILES:
@@ -120,11 +125,11 @@ def expect_files(name, folder, named, failures, may_be_either=()):
         failures.expect(f"{name}: the mode of {file}", stat.S_IMODE(os.stat(path).st_mode), MODE)
 
 
-def left_over(folder):
+def left_over(folder: str) -> list[str]:
     return sorted(set(os.listdir(folder)) - {"link.yaml", "one.yaml", "two.yaml"})
 
 
-def try_fault(top, library, call, kind):
+def try_fault(top: str, library: str, call: Call, kind: Kind) -> tuple[Failures, str]:
     """A run with a fault: what is wrong with it, and how it ended."""
     name = f"{call}, {kind}"
     folder = new_folder(top, name)
@@ -144,7 +149,7 @@ def try_fault(top, library, call, kind):
     return failures, "ended" if kind.answer == "exit" else "done" if status == 0 else said.decode().split()[-1]
 
 
-def expect_told(name, folder, status, said, call, failures):
+def expect_told(name: str, folder: str, status: int, said: bytes, call: Call, failures: Failures) -> None:
     """What a run that came to its end says of the files is so."""
     lines = said.decode().splitlines()
     told = dict(line.split(": ") for line in lines)
@@ -155,10 +160,10 @@ def expect_told(name, folder, status, said, call, failures):
     expect_files(name, folder, told, failures, either)
 
 
-def try_allocations(top, failures):
+def try_allocations(top: str, failures: Failures) -> None:
     """Refuses each allocation of a run in turn."""
     library, mark = compiled("refuse.c", top), os.path.join(top, "refused")
-    endings = Counter()
+    endings: Counter[str] = Counter()
     for number in itertools.count(1):
         name = f"without allocation {number}"
         folder = new_folder(top, name)
@@ -179,7 +184,7 @@ def try_allocations(top, failures):
     print(f"  {number - 1} allocations: " + ", ".join(f"{count} {end}" for end, count in sorted(endings.items())))
 
 
-def main():
+def main() -> int:
     need_program()
     failures = Failures()
     with tempfile.TemporaryDirectory() as top:
@@ -193,7 +198,8 @@ def main():
         failures.tried += found.tried
         failures.wrong += found.wrong
     endings = Counter(ending for _, ending in results)
-    print(f"  {len(calls)} calls, {len(pairs)} faults: " + ", ".join(f"{count} {end}" for end, count in sorted(endings.items())))
+    summary = ", ".join(f"{count} {end}" for end, count in sorted(endings.items()))
+    print(f"  {len(calls)} calls, {len(pairs)} faults: {summary}")
     return failures.report()
 
 

@@ -18,6 +18,8 @@ Run it from the repository's root after the program is built; it takes ten secon
 The status is 0 if all is as it should be.
 """
 
+from __future__ import annotations
+
 import argparse
 import collections
 import concurrent.futures
@@ -34,6 +36,9 @@ import sys
 import tempfile
 import threading
 import time
+from collections.abc import Callable, Sequence
+from types import FrameType
+from typing import Any
 
 from lib.store_runs import PROGRAM, TOP, Failures, need_program
 
@@ -42,6 +47,7 @@ sys.path.insert(0, os.path.dirname(PACKAGE))
 os.environ["CONFSTORE"] = PROGRAM
 
 from confstore import Closed, ConfstoreError, Edit, Locked, Reader, SessionEnded, Store, to_text  # noqa: E402
+from confstore.other import Program  # noqa: E402
 
 # How many interruptions a process makes, how many seconds a call may take, and how long a whole process may.
 BLOCK = 100
@@ -54,9 +60,15 @@ ERRORS_SHOWN = 1_000
 # How many steps of a call's time a timer moves through; the last ones are beyond its end.
 STEPS = 40
 
-VALUES = {f"v{number}": {"own": f"value {number}", "list": [str(number)] * number} for number in range(6)}
+VALUES: dict[str, Any] = {
+    f"v{number}": {"own": f"value {number}", "list": [str(number)] * number} for number in range(6)
+}
 NAMES = ["l", "p", "t", "d", "o0", "o1", *VALUES]
 STOPPED = "stopped"
+
+# What is interrupted, and what is done with what it returned or raised.
+Call = Callable[[], object]
+Told = Callable[[Any], object]
 
 
 class Stop(BaseException):
@@ -66,17 +78,17 @@ class Stop(BaseException):
 class Interrupter:
     """Raises `Stop` in a call that is under way."""
 
-    def __init__(self):
+    def __init__(self) -> None:
         self.left = 0
-        self.found = STOPPED
+        self.found: object = STOPPED
         signal.signal(signal.SIGALRM, self.handle)
 
-    def handle(self, *_):
+    def handle(self, *_: object) -> None:
         if self.left > 0:
             self.left -= 1
             raise Stop
 
-    def attempt(self, call, arm):
+    def attempt(self, call: Call, arm: Call) -> None:
         """Makes a call, and notes what it returned or raised. `Stop` may come twice, also while this is noted."""
         self.found = STOPPED
         try:
@@ -94,10 +106,10 @@ class Interrupter:
         except Stop:
             self.left = 0
 
-    def by_timer(self, call, delay, times):
+    def by_timer(self, call: Call, delay: float, times: int) -> object:
         """What a call returned or raised that is interrupted after a time."""
 
-        def arm():
+        def arm() -> None:
             self.left = times
             signal.setitimer(signal.ITIMER_REAL, max(delay, 1e-6), 5e-5 if times > 1 else 0)
 
@@ -105,12 +117,12 @@ class Interrupter:
         signal.setitimer(signal.ITIMER_REAL, 0)
         return self.found
 
-    def by_opcode(self, call, number):
+    def by_opcode(self, call: Call, number: int) -> tuple[object, int]:
         """What a call returned or raised that is interrupted before so many bytecodes of the package, and how many
         were left to come to when it ended."""
         left = number
 
-        def inside(frame, event, _):
+        def inside(frame: FrameType, event: str, _: object) -> Callable[..., Any]:
             nonlocal left
             frame.f_trace_opcodes = True
             if event == "opcode":
@@ -119,7 +131,7 @@ class Interrupter:
                     raise Stop
             return inside
 
-        def tracer(frame, *_):
+        def tracer(frame: FrameType, *_: object) -> Callable[..., Any] | None:
             if frame.f_code.co_filename.startswith(PACKAGE):
                 frame.f_trace_opcodes = True
                 return inside
@@ -130,9 +142,9 @@ class Interrupter:
         return self.found, left
 
 
-def children():
+def children() -> list[str]:
     """The processes that this one has started and not taken."""
-    found = []
+    found: list[str] = []
     for path in glob.glob("/proc/self/task/*/children"):
         try:
             with open(path, encoding="ascii") as source:
@@ -142,7 +154,7 @@ def children():
     return found
 
 
-def until(condition):
+def until(condition: Callable[[], bool]) -> bool:
     """Whether a condition comes true in time."""
     end = time.monotonic() + PATIENCE
     while not condition():
@@ -152,7 +164,7 @@ def until(condition):
     return True
 
 
-def opened(folder):
+def opened(folder: str) -> Store:
     """A store that another one may just be letting go of."""
     end = time.monotonic() + PATIENCE
     while True:
@@ -167,12 +179,12 @@ def opened(folder):
 class Beside(threading.Thread):
     """Appends to a list of its own, and is never interrupted."""
 
-    def __init__(self, block, number):
+    def __init__(self, block: Block, number: int) -> None:
         super().__init__(daemon=True)
         self.block, self.number = block, number
         self.stop = threading.Event()
 
-    def run(self):
+    def run(self) -> None:
         for turn in itertools.count():
             if self.stop.is_set():
                 return
@@ -190,14 +202,19 @@ class Beside(threading.Thread):
 class Block:
     """Interruptions of calls on one store."""
 
-    def __init__(self, top, number):
+    def __init__(self, top: str, number: int) -> None:
         self.folder, self.other = os.path.join(top, "store"), os.path.join(top, "other")
         self.number = number
         self.chance = random.Random(number)
         self.interrupter = Interrupter()
-        self.told, self.wrong, self.counts = [], [], collections.Counter()
+        self.told: list[tuple[tuple[Edit, ...], int | None]] = []
+        self.wrong: list[str] = []
+        self.counts: collections.Counter[str] = collections.Counter()
+        self.times: dict[str, float] = {}
+        self.lengths: dict[str, int] = {}
         self.store = Store(self.folder, timeout=PATIENCE, make=True)
-        for name, tree in {"l": [], "p": "", "t": "", "o0": [], "o1": [], **VALUES}.items():
+        trees: dict[str, Any] = {"l": [], "p": "", "t": "", "o0": [], "o1": [], **VALUES}
+        for name, tree in trees.items():
             self.store.put(name, tree)
         self.store.put("d", {f"k{number}": "" for number in range(BLOCK)})
         self.setup = self.store.set("p", "", "ready")
@@ -205,20 +222,20 @@ class Block:
 
     # ---- calls: each is what to interrupt, and what to do with what it returned
 
-    def append(self, tag):
+    def append(self, tag: str) -> tuple[Call, Told]:
         return self.change(lambda: self.store.set("l", "/-", tag), Edit("set", "l", "/-", tag))
 
-    def put(self, tag):
+    def put(self, tag: str) -> tuple[Call, Told]:
         return self.change(lambda: self.store.put("p", {"tag": tag}), Edit("import", "p", "", {"tag": tag}))
 
-    def import_text(self, tag):
+    def import_text(self, tag: str) -> tuple[Call, Told]:
         return self.change(lambda: self.store.import_text("t", f"- {tag}\n"), Edit("import", "t", "", [tag]))
 
-    def delete(self, tag):
+    def delete(self, tag: str) -> tuple[Call, Told]:
         return self.change(lambda: self.store.delete("d", "/" + tag), Edit("delete", "d", "/" + tag, None))
 
-    def batch(self, tag):
-        def call():
+    def batch(self, tag: str) -> tuple[Call, Told]:
+        def call() -> int | None:
             with self.store.batch() as batch:
                 batch.set("l", "/-", tag)
                 batch.put("p", tag)
@@ -226,81 +243,81 @@ class Block:
 
         return self.change(call, Edit("set", "l", "/-", tag), Edit("import", "p", "", tag))
 
-    def batches(self, tag):
+    def batches(self, tag: str) -> tuple[Call, Told]:
         tags = [f"{tag}-{number}" for number in range(3)]
-        edits = [[{"set": "l", "path": "/-", "value": each}] for each in tags]
+        edits: list[list[Any]] = [[{"set": "l", "path": "/-", "value": each}] for each in tags]
 
-        def told(found):
+        def told(found: object) -> None:
             counts = found if isinstance(found, list) else [found] * 3
             for each, count in zip(tags, counts):
                 self.note((Edit("set", "l", "/-", each),), count)
 
         return lambda: self.store.perform_batches(edits), told
 
-    def change(self, call, *edits):
+    def change(self, call: Call, *edits: Edit) -> tuple[Call, Told]:
         return call, lambda found: self.note(edits, found)
 
-    def note(self, edits, found):
+    def note(self, edits: tuple[Edit, ...], found: object) -> None:
         if isinstance(found, Exception):
             self.wrong.append(f"{edits[0].kind} raised {type(found).__name__}: {found}")
         self.told.append((edits, found if isinstance(found, int) else None))
 
-    def checkpoint(self, _):
+    def checkpoint(self, _: str) -> tuple[Call, Told]:
         """It is one of another store, since the records go with it."""
         store = opened(self.other)
         wanted = store.put("n", "x")
 
-        def told(found):
+        def told(found: object) -> None:
             self.expect("checkpoint", found, wanted)
             self.expect("after a checkpoint", (store.get("n"), store.checkpoint()), ("x", wanted))
             store.close()
 
         return store.checkpoint, told
 
-    def reading(self, name, call, wanted):
+    def reading(self, name: str, call: Call, wanted: object) -> tuple[Call, Told]:
         return call, lambda found: self.expect(name, found, wanted)
 
-    def get(self, _):
+    def get(self, _: str) -> tuple[Call, Told]:
         name = self.chance.choice(list(VALUES))
         return self.reading("get", lambda: self.store.get(name), VALUES[name])
 
-    def export(self, _):
+    def export(self, _: str) -> tuple[Call, Told]:
         name = self.chance.choice(list(VALUES))
         return self.reading("export", lambda: self.store.export(name), to_text(VALUES[name]))
 
-    def names(self, _):
+    def names(self, _: str) -> tuple[Call, Told]:
         return self.reading("names", lambda: sorted(self.store.names()), sorted(NAMES))
 
-    def contains(self, _):
+    def contains(self, _: str) -> tuple[Call, Told]:
         return self.reading("in", lambda: ("v1" in self.store, len(self.store)), (True, len(NAMES)))
 
-    def read_names(self, _):
+    def read_names(self, _: str) -> tuple[Call, Told]:
         return self.reading("Reader.names", lambda: sorted(Reader(self.folder).names()), sorted(NAMES))
 
-    def read_get(self, _):
+    def read_get(self, _: str) -> tuple[Call, Told]:
         name = self.chance.choice(list(VALUES))
         return self.reading("Reader.get", lambda: Reader(self.folder).get(name), VALUES[name])
 
-    def read_log(self, _):
-        def call():
+    def read_log(self, _: str) -> tuple[Call, Told]:
+        def call() -> list[int]:
             return [record.number for record in Reader(self.folder).log()][: self.setup]
 
         return self.reading("Reader.log", call, list(range(1, self.setup + 1)))
 
-    def read_at(self, _):
+    def read_at(self, _: str) -> tuple[Call, Told]:
         return self.reading("Reader.at", lambda: self.store.at(self.setup)["p"], "ready")
 
-    def close(self, _):
+    def close(self, _: str) -> tuple[Call, Told]:
         return self.store.close, self.again
 
-    def leave(self, _):
-        def call():
+    def leave(self, _: str) -> tuple[Call, Told]:
+        def call() -> None:
             with self.store:
                 pass
 
         return call, self.again
 
-    def again(self, found):
+    def again(self, found: object) -> None:
         """A store that was to be closed is closed, and opened again."""
         self.expect("close", found, None)
         self.store.close()
@@ -311,16 +328,23 @@ class Block:
             pass
         self.reopen_at_last()
 
-    def reopen(self, _):
+    def reopen(self, _: str) -> tuple[Call, Told]:
         if self.chance.random() < 0.5:
             self.store.close()
         else:
-            os.kill(self.store._session._other.process.pid, signal.SIGKILL)
+            other = self.store._session._other
+            assert isinstance(other, Program)
+            os.kill(other.process.pid, signal.SIGKILL)
             if not until(lambda: self.store._session.end is not None):
                 self.wrong.append("a session that is killed does not end")
-        return self.store.reopen, lambda found: (self.expect("reopen", found, None), self.reopen_at_last())
 
-    def reopen_at_last(self):
+        def told(found: object) -> None:
+            self.expect("reopen", found, None)
+            self.reopen_at_last()
+
+        return self.store.reopen, told
+
+    def reopen_at_last(self) -> None:
         end = time.monotonic() + PATIENCE
         while True:
             try:
@@ -331,8 +355,8 @@ class Block:
                     raise
                 time.sleep(0.005)
 
-    def opening(self, _):
-        def told(found):
+    def opening(self, _: str) -> tuple[Call, Told]:
+        def told(found: object) -> None:
             if isinstance(found, Store):
                 found.close()
             elif found is not STOPPED:
@@ -342,13 +366,13 @@ class Block:
 
         return lambda: Store(self.other, timeout=PATIENCE), told
 
-    def drop(self, _):
+    def drop(self, _: str) -> tuple[Call, Told]:
         stores = [opened(self.other)]
 
-        def call():
+        def call() -> None:
             del stores[0]
 
-        def told(_):
+        def told(_: object) -> None:
             stores.clear()
             gc.collect()
             opened(self.other).close()
@@ -357,11 +381,11 @@ class Block:
 
     # ---- what is looked at
 
-    def expect(self, name, found, wanted):
+    def expect(self, name: str, found: object, wanted: object) -> None:
         if found is not STOPPED and found != wanted:
             self.wrong.append(f"{name}: {str(found)[:200]!r} instead of {str(wanted)[:200]!r}")
 
-    def later(self):
+    def later(self) -> None:
         """A call after an interruption gets its own answer."""
         name = self.chance.choice(list(VALUES))
         try:
@@ -370,7 +394,7 @@ class Block:
             self.wrong.append(f"a later call: {type(fault).__name__}: {str(fault)[:80]}")
             self.reopen_at_last()
 
-    def compare(self):
+    def compare(self) -> None:
         """The records beside what was told."""
         records = {record.number: record.edits for record in Reader(self.folder).log()[self.setup :]}
         performed = collections.Counter(map(repr, records.values()))
@@ -387,7 +411,7 @@ class Block:
             count is None and performed[repr(edits)] for edits, count in self.told
         )
 
-    def interrupt(self, kind, turn, tag):
+    def interrupt(self, kind: str, turn: int, tag: str) -> None:
         """One interruption of a call of this kind."""
         call, told = getattr(self, kind)(tag)
         faulthandler.dump_traceback_later(PATIENCE + 10, exit=True)
@@ -402,9 +426,8 @@ class Block:
         self.later()
         faulthandler.cancel_dump_traceback_later()
 
-    def measure(self):
+    def measure(self) -> None:
         """How long a call of each kind takes, and how many bytecodes of the package it has."""
-        self.times, self.lengths = {}, {}
         for kind in dict.fromkeys(KINDS):
             call, told = getattr(self, kind)("k0")
             start = time.perf_counter()
@@ -416,7 +439,7 @@ class Block:
             told(found)
             self.lengths[kind] = max(10**9 - left, 1)
 
-    def run(self):
+    def run(self) -> None:
         self.measure()
         beside = [Beside(self, number) for number in range(2)]
         for thread in beside:
@@ -445,7 +468,7 @@ KINDS = [*CHEAP, "close", *CHEAP, "reopen", "leave", *CHEAP, "opening", "read_na
 KINDS += [*CHEAP, "checkpoint", "read_log", *CHEAP, "read_at"]
 
 
-def run_block(number, folder):
+def run_block(number: int, folder: str) -> int:
     """A block in this process, whose counts are printed."""
     block = Block(folder, number)
     block.run()
@@ -453,12 +476,13 @@ def run_block(number, folder):
     return 0
 
 
-def block_of(number):
+def block_of(number: int) -> tuple[dict[str, int], Sequence[str]]:
     """A block in a process of its own: its counts, and what was wrong."""
     with tempfile.TemporaryDirectory(dir=os.environ.get("INTERRUPTS_FOLDER")) as top:
         words = [sys.executable, os.path.abspath(__file__), "--block", str(number), "--folder", top]
-        streams = {"stdout": subprocess.PIPE, "stderr": subprocess.PIPE, "text": True}
-        done = subprocess.Popen(words, start_new_session=True, **streams)
+        done = subprocess.Popen(
+            words, start_new_session=True, stdout=subprocess.PIPE, stderr=subprocess.PIPE, text=True
+        )
         try:
             output, errors = done.communicate(timeout=LONGEST_BLOCK)
         except subprocess.TimeoutExpired:
@@ -474,7 +498,7 @@ def block_of(number):
     return counts, wrong + ([errors[-ERRORS_SHOWN:]] if errors else [])
 
 
-def main():
+def main() -> int:
     parser = argparse.ArgumentParser()
     parser.add_argument("--interruptions", type=int, default=1_000)
     parser.add_argument("--seed", type=int, default=random.randrange(10**6))
@@ -487,7 +511,8 @@ def main():
         return run_block(arguments.block, arguments.folder)
     print(f"seed {arguments.seed}")
     blocks = -(-arguments.interruptions // (BLOCK - 2))
-    failures, counts = Failures(), collections.Counter()
+    failures = Failures()
+    counts: collections.Counter[str] = collections.Counter()
     with concurrent.futures.ThreadPoolExecutor(arguments.jobs) as jobs:
         for found, wrong in jobs.map(block_of, range(arguments.seed, arguments.seed + blocks)):
             counts.update(found)

@@ -18,11 +18,14 @@
 It takes some seconds, and the status is 1 if a name is not there or if there are more ways.
 """
 
+from __future__ import annotations
+
 import functools
 import glob
 import os
 import re
 import sys
+from collections.abc import Iterator
 
 TOP = os.path.dirname(os.path.dirname(os.path.abspath(__file__)))
 CODE = re.compile(r"`([^`]+)`")
@@ -40,7 +43,7 @@ CLAP_WORDS = {"help"}
 
 
 @functools.lru_cache(maxsize=None)
-def text_of(pattern):
+def text_of(pattern: str) -> str:
     texts = []
     for path in sorted(glob.glob(os.path.join(TOP, "crates", pattern), recursive=True)):
         with open(path, encoding="utf-8") as file:
@@ -49,41 +52,41 @@ def text_of(pattern):
 
 
 @functools.lru_cache(maxsize=None)
-def page(path):
+def page(path: str) -> str:
     with open(os.path.join(TOP, path), encoding="utf-8") as file:
         return file.read()
 
 
-def crates():
+def crates() -> set[str]:
     return set(os.listdir(os.path.join(TOP, "crates")))
 
 
-def has_word(name, text):
+def has_word(name: str, text: str) -> bool:
     return re.search(rf"(?<![\w-]){re.escape(name)}(?![\w-])", text) is not None
 
 
-def is_definition(file, name):
+def is_definition(file: str, name: str) -> bool:
     return has_word(name, text_of(f"*/specs/{file}.antt"))
 
 
-def is_function(crate, file, name):
+def is_function(crate: str, file: str, name: str) -> bool:
     return re.search(rf"\bfn {re.escape(name)}\b", text_of(f"{crate}/src/{file}.rt")) is not None
 
 
-def is_edit(crate, name):
+def is_edit(crate: str, name: str) -> bool:
     places = (f"crates/{crate}/must-fail", f"crates/{crate}/must-fail-beside")
     return any(os.path.exists(os.path.join(TOP, place, f"{name}.edit")) for place in places)
 
 
-def is_law(name):
+def is_law(name: str) -> bool:
     return re.search(rf"\bpub fn {re.escape(name)}\b", text_of("*/src/**/*.rt")) is not None
 
 
-def begins_row(token):
+def begins_row(token: str) -> bool:
     return any(line.startswith(token) for line in text_of("*/stdin").splitlines())
 
 
-def rows_of(path, heading=""):
+def rows_of(path: str, heading: str = "") -> Iterator[list[str]]:
     """The cells of each row of the page's tables, from a heading to the next one if one is given."""
     text = page(path).partition(f"\n## {heading}\n")[2].partition("\n## ")[0] if heading else page(path)
     for line in text.splitlines():
@@ -91,12 +94,12 @@ def rows_of(path, heading=""):
             yield [cell.strip() for cell in line.strip().strip("|").split(" | ")]
 
 
-def items_of(path):
+def items_of(path: str) -> list[str]:
     """The items of the page's lists, each as one line."""
     return [re.sub(r"\n +", " ", item) for item in re.findall(r"^- (.*(?:\n  .*)*)", page(path), re.M)]
 
 
-def is_rule_name(token):
+def is_rule_name(token: str) -> bool:
     """Whether a name of RULES.md is there; what is no name counts as one that is."""
     if ";" in token:
         return begins_row(token)
@@ -113,12 +116,12 @@ def is_rule_name(token):
     return True
 
 
-def missing_in_rules():
+def missing_in_rules() -> Iterator[str]:
     for item in items_of("docs/RULES.md"):
         yield from (f"docs/RULES.md: `{token}`" for token in CODE.findall(item) if not is_rule_name(token))
 
 
-def missing_in_claims():
+def missing_in_claims() -> Iterator[str]:
     for item in items_of("docs/PROVED.md"):
         place = re.search(r"\(([^()]*)\)$", item)
         tokens = CODE.findall(place[1]) if place else []
@@ -129,31 +132,39 @@ def missing_in_claims():
                 yield f"docs/PROVED.md: `{name}` is not in {', '.join(named)}"
 
 
-def variants_of(fault):
+def found_in(pattern: str, text: str, flags: re.RegexFlag) -> re.Match[str]:
+    """What a pattern finds in a text. Ends the run where there is nothing."""
+    found = re.search(pattern, text, flags)
+    if found is None:
+        sys.exit(f"names.py looks for {pattern!r}, which is not in the code")
+    return found
+
+
+def variants_of(fault: str) -> list[str]:
     """The variants of an enum of faults, but those that only hold another fault."""
-    found = re.search(rf"^pub enum {fault} {{$(.*?)^}}$", text_of("*/src/*.rt"), re.M | re.S)
+    found = found_in(rf"^pub enum {fault} {{$(.*?)^}}$", text_of("*/src/*.rt"), re.M | re.S)
     return re.findall(r"^    (\w+)(?:,| \{.*\},)$", found[1], re.M)
 
 
-def printed_faults():
+def printed_faults() -> set[str]:
     return {name for fault in FAULTS for name in variants_of(fault)} | PRINTED
 
 
-def wrong_in_faults():
+def wrong_in_faults() -> Iterator[str]:
     named = {name for row in rows_of("docs/FAULTS.md") for name in CODE.findall(row[0])}
     there = printed_faults()
     yield from (f"docs/FAULTS.md: `{name}` is no fault" for name in sorted(named - there))
     yield from (f"docs/FAULTS.md: `{name}` is missing" for name in sorted(there - named - {"Read", "Write"}))
 
 
-def wrong_statuses():
-    code = re.search(r"fn code\(self\).*?^    }$", text_of("conf_tools/src/program.rt"), re.M | re.S)[0]
+def wrong_statuses() -> Iterator[str]:
+    code = found_in(r"fn code\(self\).*?^    }$", text_of("conf_tools/src/program.rt"), re.M | re.S)[0]
     there = set(re.findall(r"=> (\d)", code)) | {SCRIPT_STATUS}
     named = {row[0] for row in rows_of("docs/FAULTS.md", "Statuses") if row[0].isdigit()}
     yield from (f"docs/FAULTS.md: status {status}" for status in sorted(there ^ named))
 
 
-def wrong_limits():
+def wrong_limits() -> Iterator[str]:
     code = text_of("*/src/*.rt").replace("_", "")
     for what, most, beyond in list(rows_of("docs/STORE.md", "Limits"))[1:]:
         for number in re.findall(r"\d[\d,]*", most):
@@ -163,13 +174,13 @@ def wrong_limits():
         yield from (f"docs/STORE.md: `{name}`" for name in CODE.findall(beyond) if name not in printed_faults())
 
 
-def is_file_of(crate, name):
+def is_file_of(crate: str, name: str) -> bool:
     path = f"src/{name}" if name.endswith(".rt") else f"specs/{name}.antt"
     return os.path.exists(os.path.join(TOP, "crates", crate, path))
 
 
-def wrong_in_architecture():
-    named = set()
+def wrong_in_architecture() -> Iterator[str]:
+    named: set[str] = set()
     for row in rows_of("docs/ARCHITECTURE.md"):
         here = [name for name in CODE.findall(row[0])]
         named.update(here)
@@ -180,7 +191,7 @@ def wrong_in_architecture():
         yield f"docs/ARCHITECTURE.md: `{crate}` is not in both its tables and crates.txt"
 
 
-def wrong_in_drawing():
+def wrong_in_drawing() -> Iterator[str]:
     """The names in the drawing of a command's way; a line without a crate is of the one before."""
     crate = ""
     for here, what, files in DRAWN.findall(page("docs/ARCHITECTURE.md")):
@@ -191,7 +202,7 @@ def wrong_in_drawing():
                 yield f"docs/ARCHITECTURE.md: {crate} has no `{name}` in {files}"
 
 
-def missing_definitions():
+def missing_definitions() -> Iterator[str]:
     folder = ""
     for row in rows_of("docs/TRUSTED.md"):
         for token in CODE.findall(row[1]):
@@ -202,7 +213,7 @@ def missing_definitions():
                 yield f"docs/TRUSTED.md: `{token}`"
 
 
-def wrong_words():
+def wrong_words() -> Iterator[str]:
     text = text_of("conf_words/src/subcommand.rt")
     words = set(re.findall(r'Subcommand::\w+ => "([a-z]+)"', text))
     for path in ("docs/GUIDE.md", "README.md"):
@@ -212,13 +223,13 @@ def wrong_words():
             yield from (f"{path}: the word `{word}` is missing" for word in sorted(words - named))
 
 
-def libraries_of_crates():
+def libraries_of_crates() -> dict[str, set[str]]:
     """The libraries that the line of each crate names."""
     lines = [line.partition("#")[0].partition(":") for line in page("crates.txt").splitlines()]
     return {crate.strip(): set(libraries.split()) for crate, colon, libraries in lines if colon}
 
 
-def unused_libraries():
+def unused_libraries() -> Iterator[str]:
     for crate, libraries in libraries_of_crates().items():
         files = "\n".join(text_of(f"{crate}/{part}") for part in ("src/**/*.rt", "specs/**/*.antt", "proofs/**/*.antt"))
         for library in libraries - UNNAMED.get(crate, set()):
@@ -226,11 +237,11 @@ def unused_libraries():
                 yield f"crates.txt: {crate} has `{library}`, which no file of it names"
 
 
-def many_ways():
+def many_ways() -> Iterator[str]:
     libraries = libraries_of_crates()
 
     @functools.lru_cache(maxsize=None)
-    def ways(crate):
+    def ways(crate: str) -> int:
         return 1 + sum(ways(library) for library in libraries[crate] if library in libraries)
 
     for crate in libraries:
@@ -238,7 +249,7 @@ def many_ways():
             yield f"crates.txt: {ways(crate)} ways lead down from {crate}, more than {MOST_WAYS}"
 
 
-def main():
+def main() -> int:
     looks = (missing_in_rules, missing_in_claims, wrong_in_faults, wrong_statuses, wrong_limits, wrong_in_architecture,
              wrong_in_drawing, missing_definitions, wrong_words, unused_libraries, many_ways)  # fmt: skip
     missing = [line for look in looks for line in look()]

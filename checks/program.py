@@ -25,12 +25,15 @@ The rows are in checks/data/program.txt. A row is some lines, and an empty line 
     leads PATH TO   where a symbolic link leads afterwards
     has PATH NAMES  what is in a folder afterwards, in order
 
-A text has the escapes of checks/cases.py, and so has the path of a file or a folder that is made. All rows share one folder, and run in order. The program has to be built first:
+A text has the escapes of checks/cases.py, and so has the path of a file or a folder that is made. All rows share one
+folder, and run in order. The program has to be built first:
 
     ./confstore --version && python3 checks/program.py
 
 The last line is 'N passed, M failed', of rows; the status is 0 if M is 0.
 """
+
+from __future__ import annotations
 
 import array
 import contextlib
@@ -43,6 +46,8 @@ import tempfile
 import termios
 import threading
 import time
+from collections.abc import Iterator, Sequence
+from typing import IO, Any
 
 from cases import bytes_of, long_runs
 from lib.store_runs import PROGRAM, TOP, need_program, read_file, write_file
@@ -52,6 +57,9 @@ ROWS = os.path.join(TOP, "checks", "data", "program.txt")
 # The standard streams, by their numbers.
 STREAMS = ("input", "output", "errors")
 
+# The lines of a row: of each its word, and what follows it.
+Row = Sequence[tuple[str, str]]
+
 # How many seconds another run has to fill a pipe.
 PATIENCE = 60
 
@@ -59,9 +67,10 @@ PATIENCE = 60
 PAGE = 4096
 
 
-def read_rows(path):
-    """The rows of a file: of each the number of its first line, and its lines as pairs of a word and what follows it."""
-    rows, row = [], []
+def read_rows(path: str) -> list[tuple[int, Row]]:
+    """The rows of a file: of each the number of its first line, and its lines."""
+    rows: list[tuple[int, Row]] = []
+    row: list[tuple[str, str]] = []
     with open(path, encoding="utf-8") as source:
         for number, line in enumerate(source, 1):
             line = line.rstrip("\n")
@@ -74,22 +83,22 @@ def read_rows(path):
     return rows + ([(number + 1 - len(row), row)] if row else [])
 
 
-def values(row, word):
+def values(row: Row, word: str) -> list[str]:
     """What follows a word, in each line of the row that begins with it."""
     return [rest for found, rest in row if found == word]
 
 
-def value(row, word):
+def value(row: Row, word: str) -> str:
     """What follows a word in the row, or nothing."""
     return "".join(values(row, word)[:1])
 
 
-def name_of(text):
+def name_of(text: str) -> str:
     """The name of a file that a text with escapes means."""
     return os.fsdecode(bytes_of(text))
 
 
-def prepare(row, top):
+def prepare(row: Row, top: str) -> None:
     """Makes the folders and files of a row."""
     for folder in values(row, "folder"):
         os.mkdir(os.path.join(top, name_of(folder)))
@@ -102,9 +111,10 @@ def prepare(row, top):
 
 
 @contextlib.contextmanager
-def held(folder, top):
+def held(folder: str, top: str) -> Iterator[None]:
     """Another run of the program over the store in a folder, which has answered a command and waits for the next."""
     run = subprocess.Popen([PROGRAM, "run", folder], cwd=top, stdin=subprocess.PIPE, stdout=subprocess.PIPE)
+    assert run.stdin and run.stdout
     run.stdin.write(b"names:\n...\n")
     run.stdin.flush()
     for line in run.stdout:
@@ -116,7 +126,7 @@ def held(folder, top):
     run.wait()
 
 
-def wait_until_full(pipe):
+def wait_until_full(pipe: int) -> None:
     """Waits until a pipe has no room for a page."""
     size = fcntl.fcntl(pipe, fcntl.F_GETPIPE_SZ)
     held = array.array("i", [0])
@@ -129,7 +139,7 @@ def wait_until_full(pipe):
 
 
 @contextlib.contextmanager
-def stuck(words, top):
+def stuck(words: str, top: str) -> Iterator[None]:
     """Another run of the program, which has filled a pipe that nobody reads, and waits."""
     reading, writing = os.pipe()
     run = subprocess.Popen([PROGRAM, *words.split()], cwd=top, stdin=subprocess.DEVNULL, stdout=writing)
@@ -144,8 +154,9 @@ def stuck(words, top):
 
 
 @contextlib.contextmanager
-def broken_reader(content):
-    """A stream with these bytes, after which reading fails: its other end was closed with bytes that it had not read."""
+def broken_reader(content: bytes) -> Iterator[socket.socket]:
+    """A stream with these bytes, after which reading fails: its other end was closed with bytes that it had not
+    read."""
     ours, theirs = socket.socketpair()
     sender = threading.Thread(target=ours.sendall, args=(content,))
     sender.start()
@@ -157,7 +168,7 @@ def broken_reader(content):
 
 
 @contextlib.contextmanager
-def unread_pipe():
+def unread_pipe() -> Iterator[IO[bytes]]:
     """The end for writing of a pipe whose other end is closed."""
     reading, writing = os.pipe()
     os.close(reading)
@@ -165,25 +176,25 @@ def unread_pipe():
         yield end
 
 
-def close(streams):
+def close(streams: Sequence[str]) -> None:
     """Closes standard streams."""
     for stream in streams:
         os.close(STREAMS.index(stream))
 
 
-def run(row, top):
+def run(row: Row, top: str) -> tuple[int, bytes, bytes]:
     """The status, the output and the errors of the program."""
-    words = [PROGRAM, *value(row, "words").split(), *map(bytes_of, values(row, "word"))]
+    words: list[str | bytes] = [PROGRAM, *value(row, "words").split(), *map(bytes_of, values(row, "word"))]
     content = bytes_of(value(row, "input"))
     with contextlib.ExitStack() as ends:
         for folder in values(row, "held"):
             ends.enter_context(held(folder, top))
         for other in values(row, "stuck"):
             ends.enter_context(stuck(other, top))
-        given = {"input": content}
+        given: dict[str, Any] = {"input": content}
         if value(row, "reader") == "broken":
             given = {"stdin": ends.enter_context(broken_reader(content))}
-        output = subprocess.PIPE
+        output: int | IO[bytes] = subprocess.PIPE
         if value(row, "writer") == "full":
             output = ends.enter_context(open("/dev/full", "wb"))
         if value(row, "writer") == "gone":
@@ -191,11 +202,13 @@ def run(row, top):
         closed = value(row, "closed").split()
         if closed:
             given["preexec_fn"] = lambda: close(closed)
-        done = subprocess.run(words, cwd=top, stdout=output, stderr=subprocess.PIPE, check=False, **given)
+        done: subprocess.CompletedProcess[bytes] = subprocess.run(
+            words, cwd=top, stdout=output, stderr=subprocess.PIPE, check=False, **given
+        )
     return done.returncode, done.stdout or b"", done.stderr
 
 
-def faults_of_output(row, output):
+def faults_of_output(row: Row, output: bytes) -> list[str]:
     """What is wrong with what the program wrote."""
     if values(row, "length"):
         return [] if len(output) == int(value(row, "length")) else [f"{len(output)} bytes were written"]
@@ -205,7 +218,7 @@ def faults_of_output(row, output):
     return [] if output == bytes_of(value(row, "output")) else [f"output {output!r}"]
 
 
-def faults_of_errors(row, errors):
+def faults_of_errors(row: Row, errors: bytes) -> list[str]:
     """What is wrong with what the program wrote to standard error."""
     if values(row, "errors_begin"):
         begin = errors.split()[:2]
@@ -216,7 +229,7 @@ def faults_of_errors(row, errors):
     return [] if errors == bytes_of(value(row, "errors")) else [f"errors {errors!r}"]
 
 
-def faults_of_files(row, top):
+def faults_of_files(row: Row, top: str) -> Iterator[str]:
     """What is wrong with the files that the program left."""
     for file in values(row, "left"):
         path, _, text = file.partition(" ")
@@ -231,12 +244,12 @@ def faults_of_files(row, top):
             yield f"{path} does not lead to {target}"
     for folder in values(row, "has"):
         path, *names = folder.split(" ")
-        found = sorted(os.listdir(os.path.join(top, path)))
-        if found != names:
-            yield f"{path} has {found}"
+        there = sorted(os.listdir(os.path.join(top, path)))
+        if there != names:
+            yield f"{path} has {there}"
 
 
-def faults_of(row, top):
+def faults_of(row: Row, top: str) -> list[str]:
     """What is wrong with what the program does in a row."""
     prepare(row, top)
     status, output, errors = run(row, top)
@@ -244,7 +257,7 @@ def faults_of(row, top):
     return [*faults, *faults_of_output(row, output), *faults_of_errors(row, errors), *faults_of_files(row, top)]
 
 
-def main():
+def main() -> int:
     need_program()
     rows = read_rows(ROWS)
     wrong = 0

@@ -38,7 +38,8 @@ def refuse(top: str, story: Story, number: int) -> tuple[bool, tuple[int, str], 
     os.mkdir(folder)
     for file, content in story.files.items():
         write_file(os.path.join(folder, file), content)
-    names = {"LD_PRELOAD": os.path.join(top, "refuse.so"), "REFUSE_ALLOCATION": str(number), "REFUSED_FILE": refused_file}
+    names = {"LD_PRELOAD": os.path.join(top, "refuse.so"), "REFUSED_FILE": refused_file}
+    names["REFUSE_ALLOCATION"] = str(number)
     status, output, errors = session(folder, story.commands, story.words, env={**os.environ, **names})
     was_refused = os.path.exists(refused_file)
     if was_refused:

@@ -3,9 +3,9 @@
 then held.
 
 The run is a list of orders to `state_probe`. For each command the state before it is taken from a base, and the command
-is performed twice, with a look at the state after each. A library under the program (shims/refuse.c) refuses one allocation.
-A command that is refused memory has to leave the state as it was, and has to succeed when it is performed again. If the
-program itself runs out of memory, for an order, a record or an answer, it ends with the status 1.
+is performed twice, with a look at the state after each. A library under the program (shims/refuse.c) refuses one
+allocation. A command that is refused memory has to leave the state as it was, and has to succeed when it is performed
+again. If the program itself runs out of memory, for an order, a record or an answer, it ends with the status 1.
 
 Run it from the repository's root after the program is built. It takes a second, and needs a C compiler:
 
@@ -14,18 +14,25 @@ Run it from the repository's root after the program is built. It takes a second,
 The status is 0 if all is as it should be.
 """
 
+from __future__ import annotations
+
 import os
 import sys
+from collections.abc import Sequence
 
 from lib.store_runs import TOP, Failures, refuse_each
 
 PROGRAM = os.path.join(TOP, "crates", "state_probe", "out", "state_probe")
 OUT_OF_MEMORY = "OutOfMemory"
+
+# A command, the numbers of the states before and after it, and what it is answered.
+Command = tuple[str, int, int, str]
+
 # A state: its count, and the configurations as a base has them and as they are in the one style.
 TWO = ("{a/b: [x, z]}", r"a/b:\n  - x\n  - z\n")
 THREE = ("{a/b: [x, z], e: w}", r"a/b:\n  - x\n  - z\ne: w\n")
 DEEP = ("[[{a/b: [x]}]]", r"- - a/b:\n      - x\n")
-STATES = [
+STATES: list[tuple[int, dict[str, tuple[str, str]]]] = [
     (0, {}),
     (1, {"c": ("{a/b: [x]}", r"a/b:\n  - x\n")}),
     (2, {"c": TWO}),
@@ -35,8 +42,7 @@ STATES = [
     (6, {"c": ("{a/b: [z], e: w}", r"a/b:\n  - z\ne: w\n"), "d": DEEP}),
     (7, {"d": DEEP}),
 ]
-# The commands, each with the number of the state before it, of the one after it, and what it is answered.
-COMMANDS = [
+COMMANDS: list[Command] = [
     ("{at: 1, import: c, tree: {a/b: [x]}}", 0, 1, "1"),
     ("{at: 2, set: c, path: '/a~1b/-', value: z}", 1, 2, "2"),
     ("{at: 3, set: c, path: '/a~1b/2', value: y}", 2, 2, "Path(NoSuchPlace { step: 2 })"),
@@ -48,20 +54,20 @@ COMMANDS = [
 ]
 
 
-def opening(number):
+def opening(number: int) -> str:
     """The order that takes a state from its base."""
     count, configs = STATES[number]
     shown = ", ".join(f"{name}: {flow}" for name, (flow, _) in configs.items())
     return f"open;{{store: confstore-2, at: {count}, configs: {{{shown}}}}}"
 
 
-def shown(number):
+def shown(number: int) -> str:
     """The answer to a look at a state."""
     count, configs = STATES[number]
     return " ".join([str(count), *(f'{name} "{text}"' for name, (_, text) in configs.items())])
 
 
-def orders_of(command):
+def orders_of(command: Command) -> list[str]:
     """The orders that perform a command twice, with a look at the state after each."""
     text, before, _, _ = command
     return [opening(before), f"perform;{text}", "show", f"perform;{text}", "show"]
@@ -70,7 +76,7 @@ def orders_of(command):
 ORDERS = [order for command in COMMANDS for order in orders_of(command)]
 
 
-def is_right(command, answers):
+def is_right(command: Command, answers: Sequence[str]) -> bool:
     """Whether the answers to a command's orders, as many as came before the program ended, are right."""
     _, before, after, answer = command
     wanted = [str(STATES[before][0]), answer, shown(after)]
@@ -79,7 +85,7 @@ def is_right(command, answers):
     return answers[: len(wanted)] == wanted[: len(answers)]
 
 
-def outcome(status, answers, name, failures):
+def outcome(status: int, answers: Sequence[str], name: str, failures: Failures) -> str:
     """How a run went. The answers to each command have to be right."""
     for number, command in enumerate(COMMANDS):
         own = answers[5 * number : 5 * number + 5]
@@ -90,7 +96,7 @@ def outcome(status, answers, name, failures):
     return "answered by out of memory" if OUT_OF_MEMORY in answers else "done without"
 
 
-def main():
+def main() -> int:
     failures = Failures()
     refuse_each(PROGRAM, ORDERS, outcome, failures)
     return failures.report()

@@ -17,11 +17,14 @@ Run it from the repository's root after the program is built. It takes some seco
 The status is 0 if all is as it should be.
 """
 
+from __future__ import annotations
+
 import json
 import os
 import re
 import sys
-from typing import NamedTuple
+from collections.abc import Sequence
+from dataclasses import dataclass
 
 from lib.lengths import SLICE, base_length, meant, record_length
 from lib.store_runs import TOP, Failures, refuse_each
@@ -46,20 +49,21 @@ ORDERS += ["import;a;*5000*", "begin", "slice", ROUND_ORDER, *LOOK, ROUND_ORDER,
 OUT_OF_MEMORY = ("OutOfMemory", "Path(OutOfMemory)", "Read(OutOfMemory)")
 
 
-class State(NamedTuple):
+@dataclass(frozen=True)
+class State:
     """A count, the value of `a`, and how many bytes of a running checkpoint are left."""
 
     count: int = 0
     value: str | None = None
     left: int | None = None
 
-    def shown(self, order):
+    def shown(self, order: str) -> str:
         """The answer to a look."""
         if order == "count":
             return str(self.count)
         return "NoConfig" if self.value is None else f'Text("{self.value}")'
 
-    def after(self, call):
+    def after(self, call: str) -> tuple[str, State]:
         """The answer to a call with memory, and the state after it."""
         if call == "flush":
             return "done", self
@@ -69,8 +73,10 @@ class State(NamedTuple):
             length = base_length(self.count, {} if self.value is None else {"a": self.value})
             return "done", State(self.count, self.value, length)
         if call == "slice":
-            left = self.left - SLICE
-            return ("done", State(self.count, self.value)) if left <= 0 else (f"left {left}", State(self.count, self.value, left))
+            left = (self.left or 0) - SLICE
+            if left <= 0:
+                return "done", State(self.count, self.value)
+            return f"left {left}", State(self.count, self.value, left)
         if call == ROUND_ORDER:
             states = self.in_round()
             answers = [f'ok: "{states[1].count}"', f'ok: "{states[2].count}"', "names:\n  - a"]
@@ -78,7 +84,7 @@ class State(NamedTuple):
             return f"3 answers {json.dumps(text)}", states[-1]
         return self.after_command(call)
 
-    def after_command(self, call):
+    def after_command(self, call: str) -> tuple[str, State]:
         words = call.split(";")
         kind, *rest = words = meant(words[2:] if words[0] == "submit" else words)
         if kind == "names":
@@ -89,7 +95,7 @@ class State(NamedTuple):
         left = self.left if self.left is None else self.left + record_length(count, words)
         return str(count), State(count, None if kind == "delete" else rest[-1], left)
 
-    def in_round(self):
+    def in_round(self) -> list[State]:
         """The states after each number of pieces of the round."""
         states = [self]
         for command in ROUND:
@@ -100,11 +106,11 @@ class State(NamedTuple):
 class Store:
     """What the store has to hold: the states that it may be in."""
 
-    def __init__(self):
+    def __init__(self) -> None:
         self.states = [State()]
         self.is_open = self.needs_reopen = False
 
-    def allows(self, order, answer):
+    def allows(self, order: str, answer: str) -> bool:
         """Whether the answer to an order is right. The store is then the one after it."""
         if order == "folder":
             return answer == "no file"
@@ -123,20 +129,20 @@ class Store:
             return answer == "no checkpoint runs"
         return self.allows_call(order, answer)
 
-    def allows_open(self, answer):
+    def allows_open(self, answer: str) -> bool:
         self.is_open = answer.startswith("commands ") and answer.endswith(", dropped 0")
         self.needs_reopen = False
         self.states = list(dict.fromkeys(State(state.count, state.value) for state in self.states))
         return self.is_open or answer in (*OUT_OF_MEMORY, "Device")
 
-    def allows_look(self, order, answer):
+    def allows_look(self, order: str, answer: str) -> bool:
         """The answer is of a state that the store may be in. Only such ones stay, unless it has to be opened again."""
         states = [state for state in self.states if answer == state.shown(order)]
         if not self.needs_reopen:
             self.states = states
         return bool(states)
 
-    def allows_call(self, call, answer):
+    def allows_call(self, call: str, answer: str) -> bool:
         if self.needs_reopen or answer in OUT_OF_MEMORY:
             return answer == "Reopen" if self.needs_reopen else True
         (before,) = self.states
@@ -152,7 +158,7 @@ class Store:
         return answer == right
 
 
-def outcome(status, answers, name, failures):
+def outcome(status: int, answers: Sequence[str], name: str, failures: Failures) -> str:
     """How a run went. Each of its answers has to be right; after a wrong one the others are not looked at."""
     store = Store()
     for number, (order, answer) in enumerate(zip(ORDERS, answers)):
@@ -168,7 +174,7 @@ def outcome(status, answers, name, failures):
     return "answered by the device" if "Device" in answers else "done without"
 
 
-def main():
+def main() -> int:
     failures = Failures()
     refuse_each(PROGRAM, ORDERS, outcome, failures)
     return failures.report()

@@ -20,6 +20,8 @@ and the part with namespaces is left out. All that it starts is stopped at the e
 failed'.
 """
 
+from __future__ import annotations
+
 import base64
 import http.client
 import json
@@ -34,6 +36,8 @@ import sys
 import tempfile
 import threading
 import time
+from collections.abc import Callable, Mapping, Sequence
+from typing import Any, NoReturn, Protocol
 
 TOP = os.path.dirname(os.path.dirname(os.path.abspath(__file__)))
 PROGRAM = os.environ.get("CONFSTORE") or os.path.join(TOP, "crates", "confstore", "out", "confstore")
@@ -41,7 +45,7 @@ sys.path[:0] = [os.path.join(TOP, "python"), os.path.join(TOP, "replicated")]
 
 from confstore import Reader, Refused, Store  # noqa: E402
 from confstore_replicated import Client  # noqa: E402
-from confstore_replicated.entries import NO_MARK, RESERVED, edits_in, marked, refused  # noqa: E402
+from confstore_replicated.entries import NO_MARK, RESERVED, edits_in, marked, number_in, refused  # noqa: E402
 from confstore_replicated.etcd import Etcd, Unavailable  # noqa: E402
 
 COMMANDS = int(sys.argv[1]) if len(sys.argv) > 1 else 2000
@@ -62,24 +66,37 @@ LONGEST = 400
 # The mark that is in the environment of all that is started here, and in names of namespaces.
 MARK = os.environ.setdefault("CONFSTORE_CHECK_MARK", f"cf{os.getpid()}")
 
+# A request to a node and what it answers; both by the id of a command; and how often each kind of trouble was made.
+Request = dict[str, Any]
+Answers = dict[str, tuple[Request, Request]]
+Done = dict[str, int]
 
-def free_port():
+# The log: of each entry its number, its id and its bytes.
+Log = Sequence[tuple[int, str, bytes]]
+
+
+def free_port() -> int:
     with socket.socket() as probe:
         probe.bind(("127.0.0.1", 0))
-        return probe.getsockname()[1]
+        return int(probe.getsockname()[1])
 
 
 class Process:
     """A process that is started, killed, stopped, and started again."""
 
-    def __init__(self, words, log):
+    def __init__(self, words: Sequence[str], log: str) -> None:
         self.words, self.log = words, log
-        self.limit = None
-        self.process = None
+        self.limit: int | None = None
+        self.process: subprocess.Popen[bytes] | None = None
         self.began = 0.0
 
-    def start(self):
-        def limited():
+    def running(self) -> subprocess.Popen[bytes]:
+        """The process that runs."""
+        assert self.process is not None
+        return self.process
+
+    def start(self) -> None:
+        def limited() -> None:
             if self.limit is not None:
                 resource.setrlimit(resource.RLIMIT_FSIZE, (self.limit, self.limit))
 
@@ -91,18 +108,19 @@ class Process:
             )  # fmt: skip
         self.began = time.monotonic()
 
-    def children(self):
+    def children(self) -> list[int]:
         """The sessions that it has started, as a machine that goes takes them with it."""
-        found = []
+        found: list[int] = []
+        tasks = f"/proc/{self.running().pid}/task"
         try:
-            for task in os.listdir(f"/proc/{self.process.pid}/task"):
-                with open(f"/proc/{self.process.pid}/task/{task}/children", encoding="ascii") as children:
+            for task in os.listdir(tasks):
+                with open(f"{tasks}/{task}/children", encoding="ascii") as children:
                     found += map(int, children.read().split())
         except OSError:
             pass
         return found
 
-    def kill(self):
+    def kill(self) -> None:
         """Kills the process, and what it has started."""
         if self.process is None:
             return
@@ -114,42 +132,57 @@ class Process:
         self.process.wait()
         self.process = None
 
-    def end(self, number):
+    def end(self, number: int) -> int | str:
         """Tells the process to end by a signal, and waits until it has. Its status, or 0 of one that had just started,
         since Python may not take signals yet."""
         is_new = time.monotonic() - self.began < 5
-        self.process.send_signal(number)
+        self.running().send_signal(number)
         try:
-            status = self.process.wait(60)
+            status = self.running().wait(60)
         except subprocess.TimeoutExpired:
             self.kill()
             return "none: it had to be killed"
         self.process = None
         return 0 if is_new else status
 
-    def pause(self, seconds, ended):
-        self.process.send_signal(signal.SIGSTOP)
+    def pause(self, seconds: float, ended: threading.Event) -> None:
+        self.running().send_signal(signal.SIGSTOP)
         ended.wait(seconds)
-        self.process.send_signal(signal.SIGCONT)
+        self.running().send_signal(signal.SIGCONT)
+
+
+class Ground(Protocol):
+    """Where the machines are: their hosts, and what is put before the words of a process on one of them."""
+
+    hosts: list[str]
+
+    def words(self, machine: int, words: Sequence[str]) -> Sequence[str]: ...
+
+    def cut_off(self, machine: int, seconds: float, ended: threading.Event) -> None: ...
+
+    def remove(self) -> None: ...
 
 
 class Loopback:
     """All machines are this one."""
 
-    def __init__(self):
+    def __init__(self) -> None:
         self.hosts = ["127.0.0.1"] * MACHINES
 
-    def words(self, _machine, words):
+    def words(self, machine: int, words: Sequence[str]) -> Sequence[str]:
         return words
 
-    def remove(self):
+    def cut_off(self, machine: int, seconds: float, ended: threading.Event) -> None:
+        raise NotImplementedError("a machine can't be cut off from itself")
+
+    def remove(self) -> None:
         pass
 
 
 class Namespaces:
     """A network namespace for each machine, all on one bridge. A machine is cut off by taking its end of the bridge."""
 
-    def __init__(self):
+    def __init__(self) -> None:
         net = f"10.213.{os.getpid() % 250}"
         self.hosts = [f"{net}.{machine + 1}" for machine in range(MACHINES)]
         self.run("link", "add", "name", MARK, "type", "bridge")
@@ -164,21 +197,21 @@ class Namespaces:
             for link in ("eth0", "lo"):
                 self.run("-n", name, "link", "set", link, "up")
 
-    def run(self, *words):
+    def run(self, *words: str) -> None:
         subprocess.run(["ip", *words], check=True, stdin=subprocess.DEVNULL, capture_output=True)
 
-    def end_of(self, machine):
+    def end_of(self, machine: int) -> str:
         return f"{MARK}e{machine}"
 
-    def words(self, machine, words):
+    def words(self, machine: int, words: Sequence[str]) -> Sequence[str]:
         return ["ip", "netns", "exec", f"{MARK}-{machine}", *words]
 
-    def cut_off(self, machine, seconds, ended):
+    def cut_off(self, machine: int, seconds: float, ended: threading.Event) -> None:
         self.run("link", "set", self.end_of(machine), "down")
         ended.wait(seconds)
         self.run("link", "set", self.end_of(machine), "up")
 
-    def remove(self):
+    def remove(self) -> None:
         for machine in range(MACHINES):
             subprocess.run(["ip", "netns", "delete", f"{MARK}-{machine}"], check=False, capture_output=True)
         subprocess.run(["ip", "link", "delete", MARK], check=False, capture_output=True)
@@ -187,7 +220,7 @@ class Namespaces:
 class Cluster:
     """The members of etcd and the nodes, in a folder."""
 
-    def __init__(self, folder, ground):
+    def __init__(self, folder: str, ground: Ground) -> None:
         self.folder, self.ground = folder, ground
         self.small = os.path.join(folder, "store0")
         ports = [(free_port(), free_port()) for _ in range(MACHINES)]
@@ -208,10 +241,10 @@ class Cluster:
         ]  # fmt: skip
         self.nodes = [self.node(machine) for machine in range(MACHINES)]
 
-    def socket_of(self, number):
+    def socket_of(self, number: int) -> str:
         return os.path.join(self.folder, f"s{number}")
 
-    def node(self, number):
+    def node(self, number: int) -> Process:
         addresses = self.addresses[number % MACHINES :] + self.addresses[: number % MACHINES]
         words = [
             sys.executable, "-m", "confstore_replicated.node", self.socket_of(number),
@@ -219,7 +252,7 @@ class Cluster:
         ]  # fmt: skip
         return Process(self.ground.words(number % MACHINES, words), os.path.join(self.folder, f"n{number}.log"))
 
-    def start(self):
+    def start(self) -> None:
         os.mkdir(self.small)
         if os.geteuid() == 0:
             mounted = subprocess.run(["mount", "-t", "tmpfs", "-o", "size=4m", "tmpfs", self.small], check=False)
@@ -231,13 +264,13 @@ class Cluster:
         for process in self.nodes:
             process.start()
 
-    def stop(self):
+    def stop(self) -> None:
         for process in [*self.nodes, *self.members]:
             process.kill()
         if os.path.ismount(self.small):
             subprocess.run(["umount", "--lazy", self.small], check=False)
 
-    def fill_disk(self, seconds, ended):
+    def fill_disk(self, seconds: float, ended: threading.Event) -> None:
         """Has no byte free on the disk of the first node for so long."""
         if not os.path.ismount(self.small):
             return limit_files(self.nodes[0], seconds, ended)
@@ -252,7 +285,7 @@ class Cluster:
         os.remove(ballast)
 
 
-def limit_files(process, seconds, ended):
+def limit_files(process: Process, seconds: float, ended: threading.Event) -> None:
     """Starts a process anew, so that none of its files can be longer than this for a while."""
     process.kill()
     process.limit = 20_000
@@ -263,7 +296,7 @@ def limit_files(process, seconds, ended):
     process.start()
 
 
-def asked(cluster, number, request, elsewhere=True):
+def asked(cluster: Cluster, number: int, request: Request, elsewhere: bool = True) -> Request:
     """What a node answers. Tries again, and at other nodes if that is allowed, until one answers."""
     deadline = time.monotonic() + PATIENCE
     while True:
@@ -284,7 +317,7 @@ def asked(cluster, number, request, elsewhere=True):
         time.sleep(0.05)
 
 
-def some_command(chance, number):
+def some_command(chance: random.Random, number: int) -> Request:
     """A command over few names, so that many are refused and many meet."""
     name = f"c{chance.randrange(6)}"
     kind = chance.randrange(10)
@@ -298,7 +331,7 @@ def some_command(chance, number):
     return {"batch": [{"set": name, "path": "/at", "value": str(number)}, other]}
 
 
-def run_client(cluster, part, which, count, answers, pause):
+def run_client(cluster: Cluster, part: str, which: int, count: int, answers: Answers, pause: float) -> None:
     chance = random.Random(f"{part}{which}")
     for number in range(count):
         identity = f"{part}-{which}-{number}"
@@ -311,17 +344,17 @@ class Witness:
     """Keeps the whole log, from which the nodes take entries out. It asks each member all the time, since any of them
     may be stopped or cut off for longer than entries stay."""
 
-    def __init__(self, addresses):
+    def __init__(self, addresses: Sequence[str]) -> None:
         self.addresses = addresses
-        self.entries = {}  # by their numbers, each with its id
+        self.entries: dict[int, tuple[str, bytes]] = {}  # by their numbers, each with its id
         self.ended = threading.Event()
         self.threads = [threading.Thread(target=self.ask, args=([address],), daemon=True) for address in addresses]
 
-    def start(self):
+    def start(self) -> None:
         for thread in self.threads:
             thread.start()
 
-    def ask(self, members):
+    def ask(self, members: Sequence[str]) -> None:
         etcd, last = Etcd(members, 1), 0
         while not self.ended.wait(0.02):
             try:
@@ -329,13 +362,13 @@ class Witness:
             except Unavailable:
                 pass
 
-    def take(self, etcd, last):
+    def take(self, etcd: Etcd, last: int) -> int:
         entries = etcd.created_after(LOG, last, 500)
         for entry in entries:
             self.entries[entry.created] = entry.key[len(LOG) :].decode(), entry.value
         return entries[-1].created if entries else last
 
-    def log(self):
+    def log(self) -> Log:
         """Ends it. All entries in their order, each with its number and its id."""
         self.ended.set()
         for thread in self.threads:
@@ -346,10 +379,10 @@ class Witness:
         return [(number, *self.entries[number]) for number in sorted(self.entries)]
 
 
-def make_trouble(cluster, ended, done):
+def make_trouble(cluster: Cluster, ended: threading.Event, done: Done) -> None:
     """Kills, stops and fills nodes and members, one at a time, at random moments, until the clients are done."""
     chance = random.Random(99)
-    kinds = []
+    kinds: list[str] = []
     until = time.monotonic() + TROUBLE
     while time.monotonic() < until and not ended.wait(chance.uniform(0.1, 0.4)):
         if not kinds:
@@ -375,7 +408,7 @@ def make_trouble(cluster, ended, done):
             process.start()
 
 
-def cut_off_all(cluster, ended, done):
+def cut_off_all(cluster: Cluster, ended: threading.Event, done: Done) -> None:
     """Cuts one machine after the other off from the others, twice, until the clients are done."""
     for machine in [*range(MACHINES)] * 2:
         if ended.wait(1.5):
@@ -384,12 +417,12 @@ def cut_off_all(cluster, ended, done):
         cluster.ground.cut_off(machine, 4, ended)
 
 
-def exports_of(ask):
+def exports_of(ask: Callable[[Request], Request]) -> dict[str, str]:
     """All that a node, or a session, exports."""
     return {name: ask({"export": name})["text"] for name in ask({"names": ""})["names"]}
 
 
-def keys_of_member(address):
+def keys_of_member(address: str) -> list[tuple[int, str]]:
     """The keys of the log that one member knows, with the revisions that made them."""
     host, port = address.rsplit(":", 1)
     connection = http.client.HTTPConnection(host, int(port), timeout=10)
@@ -401,15 +434,16 @@ def keys_of_member(address):
     return sorted((int(item["create_revision"]), item["key"]) for item in found.get("kvs", ()))
 
 
-def position_of(folder):
+def position_of(folder: str) -> int:
     """The number of the last entry that the store in a folder holds."""
-    (number,) = Reader(folder, program=PROGRAM).get(RESERVED)
-    return int(number)
+    number, _ = number_in(Reader(folder, program=PROGRAM).get(RESERVED))
+    return number
 
 
-def one_session(folder, log):
+def one_session(folder: str, log: Log) -> tuple[dict[str, Request], dict[str, str]]:
     """What one session answers to the log, and what it exports then."""
-    answers, before = {}, 0
+    answers: dict[str, Request] = {}
+    before = 0
     with Store(folder, program=PROGRAM) as store:
         for number, identity, entry in log:
             (answer,) = store.perform_batches([marked(edits_in(entry)[0], number, before, NO_MARK)])
@@ -425,10 +459,10 @@ def one_session(folder, log):
 
 
 class Checks:
-    def __init__(self):
+    def __init__(self) -> None:
         self.passed = self.failed = 0
 
-    def is_so(self, holds, about):
+    def is_so(self, holds: bool, about: str) -> None:
         if holds:
             self.passed += 1
         else:
@@ -436,23 +470,28 @@ class Checks:
             print(f"FAILED: {about}")
 
 
+# Makes trouble in a cluster until an event comes, and counts it.
+Trouble = Callable[[Cluster, threading.Event, Done], None]
+
+
 class Run:
     """A cluster with a witness, and all that its clients were answered."""
 
-    def __init__(self, folder, ground, checks):
+    def __init__(self, folder: str, ground: Ground, checks: Checks) -> None:
         os.mkdir(folder)
         self.folder, self.checks = folder, checks
         self.cluster = Cluster(folder, ground)
-        self.answers = {}
+        self.answers: Answers = {}
         self.witness = Witness(self.cluster.addresses)
 
-    def start(self):
+    def start(self) -> None:
         self.cluster.start()
         self.witness.start()
 
-    def send(self, part, count, trouble=None, pause=0.0):
+    def send(self, part: str, count: int, trouble: Trouble | None = None, pause: float = 0.0) -> None:
         """Has the clients send so many commands in all, with pauses between them and some trouble meanwhile."""
-        ended, done, began = threading.Event(), {}, time.monotonic()
+        done: Done = {}
+        ended, began = threading.Event(), time.monotonic()
         clients = [
             threading.Thread(
                 target=run_client, args=(self.cluster, part, which, count // CLIENTS, self.answers, pause), daemon=True
@@ -475,7 +514,7 @@ class Run:
         what = ", ".join(f"{times} times {kind}" for kind, times in sorted(done.items())) or "no trouble"
         print(f"{part}: {len(answered)} commands in {seconds:.0f} s, with {what}", flush=True)
 
-    def ask_again(self, count):
+    def ask_again(self, count: int) -> None:
         """The last commands are sent again, to each node: they are in the log once, and have their answers."""
         for identity, (command, answer) in list(self.answers.items())[-count:]:
             for number in range(MACHINES):
@@ -484,7 +523,7 @@ class Run:
             taken = asked(self.cluster, 0, {"id": identity, "import": "another", "text": "x"})
             self.checks.is_so(taken == {"refused": "IdTaken"}, f"another command as {identity}: {taken}")
 
-    def keep_behind(self):
+    def keep_behind(self) -> None:
         """Keeps a node away until the log has lost what it needs, and starts it again."""
         behind = self.cluster.nodes[2]
         asked(self.cluster, 2, {"fresh": "yes", "names": ""}, elsewhere=False)
@@ -502,7 +541,7 @@ class Run:
         with open(behind.log, encoding="utf-8") as log:
             self.checks.is_so("starts from the base" in log.read(), "the node behind starts from a base")
 
-    def compare_members(self):
+    def compare_members(self) -> None:
         """All members of etcd have the same keys, made at the same revisions."""
         found = []
         for address in self.cluster.addresses:
@@ -511,7 +550,7 @@ class Run:
             found.append(keys_of_member(address))
         self.checks.is_so(found[1:] == found[:-1], f"the members of etcd differ: {[len(items) for items in found]}")
 
-    def compare(self):
+    def compare(self) -> None:
         """Compares all answers and exports with those of one session over the log, a new node's too."""
         number = len(self.cluster.nodes)
         self.cluster.nodes.append(self.cluster.node(number))
@@ -525,7 +564,7 @@ class Run:
             wanted, exports = one_session(alone, log)
         for node, exported in enumerate(found):
             self.checks.is_so(exported == exports, f"node {node} exports something else")
-        numbers = {}
+        numbers: dict[str, list[int]] = {}
         for number, identity, _ in log:
             numbers.setdefault(identity, []).append(number)
         for identity, (_, answer) in self.answers.items():
@@ -535,13 +574,13 @@ class Run:
         were_refused = sum("refused" in answer for _, answer in self.answers.values())
         print(f"{len(log)} entries, {were_refused} of them refused, {len(exports)} configurations", flush=True)
 
-    def stop(self):
+    def stop(self) -> None:
         self.witness.ended.set()
         self.cluster.stop()
         self.cluster.ground.remove()
 
 
-def on_one_machine(run):
+def on_one_machine(run: Run) -> None:
     run.start()
     run.send("faults", COMMANDS, make_trouble, pause=0.05)
     run.compare_members()
@@ -550,13 +589,13 @@ def on_one_machine(run):
     run.compare()
 
 
-def on_machines_apart(run):
+def on_machines_apart(run: Run) -> None:
     run.start()
     run.send("apart", CUT_OFF_COMMANDS, cut_off_all, pause=0.1)
     run.compare()
 
 
-def keep_logs(folder):
+def keep_logs(folder: str) -> None:
     kept = os.path.join(tempfile.gettempdir(), "replicated-logs")
     shutil.rmtree(kept, ignore_errors=True)
     for place, _, names in os.walk(folder):
@@ -567,7 +606,7 @@ def keep_logs(folder):
     print(f"the logs are in {kept}")
 
 
-def namespaces():
+def namespaces() -> Namespaces | None:
     """Machines in namespaces, or none where they can't be made."""
     if os.geteuid() != 0 or shutil.which("ip") is None:
         return None
@@ -578,19 +617,22 @@ def namespaces():
         return None
 
 
-def give_up(*_):
+def give_up(*_: object) -> NoReturn:
     raise TimeoutError(f"not done after {LONGEST} seconds")
 
 
-def main():
+def main() -> int:
     if shutil.which("etcd") is None or not os.access(PROGRAM, os.X_OK):
         sys.exit("etcd is not installed, or the program is not built")
     signal.signal(signal.SIGALRM, give_up)
     signal.alarm(LONGEST)
     checks = Checks()
     with tempfile.TemporaryDirectory() as folder:
-        for name, ground, part in (("one", Loopback, on_one_machine), ("apart", namespaces, on_machines_apart)):
-            ground = ground()
+        parts: Sequence[tuple[str, Callable[[], Ground | None], Callable[[Run], None]]] = (
+            ("one", Loopback, on_one_machine), ("apart", namespaces, on_machines_apart),
+        )  # fmt: skip
+        for name, make_ground, part in parts:
+            ground = make_ground()
             if ground is None:
                 print("left out: machines that are cut off, since no network namespaces can be made here")
                 continue

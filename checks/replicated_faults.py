@@ -13,13 +13,16 @@ Each part has one member of etcd and nodes of its own:
 - a node is started over a store that has commands and no position;
 - etcd wants TLS, certificates of clients, and a user with a password, and forgets its tokens;
 - a node is told to end by signals, also while etcd is stopped;
-- clients connect and say nothing, or half a line, and the node has to answer others.
+- clients connect and say nothing, or half a line, and the node has to answer others;
+- what a node tells of itself, beside what etcd has, while it is behind and while etcd is gone.
 
     checks/replicated.sh, or checks/replicated_faults.py [WORD ..], which has the parts with these words in their names
 
 It needs etcd on the PATH (Debian's etcd-server), PyYAML and the built program; etcdctl (etcd-client) and openssl for
 some parts, which are left out without them. The last line is 'N passed, M failed'.
 """
+
+from __future__ import annotations
 
 import base64
 import http.client
@@ -36,12 +39,16 @@ import sys
 import tempfile
 import threading
 import time
+from collections.abc import Callable, Iterable, Sequence
+from typing import Any, NoReturn
 
 WANTED = sys.argv[1:]
 del sys.argv[1:]
 sys.path.insert(0, os.path.dirname(os.path.abspath(__file__)))
 
-from replicated import LOG, PROGRAM, Checks, Process, free_port, one_session, some_command  # noqa: E402  (the packages)
+from replicated import LOG, PROGRAM, Answers, Checks, Process, Request  # noqa: E402  (it finds the packages)
+from replicated import free_port, one_session, some_command  # noqa: E402
+from lib.stand_ins import SLOW, TOO_LONG  # noqa: E402
 
 from confstore import Reader, Store  # noqa: E402
 from confstore_replicated import Client  # noqa: E402
@@ -55,40 +62,8 @@ CHECKS = Checks()
 # Answers to a client that have no place in a history that a node's store has not performed.
 REFUSES = {"failed": "OtherHistory"}
 
-# A program in the place of confstore, which says at every fourth batch of a session that the file is too long.
-TOO_LONG = '''#!{python}
-import os, subprocess, sys
-if sys.argv[1] != "run":
-    os.execv({program!r}, [{program!r}, *sys.argv[1:]])
-words = [{program!r}, *[word for word in sys.argv[1:] if word != "--group"]]
-session = subprocess.Popen(words, stdin=subprocess.PIPE, stdout=subprocess.PIPE)
-def take(stream):
-    lines = []
-    while not lines or lines[-1] != b"...\\n":
-        lines.append(stream.readline())
-        if not lines[-1]:
-            sys.exit(session.wait() if stream is session.stdout else session.stdin.close() or session.wait())
-    return b"".join(lines)
-count, again = 0, False
-while True:
-    document = take(sys.stdin.buffer)
-    is_batch = b"batch:" in document[:20]
-    count += is_batch
-    if is_batch and count % 4 == 0 and not again:
-        again, answer = True, b"---\\nrefused: JournalLong\\n...\\n"
-        count -= 1
-    else:
-        again = again and is_batch is False and b"checkpoint" not in document
-        session.stdin.write(document)
-        session.stdin.flush()
-        answer = take(session.stdout)
-        count += b"checkpoint" in document
-    sys.stdout.buffer.write(answer)
-    sys.stdout.buffer.flush()
-'''
 
-
-def eventually(call, wanted, seconds=30):
+def eventually(call: Callable[[], Any], wanted: object, seconds: float = 30) -> Any:
     """What a call gives at last: what is wanted, or what it gave after so many seconds."""
     deadline = time.monotonic() + seconds
     while True:
@@ -104,7 +79,7 @@ def eventually(call, wanted, seconds=30):
 class Member:
     """One member of etcd, whose folder can be kept aside and put back."""
 
-    def __init__(self, top, *more, scheme="http"):
+    def __init__(self, top: str, *more: str, scheme: str = "http") -> None:
         self.folder, self.more, self.scheme = os.path.join(top, "etcd"), more, scheme
         self.address, peer = f"127.0.0.1:{free_port()}", f"http://127.0.0.1:{free_port()}"
         self.peer = peer
@@ -115,20 +90,21 @@ class Member:
             "--initial-cluster", f"m0={peer}", "--log-level", "error", *more,
         ]  # fmt: skip
         self.process = Process(words, os.path.join(top, "etcd.log"))
-        self.context = None
-        self.token = None
+        self.context: ssl.SSLContext | None = None
+        self.token: str | None = None
 
-    def start(self):
+    def start(self) -> None:
         self.process.start()
         found = eventually(lambda: self.call("/v3/maintenance/status", {}).get("version", "")[:1], "3", 60)
         if found != "3" and self.token is None and self.scheme == "http":
             raise TimeoutError(f"etcd does not start: {found}")
 
-    def stop(self):
+    def stop(self) -> None:
         self.process.kill()
 
-    def call(self, path, body):
+    def call(self, path: str, body: Request) -> Request:
         host, port = self.address.split(":")
+        connection: http.client.HTTPConnection
         if self.context is None:
             connection = http.client.HTTPConnection(host, int(port), timeout=10)
         else:
@@ -136,17 +112,18 @@ class Member:
         headers = {"Authorization": self.token} if self.token else {}
         try:
             connection.request("POST", path, json.dumps(body), headers)
-            return json.loads(connection.getresponse().read())
+            answer: Request = json.loads(connection.getresponse().read())
+            return answer
         except (http.client.HTTPException, ValueError) as error:
             raise OSError(str(error)) from None
         finally:
             connection.close()
 
-    def put(self, key, value="x"):
+    def put(self, key: str, value: str = "x") -> Request:
         key, value = (base64.b64encode(text.encode()).decode() for text in (key, value))
         return self.call("/v3/kv/put", {"key": key, "value": value})
 
-    def burn(self, count):
+    def burn(self, count: int) -> int:
         """Another application makes so many revisions."""
         host, port = self.address.split(":")
         connection = http.client.HTTPConnection(host, int(port), timeout=10)
@@ -157,24 +134,24 @@ class Member:
         connection.close()
         return int(revision)
 
-    def has(self, key):
+    def has(self, key: str) -> bool:
         return "kvs" in self.call("/v3/kv/range", {"key": base64.b64encode((PREFIX + key).encode()).decode()})
 
-    def floor(self):
+    def floor(self) -> int:
         found = self.call("/v3/kv/range", {"key": base64.b64encode((PREFIX + "base").encode()).decode()})
-        return json.loads(base64.b64decode(found["kvs"][0]["value"]))["floor"] if "kvs" in found else 0
+        return int(json.loads(base64.b64decode(found["kvs"][0]["value"]))["floor"]) if "kvs" in found else 0
 
 
 class Node:
     """One node."""
 
-    def __init__(self, top, name, member, *more, program=None):
+    def __init__(self, top: str, name: str, member: Member, *more: str, program: str | None = None) -> None:
         self.folder, self.socket = os.path.join(top, f"store-{name}"), os.path.join(top, f"socket-{name}")
         self.log = os.path.join(top, f"{name}.log")
         words = [sys.executable, "-m", "confstore_replicated.node", self.socket, self.folder, member.address, *more]
         self.process = Process([*words, *(["--program", program] if program else [])], self.log)
 
-    def start(self):
+    def start(self) -> None:
         self.process.start()
         deadline = time.monotonic() + 60
         while time.monotonic() < deadline:
@@ -185,28 +162,28 @@ class Node:
                 time.sleep(0.05)
         raise TimeoutError(f"the node does not start: {self.said()}")
 
-    def stop(self):
+    def stop(self) -> None:
         if self.process.process is not None:
             self.process.kill()
 
-    def said(self):
+    def said(self) -> str:
         with open(self.log, encoding="utf-8") as log:
             return log.read()
 
-    def ask(self, request, timeout=60):
+    def ask(self, request: Request, timeout: float = 60) -> Request:
         client = Client(self.socket, timeout)
         try:
             return client.ask(dict(request))
         finally:
             client.close()
 
-    def set(self, value, **more):
+    def set(self, value: object, **more: str) -> Request:
         return self.ask({"set": "web", "path": "/port", "value": str(value), **more})
 
-    def get(self, fresh="yes"):
+    def get(self, fresh: str = "yes") -> Request:
         return self.ask({"get": "web", "path": "/port", "fresh": fresh})
 
-    def holds(self):
+    def holds(self) -> Request:
         reader = Reader(self.folder, program=PROGRAM)
         return {name: reader.get(name) for name in reader.names() if name != "replication"}
 
@@ -214,35 +191,43 @@ class Node:
 class Part:
     """A member and nodes in a folder, which are all ended when the part is left."""
 
-    def __enter__(self):
+    def __enter__(self) -> Part:
         self.top = tempfile.mkdtemp()
-        self.things = []
+        self.things: list[Member | Node] = []
         return self
 
-    def __exit__(self, *_):
+    def __exit__(self, *_: object) -> None:
         for thing in self.things:
             thing.stop()
         shutil.rmtree(self.top)
 
-    def member(self, *more, **words):
+    def member(self, *more: str, **words: str) -> Member:
         member = Member(self.top, *more, **words)
         self.things.append(member)
         return member
 
-    def node(self, name, member, *more, **words):
+    def node(self, name: str, member: Member, *more: str, **words: str) -> Node:
         node = Node(self.top, name, member, *more, **words)
         self.things.append(node)
         return node
 
-    def path(self, name):
+    def program(self, text: str) -> str:
+        """The path of a program in the place of confstore."""
+        path = self.path(f"program{len(self.things)}")
+        with open(path, "w", encoding="utf-8") as file:
+            file.write(text.format(python=sys.executable, program=os.path.abspath(PROGRAM)))
+        os.chmod(path, 0o755)
+        return path
+
+    def path(self, name: str) -> str:
         return os.path.join(self.top, name)
 
 
-def is_so(found, wanted, about):
+def is_so(found: object, wanted: object, about: str) -> None:
     CHECKS.is_so(found == wanted, f"{about}: {found}, and not {wanted}")
 
 
-def refuses_all(node, about):
+def refuses_all(node: Node, about: str) -> None:
     """A node whose log etcd does not have answers nothing, whatever is asked, and performs nothing."""
     before = node.holds()
     is_so(eventually(lambda: node.get("no"), REFUSES), REFUSES, f"{about}: a question")
@@ -255,19 +240,23 @@ def refuses_all(node, about):
     CHECKS.is_so("--bump-revision" in node.said() and node.folder in node.said(), f"{about}: no remedy in its log")
 
 
-def change(node, numbers):
+def change(node: Node, numbers: Iterable[int]) -> None:
     for number in numbers:
         answer = node.set(number, id=f"i{number}")
         CHECKS.is_so("ok" in answer, f"change {number}: {answer}")
 
 
-def copy_of_folder(part, member):
+# Keeps what a member has aside, and gives how it is put back.
+Snapshot = Callable[[Part, Member], Callable[[], None]]
+
+
+def copy_of_folder(part: Part, member: Member) -> Callable[[], None]:
     """Keeps etcd's folder aside, and returns how it is put back."""
     member.stop()
     shutil.copytree(member.folder, part.path("snapshot"))
     member.start()
 
-    def restore():
+    def restore() -> None:
         member.stop()
         shutil.rmtree(member.folder)
         shutil.copytree(part.path("snapshot"), member.folder)
@@ -275,14 +264,14 @@ def copy_of_folder(part, member):
     return restore
 
 
-def snapshot_of_etcdctl(part, member):
+def snapshot_of_etcdctl(part: Part, member: Member) -> Callable[[], None]:
     """Has etcdctl save a snapshot, and returns how it is restored: as another cluster."""
     environment = {**os.environ, "ETCDCTL_API": "3"}
     saved = os.path.join(tempfile.mkdtemp(dir=part.top), "saved")
     words = ["etcdctl", "--endpoints", member.address, "snapshot", "save", saved]
     subprocess.run(words, env=environment, check=True, capture_output=True)
 
-    def restore():
+    def restore() -> None:
         member.stop()
         shutil.rmtree(member.folder)
         words = [
@@ -295,9 +284,9 @@ def snapshot_of_etcdctl(part, member):
     return restore
 
 
-def older_snapshot(keep_snapshot, while_stopped):
+def older_snapshot(name: str, keep_snapshot: Snapshot, while_stopped: bool) -> None:
     """Stores are ahead of a restored etcd: they are refused. A store that isn't ahead goes on."""
-    about = f"{keep_snapshot.__name__}, nodes {'stopped' if while_stopped else 'running'}"
+    about = f"{name}, nodes {'stopped' if while_stopped else 'running'}"
     with Part() as part:
         member = part.member()
         member.start()
@@ -346,16 +335,16 @@ class Times:
     """Clients send commands all the time. A command is kept if it was begun after a restore and answered before the
     next snapshot: then it has to be in the log at the end."""
 
-    def __init__(self, nodes):
+    def __init__(self, nodes: Sequence[Node]) -> None:
         self.nodes = nodes
-        self.window = 0  # counted for each restore; None from a snapshot to the end of its restore
-        self.answers = {}
+        self.window: int | None = 0  # counted for each restore; None from a snapshot to the end of its restore
+        self.answers: Answers = {}
         self.ended = threading.Event()
         self.threads = [threading.Thread(target=self.send, args=(which,)) for which in range(4)]
         for thread in self.threads:
             thread.start()
 
-    def send(self, which):
+    def send(self, which: int) -> None:
         chance, number = random.Random(which), 0
         while not self.ended.wait(0.005):
             number += 1
@@ -368,13 +357,13 @@ class Times:
             if "failed" not in answer and before is not None and self.window == before:
                 self.answers[name] = command, answer
 
-    def end(self):
+    def end(self) -> None:
         self.ended.set()
         for thread in self.threads:
             thread.join()
 
 
-def restored_again_and_again(base_after):
+def restored_again_and_again(base_after: int) -> None:
     """Each command that is kept has the answer that one session gives to the last log, and nodes hold what it does.
     Where bases are written the log is not whole at the end: then each has its answer when it is sent again."""
     chance = random.Random(base_after)
@@ -386,14 +375,14 @@ def restored_again_and_again(base_after):
             node.start()
         times = Times(nodes)
         try:
-            for _ in range(RESTORES):
+            for count in range(1, RESTORES + 1):
                 time.sleep(chance.uniform(0.5, 2))
-                count, times.window = times.window, None
+                times.window = None
                 restore = snapshot_of_etcdctl(part, member)
                 time.sleep(chance.uniform(0, 1))
                 restore()
                 member.start()
-                times.window = count + 1
+                times.window = count
                 for node in nodes:  # the operator empties the folders of those that refuse
                     if eventually(lambda: "names" in node.ask({"names": "", "fresh": "yes"}), True, 4) is not True:
                         node.stop()
@@ -414,13 +403,13 @@ def restored_again_and_again(base_after):
             compare_with_one_session(member, one, times)
 
 
-def send_again(nodes, times):
+def send_again(nodes: Sequence[Node], times: Times) -> None:
     for name, (command, answer) in times.answers.items():
         again = [node.ask(command) for node in nodes]
         CHECKS.is_so(set(map(str, again)) <= {str(answer), "{'failed': 'Forgotten'}"}, f"{name}: {answer}, now {again}")
 
 
-def compare_with_one_session(member, held, times):
+def compare_with_one_session(member: Member, held: Request, times: Times) -> None:
     etcd = Etcd([member.address])
     items = etcd.created_after(LOG, 0, 100_000)
     log = [(item.created, item.key[len(LOG) :].decode(), item.value) for item in items]
@@ -433,7 +422,7 @@ def compare_with_one_session(member, held, times):
         is_so(answer, wanted.get(name), f"restored again and again: {name}")
 
 
-def made_anew(while_stopped):
+def made_anew(while_stopped: bool) -> None:
     about = f"made anew, nodes {'stopped' if while_stopped else 'running'}"
     with Part() as part:
         member = part.member()
@@ -459,7 +448,7 @@ def made_anew(while_stopped):
         refuses_all(node, f"{about}, and etcd is past the position")
 
 
-def expiring_ids():
+def expiring_ids() -> None:
     """Ids are known for so many further entries, whatever others write in etcd, and never go before their entries."""
     with Part() as part:
         member = part.member()
@@ -476,7 +465,7 @@ def expiring_ids():
         is_so(node.ask(first), {"ok": "27"}, "ids: the command")
         ended = threading.Event()
 
-        def write():
+        def write() -> None:
             while not ended.is_set():
                 member.burn(100)
 
@@ -506,13 +495,10 @@ def expiring_ids():
         is_so(away.ask(second) in (answer, {"failed": "Forgotten"}), True, "ids: the answer at the other node")
 
 
-def too_long_at_one():
+def too_long_at_one() -> None:
     """`JournalLong` at one node, at any batch, is the answer of no entry."""
     with Part() as part:
-        program = part.path("too-long")
-        with open(program, "w", encoding="utf-8") as file:
-            file.write(TOO_LONG.format(python=sys.executable, program=os.path.abspath(PROGRAM)))
-        os.chmod(program, 0o755)
+        program = part.program(TOO_LONG)
         member = part.member()
         member.start()
         one, other = part.node("a", member, program=program), part.node("b", member)
@@ -530,7 +516,7 @@ def too_long_at_one():
         is_so(one.holds(), other.holds(), "too long: the stores")
 
 
-def commands_and_no_position():
+def commands_and_no_position() -> None:
     with Part() as part:
         member = part.member()
         member.start()
@@ -541,8 +527,9 @@ def commands_and_no_position():
                 if is_emptied:
                     store.delete("old")
             node.process.start()
+            status: int | str
             try:
-                status = node.process.process.wait(30)
+                status = node.process.running().wait(30)
             except subprocess.TimeoutExpired:
                 status = "none"
             is_so(status, 1, f"{name}: the status")
@@ -550,7 +537,7 @@ def commands_and_no_position():
             CHECKS.is_so(not os.path.exists(node.socket), f"{name}: a socket is left")
 
 
-def signals():
+def signals() -> None:
     """A node that is told to end does, with status 0, and leaves neither a socket nor a session."""
     with Part() as part:
         member = part.member()
@@ -561,17 +548,17 @@ def signals():
             name = signal.Signals(number).name
             is_so(node.ask({"import": "web", "text": str(count)}), {"ok": str(count)}, name)
             if count > 2:
-                member.process.process.send_signal(signal.SIGSTOP)
+                member.process.running().send_signal(signal.SIGSTOP)
             sessions, node.process.began = node.process.children(), 0.0
             is_so(node.process.end(number), 0, f"{name}: the status")
-            member.process.process.send_signal(signal.SIGCONT)
+            member.process.running().send_signal(signal.SIGCONT)
             CHECKS.is_so(not os.path.exists(node.socket), f"{name}: a socket is left")
             gone = eventually(lambda: [os.path.exists(f"/proc/{session}") for session in sessions], [False])
             is_so(gone, [False], f"{name}: the session")
 
 
-def make_certificates(part):
-    def run(*words):
+def make_certificates(part: Part) -> None:
+    def run(*words: str) -> None:
         subprocess.run(["openssl", *words], check=True, capture_output=True, cwd=part.top)
 
     run("req", "-x509", "-newkey", "rsa:2048", "-nodes", "-subj", "/CN=authority", "-days", "2", "-keyout", "ca.key",
@@ -585,10 +572,10 @@ def make_certificates(part):
             "-extfile", "names", "-out", f"{name}.crt")  # fmt: skip
 
 
-def turn_auth_on(member):
+def turn_auth_on(member: Member) -> None:
     """Has etcd let nobody in but root, and a user who may read and write what is under the prefix alone."""
     key, end = (base64.b64encode(text.encode()).decode() for text in (PREFIX, PREFIX[:-1] + "0"))
-    calls = [
+    calls: list[tuple[str, Request]] = [
         ("user/add", {"name": "root", "password": "root's"}), ("role/add", {"name": "root"}),
         ("user/grant", {"user": "root", "role": "root"}),
         ("user/add", {"name": "app", "password": "app's"}), ("role/add", {"name": "app"}),
@@ -601,7 +588,7 @@ def turn_auth_on(member):
     member.token = member.call("/v3/auth/authenticate", {"name": "root", "password": "root's"})["token"]
 
 
-def tls_and_users():
+def tls_and_users() -> None:
     with Part() as part:
         make_certificates(part)
         files = {name: part.path(name) for name in os.listdir(part.top)}
@@ -636,11 +623,11 @@ def tls_and_users():
             CHECKS.is_so(answer.get("failed") in ("Unavailable", "Denied"), f"{name}: {answer}")
             shut_out.stop()
         is_so(one.ask({"names": "", "fresh": "yes"}), {"names": ["web"]}, "who was shut out")
-        command_line = open(f"/proc/{one.process.process.pid}/cmdline", encoding="utf-8").read()
+        command_line = open(f"/proc/{one.process.running().pid}/cmdline", encoding="utf-8").read()
         CHECKS.is_so("app's" not in command_line, "the password is on the command line")
 
 
-def clients_that_say_nothing():
+def clients_that_say_nothing() -> None:
     soft, hard = resource.getrlimit(resource.RLIMIT_NOFILE)
     resource.setrlimit(resource.RLIMIT_NOFILE, (min(hard, 4096), hard))
     with Part() as part:
@@ -657,7 +644,7 @@ def clients_that_say_nothing():
         began = time.monotonic()
         is_so(node.get(), {"value": "0"}, "400 idle clients: a question")
         CHECKS.is_so(time.monotonic() - began < 45, f"it took {time.monotonic() - began:.0f} s")
-        threads = len(os.listdir(f"/proc/{node.process.process.pid}/task"))
+        threads = len(os.listdir(f"/proc/{node.process.running().pid}/task"))
         CHECKS.is_so(threads < 300, f"the node has {threads} threads")
         for client in held:
             client.close()
@@ -679,34 +666,84 @@ def clients_that_say_nothing():
     resource.setrlimit(resource.RLIMIT_NOFILE, (soft, hard))
 
 
-def memory_of(node):
+def memory_of(node: Node) -> int:
     """How many megabytes of memory a node has."""
-    with open(f"/proc/{node.process.process.pid}/status", encoding="ascii") as status:
+    with open(f"/proc/{node.process.running().pid}/status", encoding="ascii") as status:
         return int(next(line for line in status if line.startswith("VmRSS")).split()[1]) // 1024
 
 
-def give_up(*_):
+def told_at(path: str, page: str) -> bytes:
+    """What is told over HTTP at a Unix socket."""
+    with socket.socket(socket.AF_UNIX) as connection:
+        connection.settimeout(10)
+        connection.connect(path)
+        connection.sendall(f"GET {page} HTTP/1.1\r\n\r\n".encode())
+        with connection.makefile("rb") as stream:
+            return stream.read()
+
+
+def figures_at(path: str) -> dict[str, float]:
+    body = told_at(path, "/metrics").partition(b"\r\n\r\n")[2].decode()
+    lines = [line.split(" ") for line in body.splitlines()]
+    return {words[0].removeprefix("confstore_node_"): float(words[1]) for words in lines if len(words) == 2}
+
+
+def told_of_itself() -> None:
+    """A slow node tells how many entries it has still to perform, and at which it is; and that etcd is gone."""
+    with Part() as part:
+        member, where = part.member(), part.path("metrics")
+        member.start()
+        one, late = part.node("a", member), part.node("b", member, "--metrics", where, program=part.program(SLOW))
+        one.start()
+        is_so(one.ask({"import": "web", "text": "port: 0"}), {"ok": "1"}, "told of itself")
+        change(one, range(1, 300))
+        late.start()
+        seen: set[float] = set()
+        while "entries_behind" not in (found := figures_at(where)) or found["entries_behind"] > 0:
+            if "entries_behind" in found:
+                seen.add(found["entries_behind"])
+                is_so(found["entries_behind"] + found["entries_applied_total"], 300, "entries behind, and performed")
+            time.sleep(0.05)
+        CHECKS.is_so(len(seen) > 2, f"entries behind: only {seen}")
+        etcd = Etcd([member.address])
+        newest = etcd.created_after(LOG, 0, 100_000)[-1].created
+        etcd.close()
+        found = figures_at(where)
+        is_so((found["position"], found["entries_applied_total"], found["healthy"]), (newest, 300, 1), "the position")
+        member.stop()
+        gone = b"HTTP/1.1 503 Service Unavailable"
+        is_so(eventually(lambda: told_at(where, "/health").split(b"\r\n")[0], gone, 60), gone, "health without etcd")
+        unavailable = 'faults_total{name="Unavailable"}'
+        is_so(eventually(lambda: figures_at(where)[unavailable] > 0, True, 60), True, "etcd is unavailable")
+        member.start()
+        there = b"HTTP/1.1 200 OK"
+        is_so(eventually(lambda: told_at(where, "/health").split(b"\r\n")[0], there, 60), there, "health with etcd")
+
+
+def give_up(*_: object) -> NoReturn:
     raise TimeoutError(f"not done after {LONGEST} seconds")
 
 
-def main():
+def main() -> int:
     if shutil.which("etcd") is None or not os.access(PROGRAM, os.X_OK):
         sys.exit("etcd is not installed, or the program is not built")
     signal.signal(signal.SIGALRM, give_up)
     signal.alarm(LONGEST)
-    parts = {
+    parts: dict[str, Callable[[], None]] = {
         "commands and no position": commands_and_no_position,
         "signals": signals,
         "made anew, nodes running": lambda: made_anew(False),
         "made anew, nodes stopped": lambda: made_anew(True),
-        "older snapshot, nodes running": lambda: older_snapshot(copy_of_folder, False),
-        "older snapshot, nodes stopped": lambda: older_snapshot(copy_of_folder, True),
+        "older snapshot, nodes running": lambda: older_snapshot("copy of its folder", copy_of_folder, False),
+        "older snapshot, nodes stopped": lambda: older_snapshot("copy of its folder", copy_of_folder, True),
         "too long at one node": too_long_at_one,
         "ids": expiring_ids,
         "clients that say nothing": clients_that_say_nothing,
+        "told of itself": told_of_itself,
     }
     if shutil.which("etcdctl"):
-        parts["older snapshot of etcdctl, nodes running"] = lambda: older_snapshot(snapshot_of_etcdctl, False)
+        etcdctl = "older snapshot of etcdctl, nodes running"
+        parts[etcdctl] = lambda: older_snapshot("snapshot of etcdctl", snapshot_of_etcdctl, False)
         parts["restored again and again"] = lambda: restored_again_and_again(1_000_000)
         parts["restored again and again, with bases"] = lambda: restored_again_and_again(20)
     if shutil.which("openssl"):

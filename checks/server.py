@@ -8,15 +8,16 @@
   it; the socket has its name only when it is ready; what is at the name stays unless it is a dead socket.
 - Faults: folders and names, few descriptors, a manager that isn't there, closed standard streams: a line, and no trace.
 - Signals, kills, and clients that leave in the middle.
+- Health and counters over HTTP, beside what the trial did, and those who ask too much.
 - The unit of systemd: it is verified, and the server runs under its filter of system calls.
 
-Run it from the repository's root after the program is built; it takes up to a minute:
+Run it from the repository's root after the program is built; it takes some two minutes:
 
     ./confstore --version && python3 checks/server.py
 
 Names of tests may follow, as `Bounds` or `Bounds.test_idle_clients`. SERVER may name another server to try. What needs
-root, setfacl, systemd-analyze or libseccomp is left out where that is missing. The status is 0 if all is as it should
-be.
+root, setfacl, systemd-analyze, libseccomp or Debian's python3-prometheus-client is left out where that is missing. The
+status is 0 if all is as it should be.
 """
 
 from __future__ import annotations
@@ -37,10 +38,11 @@ import time
 import unittest
 from typing import Optional
 
-from lib.server_sockets import Access, Names
-from lib.servers import BOUNDED, MEGABYTE, NAMES, PATIENCE, PROGRAM, SERVER, TOP, Client, ServerTest, accepts
+from lib.server_metrics import Health, Hostile, Metrics, Requests, told_by
+from lib.server_sockets import Access, Names, shut_out
+from lib.servers import BOUNDED, MEGABYTE, NAMES, PATIENCE, PROGRAM, PYTHON, SERVER, TOP, Client, ServerTest, accepts
 
-__all__ = ["Access", "Names"]
+__all__ = ["Access", "Health", "Hostile", "Metrics", "Names", "Requests"]
 
 UNIT = os.path.join(TOP, "packaging", "confstore@.service")
 
@@ -490,7 +492,7 @@ class Ends(ServerTest):
                 os.write(writing, b"x" * 4_096)
         os.set_blocking(writing, True)
         self.addCleanup(os.close, reading)
-        words = [sys.executable, SERVER, self.path, self.folder]
+        words = [PYTHON, SERVER, self.path, self.folder]
         environment = {**os.environ, "CONFSTORE": PROGRAM, "NOTIFY_SOCKET": "/nowhere"}
         with subprocess.Popen(words, stderr=writing, env=environment) as process:
             os.close(writing)
@@ -503,7 +505,8 @@ class Ends(ServerTest):
 
 def unit_settings(name: str) -> list[str]:
     with open(UNIT, encoding="ascii") as unit:
-        return [line.partition("=")[2].strip() for line in unit if line.startswith(name + "=")]
+        lines = unit.read().replace("\\\n", "").splitlines()
+    return [line.partition("=")[2].strip() for line in lines if line.startswith(name + "=")]
 
 
 def calls_of(group: str) -> set[str]:
@@ -576,7 +579,8 @@ class Unit(ServerTest):
         self.assertTrue(unit_settings("SystemCallFilter"))
         allowed = allowed_calls()
         self.assertFalse({"mount", "ptrace", "reboot", "bpf", "init_module", "setuid", "clock_settime"} & allowed)
-        options = unit_settings("ExecStart")[0].split()[1:-2]
+        where = os.path.join(self.top, "metrics")
+        options = unit_settings("ExecStart")[0].replace("/run/confstore/%i/metrics", where).split()[1:-2]
         server = self.serve(*options, "--renew-after", "2000", umask=0o027, preexec_fn=lambda: filter_calls(allowed))
         with open(f"/proc/{server.process.pid}/status", encoding="ascii") as status:
             self.assertIn("Seccomp:\t2\n", status.read())
@@ -586,6 +590,9 @@ class Unit(ServerTest):
             self.assertEqual(answer, b'---\nok: "%d"\n...\n' % number, server.errors())
         self.assertEqual(client.ask(b"checkpoint:\n...\n"), b'---\nok: "200"\n...\n')
         self.assertEqual(client.ask(b"set: a\npath: ''\nvalue: y\n...\n"), b'---\nok: "201"\n...\n')
+        told = told_by(where, b"GET /metrics HTTP/1.1\r\n\r\n")
+        self.assertIn(b"\nconfstore_commands_total 202\n", told.body)
+        self.assertIn(b"\nconfstore_store_growth_bytes ", told.body)
         self.assertEqual((server.end(), server.errors()), (0, ""))
         self.assertEqual(stat.S_IMODE(os.stat(os.path.join(self.folder, "store.yaml")).st_mode), 0o640)
 
@@ -593,6 +600,8 @@ class Unit(ServerTest):
 def main() -> Optional[str]:
     if not os.access(PROGRAM, os.X_OK):
         return "the program is not built: run ./confstore --version first"
+    if shut_out():
+        print(f"left out: who may connect, since {shut_out()}")
     unittest.main(verbosity=1)
     return None
 

@@ -19,6 +19,8 @@ Run it from the repository's root after the program is built; it takes some 10 s
 A seed for the random moments may follow. The status is 0 if all is as it should be.
 """
 
+from __future__ import annotations
+
 import errno
 import fcntl
 import functools
@@ -34,9 +36,11 @@ import subprocess
 import sys
 import tempfile
 import time
+from collections.abc import Callable, Sequence
+from typing import Any
 
 from lib.store_runs import (
-    EMPTY, IMPORT, PROGRAM, WORKED, Failures, compiled, dropped, need_program, read_file, session, write_file,
+    EMPTY, IMPORT, PROGRAM, WORKED, Ended, Failures, compiled, dropped, need_program, read_file, session, write_file,
 )
 
 # The user that owns no folder here.
@@ -61,70 +65,87 @@ SECONDS = 10
 KILLED = 200
 COMMANDS = 50
 
+# A session that runs; the owner, the group and the mode of a file; and how something is made at a path, of a plain file
+# and a name that is not there.
+Session = subprocess.Popen[bytes]
+Owned = tuple[int, int, int]
+Making = Callable[[str, str, str], object]
 
-def started(folder, **more):
+
+def started(folder: str, **more: Any) -> Session:
     return subprocess.Popen([PROGRAM, "run", folder], stdin=subprocess.PIPE, stdout=subprocess.PIPE, **more)
 
 
-def answer(process):
+def answer(process: Session) -> str:
     """The next answer of a running session, through its closing line."""
-    lines = []
+    assert process.stdout
+    lines: list[bytes] = []
     while not lines or lines[-1] not in (b"...\n", b""):
         lines.append(process.stdout.readline())
     return b"".join(lines).decode()
 
 
-def answers_come_before_the_next_command(top, failures):
+def answers_come_before_the_next_command(top: str, failures: Failures) -> None:
     folder = os.path.join(top, "slow")
     os.mkdir(folder)
     process = started(folder)
     for command, wanted in WORKED:
-        process.stdin.write(command.encode())
-        process.stdin.flush()
-        failures.expect(f"the answer to {command!r}", answer(process), wanted)
-    process.stdin.close()
+        failures.expect(f"the answer to {command!r}", ask(process, command.encode()), wanted)
+    end_input(process)
     failures.expect("the status", process.wait(), 0)
 
 
-def ask(process, command):
-    """The answer of a running session to a command."""
-    process.stdin.write(command)
+def send(process: Session, part: bytes) -> None:
+    """Sends a part of the input to a running session."""
+    assert process.stdin
+    process.stdin.write(part)
     process.stdin.flush()
+
+
+def end_input(process: Session) -> None:
+    assert process.stdin
+    process.stdin.close()
+
+
+def ask(process: Session, command: bytes) -> str:
+    """The answer of a running session to a command."""
+    send(process, command)
     return answer(process)
 
 
-def begun(folder, **more):
+def begun(folder: str, **more: Any) -> Session:
     """A running session that holds the store in a folder: it has answered a command."""
     process = started(folder, **more)
     ask(process, b"names:\n...\n")
     return process
 
 
-def ended(process):
+def ended(process: Session) -> int:
     """The status of a session at the end of its input."""
-    process.stdin.close()
+    assert process.stdout
+    end_input(process)
     process.stdout.close()
     return process.wait()
 
 
-def input_comes_byte_by_byte(top, failures):
+def input_comes_byte_by_byte(top: str, failures: Failures) -> None:
     folder = os.path.join(top, "bytes")
     os.mkdir(folder)
     process = started(folder)
     for byte in "".join(command for command, _ in WORKED).encode():
-        process.stdin.write(bytes([byte]))
-        process.stdin.flush()
-    process.stdin.close()
+        send(process, bytes([byte]))
+    end_input(process)
+    assert process.stdout
     failures.expect("the answers byte by byte", process.stdout.read().decode(), "".join(wanted for _, wanted in WORKED))
     failures.expect("the status", process.wait(), 0)
 
 
-def set_to(number):
+def set_to(number: int) -> bytes:
     return f"set: app\npath: /n\nvalue: v{number}\n...\n".encode()
 
 
-def value_of(folder):
-    """The number that was set last, by a new session."""
+def value_of(folder: str) -> int | str:
+    """The number that was set last, by a new session, or what it said where it gave none."""
     status, output, faults = session(folder, b"get: app\npath: /n\n...\n")
     found = re.fullmatch(r"---\nvalue: v(\d+)\n\.\.\.\n", output.decode())
     if status != 0 or not found:
@@ -132,7 +153,7 @@ def value_of(folder):
     return int(found[1])
 
 
-def killed_sessions_lose_nothing(top, failures, chance):
+def killed_sessions_lose_nothing(top: str, failures: Failures, chance: random.Random) -> None:
     folder = os.path.join(top, "killed")
     os.mkdir(folder)
     failures.expect("the start", session(folder, b'import: app\ntext: "n: v0\\n"\n...\n')[0], 0)
@@ -143,15 +164,14 @@ def killed_sessions_lose_nothing(top, failures, chance):
         stop = time.monotonic() + chance.uniform(0, 0.03)
         for _ in range(COMMANDS):
             sent += 1
-            process.stdin.write(set_to(sent))
-            process.stdin.flush()
+            send(process, set_to(sent))
             if time.monotonic() > stop:
                 break
             if answer(process).startswith("---\nok: "):
                 answered = sent
         process.kill()
         process.wait()
-        process.stdin.close()
+        end_input(process)
         found = value_of(folder)
         failures.expect("a number is there", isinstance(found, int), True)
         if not isinstance(found, int) or not answered <= found <= sent:
@@ -162,11 +182,12 @@ def killed_sessions_lose_nothing(top, failures, chance):
     print(f"  {KILLED} sessions killed, {sent} commands held at the end")
 
 
-def outputs_and_folders_fail(top, failures):
+def outputs_and_folders_fail(top: str, failures: Failures) -> None:
     folder = os.path.join(top, "full")
     os.mkdir(folder)
     with open("/dev/full", "wb") as full:
-        done = subprocess.run([PROGRAM, "run", folder], input=b"names:\n...\n", stdout=full, stderr=subprocess.PIPE, check=False)
+        words = [PROGRAM, "run", folder]
+        done = subprocess.run(words, input=b"names:\n...\n", stdout=full, stderr=subprocess.PIPE, check=False)
     failures.expect("a full device", (done.returncode, done.stderr), (3, b"confstore: Output\n"))
     failures.expect("a missing folder", session(os.path.join(top, "none"), b""), DEVICE)
     file = os.path.join(top, "file")
@@ -181,19 +202,22 @@ def outputs_and_folders_fail(top, failures):
     failures.expect("a folder that is free again", session(held, b"")[0], 0)
 
 
-def program_for_all(top):
+def program_for_all(top: str) -> str:
     """A copy of the program that every user can reach."""
     os.chmod(top, 0o755)
-    program = shutil.copy(PROGRAM, os.path.join(top, "confstore"))
+    program: str = shutil.copy(PROGRAM, os.path.join(top, "confstore"))
     os.chmod(program, 0o755)
     return program
 
 
-def read_only_folders_are_refused(top, failures):
+def read_only_folders_are_refused(top: str, failures: Failures) -> None:
     """Run as root, this is tried as `nobody`."""
-    who = {"user": NOBODY, "cwd": top, "env": {}} if os.geteuid() == 0 else {}
+    who: dict[str, Any] = {"user": NOBODY, "cwd": top, "env": {}} if os.geteuid() == 0 else {}
     program = program_for_all(top)
-    for name, files in (("empty", {}), ("with a store", {"store.yaml": EMPTY + IMPORT, "store.lock": b""})):
+    stores: dict[str, dict[str, bytes]] = {
+        "empty": {}, "with a store": {"store.yaml": EMPTY + IMPORT, "store.lock": b""},
+    }  # fmt: skip
+    for name, files in stores.items():
         folder = os.path.join(top, f"read-only, {name}")
         os.mkdir(folder)
         for file, content in files.items():
@@ -214,29 +238,32 @@ def read_only_folders_are_refused(top, failures):
         os.chmod(folder, 0o755)
 
 
-def limited(most, words, commands=b""):
+def limited(most: int, words: Sequence[str], commands: bytes = b"") -> Ended:
     """The program where no file may have more bytes, and a write that would pass that fails."""
     limit = functools.partial(resource.setrlimit, resource.RLIMIT_FSIZE, (most, most))
-    more = {"input": commands, "capture_output": True, "check": False, "restore_signals": False, "preexec_fn": limit}
-    done = subprocess.run([PROGRAM, *words], **more)
+    done = subprocess.run(
+        [PROGRAM, *words], input=commands, capture_output=True, check=False, restore_signals=False, preexec_fn=limit
+    )
     return done.returncode, done.stdout, done.stderr.decode()
 
 
-def a_full_device_is_read(top, failures):
+def a_full_device_is_read(top: str, failures: Failures) -> None:
     """A limit on the sizes of files stands for a full device, which tears an append."""
     folder = folder_with_store(top, "full device")
     store = os.path.join(folder, "store.yaml")
     failures.expect("a torn append", limited(len(EMPTY + IMPORT) + 10, ["run", folder], SET), DEVICE)
     torn = read_file(store)
-    failures.expect("what the append left", (torn.startswith(EMPTY + IMPORT), len(torn)), (True, len(EMPTY + IMPORT) + 10))
+    left = torn.startswith(EMPTY + IMPORT), len(torn)
+    failures.expect("what the append left", left, (True, len(EMPTY + IMPORT) + 10))
     failures.expect("a session on a full device", limited(0, ["run", folder], LOOK), DEVICE)
     failures.expect("an export from a full device", limited(0, ["export", folder, "a"]), (0, b"x\n", ""))
     failures.expect("an unknown name", limited(0, ["export", folder, "b"]), (1, b"", "confstore: NoConfig\n"))
     failures.expect("the file", read_file(store), torn)
-    failures.expect("a session with space again", session(folder, LOOK), (0, b"---\nvalue: x\n...\n", dropped(torn[-10:])))
+    wanted = 0, b"---\nvalue: x\n...\n", dropped(torn[-10:])
+    failures.expect("a session with space again", session(folder, LOOK), wanted)
 
 
-def folder_with_store(top, name):
+def folder_with_store(top: str, name: str) -> str:
     """A new folder with a store that has one configuration."""
     folder = os.path.join(top, name)
     os.mkdir(folder)
@@ -244,7 +271,7 @@ def folder_with_store(top, name):
     return folder
 
 
-def a_lock_outlives_its_file(top, failures):
+def a_lock_outlives_its_file(top: str, failures: Failures) -> None:
     for way in ("deleted", "replaced"):
         folder = folder_with_store(top, f"lock {way}")
         lock = os.path.join(folder, "store.lock")
@@ -269,7 +296,7 @@ def a_lock_outlives_its_file(top, failures):
             os.close(handle)
 
 
-def without_proc(top):
+def without_proc(top: str) -> dict[str, str]:
     """The environment of a session that finds no /proc."""
     library, log = compiled("fail_calls.c", top), os.path.join(top, "calls")
     folder = folder_with_store(top, "logged")
@@ -279,10 +306,12 @@ def without_proc(top):
     return {**os.environ, "LD_PRELOAD": library, "FAULT_ERROR": str(errno.ENOENT), **fault}
 
 
-def a_moved_folder_keeps_its_store(top, failures):
+def a_moved_folder_keeps_its_store(top: str, failures: Failures) -> None:
     """A folder is moved during a session, and another one is made under its name. Where there is no /proc, a checkpoint
     is refused then."""
-    ways = (("moved", {}, SECOND, (0, "")), ("moved, no proc", {"env": without_proc(top)}, "", (3, DEVICE[2])))
+    ways: Sequence[tuple[str, dict[str, Any], str, tuple[int, str]]] = (
+        ("moved", {}, SECOND, (0, "")), ("moved, no proc", {"env": without_proc(top)}, "", (3, DEVICE[2])),
+    )  # fmt: skip
     for way, more, answered, end in ways:
         folder = folder_with_store(top, f"{way}, before")
         moved = os.path.join(top, f"{way}, after")
@@ -292,12 +321,19 @@ def a_moved_folder_keeps_its_store(top, failures):
         failures.expect(f"a change, {way}", ask(process, SET), SECOND)
         failures.expect(f"a second session, {way}", session(moved, LOOK), LOCKED)
         failures.expect(f"a checkpoint, {way}", ask(process, CHECKPOINT), answered)
-        failures.expect(f"the end, {way}", (ended(process), process.stderr.read().decode()), end)
+        failures.expect(f"the end, {way}", (ended(process), said_by(process)), end)
         failures.expect(f"the folder under the old name, {way}", os.listdir(folder), [])
         failures.expect(f"what the folder holds, {way}", session(moved, LOOK), HELD)
 
 
-def things():
+def said_by(process: Session) -> str:
+    """What a session that is over has written to standard error, which is a pipe."""
+    assert process.stderr
+    said: bytes = process.stderr.read()
+    return said.decode()
+
+
+def things() -> Sequence[tuple[str, Making]]:
     """What may lie at a name in the place of a plain file: each with how it is made there. `outside` is a plain file in
     another folder, and `missing` is not there."""
     return (
@@ -309,7 +345,7 @@ def things():
     )
 
 
-def only_plain_files_are_used(top, failures):
+def only_plain_files_are_used(top: str, failures: Failures) -> None:
     missing = os.path.join(top, "missing")
     for name in NAMES:
         for thing, make in things():
@@ -332,7 +368,7 @@ def only_plain_files_are_used(top, failures):
     os.mkfifo(os.path.join(folder, "next.yaml"))
     failures.expect("a checkpoint over a FIFO", ask(process, CHECKPOINT), "")
     failures.expect("the status after a checkpoint over a FIFO", ended(process), 3)
-    failures.expect("the fault of a checkpoint over a FIFO", process.stderr.read().decode(), DEVICE[2])
+    failures.expect("the fault of a checkpoint over a FIFO", said_by(process), DEVICE[2])
     fifo = os.path.join(top, "fifo")
     os.mkfifo(fifo)
     failures.expect("a FIFO for a folder", session(fifo, b"", timeout=SECONDS), DEVICE)
@@ -341,7 +377,7 @@ def only_plain_files_are_used(top, failures):
     failures.expect("a link to a folder", session(link, b""), (0, b"", ""))
 
 
-def kept_rows():
+def kept_rows() -> list[tuple[int, int, Owned, Owned]]:
     """Rows of who runs the program, with which umask, over a store of which owner, group and mode; and the owner, the
     group and the mode that the store has after it was written anew. A user or a group is its number."""
     myself, mine = os.geteuid(), os.getegid()
@@ -367,20 +403,24 @@ def kept_rows():
     return alike + by_root + by_nobody
 
 
-def owner_group_and_mode(path):
+def owner_group_and_mode(path: str) -> Owned:
     found = os.stat(path)
     return found.st_uid, found.st_gid, stat.S_IMODE(found.st_mode)
 
 
-def run_as(user, umask, top, words, commands):
+def run_as(user: int, umask: int, top: str, words: Sequence[str], commands: bytes) -> tuple[int, bytes, bytes]:
     """What the program does as a user, who has one group."""
-    who = {} if user == os.geteuid() else {"user": user, "group": pwd.getpwuid(user).pw_gid, "extra_groups": []}
-    done = subprocess.run([os.path.join(top, "confstore"), *words], input=commands, capture_output=True, check=False,
-                          umask=umask, cwd=top, env={}, **who)
+    who: dict[str, Any] = {"env": {}}
+    if user != os.geteuid():
+        who.update(user=user, group=pwd.getpwuid(user).pw_gid, extra_groups=[])
+    done = subprocess.run(
+        [os.path.join(top, "confstore"), *words], input=commands, capture_output=True, check=False, umask=umask,
+        cwd=top, **who,
+    )  # fmt: skip
     return done.returncode, done.stdout, done.stderr
 
 
-def owners_and_modes_survive(top, failures):
+def owners_and_modes_survive(top: str, failures: Failures) -> None:
     """A checkpoint puts a new file in the place of `store.yaml`, and so does an opening that recovers a torn store. Run
     as root, this is tried as root and as `nobody`."""
     program_for_all(top)
@@ -406,7 +446,7 @@ def owners_and_modes_survive(top, failures):
             failures.expect(f"{name}: its owner, group and mode", owner_group_and_mode(store), wanted)
 
 
-def new_stores_have_the_mode_of_any_new_file(top, failures):
+def new_stores_have_the_mode_of_any_new_file(top: str, failures: Failures) -> None:
     program_for_all(top)
     for umask in (0o000, 0o022, 0o077):
         name = f"a new store with the umask {umask:o}"
@@ -417,7 +457,7 @@ def new_stores_have_the_mode_of_any_new_file(top, failures):
         failures.expect(f"{name}: its owner, group and mode", found, (os.geteuid(), os.getegid(), 0o666 & ~umask))
 
 
-def damage_is_named_or_harmless(top, failures):
+def damage_is_named_or_harmless(top: str, failures: Failures) -> None:
     folder = os.path.join(top, "damaged")
     os.mkdir(folder)
     store = os.path.join(folder, "store.yaml")
@@ -432,12 +472,13 @@ def damage_is_named_or_harmless(top, failures):
             opened += 1
             continue
         refused += 1
-        failures.expect(f"the fault with byte {place} changed", (status, faults in ("confstore: NotAStore\n", "confstore: Damaged\n")), (1, True))
+        is_named = faults in ("confstore: NotAStore\n", "confstore: Damaged\n")
+        failures.expect(f"the fault with byte {place} changed", (status, is_named), (1, True))
         failures.expect(f"the file with byte {place} changed", read_file(store), bytes(damaged))
     print(f"  {len(small)} damaged stores: {opened} opened, {refused} refused and left as they were")
 
 
-def a_command_is_synced_before_its_answer(top, failures):
+def a_command_is_synced_before_its_answer(top: str, failures: Failures) -> None:
     """A run notes in `store.lock` that bytes may be in memory alone, appends, syncs, answers, and in the end notes that
     the device has them."""
     if not shutil.which("strace"):
@@ -454,12 +495,13 @@ def a_command_is_synced_before_its_answer(top, failures):
     )
     with open(trace, encoding="utf-8", errors="replace") as source:
         made = re.findall(r"(\w+)\((\d+)(?:, \"(---\\n(?:at|ok)|[!-]\"))?", source.read())
-    order = ["sync" if "sync" in name else what.strip('-\\n"') or what[0] for name, _, what in made if "sync" in name or what]
+    marks = [(name, what) for name, _, what in made if "sync" in name or what]
+    order = ["sync" if "sync" in name else what.strip('-\\n"') or what[0] for name, what in marks]
     end = order[order.index("!"):] if "!" in order else order
     failures.expect("the calls of a command", end, ["!", "at", "sync", "ok", "-"])
 
 
-def a_staged_file_is_narrow_before_it_is_written(top, failures):
+def a_staged_file_is_narrow_before_it_is_written(top: str, failures: Failures) -> None:
     if not shutil.which("strace"):
         return
     folder = os.path.join(top, "staged")
@@ -481,7 +523,7 @@ def a_staged_file_is_narrow_before_it_is_written(top, failures):
         failures.expect("what comes first at next.yaml", after[:2], [("fchmod", "0640"), ("write", "")])
 
 
-def main():
+def main() -> int:
     need_program()
     seed = int(sys.argv[1]) if len(sys.argv) > 1 else random.randrange(10**6)
     print(f"seed {seed}")

@@ -30,6 +30,7 @@ status. On SIGTERM, SIGINT or SIGHUP no more clients and commands are taken, tho
 performed and answered, the socket is removed, and the status is 0. Shortly before the session was sent as much as it
 takes, it is ended and another one started; clients don't notice. If another run holds the store just then, the new
 session is tried again for `--max-lock-wait` seconds. The program is CONFSTORE, or `confstore` on the PATH.
+With `--metrics` the server tells its health and counters (`serve_metrics.py`).
 """
 
 from __future__ import annotations
@@ -49,15 +50,15 @@ import socket
 import subprocess
 import sys
 import time
-from types import FrameType
 from typing import Callable, NamedTuple, Optional, Sequence
 
-# The other half of this program is beside it, wherever it is run from.
+# The other parts of this program are beside it, wherever it is run from.
 sys.path.insert(0, os.path.dirname(os.path.realpath(__file__)))
 sys.dont_write_bytecode = True
 
-from serve_socket import FAILED, Fault, Listener, clients_with_room, open_standard_streams, reason  # noqa: E402
-from serve_socket import say, shown, tell_manager, write_error  # noqa: E402
+from serve_metrics import Monitor, address, listening  # noqa: E402
+from serve_socket import FAILED, Fault, Listener, Signals, clients_with_room, open_standard_streams  # noqa: E402
+from serve_socket import reason, say, shown, tell_manager, write_error  # noqa: E402
 
 LONGEST = 16_777_216  # bytes of a command
 LONGEST_ANSWER = 67_108_864  # bytes
@@ -249,8 +250,9 @@ class Session:
 class Client:
     """A client: what it sent and is not in the session, and what it has to read."""
 
-    def __init__(self, connection: socket.socket, serve: Callable[[Client, int], None]) -> None:
+    def __init__(self, connection: socket.socket, monitor: Monitor, serve: Callable[[Client, int], None]) -> None:
         self.connection = connection
+        self.monitor = monitor
         self.descriptor = connection.fileno()
         self.serve = lambda events: serve(self, events)
         self.heard = Pieces()
@@ -260,7 +262,7 @@ class Client:
         self.waits_for_long = False
         self.has_sent_all = False
         self.is_gone = False
-        self.came = self.read_last = self.active = time.monotonic()
+        self.came = self.read_last = self.active = self.asked = time.monotonic()
 
     def may_send(self) -> bool:
         """Whether its next command may go to the session."""
@@ -289,8 +291,9 @@ class Client:
             return False
         self.has_sent_all = not part
         self.heard.add(part)
+        self.monitor.received += len(part)
         if self.heard.end:
-            self.active = time.monotonic()
+            self.active = self.asked = time.monotonic()  # all whole commands here came by now: none was here before
         return not self.heard.is_longer_than(LONGEST)
 
     def answer(self, answer: bytearray) -> None:
@@ -310,6 +313,7 @@ class Client:
         except OSError:
             return False
         del self.unsaid[:count]
+        self.monitor.sent += count
         self.read_last = time.monotonic()
         if not self.unsaid:
             self.active = self.read_last
@@ -368,31 +372,6 @@ class Places:
         return list(self.since.items()) if self.waiting else []
 
 
-class Signals:
-    """Whether this program was told to end, and a socket that is readable once a signal came."""
-
-    def __init__(self) -> None:
-        self.came = False
-        self.ear, self.bell = socket.socketpair()
-        self.ear.setblocking(False)
-        self.bell.setblocking(False)
-        signal.set_wakeup_fd(self.bell.fileno(), warn_on_full_buffer=False)
-        for number in (signal.SIGTERM, signal.SIGINT, signal.SIGHUP):
-            if number != signal.SIGHUP or signal.getsignal(number) is not signal.SIG_IGN:
-                signal.signal(number, self.stop)
-
-    def stop(self, _number: int, _frame: Optional[FrameType]) -> None:
-        self.came = True
-
-    def hear(self, _events: int) -> None:
-        self.ear.recv(PART)
-
-    def close(self) -> None:
-        signal.set_wakeup_fd(-1)
-        self.ear.close()
-        self.bell.close()
-
-
 class Server:
     """The session, the clients, and what each of them waits for."""
 
@@ -407,6 +386,7 @@ class Server:
         self.clients: collections.deque[Client] = collections.deque()
         self.long_commands = Places(bounds.long_commands)
         self.long_answers = Places(bounds.long_answers)
+        self.monitor = Monitor(words[-1], self.clients, self.hindrance)
         self.others_since: Optional[float] = None  # when others began to wait to be taken
         self.takes_none_until = 0.0
         self.complained = -float(QUIET)
@@ -416,6 +396,12 @@ class Server:
 
     def is_ending(self) -> bool:
         return self.has_ended or self.signals.came
+
+    def hindrance(self) -> str:
+        """Why no commands are performed now, or nothing."""
+        if self.is_ending():
+            return "the server ends"
+        return "" if self.session.has_opened and not self.session.is_over else "no session holds the store"
 
     def begin(self) -> None:
         self.session = Session(self.words)
@@ -466,7 +452,7 @@ class Server:
                 self.complain(f"{few}: {reason(error)}: raise the limit")
                 self.others_since = self.others_since or now
                 return
-            self.clients.append(Client(connection, self.serve_client))
+            self.clients.append(Client(connection, self.monitor, self.serve_client))
         self.others_since = None
 
     def complain(self, line: str) -> None:
@@ -511,6 +497,7 @@ class Server:
     def take_answers(self, _events: int) -> None:
         given, may_be_more = self.session.read()
         for client, answer in given:
+            self.monitor.answer(answer)
             if client.is_gone:
                 continue
             if not answer:
@@ -542,6 +529,7 @@ class Server:
                     self.finish_session()
                     return
                 self.session.send(client.next_command(), client)
+                self.monitor.command(client.asked)
                 self.long_commands.leave(client)
                 was_sent = True
             was_sent = was_sent or (bool(self.long_answers.waiting) and bool(self.long_answers.give()))
@@ -559,6 +547,7 @@ class Server:
 
     def look(self, now: float) -> None:
         """Cuts off the clients that are late, and takes others where there was no room."""
+        self.monitor.look(now)
         for client in list(self.clients):
             if client.unsaid and now - client.read_last > self.bounds.unread:
                 self.drop(client)
@@ -651,6 +640,7 @@ class Server:
                 trouble, remedy = f"no next session could be started ({reason(error)})", "free memory and processes"
             else:
                 if self.opens():
+                    self.monitor.renew()
                     return True
                 self.session.wait()
                 if not self.session.was_locked():
@@ -685,6 +675,7 @@ class Server:
 
     def close(self) -> None:
         """Ends the session, however this program ends."""
+        self.monitor.close()
         if not self.session.is_over:
             self.session.wait()
 
@@ -708,6 +699,8 @@ def arguments_of(words: Sequence[str]) -> argparse.Namespace:
     parser.add_argument("socket", metavar="SOCKET", help="where clients connect")
     parser.add_argument("folder", metavar="FOLDER", help="the store")
     parser.add_argument("--checkpoint-after", metavar="BYTES", type=count, help="as for `confstore run --group`")
+    told = "tell health and counters over HTTP: a Unix socket, with a slash, or 127.0.0.1:PORT"
+    parser.add_argument("--metrics", metavar="ADDRESS", type=address, help=told)
     for word, kind, default, about in (
         ("--renew-after", count, SESSION, "start another session after so many bytes of commands"),
         ("--max-clients", count, 256, "clients at a time; others wait"),
@@ -746,21 +739,18 @@ def started(words: Sequence[str], bounds: Bounds, signals: Signals) -> Server:
 
 
 def run(arguments: argparse.Namespace, signals: Signals) -> int:
-    listener = Listener(arguments.socket)
-    try:
+    with contextlib.closing(Listener(arguments.socket)) as listener:
         listener.look()
-        server = started(words_of(arguments), bounds_of(arguments), signals)
-        try:
-            if not server.opens():
-                return server.why_not_opened()
-            listener.open(arguments.folder)
-            server.listener = listener
-            tell_manager()
-            return server.serve()
-        finally:
-            server.close()
-    finally:
-        listener.close()
+        with listening(arguments.metrics) as scraped:
+            server = started(words_of(arguments), bounds_of(arguments), signals)
+            with contextlib.closing(server):
+                server.monitor.open(scraped, server.watch, server.unwatch)
+                if not server.opens():
+                    return server.why_not_opened()
+                listener.open(arguments.folder)
+                server.listener = listener
+                tell_manager()
+                return server.serve()
 
 
 def main() -> int:

@@ -1,4 +1,4 @@
-"""What `serve.py` has of the system: its socket, its standard streams, its manager, its files, its lines.
+"""What `serve.py` has of the system: its sockets, its signals, its standard streams, its manager, its files, its lines.
 
 A socket is made in a folder of its own, which nobody else may enter, beside its name. It gets its owner, group and
 access list there, and is listened to. Only then it is linked to its name, which fails where anything is. So no mode is
@@ -13,11 +13,13 @@ import os
 import resource
 import secrets
 import select
+import signal
 import socket
 import stat
 import struct
 import sys
-from typing import Iterator, NamedTuple, Optional
+from types import FrameType
+from typing import Callable, Iterator, NamedTuple, Optional
 
 LONGEST_PATH = 107  # bytes of a socket's path
 BACKLOG = 4_096  # clients that wait to be taken
@@ -25,6 +27,7 @@ TRIES = 10  # to take a name where others take it and leave it
 LINE_WAITS = 1_000  # milliseconds for room on standard error
 MANAGER_TAKES = 10  # seconds to be told
 RESERVED = 32  # files that are open beside the clients
+SIGNALS_HEARD = 65_536  # signals that are taken at once
 
 WRONG_WORDS, FAILED = 2, 3  # statuses
 
@@ -32,7 +35,7 @@ WRONG_WORDS, FAILED = 2, 3  # statuses
 ACL, ACL_DEFAULT = "system.posix_acl_access", "system.posix_acl_default"
 ACL_HEAD, ACL_ENTRY, NO_ID = struct.pack("<I", 2), struct.Struct("<HHI"), 0xFFFF_FFFF
 OWNER, USER, OWN_GROUP, GROUP, MASK, OTHER = 1, 2, 4, 8, 16, 32
-WRITE_AND_SEARCH, READ_AND_WRITE = 3, 6
+WRITE_AND_SEARCH, READ_AND_WRITE, FOR_ALL = 3, 6, 0o666
 
 # The names of a socket, and of one before it, in the folder where it is made.
 MADE, REPLACED = "made", "replaced"
@@ -113,12 +116,17 @@ def moved(entries: list[Entry], folder: os.stat_result, socket_now: os.stat_resu
     return [Entry(tag, bits_there, identity) for (tag, identity), bits_there in bits.items()]
 
 
-def give_access(name: str, folder: int) -> None:
-    """Lets those connect to the socket at a name that may write in the open folder. Nobody else can reach it yet."""
+def give_mode(name: str, mode: int) -> None:
+    """Gives the socket at a name a mode, and no access list."""
     for attribute in (ACL, ACL_DEFAULT):
         with contextlib.suppress(OSError):
             os.removexattr(name, attribute)
-    os.chmod(name, stat.S_IRUSR | stat.S_IWUSR)
+    os.chmod(name, mode)
+
+
+def give_access(name: str, folder: int) -> None:
+    """Lets those connect to the socket at a name that may write in the open folder. Nobody else can reach it yet."""
+    give_mode(name, stat.S_IRUSR | stat.S_IWUSR)
     found = os.fstat(folder)
     for owner, group in ((-1, found.st_gid), (found.st_uid, -1)):
         with contextlib.suppress(OSError):
@@ -163,7 +171,7 @@ def hindrance(name: str) -> Optional[str]:
 
 
 class Listener:
-    """A socket with a name, which takes those clients that may write in the store's folder."""
+    """A socket with a name, which takes those clients that may write in a folder, or all that reach it."""
 
     def __init__(self, path: str) -> None:
         self.path = path
@@ -194,30 +202,46 @@ class Listener:
             raise self.refuse(why)
 
     def open(self, folder: str) -> None:
-        """Makes the socket, and takes clients."""
+        """Makes the socket, and takes those clients that may write in a folder."""
+        try:
+            store = os.open(folder, os.O_RDONLY | os.O_DIRECTORY)
+        except OSError as error:
+            raise self.refuse_for(error) from None
+        try:
+            self.make(lambda name: give_access(name, store), BACKLOG)
+        finally:
+            os.close(store)
+
+    def open_for_all(self, waiting: int) -> None:
+        """Makes the socket, and takes all that reach it, of whom so many wait at most."""
+        self.make(lambda name: give_mode(name, FOR_ALL), waiting)
+
+    def refuse_for(self, error: OSError) -> Fault:
+        return self.refuse(f"{reason(error)}: see who may write in that folder, and whether there is room")
+
+    def make(self, give: Callable[[str], None], waiting: int) -> None:
         private = f".{self.name}.{secrets.token_hex(8)}"
         try:
             os.mkdir(private, stat.S_IRWXU, dir_fd=self.place)
             try:
-                self.make_in(private, folder)
+                self.make_in(private, give, waiting)
             finally:
                 os.rmdir(private, dir_fd=self.place)
         except OSError as error:
-            raise self.refuse(f"{reason(error)}: see who may write in that folder, and whether there is room") from None
+            raise self.refuse_for(error) from None
 
-    def make_in(self, private: str, folder: str) -> None:
+    def make_in(self, private: str, give: Callable[[str], None], waiting: int) -> None:
         inside = os.open(private, os.O_RDONLY | os.O_DIRECTORY | os.O_NOFOLLOW, dir_fd=self.place)
-        store = os.open(folder, os.O_RDONLY | os.O_DIRECTORY)
         try:
             found = os.fstat(inside)
             if found.st_uid != os.geteuid() or stat.S_IMODE(found.st_mode) & (stat.S_IRWXG | stat.S_IRWXO):
                 raise self.refuse("another user changes the names in that folder: choose a folder of your own")
             with working_in(inside):
                 self.socket.bind(MADE)
-                give_access(MADE, store)
+                give(MADE)
                 made = os.lstat(MADE)
             self.socket.setblocking(False)
-            self.socket.listen(BACKLOG)
+            self.socket.listen(waiting)
             self.waiting.register(self.socket, select.POLLIN)
             self.take_name(inside)
             self.made = made.st_dev, made.st_ino
@@ -226,7 +250,6 @@ class Listener:
                 with contextlib.suppress(FileNotFoundError):
                     os.unlink(name, dir_fd=inside)
             os.close(inside)
-            os.close(store)
 
     def take_name(self, inside: int) -> None:
         """Links the socket to its name, where nothing is, or a socket that nobody listens to."""
@@ -274,6 +297,31 @@ class Listener:
             say(f"the socket {shown(self.path)} can't be removed: {reason(error)}: remove it")
         self.made = None
         self.socket.close()
+
+
+class Signals:
+    """Whether this program was told to end, and a socket that is readable once a signal came."""
+
+    def __init__(self) -> None:
+        self.came = False
+        self.ear, self.bell = socket.socketpair()
+        self.ear.setblocking(False)
+        self.bell.setblocking(False)
+        signal.set_wakeup_fd(self.bell.fileno(), warn_on_full_buffer=False)
+        for number in (signal.SIGTERM, signal.SIGINT, signal.SIGHUP):
+            if number != signal.SIGHUP or signal.getsignal(number) is not signal.SIG_IGN:
+                signal.signal(number, self.stop)
+
+    def stop(self, _number: int, _frame: Optional[FrameType]) -> None:
+        self.came = True
+
+    def hear(self, _events: int) -> None:
+        self.ear.recv(SIGNALS_HEARD)
+
+    def close(self) -> None:
+        signal.set_wakeup_fd(-1)
+        self.ear.close()
+        self.bell.close()
 
 
 def tell_manager() -> None:

@@ -8,13 +8,12 @@ import shutil
 import socket
 import stat
 import subprocess
-import sys
 import tempfile
 import time
 import unittest
 from typing import Any, Callable, Iterator, Sequence
 
-from lib.servers import NAMES, ServerTest, accepts
+from lib.servers import NAMES, PROGRAM, PYTHON, SERVER, ServerTest, accepts, is_for_all
 
 # Users and groups for the trials of access: numbers, which need no names.
 ALICE, BOB, CAROL, DAVE, EVE = 70_001, 70_002, 70_003, 70_004, 70_005
@@ -66,6 +65,12 @@ def as_another(identity: tuple[int, list[int]], does: Callable[[], bool]) -> boo
     return status == 0
 
 
+def shut_out() -> str:
+    """Why others can't run a server here, or nothing."""
+    places = [path for path in (PYTHON, SERVER, PROGRAM) if not is_for_all(path)]
+    return f"other users may not run {', '.join(places)}" if places and os.geteuid() == 0 else ""
+
+
 def may_write(folder: str) -> bool:
     """Whether this process may make a name in a folder."""
     name = os.path.join(folder, f"tried{os.getpid()}")
@@ -80,6 +85,11 @@ def may_write(folder: str) -> bool:
 @unittest.skipUnless(os.geteuid() == 0, "needs root")
 class Access(ServerTest):
     """Who may connect, beside who may write in the folder: the system decides both."""
+
+    def setUp(self) -> None:
+        super().setUp()
+        if shut_out():
+            self.skipTest(shut_out())
 
     def differences(self) -> dict[str, tuple[bool, bool]]:
         found = {}
@@ -195,7 +205,7 @@ while True:
     except FileNotFoundError:
         pass
 """
-    words = [sys.executable, "-c", body, path, target]
+    words = [PYTHON, "-c", body, path, target]
     with subprocess.Popen(words, user=CAROL, group=STAFF, extra_groups=[]) as process:
         time.sleep(0.1)
         try:

@@ -7,16 +7,29 @@ import os
 import shutil
 import signal
 import socket
+import stat
 import subprocess
 import sys
 import tempfile
 import time
 import unittest
+from pathlib import Path
 from typing import Any, Callable, Optional, Sequence
 
 TOP = os.path.dirname(os.path.dirname(os.path.dirname(os.path.abspath(__file__))))
 PROGRAM = os.environ.get("CONFSTORE") or os.path.join(TOP, "crates", "confstore", "out", "confstore")
 SERVER = os.environ.get("SERVER") or os.path.join(TOP, "clients", "serve.py")
+
+
+def is_for_all(path: str) -> bool:
+    """Whether each user may run the file at a path, and enter the folders above it and above what it links to."""
+    starts = (Path(os.path.abspath(path)), Path(path).resolve())
+    places = {place for start in starts for place in (start, *start.parents)}
+    return all(place.exists() and place.stat().st_mode & stat.S_IXOTH for place in places)
+
+
+# The Python that runs the servers, also for other users: the system's where they may not run the one that runs this.
+PYTHON = sys.executable if os.geteuid() != 0 or is_for_all(sys.executable) else "/usr/bin/python3"
 
 # How long in seconds anything here is waited for, and how long a client is told to wait for a server that is at its
 # bound: `--max-wait 1`, the second in which a client may be idle in any case, and the server's looks at its clients.
@@ -107,7 +120,7 @@ class Running:
         self.errors_file = os.path.join(top, f"errors{time.monotonic_ns()}")
         with open(self.errors_file, "wb") as errors:
             self.process = subprocess.Popen(
-                [*before, sys.executable, SERVER, *words], stdin=subprocess.DEVNULL, stderr=errors, **more
+                [*before, PYTHON, SERVER, *words], stdin=subprocess.DEVNULL, stderr=errors, **more
             )
 
     def errors(self) -> str:
@@ -184,7 +197,7 @@ class ServerTest(unittest.TestCase):
     def fake(self) -> str:
         path = os.path.join(self.top, "fake")
         with open(path, "w", encoding="ascii") as program:
-            program.write(f"#!{sys.executable}\n{FAKE}")
+            program.write(f"#!{PYTHON}\n{FAKE}")
         os.chmod(path, 0o755)
         return path
 

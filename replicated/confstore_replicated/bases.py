@@ -19,6 +19,7 @@ from typing import Callable, List, Optional, Sequence, Tuple
 
 from .etcd import Etcd, Guard, Item
 from .history import Base, base_in
+from .metrics import Counts
 
 # After how many further entries a name may be forgotten.
 NAMES_KEPT = 100_000
@@ -34,8 +35,8 @@ STEPS = 100
 class Bases:
     """The bases of a cluster's log."""
 
-    def __init__(self, etcd: Etcd, prefix: bytes, base_after: int, names_kept: int) -> None:
-        self._etcd = etcd
+    def __init__(self, etcd: Etcd, prefix: bytes, base_after: int, names_kept: int, counts: Counts) -> None:
+        self._etcd, self._counts = etcd, counts
         self._log, self._names, self._parts = prefix + b"log/", prefix + b"ids/", prefix + b"parts/"
         self._key = prefix + b"base"
         self._base_after, self._names_kept = base_after, names_kept
@@ -93,23 +94,28 @@ class Bases:
             return
         self._remove(self._log, base.floor, guard, lambda keys: ())
         start = len(self._names)
-        self._remove(self._names, base.names_floor, guard, lambda keys: [self._log + key[start:] for key in keys])
+        names = self._remove(
+            self._names, base.names_floor, guard, lambda keys: [self._log + key[start:] for key in keys]
+        )
+        self._counts.add("ids_expired", names)
         if base.floor:
             self._etcd.compact(base.floor)
 
     def _remove(
         self, prefix: bytes, until: int, guard: Guard, absent: Callable[[Sequence[bytes]], Sequence[bytes]]
-    ) -> None:
-        """Takes out the keys with a prefix that were made up to a revision, those where others are absent."""
+    ) -> int:
+        """Takes out the keys with a prefix that were made up to a revision, those where others are absent. How many."""
+        removed = 0
         if until <= 0:
-            return
+            return removed
         for keys in self._etcd.keys_until(prefix, until):
             if self._etcd.remove(keys, until, absent(keys), guard):
+                removed += len(keys)
                 continue
             if self._etcd.get(guard[0]) != guard[1]:
-                return
-            for key in keys:
-                self._etcd.remove([key], until, absent([key]), guard)
+                break
+            removed += sum(self._etcd.remove([key], until, absent([key]), guard) for key in keys)
+        return removed
 
     def read(self, text: Optional[bytes]) -> bytes:
         """The base of which etcd says this. Raises `ValueError` if it is not whole."""

@@ -339,6 +339,11 @@ class Etcd:
         }  # fmt: skip
         return items_of(self._ask("/v3/kv/range", lambda: _range(prefix, end_of(prefix), **more)))
 
+    def count_after(self, prefix: bytes, revision: int, most: int) -> int:
+        """How many keys with a prefix were made after a revision, at most so many."""
+        more = {"min_create_revision": str(revision + 1), "keys_only": True, "limit": str(most)}
+        return len(items_of(self._ask("/v3/kv/range", lambda: _range(prefix, end_of(prefix), **more))))
+
     def remove(self, keys: Sequence[bytes], until: int, absent: Sequence[bytes], guard: Guard) -> bool:
         """Takes out keys that were made up to a revision, if others are not there, and the guard's key has its value.
         All or nothing; whether it did."""

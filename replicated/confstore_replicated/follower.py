@@ -11,6 +11,7 @@ Before it performs anything, and each second, it looks whether the log is still 
 
 from __future__ import annotations
 
+import contextlib
 import os
 import random
 import sys
@@ -18,7 +19,7 @@ import threading
 import time
 from collections import deque
 from dataclasses import dataclass, field
-from typing import Callable, Deque, List, Optional, Sequence
+from typing import Callable, Deque, List, NamedTuple, Optional, Sequence
 
 from confstore import ConfstoreError, NoConfig, Refused as StoreRefused, Store
 
@@ -27,6 +28,7 @@ from .bases import NAMES_KEPT, Bases, install
 from .entries import RESERVED, Edit, Refused, digest_of, edits_in, marked, number_in, refused
 from .etcd import MOST_ENTRIES, Access, Etcd, Item, Look, Unavailable
 from .history import Behind, OtherHistory, Place, base_in, judge, mark_of, short_of
+from .metrics import OLDEST_LOOK, Counts
 from .stream import Stream
 
 # How many bytes of entries are sent to the session before the first is answered.
@@ -42,6 +44,9 @@ LONGEST_PAUSE = 5.0
 # How many seconds lie between two looks at the log, whatever a stream tells, and how many a stream has to begin.
 LOOK = 1.0
 BEGINNING = 2.0
+
+# How many entries behind a store are counted at most.
+MOST_COUNTED = 1_000
 
 # The words that a store refuses a command by which depend on its state, its count and the command alone, which are the
 # same at all nodes. `JournalLong` is not one of them: it depends on the file of one node.
@@ -93,6 +98,35 @@ class _Turn:
             raise ConfstoreError(f"the number of entry {self.entry.created} is refused: {word}")
 
 
+@dataclass
+class _Progress:
+    """What is told of a follower: how many entries it has performed since it began, how many the log has behind them of
+    those that it had when they were counted, when that was, and how long the base in the file of its store is. What
+    isn't known is None."""
+
+    applied: int = 0
+    behind: Optional[int] = None
+    counted: float = 0.0
+    base: Optional[int] = None
+
+    def perform(self) -> None:
+        self.applied += 1
+        self.behind = self.behind - 1 if self.behind else self.behind
+
+
+class Standing(NamedTuple):
+    """How a follower stands: the number of the last entry that it performed, how many it has performed since it began,
+    how many it has still to perform, of those that the log had when they were counted last, how many seconds ago it
+    looked at the log, and the lengths of its file and of the base in it, in bytes. What isn't known is None."""
+
+    position: int
+    applied: int
+    behind: Optional[int]
+    looked_ago: Optional[float]
+    length: Optional[int]
+    base: Optional[int]
+
+
 def _groups(entries: Sequence[Item]) -> List[List[Item]]:
     """The entries in order, in groups that are sent at once."""
     groups: List[List[Item]] = []
@@ -122,14 +156,16 @@ class Follower(threading.Thread):
         told: Callable[[int, Performed], None] = lambda _number, _performed: None,
         forget: Callable[[], None] = lambda: None,
         access: Optional[Access] = None,
+        counts: Optional[Counts] = None,
     ) -> None:
         super().__init__(name="confstore follower", daemon=True)
+        self._counts = counts or Counts()
         self._folder = folder
         self._program = program
         self._etcd = Etcd(members, access=access)
         prefix = f"/confstore/{cluster}/".encode()
         self._log, self._base_key = prefix + b"log/", prefix + b"base"
-        self._bases = Bases(self._etcd, prefix, base_after, names_kept)
+        self._bases = Bases(self._etcd, prefix, base_after, names_kept, self._counts)
         self._base_after = base_after
         self._told, self._forget = told, forget
         self._state = threading.Condition()  # the three below are changed with it held
@@ -143,6 +179,7 @@ class Follower(threading.Thread):
         self._since_base = 0
         self._checkpoint_length = 0
         self._looked = 0.0
+        self._progress = _Progress()
         self._pause = PAUSE
         self._said = ""
         #: The store, which others may read. None while there is no session.
@@ -187,6 +224,28 @@ class Follower(threading.Thread):
         with self._state:
             self._raise_fault()
 
+    def standing(self) -> Standing:
+        """How it stands now. Nothing is asked of etcd, and no lock is waited for that a thread keeps for long."""
+        looked_ago = time.monotonic() - self._looked if self._looked else None
+        progress, base, length = self._progress, self._progress.base, None
+        with contextlib.suppress(OSError):
+            length = self._length()
+        if progress.base != base:  # a checkpoint is being written
+            base = None
+        with self._state:
+            return Standing(self._place.number, progress.applied, progress.behind, looked_ago, length, base)
+
+    def trouble(self) -> str:
+        """Why this node doesn't serve, or nothing."""
+        if self.store is None:
+            return "no session holds the store"
+        with self._state:
+            if self._fault is not None:
+                return "etcd does not have the log that this store has performed"
+        if time.monotonic() - self._looked > OLDEST_LOOK:
+            return f"the log was not looked at for {OLDEST_LOOK:g} seconds"
+        return ""
+
     def _raise_fault(self) -> None:
         if self._fault is not None:
             raise OtherHistory(*self._fault.args)
@@ -220,6 +279,7 @@ class Follower(threading.Thread):
 
     def _say(self, fault: Exception) -> None:
         """Prints what went wrong, the same thing once, and waits; the longer the more often."""
+        self._counts.name("faults", type(fault).__name__)
         about = f"follower: {type(fault).__name__}: {fault}"
         if about != self._said:
             print(about, file=sys.stderr, flush=True)
@@ -240,7 +300,7 @@ class Follower(threading.Thread):
         self._say(OtherHistory(f"{self._folder}: {fault}; {remedy}"))
 
     def close(self) -> None:
-        store, self.store = self.store, None
+        store, self.store, self._progress.base = self.store, None, None
         if store is not None:
             store.close()
 
@@ -248,6 +308,7 @@ class Follower(threading.Thread):
         """Opens the store, and tells what the entries in its file were answered. Raises `NotReplicated`."""
         os.makedirs(self._folder, exist_ok=True)
         self.store = store = Store(self._folder, program=self._program)
+        self._counts.add("sessions")
         try:
             place = self._place_in(store)
             for number, performed in answers_in(self._folder):
@@ -256,6 +317,7 @@ class Follower(threading.Thread):
             self.close()
             raise
         self._last, self._checkpoint_length = None, base_length_in(self._folder)
+        self._progress.base = self._checkpoint_length
         with self._state:
             self._place = place
             self._state.notify_all()
@@ -284,7 +346,19 @@ class Follower(threading.Thread):
         with self._state:
             self._fault, self._has_looked = None, True
             self._state.notify_all()
+        self._count_behind(len(look.after), most)
         return look
+
+    def _count_behind(self, found: int, most: int) -> None:
+        """Notes how many entries the log has behind the store's, where a look has found so many of at most so many."""
+        behind: Optional[int] = found
+        if found == most:
+            if not self._counts.is_told or self._looked - self._progress.counted < LOOK:
+                return
+            self._progress.counted = self._looked
+            behind = self._etcd.count_after(self._log, self._place.number, MOST_COUNTED)
+        with self._state:
+            self._progress.behind = behind
 
     def _follow(self) -> None:
         """Performs what the log has, and then each entry as it comes, until the member that tells of them goes."""
@@ -367,8 +441,9 @@ class Follower(threading.Thread):
         return os.path.getsize(os.path.join(self._folder, "store.yaml"))
 
     def _checkpoint(self, store: Store) -> None:
+        self._progress.base = None
         store.checkpoint()
-        self._checkpoint_length = self._length()
+        self._checkpoint_length = self._progress.base = self._length()
 
     def _is_done(self, turn: _Turn, count: int) -> None:
         entry = turn.entry
@@ -378,6 +453,7 @@ class Follower(threading.Thread):
         self._since_base += 1
         with self._state:
             self._place = Place(entry.created, turn.mark, entry.key)
+            self._progress.perform()
             self._state.notify_all()
 
     # ---- bases

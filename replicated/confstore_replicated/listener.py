@@ -1,4 +1,5 @@
-"""A Unix socket that takes those clients that may write in a folder: with its owner, group, mode and access list.
+"""A Unix socket that takes those clients that may write in a folder: with its owner, group, mode and access list. Or
+one that takes all who reach it.
 
 It is made under a private name, gets all of that, and then its own name. So nobody can connect to it before, and no
 name that others can change is followed.
@@ -12,7 +13,7 @@ import socket
 import stat
 import struct
 import tempfile
-from typing import Optional
+from typing import Callable, Optional
 
 # The attribute of an access list, and its form: a version, and then a tag, permissions and a user or group for each.
 ACCESS_LIST = "system.posix_acl_access"
@@ -24,12 +25,25 @@ _ENTRY = struct.Struct("<HHI")
 WRITE = 2
 READ_AND_WRITE = 6
 
+# The mode of a socket for all.
+FOR_ALL = 0o666
+
 # How many connections wait to be accepted.
 BACKLOG = 128
 
 
 def listen(path: str, folder: str) -> socket.socket:
-    """A listening socket at a path. One that nobody listens to is replaced; anything else there raises `OSError`."""
+    """A listening socket at a path, for those who may write in a folder. One that nobody listens to is replaced;
+    anything else there raises `OSError`."""
+    return _listen(path, lambda made: _give_to_writers(made, folder), BACKLOG)
+
+
+def listen_for_all(path: str, waiting: int) -> socket.socket:
+    """The same for all who reach the path, of whom so many wait at most."""
+    return _listen(path, lambda made: os.chmod(made, FOR_ALL), waiting)
+
+
+def _listen(path: str, give: Callable[[str], None], waiting: int) -> socket.socket:
     if _is_left(path):
         os.unlink(path)
     directory, name = os.path.split(os.path.abspath(path))
@@ -43,8 +57,8 @@ def listen(path: str, folder: str) -> socket.socket:
             listener.bind(made)
         finally:
             os.umask(before)
-        _give_to_writers(made, folder)
-        listener.listen(BACKLOG)
+        give(made)
+        listener.listen(waiting)
         os.link("made", os.path.join(directory, name), src_dir_fd=inside, follow_symlinks=False)
     except BaseException:
         listener.close()

@@ -32,8 +32,8 @@ import sys
 import threading
 import time
 import uuid
-from contextlib import contextmanager
-from typing import Any, Dict, Iterator, List, Optional
+from contextlib import ExitStack, contextmanager
+from typing import Any, Dict, Iterator, List, Optional, Tuple
 
 from confstore import ConfstoreError, NotATree, NotText, Refused as StoreRefused, Store
 
@@ -43,6 +43,7 @@ from .entries import RESERVED, Refused, command_of, digest_of, edits_in, edits_o
 from .etcd import Access, Created, Etcd, Item, Unavailable
 from .follower import Follower, NotReplicated
 from .history import Behind, OtherHistory, Place
+from .metrics import Counts, Sample, Scrapers, address, family, known, named
 from .server import Server
 
 # How many seconds a client waits for an answer at most.
@@ -87,10 +88,11 @@ class Node:
         self._members, self._access = members, access or Access()
         self._log, self._ids = (f"/confstore/{cluster}/{kind}/".encode() for kind in ("log", "ids"))
         self._answers = Answers()
+        self.counts = Counts()
         self._idle: List[Etcd] = []
         self.follower = Follower(
             folder, members, cluster, program=program, base_after=base_after, names_kept=names_kept,
-            told=self._answers.keep, forget=self._answers.forget, access=self._access,
+            told=self._answers.keep, forget=self._answers.forget, access=self._access, counts=self.counts,
         )  # fmt: skip
 
     @contextmanager
@@ -202,6 +204,45 @@ class Node:
         return _read_from(store, request)
 
 
+def metrics_of(node: Node) -> str:
+    """All metrics of a node, in the text form of Prometheus."""
+    counts, standing = node.counts, node.follower.standing()
+    growth = None if standing.length is None or standing.base is None else standing.length - standing.base
+    rows: List[Tuple[str, str, str, List[Sample]]] = [
+        ("healthy", "gauge", "Whether the node serves.", known(int(not node.follower.trouble()))),
+        ("clients", "gauge", "Clients that are connected.", known(counts.number("clients"))),
+        ("requests_total", "counter", "Requests of clients.", known(counts.number("requests"))),
+        ("refusals_total", "counter", "Requests that were refused, by word.", named(counts.names("refused"))),
+        (
+            "failures_total", "counter", "Requests that failed, by word.",
+            named(counts.names("failed"), "Unavailable"),
+        ),
+        ("received_bytes_total", "counter", "Bytes that clients sent.", known(counts.number("received_bytes"))),
+        ("sent_bytes_total", "counter", "Bytes that were sent to clients.", known(counts.number("sent_bytes"))),
+        ("request_wait_seconds", "histogram", "Time from a request's last byte to its answer.", counts.waits()),
+        (
+            "request_wait_longest_seconds", "gauge", "The longest of these since the start, also under way.",
+            known(counts.longest()),
+        ),
+        ("position", "gauge", "Number of the last entry that was performed.", known(standing.position)),
+        ("entries_applied_total", "counter", "Entries that were performed.", known(standing.applied)),
+        (
+            "entries_behind", "gauge", "Entries of etcd's log that were not performed; 1000 stands for more.",
+            known(standing.behind),
+        ),
+        ("look_age_seconds", "gauge", "Time since etcd's log was looked at.", known(standing.looked_ago)),
+        ("ids_expired_total", "counter", "Ids that this node took out of etcd.", known(counts.number("ids_expired"))),
+        (
+            "faults_total", "counter", "What went wrong while the log was followed, by name.",
+            named(counts.names("faults"), "Unavailable"),
+        ),
+        ("sessions_total", "counter", "Sessions that held the store.", known(counts.number("sessions"))),
+        ("store_bytes", "gauge", "Length of store.yaml.", known(standing.length)),
+        ("store_growth_bytes", "gauge", "Bytes of store.yaml behind its base.", known(growth)),
+    ]  # fmt: skip
+    return "".join(family(*row) for row in rows)
+
+
 def _is_id(identity: Any) -> bool:
     return isinstance(identity, str) and 0 < len(identity) <= LONGEST_ID
 
@@ -236,6 +277,8 @@ def _parser() -> argparse.ArgumentParser:
     parser.add_argument("--base-after", type=int, default=1000, help="how many entries come between two bases in etcd")
     kept = "after how many further entries an id may be forgotten"
     parser.add_argument("--ids-kept", type=int, default=NAMES_KEPT, help=kept)
+    told = "tell health and counters over HTTP: a Unix socket, with a slash, or 127.0.0.1:PORT"
+    parser.add_argument("--metrics", metavar="ADDRESS", type=address, help=told)
     parser.add_argument("--ca", metavar="FILE", help="reach etcd over TLS, and trust these authorities")
     parser.add_argument("--cert", metavar="FILE", help="the certificate of this node for etcd")
     parser.add_argument("--key", metavar="FILE", help="its key")
@@ -275,20 +318,31 @@ def _open(follower: Follower) -> None:
         pass
 
 
-def _node_of(words: argparse.Namespace) -> Node:
-    """The node, whose store is open if that was possible. Raises `OSError`, `ValueError` or `NotReplicated`."""
+def _node_of(words: argparse.Namespace, ends: ExitStack) -> Node:
+    """The node, whose store is open if that was possible. Until `ends` is closed those are answered who ask for its
+    metrics. Raises `OSError`, `ValueError` or `NotReplicated`."""
     access = _access_of(words)
     os.makedirs(words.folder, exist_ok=True)
     node = Node(
         words.folder, words.members, words.cluster, program=words.program, base_after=words.base_after,
         names_kept=words.ids_kept, access=access,
     )  # fmt: skip
+    if words.metrics is not None:
+        node.counts.is_told = True
+        ends.callback(Scrapers(words.metrics, lambda: metrics_of(node), node.follower.trouble).end)
     _open(node.follower)
     return node
 
 
 def main() -> int:
-    words = _parser().parse_args()
+    ends = ExitStack()
+    try:
+        return _run(_parser().parse_args(), ends)
+    finally:
+        ends.close()
+
+
+def _run(words: argparse.Namespace, ends: ExitStack) -> int:
     server: Optional[Server] = None
     is_told_to_end = threading.Event()
 
@@ -300,8 +354,8 @@ def main() -> int:
     signal.signal(signal.SIGTERM, end)
     signal.signal(signal.SIGINT, end)
     try:
-        node = _node_of(words)
-        server = Server(words.socket, words.folder, node.answer)
+        node = _node_of(words, ends)
+        server = Server(words.socket, words.folder, node.answer, node.counts)
     except (OSError, ValueError, NotReplicated) as fault:
         print(f"node: {fault}", file=sys.stderr)
         return 1

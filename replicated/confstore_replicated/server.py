@@ -11,6 +11,7 @@ import time
 from typing import Any, Callable, Dict, List, Optional, Set
 
 from .listener import listen
+from .metrics import Counts
 
 # How many clients are served at once. While others wait, those are cut off that asked nothing for so many seconds.
 MOST_CLIENTS = 256
@@ -100,7 +101,7 @@ class _Client:
         try:
             while (line := self._line()) is not None:
                 self._is_asking = True
-                told = self._say(self._answer_to(line))
+                told = self._say(self._counted_answer_to(line))
                 self._server.room.give_back(self, self._taken)
                 self._taken = 0
                 self._answered, self._is_asking = time.monotonic(), False
@@ -122,6 +123,7 @@ class _Client:
                 self._say({"refused": "TooLong"})
                 return None
             part = self._connection.recv(PART)
+            self._server.counts.add("received_bytes", len(part))
             if not part or not self._has_room(len(part)):
                 return None
             self._heard += part
@@ -138,6 +140,15 @@ class _Client:
             return False
         self._taken += beyond
         return True
+
+    def _counted_answer_to(self, line: bytes) -> Dict[str, Any]:
+        counts = self._server.counts
+        with counts.request():
+            answer = self._answer_to(line)
+        for kind in ("refused", "failed"):
+            if kind in answer:
+                counts.name(kind, str(answer[kind]))
+        return answer
 
     def _answer_to(self, line: bytes) -> Dict[str, Any]:
         if len(line) <= PART:
@@ -158,20 +169,23 @@ class _Client:
 
     def _say(self, answer: Dict[str, Any]) -> bool:
         """Sends an answer. Whether the client took it in time."""
+        line = json.dumps(answer, ensure_ascii=False).encode("utf-8", "surrogatepass") + b"\n"
         try:
             self._connection.settimeout(PATIENCE)
-            self._connection.sendall(json.dumps(answer, ensure_ascii=False).encode("utf-8", "surrogatepass") + b"\n")
+            self._connection.sendall(line)
             self._connection.settimeout(None)
         except OSError:
             return False
+        self._server.counts.add("sent_bytes", len(line))
         return True
 
 
 class Server:
     """Takes clients at a path, those who may write in a folder, until it is ended."""
 
-    def __init__(self, path: str, folder: str, answer: Answering) -> None:
+    def __init__(self, path: str, folder: str, answer: Answering, counts: Optional[Counts] = None) -> None:
         self.answer = answer
+        self.counts = counts or Counts()
         self.room = _Room()
         self.long_ones = threading.Semaphore(LONG_ONES)
         self._path = path
@@ -229,6 +243,7 @@ class Server:
         client = _Client(connection, self)
         with self._lock:
             self._clients.add(client)
+            self.counts.put("clients", len(self._clients))
         try:
             threading.Thread(target=client.serve, name="confstore client", daemon=True).start()
         except RuntimeError:  # the system has no room for one more
@@ -238,3 +253,4 @@ class Server:
     def forget(self, client: _Client) -> None:
         with self._lock:
             self._clients.discard(client)
+            self.counts.put("clients", len(self._clients))
