@@ -8,8 +8,9 @@ use crate::base_writer::write_base;
 use crate::comparison::{Comparison, Differs};
 use crate::documents::documents_are_read;
 use crate::fields::number_from;
+use crate::miss::Miss;
 use crate::parts::part;
-use crate::tree_lines::{Miss, TreeLines};
+use crate::tree_lines::TreeLines;
 use conf_state::State;
 use std::alloc::{AllocError, Global};
 use std::str;
@@ -62,22 +63,11 @@ fn guessed_state(alloc: Global, text: &str) -> Result<Option<State>, AllocError>
 
 /// The count of a base, and the lines of its configurations.
 fn cut_frame(text: &str) -> Option<(u64, &str)> {
-    let Some(rest) = text.strip_prefix("---\nstore: confstore-2\nat: \"") else {
-        return None;
-    };
-    let Some((digits, rest)) = rest.split_once('"') else {
-        return None;
-    };
-    let Some(lines) = rest.strip_prefix("\nconfigs:\n") else {
-        return None;
-    };
-    let Some(count) = number_from(digits) else {
-        return None;
-    };
-    let Some(lines) = lines.strip_suffix("...\n") else {
-        return None;
-    };
-    Some((count, lines))
+    let rest = text.strip_prefix("---\nstore: confstore-2\nat: \"")?;
+    let (digits, rest) = rest.split_once('"')?;
+    let lines = rest.strip_prefix("\nconfigs:\n")?;
+    let count = number_from(digits)?;
+    Some((count, lines.strip_suffix("...\n")?))
 }
 
 /// The configurations by name that the lines of a base seem to give. It fails only if memory runs out.
