@@ -1,7 +1,7 @@
 //! Lines of one key each, as the one style writes them, read without the general reader.
 //!
-//! A line is a key with its `: `, and a value. [`cut_line`] takes the first line of a text off; [`line_text`] says which
-//! text a value is. Each is exact where it answers. `None` says nothing: the general reader may still read the value.
+//! A line is a key with its `: `, and a value. [`cut_line`] takes the first line of a text off. Each function is exact
+//! where it answers. Where it doesn't, the general reader may still read the value.
 ghost use Rattle.std.specs.Prelude.{◌≡◌, ◌++◌, ◌∷◌, IfOk, IfSome};
 ghost use Rattle.std.specs.List.{list_all};
 ghost use Rattle.std.specs.Str.{chars};
@@ -23,20 +23,16 @@ pub fn cut_line<'t>(lines: &'t str, key: &str) -> Option<(&'t str, &'t str)>
     ensures { IfSome result (λ cut. lines.now
         ≡ key.now ++ (cut.0.now ++ line_feed ∷ cut.1.now)) }
 {
-    let Some(value) = lines.strip_prefix(key) else {
-        return None;
-    };
-    let Some((line, rest)) = value.split_once('\n') else {
-        return None;
-    };
+    let value = lines.strip_prefix(key)?;
+    let (line, rest) = value.split_once('\n')?;
     Some((line, rest))
 }
 
 /// The text that the one style writes as this line after a key, after whatever indentation. The line is without its line
-/// feed. `None` if it is no such text, or one that is written with an escape, on several lines, or in quotes with a
-/// character that is not ASCII.
-pub fn line_text(line: &str) -> Option<&str>
-    ensures { IfSome result (λ text. IsLineOf line.now (chars text.now)) }
+/// feed. The text is not read if it is written with an escape, on several lines, or in quotes with a character that is
+/// not ASCII.
+fn line_text(line: &str) -> Result<&str, Miss>
+    ensures { IfOk result (λ text. IsLineOf line.now (chars text.now)) }
 {
     match line.strip_prefix('"') {
         Some(quoted) => quoted_text(quoted),
@@ -45,28 +41,28 @@ pub fn line_text(line: &str) -> Option<&str>
 }
 
 /// The text that is written as this line, as it is.
-fn plain_text(line: &str) -> Option<&str>
-    ensures { IfSome result (λ text. IsLineOf line.now (chars text.now)) }
+fn plain_text(line: &str) -> Result<&str, Miss>
+    ensures { IfOk result (λ text. IsLineOf line.now (chars text.now)) }
 {
     match value_style(line) {
-        ScalarStyle::Plain => Some(line),
-        _ => None,
+        ScalarStyle::Plain => Ok(line),
+        _ => Err(Miss::OtherForm),
     }
 }
 
 /// The text that is written in double quotes, as this after the first of them.
-fn quoted_text(quoted: &str) -> Option<&str>
-    ensures { IfSome result (λ text. IsLineOf (double_quote ∷ quoted.now) (chars text.now)) }
+fn quoted_text(quoted: &str) -> Result<&str, Miss>
+    ensures { IfOk result (λ text. IsLineOf (double_quote ∷ quoted.now) (chars text.now)) }
 {
     let Some(text) = quoted.strip_suffix('"') else {
-        return None;
+        return Err(Miss::OtherForm);
     };
     if !are_alone(text.as_bytes()) {
-        return None;
+        return Err(Miss::OtherForm);
     }
     match value_style(text) {
-        ScalarStyle::Double => Some(text),
-        _ => None,
+        ScalarStyle::Double => Ok(text),
+        _ => Err(Miss::OtherForm),
     }
 }
 
@@ -98,24 +94,20 @@ pub(crate) fn line_config(alloc: Global, line: &str) -> Result<Config, Miss>
     if line.len() as u64 >= Limits::CONFIGURATION.style {
         return Err(Miss::OtherForm);
     }
-    let Some(text) = line_text(line) else {
-        return Err(Miss::OtherForm);
-    };
+    let text = line_text(line)?;
     let size = Size {
         bytes: line.len() as u128 + 1,
         lines: 0,
     };
-    let text = Text::new(alloc, text)?;
-    Ok(Config::with_size(Tree::Text(text), size))
+    let copy = Text::new(alloc, text)?;
+    Ok(Config::with_size(Tree::Text(copy), size))
 }
 
 /// The name that is written as this line after a key, if it is good.
 pub(crate) fn line_name(alloc: Global, line: &str) -> Result<String, Miss>
     ensures { IfOk result (λ name. IsNameLine line.now (text_of name)) }
 {
-    let Some(text) = line_text(line) else {
-        return Err(Miss::OtherForm);
-    };
+    let text = line_text(line)?;
     if !good_name(text) {
         return Err(Miss::OtherForm);
     }
@@ -128,9 +120,7 @@ pub(crate) fn line_name(alloc: Global, line: &str) -> Result<String, Miss>
 pub(crate) fn line_path(alloc: Global, line: &str) -> Result<String, Miss>
     ensures { IfOk result (λ path. IsPathLine line.now (text_of path)) }
 {
-    let Some(text) = line_text(line) else {
-        return Err(Miss::OtherForm);
-    };
+    let text = line_text(line)?;
     if text.len() as u64 > 2 * Limits::CONFIGURATION.style || !is_pointer(text) {
         return Err(Miss::OtherForm);
     }

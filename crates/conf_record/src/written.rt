@@ -13,30 +13,15 @@ use crate::laws::records_read;
 use crate::lines::{cut_line, line_config, line_name, line_path};
 use crate::miss::Miss;
 use conf_state::{Command, Edit, RECORD_LIMIT};
-use std::alloc::{AllocError, Global};
+use std::alloc::Global;
 use std::str;
 
 /// The key of the tree of an import.
 const TREE_KEY: &str = "tree: ";
 
 /// The record that the bytes are, if they are the very text that [`record_text`](crate::record_text) writes for it, and
-/// each text in it is on one line without an escape. `None` says nothing of the bytes. It fails only if memory runs
-/// out.
-pub(crate) fn written_record(
-    alloc: Global,
-    bytes: &[u8],
-) -> Result<Option<(Command, u64)>, AllocError>
-    ensures { IfOk result (λ read. IfSome read (λ r. IsRecord bytes.now (command_of r.0) r.1)) }
-{
-    match cut_record(alloc, bytes) {
-        Ok(record) => Ok(Some(record)),
-        Err(Miss::OtherForm) => Ok(None),
-        Err(Miss::OutOfMemory) => Err(AllocError),
-    }
-}
-
-/// The same record, or why there is none.
-fn cut_record(alloc: Global, bytes: &[u8]) -> Result<(Command, u64), Miss>
+/// each text in it is on one line without an escape.
+pub(crate) fn written_record(alloc: Global, bytes: &[u8]) -> Result<(Command, u64), Miss>
     ensures { IfOk result (λ r. IsRecord bytes.now (command_of r.0) r.1) }
 {
     records_read();

@@ -6,4 +6,4 @@ use Rattle.conf_record.proofs.lines.line_name.Goals as goal
 pub returns : goal.returns
 returns c =
     subst (λ bs. IsNameLine c.args.line.now (chars bs)) (sym c.in_ok-name.ensures.ok)
-    (record { is = c.in-Some.ensures; good = sym c.good_name.ensures.named ∙ c.if-not-good_name.false })
+    (record { is = c.in_ok-text.ensures; good = sym c.good_name.ensures.named ∙ c.if-not-good_name.false })

@@ -9,13 +9,12 @@ use Rattle.conf_record.proofs.lines.line_path.Goals as goal
 
 pub returns : goal.returns
 returns c =
-    let text = c.in-Some.text.now in
     let path = c.in_ok-path.path in
     let bytes = byte_len-chars (string_bytes path) (IsUtf8-string_bytes path) in
     let same = c.in_ok-path.ensures.ok in
     let long = c.if-text.false in
     record {
-      is = subst (λ bs. IsLineOf c.args.line.now (chars bs)) (sym same) c.in-Some.ensures;
+      is = subst (λ bs. IsLineOf c.args.line.now (chars bs)) (sym same) c.in_ok-text.ensures;
       short = record {
         parsed = subst (λ bs. is_ok (path_of (chars bs)) ≡ true) (sym same) (sym c.is_pointer.ensures ∙ c.if-not-is_pointer.false);
         bytes = omega (arith, bytes, ap length same, long);

@@ -1,7 +1,7 @@
 use Rattle.std.proofs.Common.{sym, ◌∙◌, arith}
 use Rattle.conf_state.specs.Commands.{command_of}
 use Rattle.conf_record.proofs.WrittenLemmas.{whole_record, short_fits, written_is}
-use Rattle.conf_record.proofs.written.cut_record.Goals as goal
+use Rattle.conf_record.proofs.written.written_record.Goals as goal
 
 pub returns : goal.returns
 returns c =
