@@ -1,6 +1,6 @@
 -- What a tree is as a record or a base.
-use Rattle.std.proofs.Common.{◌≡◌, refl, sym, ◌∙◌, ap, subst, arith, length, get_or, ℕ, Bool, true, false, List, [], ◌∷◌, codes, if◌then◌else◌, Option, Some, None, option_map, IfSome, IfNone}
-use Rattle.std.specs.List.{remove}
+use Rattle.std.proofs.Common.{◌≡◌, refl, sym, ◌∙◌, ap, subst, ℕ, Bool, true, false, List, [], ◌∷◌, codes, if◌then◌else◌, Option, Some, None, option_map, IfSome, IfNone}
+use Rattle.std.specs.Str.{chars}
 use Rattle.yaml_grammar.specs.Texts.{same_text}
 use Rattle.yaml_grammar.specs.Trees.{Tree, text, sequence, mapping, Elements, Members, no_member, member}
 use Rattle.yaml_config.specs.Kept.{own_limits}
@@ -9,12 +9,12 @@ use Rattle.yaml_data.specs.Seen.{Pair, members_of}
 use Rattle.conf_state.specs.Commands.{Command, single, command_of}
 use Rattle.conf_state.specs.Kept.{entries_of}
 use Rattle.conf_state.specs.Limits.{IsState}
-use Rattle.conf_record.specs.RecordsRead.{number_from_digits, keys_are, values, if_good, import_of, set_of, delete_of, edit_from, batch_of, command_from, with_number, record_of, batch_keys, import_keys, set_keys, delete_keys, base_keys, base_of, contents_of}
+use Rattle.conf_record.specs.RecordsRead.{number_from_digits, keys_are, values, import_of, set_of, delete_of, edit_under, edit_from, batch_of, command_from, with_number, record_of, batch_keys, set_keys, delete_keys, base_keys, base_of, contents_of}
 use Rattle.conf_state.specs.States.{Contents}
 use Rattle.conf_state.specs.declared.command.Command as code
 use Rattle.conf_state.proofs.LineLemmas.{ascii}
 use Rattle.conf_record.specs.Documents.{IsRecord, IsNoRecord, IsBase, IsNoBase}
-use Rattle.conf_record.specs.Reading.{texts, command_and_number}
+use Rattle.conf_record.specs.Reading.{texts, is_text, command_and_number}
 use Rattle.conf_record.proofs.DocumentLemmas.{BytesGiveOne}
 use Rattle.conf_record.proofs.PieceLemmas.{Named}
 
@@ -58,13 +58,11 @@ record_other key (sequence ts) ms other = refl
 record_other key (mapping ns) ms other = refl
 
 -- nor is one with a first value that is no text
-pub record_listed : (key : List ℕ) (ts : Elements) (ms : Members) → record_of (mapping (member key (sequence ts) ms)) ≡ None
+pub record_textless : (key : List ℕ) (t : Tree) (ms : Members) → is_text t ≡ false → record_of (mapping (member key t ms)) ≡ None
 unfolding record_of
-record_listed key ts ms = refl
-
-pub record_mapped : (key : List ℕ) (ns ms : Members) → record_of (mapping (member key (mapping ns) ms)) ≡ None
-unfolding record_of
-record_mapped key ns ms = refl
+record_textless key (text value) ms e = cc
+record_textless key (sequence ts) ms e = refl
+record_textless key (mapping ns) ms e = refl
 
 -- or no number
 pub record_numberless : (key digits : List ℕ) (ms : Members) → number_from_digits digits ≡ None → record_of (mapping (member key (text digits) ms)) ≡ None
@@ -74,16 +72,6 @@ record_numberless key digits ms told = by (same_text key (codes "at"))
     by : (b : Bool) → (if b then with_number (command_from ms) digits else None) ≡ None
     by true = with_number-None (command_from ms) digits told
     by false = refl
-
--- no pairs are no record
-pub empty_pairs : (ps : List Pair) → length ps ≡ 0 → record_of (mapping (members_of ps)) ≡ None
-empty_pairs [] e = record_empty
-empty_pairs (p ∷ ps) e = absurd (omega arith)
-
--- some pairs are the first one and those that are left without it
-pub first_pair : (ps : List Pair) (p : Pair) → (length ps ≡ 0 → ⊥) → p ≡ get_or ps 0 p → ps ≡ p ∷ remove ps 0
-first_pair [] p some is = absurd (some refl)
-first_pair (q ∷ qs) p some is = ap (λ x. x ∷ qs) (sym is)
 
 -- ---- edits and batches
 
@@ -95,31 +83,31 @@ command_batch ms e = rw e refl
 pub command_single : (ms : Members) → keys_are batch_keys ms ≡ false → command_from ms ≡ option_map single (edit_from ms)
 command_single ms e = rw e refl
 
--- members with the keys of an import are read as one
-pub edit_import : (ms : Members) → keys_are import_keys ms ≡ true → edit_from ms ≡ if_good (import_of (values ms))
-edit_import ms e = rw e refl
+module _ (key : List ℕ) (ms : Members) where
+  -- members with the keys of an import are read as one
+  pub under_import : keys_are (codes "import" ∷ key ∷ []) ms ≡ true → edit_under key ms ≡ import_of (values ms)
+  under_import e = rw e refl
 
--- members with the keys of a set are read as one
-pub edit_set : (ms : Members) → keys_are import_keys ms ≡ false → keys_are set_keys ms ≡ true → edit_from ms ≡ if_good (set_of (values ms))
-edit_set ms e f = rw (e, f) refl
+  module _ (e : keys_are (codes "import" ∷ key ∷ []) ms ≡ false) where
+    -- members with the keys of a set are read as one
+    pub under_set : keys_are set_keys ms ≡ true → edit_under key ms ≡ set_of (values ms)
+    under_set f = rw (e, f) refl
 
--- members with the keys of a delete are read as one
-pub edit_delete : (ms : Members) → keys_are import_keys ms ≡ false → keys_are set_keys ms ≡ false → keys_are delete_keys ms ≡ true
-    → edit_from ms ≡ if_good (delete_of (values ms))
-edit_delete ms e f g = rw (e, f, g) refl
+    -- members with the keys of a delete are read as one
+    pub under_delete : keys_are set_keys ms ≡ false → keys_are delete_keys ms ≡ true → edit_under key ms ≡ delete_of (values ms)
+    under_delete f g = rw (e, f, g) refl
 
--- members with other keys are no edit
-pub edit_none : (ms : Members) → keys_are import_keys ms ≡ false → keys_are set_keys ms ≡ false → keys_are delete_keys ms ≡ false
-    → edit_from ms ≡ None
-edit_none ms e f g = rw (e, f, g) refl
+    -- members with other keys are no edit
+    pub under_none : keys_are set_keys ms ≡ false → keys_are delete_keys ms ≡ false → edit_under key ms ≡ None
+    under_none f g = rw (e, f, g) refl
 
 -- the keys that the code asks for are those of the definitions
 pub batch_texts : texts batch_keys ≡ batch_keys
 batch_texts = λ i. ascii (codes "batch") refl i ∷ []
 
 -- the keys of an import as texts
-pub import_texts : texts import_keys ≡ import_keys
-import_texts = λ i. ascii (codes "import") refl i ∷ ascii (codes "tree") refl i ∷ []
+pub import_texts : (key : List ℕ) → texts (codes "import" ∷ key ∷ []) ≡ codes "import" ∷ chars key ∷ []
+import_texts key = λ i. ascii (codes "import") refl i ∷ chars key ∷ []
 
 -- the keys of a set as texts
 pub set_texts : texts set_keys ≡ set_keys

@@ -1,5 +1,5 @@
 -- Lines as a store writes them make the record of a command.
-use Rattle.std.proofs.Common.{◌≡◌, ℕ, ◌+◌, ◌≤◌, ◌<◌, Bool, true, false, ◌&&◌, nat_le, nat_lt, if◌then◌else◌, zero, suc, List, [], ◌∷◌, ◌++◌, length, length-append, codes, decimal, Option, Some, None, IsUtf8, encode_utf8_all, append_assoc, append-nil, refl, sym, ap, subst, ◌∙◌, arith}
+use Rattle.std.proofs.Common.{◌≡◌, ℕ, ◌+◌, ◌≤◌, ◌<◌, Bool, true, false, ◌&&◌, nat_le, nat_lt, if◌then◌else◌, zero, suc, List, [], ◌∷◌, ◌++◌, length, length-append, codes, decimal, Option, Some, None, IsUtf8, Bor, encode_utf8_all, append_assoc, append-nil, refl, sym, ap, subst, ◌∙◌, arith}
 use Rattle.std.proofs.lemmas.Bool.Decides.{nat_tests}
 use Rattle.std.proofs.lemmas.Fmt.{decimal_is_IsNumeral}
 use Rattle.std.proofs.lemmas.Str.{chars-IsAscii, encodes-append, encodes-chars, encodes-IsAscii}
@@ -35,9 +35,15 @@ use Rattle.conf_record.specs.Documents.{IsRecord}
 use Rattle.conf_record.specs.Records.{edit_members, edit_elements, command_members, record_text, record_bytes, FitsRecord}
 use Rattle.conf_record.specs.RecordsRead.{number_from_digits, ReadsRecord, IsEdit, AreEdits}
 use Rattle.conf_record.specs.SmallCommands.{IsSmallEdit, AreSmallEdits}
-use Rattle.conf_record.specs.Written.{IsLineOf, IsConfigLine, text_line, import_lines, set_lines, delete_lines, IsWrittenAs, ElementsWritten, IsWritten}
+use Rattle.conf_record.specs.EditLines.{member_line, lines_of}
+use Rattle.conf_record.specs.Written.{IsLineOf, IsConfigLine, IsNameLine, IsPathLine, IsWrittenAs, ElementsWritten, IsWritten}
+use Rattle.conf_record.specs.declared.edit_members.EditMembers.TheVariants as cut
 use Rattle.conf_record.proofs.DocumentLemmas.{record_is}
 use Rattle.conf_record.proofs.EditLines.{edit_lines}
+
+-- a line of the code
+abbrev pub Line : Type 0
+Line = Bor (List ℕ)
 
 -- ---- texts in UTF-8
 
@@ -136,6 +142,10 @@ quoted_line quoted bytes is alone double =
 
 -- ---- a text on one line as a configuration
 
+-- a text after its key, on one line
+text_value : (line value : List ℕ) → IsLineOf line value → (i : ℕ) → encode_utf8_all (value_at (text value) i) ≡ space_char ∷ (line ++ line_feed ∷ [])
+text_value line value is i = before (codes " ") (scalar_lines (i + 2) value) refl ∙ ap (λ bs. space_char ∷ bs) (is.written (i + 2))
+
 module _ (line value : List ℕ) (is : IsLineOf line value) where
   line_bytes : byte_len (scalar_lines 2 value) ≡ length line + 1
   line_bytes = omega (arith, byte_len-encoded (scalar_lines 2 value), ap length (is.written 2), length-append line (line_feed ∷ []))
@@ -143,7 +153,7 @@ module _ (line value : List ℕ) (is : IsLineOf line value) where
   -- it is within the limits if the line is short
   pub line_config : (t : Tree) → t ≡ text value → IsText value → length line < config_limits.style → IsConfigLine line t
   line_config t seen texts short = subst (IsConfigLine line) (sym seen) (record {
-    written = λ i. before (codes " ") (scalar_lines (i + 2) value) refl ∙ ap (λ bs. space_char ∷ bs) (is.written (i + 2));
+    written = text_value line value is;
     kept = record { texts = texts; keys = refl; deep = omega arith; long = omega (arith, line_bytes) };
     small = record { deep = omega arith; bytes = omega (arith, line_bytes) };
   })
@@ -166,50 +176,54 @@ spaces_ascii : (n : ℕ) → list_all (λ c. nat_lt c 128) (spaces n) ≡ true
 spaces_ascii zero = refl
 spaces_ascii (suc n) = spaces_ascii n
 
--- a key after n spaces, its value with the space before it, and what follows
-member_lines : (n : ℕ) (key value more line : List ℕ) → list_all (λ c. nat_lt c 128) key ≡ true → encode_utf8_all value ≡ 32 ∷ line
-    → encode_utf8_all (((spaces n ++ key) ++ value) ++ more) ≡ (spaces n ++ (key ++ codes " ")) ++ (line ++ encode_utf8_all more)
-member_lines n key value more line ascii is =
+-- a key after n spaces, its value on one line, and what follows it
+member_written : (n : ℕ) (key value more line : List ℕ) → list_all (λ c. nat_lt c 128) key ≡ true → encode_utf8_all value ≡ space_char ∷ (line ++ line_feed ∷ [])
+    → encode_utf8_all (((spaces n ++ key) ++ value) ++ more) ≡ spaces n ++ (member_line (key ++ codes " ") line ++ encode_utf8_all more)
+member_written n key value more line ascii is =
     let s = spaces n in
-    let rest = line ++ encode_utf8_all more in
     ap encode_utf8_all (append_assoc (s ++ key) value more ∙ append_assoc s key (value ++ more))
     ∙ before s (key ++ (value ++ more)) (spaces_ascii n)
     ∙ ap (λ bs. s ++ bs) (before key (value ++ more) ascii ∙ ap (λ bs. key ++ bs) (encodes-append value more ∙ ap (λ bs. bs ++ encode_utf8_all more) is))
-    ∙ ap (λ bs. s ++ bs) (sym (append_assoc key (codes " ") rest))
-    ∙ sym (append_assoc s (key ++ codes " ") rest)
+    ∙ simp append_assoc
 
--- the same of a text
-text_member : (n i : ℕ) (key name more : List ℕ) → list_all (λ c. nat_lt c 128) key ≡ true
-    → encode_utf8_all (((spaces n ++ key) ++ value_at (text (chars name)) i) ++ more) ≡ (spaces n ++ (key ++ codes " ")) ++ (text_line i name ++ encode_utf8_all more)
-text_member n i key name more ascii =
-    member_lines n key (value_at (text (chars name)) i) more (text_line i name) ascii (before (codes " ") (scalar_lines (i + 2) (chars name)) refl)
+-- the same of the last member
+last_written : (n : ℕ) (key value line : List ℕ) → list_all (λ c. nat_lt c 128) key ≡ true → encode_utf8_all value ≡ space_char ∷ (line ++ line_feed ∷ [])
+    → encode_utf8_all (((spaces n ++ key) ++ value) ++ []) ≡ spaces n ++ member_line (key ++ codes " ") line
+last_written n key value line ascii is =
+    member_written n key value [] line ascii is ∙ ap (λ bs. spaces n ++ bs) (append-nil (member_line (key ++ codes " ") line))
 
--- the same of a value on one line, which comes last
-value_member : (i : ℕ) (key line value : List ℕ) → list_all (λ c. nat_lt c 128) key ≡ true → encode_utf8_all value ≡ 32 ∷ (line ++ line_feed ∷ [])
-    → encode_utf8_all (((spaces i ++ key) ++ value) ++ []) ≡ (spaces i ++ (key ++ codes " ")) ++ (line ++ line_feed ∷ [])
-value_member i key line value ascii is =
-    member_lines i key value [] (line ++ line_feed ∷ []) ascii is ∙ ap (λ bs. (spaces i ++ (key ++ codes " ")) ++ bs) (append-nil (line ++ line_feed ∷ []))
+pub import_written : (n l : Line) (name : List ℕ) (tree : Tree) → IsNameLine n.now name → IsConfigLine l.now tree
+    → IsWrittenAs (lines_of (cut.Import n l) (codes "tree: ")) (import_as name tree)
+import_written n l name tree named valued = record {
+  written = λ i.
+      member_written 0 (codes "import:") (value_at (text name) i) (members_after (member (codes "tree") tree no_member) i) n.now refl (text_value n.now name named.is i)
+      ∙ ap (λ bs. member_line (codes "import: ") n.now ++ bs) (last_written i (codes "tree:") (value_at tree i) l.now refl (valued.written i));
+  is = valued.kept;
+  small = (named.good, valued.small);
+}
 
-pub import_written : (name line : List ℕ) (tree : Tree) → ((i : ℕ) → encode_utf8_all (value_at tree i) ≡ space_char ∷ (line ++ line_feed ∷ []))
-    → (i : ℕ) → encode_utf8_all (members_at (edit_members (import_as (chars name) tree)) i) ≡ import_lines name line i
-import_written name line tree is i =
-    text_member 0 i (codes "import:") name (members_after (member (codes "tree") tree no_member) i) refl
-    ∙ ap (λ bs. codes "import: " ++ (text_line i name ++ bs)) (value_member i (codes "tree:") line (value_at tree i) refl (is i))
+pub set_written : (n p l : Line) (name path : List ℕ) (value : Tree) → IsNameLine n.now name → IsPathLine p.now path → IsConfigLine l.now value
+    → IsWrittenAs (lines_of (cut.Set n p l) (codes "tree: ")) (set_at name path value)
+set_written n p l name path value named pathed valued = record {
+  written = λ i.
+      let last : Members = member (codes "value") value no_member in
+      member_written 0 (codes "set:") (value_at (text name) i) (members_after (member (codes "path") (text path) last) i) n.now refl (text_value n.now name named.is i)
+      ∙ ap (λ bs. member_line (codes "set: ") n.now ++ bs)
+      (member_written i (codes "path:") (value_at (text path) i) (members_after last i) p.now refl (text_value p.now path pathed.is i)
+      ∙ ap (λ bs. spaces i ++ (member_line (codes "path: ") p.now ++ bs)) (last_written i (codes "value:") (value_at value i) l.now refl (valued.written i)));
+  is = (pathed.texts, valued.kept);
+  small = (named.good, pathed.short, valued.small);
+}
 
-pub set_written : (name path line : List ℕ) (value : Tree) → ((i : ℕ) → encode_utf8_all (value_at value i) ≡ space_char ∷ (line ++ line_feed ∷ []))
-    → (i : ℕ) → encode_utf8_all (members_at (edit_members (set_at (chars name) (chars path) value)) i) ≡ set_lines name path line i
-set_written name path line value is i =
-    let valued : Members = member (codes "value") value no_member in
-    text_member 0 i (codes "set:") name (members_after (member (codes "path") (text (chars path)) valued) i) refl
-    ∙ ap (λ bs. codes "set: " ++ (text_line i name ++ bs))
-    (text_member i i (codes "path:") path (members_after valued i) refl
-    ∙ ap (λ bs. (spaces i ++ codes "path: ") ++ (text_line i path ++ bs)) (value_member i (codes "value:") line (value_at value i) refl (is i)))
-
-pub delete_written : (name path : List ℕ) (i : ℕ) → encode_utf8_all (members_at (edit_members (delete_at (chars name) (chars path))) i) ≡ delete_lines name path i
-delete_written name path i =
-    text_member 0 i (codes "delete:") name (members_after (member (codes "path") (text (chars path)) no_member) i) refl
-    ∙ ap (λ bs. codes "delete: " ++ (text_line i name ++ bs))
-    (text_member i i (codes "path:") path [] refl ∙ ap (λ bs. (spaces i ++ codes "path: ") ++ bs) (append-nil (text_line i path)))
+pub delete_written : (n p : Line) (name path : List ℕ) → IsNameLine n.now name → IsPathLine p.now path
+    → IsWrittenAs (lines_of (cut.Delete n p) (codes "tree: ")) (delete_at name path)
+delete_written n p name path named pathed = record {
+  written = λ i.
+      member_written 0 (codes "delete:") (value_at (text name) i) (members_after (member (codes "path") (text path) no_member) i) n.now refl (text_value n.now name named.is i)
+      ∙ ap (λ bs. member_line (codes "delete: ") n.now ++ bs) (last_written i (codes "path:") (value_at (text path) i) p.now refl (text_value p.now path pathed.is i));
+  is = pathed.texts;
+  small = (named.good, pathed.short);
+}
 
 -- ---- the lines of a command
 

@@ -1,5 +1,5 @@
 -- What is written in two pieces is compared as one.
-use Rattle.std.specs.Prelude.{◌≡◌, ℕ, List, [], ◌++◌, encode_utf8_all}
+use Rattle.std.specs.Prelude.{ℕ, List, [], ◌++◌, encode_utf8_all}
 use Rattle.std.proofs.Common.{refl, sym, ap, ◌∙◌, append_assoc}
 use Rattle.std.proofs.lemmas.Str.{encodes-append}
 use Rattle.conf_record.specs.Comparing.{GoesOn}

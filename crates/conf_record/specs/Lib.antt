@@ -3,6 +3,7 @@ pub mod RecordsRead
 pub mod SmallCommands
 pub mod Documents
 pub mod Reading
+pub mod EditLines
 pub mod Written
 pub mod Comparing
 pub mod ComparingLaws

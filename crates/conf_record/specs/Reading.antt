@@ -1,11 +1,16 @@
 -- What the parts of the reader return: values in order, and what they are in the definitions of records and bases.
-use Rattle.std.specs.Prelude.{ℕ, List, [], ◌∷◌, Vec, Option, Some, None, option_map, map}
+use Rattle.std.specs.Prelude.{ℕ, Bool, true, false, List, [], ◌∷◌, Vec, Option, Some, None, option_map, map}
 use Rattle.std.specs.Str.{chars}
 use Rattle.std.specs.declared.alloc.Global.{Global}
-use Rattle.yaml_grammar.specs.Trees.{Tree, Elements, no_element, element, Members, text, mapping}
+use Rattle.yaml_grammar.specs.Trees.{Tree, Elements, no_element, element, Members, text, sequence, mapping}
 use Rattle.yaml_config.specs.Kept.{IsKept}
 use Rattle.yaml_data.specs.Seen.{Pair, tree_of, members_of}
-use Rattle.conf_state.specs.Commands.{Command, command_of}
+use Rattle.yaml_data.specs.TextBytes.{text_bytes}
+use Rattle.yaml_data.specs.declared.text.Text.{Text}
+use Rattle.yaml_data.specs.declared.tree.Tree as code_tree
+use Rattle.conf_state.specs.Commands.{Edit, import_as, set_at, delete_at, Command, command_of}
+use Rattle.conf_record.specs.declared.edit_members.EditMembers.{EditMembers}
+use Rattle.conf_record.specs.declared.edit_members.EditMembers.TheVariants as read
 use Rattle.conf_record.specs.RecordsRead.{entries}
 use Rattle.conf_state.specs.States.{Contents}
 use Rattle.conf_state.specs.declared.command.Command as code
@@ -28,6 +33,22 @@ abbrev pub texts : List (List ℕ) → List (List ℕ)
 texts [] = []
 texts (t ∷ ts) = chars t ∷ texts ts
 
+-- the tree is a text
+abbrev pub is_text : Tree → Bool
+is_text (text value) = true
+is_text (sequence ts) = false
+is_text (mapping ms) = false
+
+-- there is one value
+abbrev pub is_one : List Tree → Bool
+is_one (t ∷ []) = true
+is_one ts = false
+
+-- the one value is a text
+abbrev pub is_one_text : List Tree → Bool
+is_one_text (text value ∷ []) = true
+is_one_text ts = false
+
 -- the text that is the first value, and the values after it
 abbrev pub text_first : List Tree → Option (List ℕ × List Tree)
 text_first (text value ∷ ts) = Some (value, ts)
@@ -37,6 +58,18 @@ text_first ts = None
 abbrev pub mapping_first : List Tree → Option (Members × List Tree)
 mapping_first (mapping ms ∷ ts) = Some (ms, ts)
 mapping_first ts = None
+
+-- the edit whose members were read of a mapping
+abbrev pub edit_seen : EditMembers Text code_tree.Tree → Edit
+edit_seen (read.Import name value) = import_as (chars (text_bytes name)) (tree_of value)
+edit_seen (read.Set name path value) = set_at (chars (text_bytes name)) (chars (text_bytes path)) (tree_of value)
+edit_seen (read.Delete name path) = delete_at (chars (text_bytes name)) (chars (text_bytes path))
+
+-- the tree of an edit, if it has one, is one that a `Config` keeps
+abbrev pub KeepsTree : Edit → Type 0
+KeepsTree (import_as name tree) = IsKept tree
+KeepsTree (set_at name path value) = IsKept value
+KeepsTree (delete_at name path) = Unit {0}
 
 -- a command of the code and its number, as the definitions have them
 abbrev pub command_and_number : Option (code.Command × ℕ) → Option (Command × ℕ)

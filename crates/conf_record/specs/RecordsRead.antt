@@ -64,13 +64,17 @@ abbrev pub if_good : Option Edit → Option Edit
 if_good None = None
 if_good (Some edit) = if good_name (name_of edit) && has_good_path edit then Some edit else None
 
+-- the edit of a mapping whose name and path may be any texts, if an import has its value under this key
+abbrev pub edit_under : List ℕ → Members → Option Edit
+edit_under key ms =
+    if keys_are (codes "import" ∷ key ∷ []) ms then import_of (values ms)
+    else if keys_are set_keys ms then set_of (values ms)
+    else if keys_are delete_keys ms then delete_of (values ms)
+    else None
+
 -- the edit of a mapping
 abbrev pub edit_from : Members → Option Edit
-edit_from ms =
-    if keys_are import_keys ms then if_good (import_of (values ms))
-    else if keys_are set_keys ms then if_good (set_of (values ms))
-    else if keys_are delete_keys ms then if_good (delete_of (values ms))
-    else None
+edit_from ms = if_good (edit_under (codes "tree") ms)
 
 -- ---- records
 

@@ -34,15 +34,11 @@ fn contents_from(pairs: Vec<(Text, Tree)>) -> Option<(Vec<(Text, Tree)>, u64)>
     ensures read { state_of_parts result ≡ contents_of (values (members_of pairs.items)) }
     ensures kept { IfSome result (λ p. IsKept (mapping (members_of p.0.items))) }
 {
-    let Some((format, digits, configs)) = base_values(pairs) else {
-        return None;
-    };
+    let (format, digits, configs) = base_values(pairs)?;
     if !is_format(&format) {
         return None;
     }
-    let Some(count) = number_from(&digits) else {
-        return None;
-    };
+    let count = number_from(&digits)?;
     Some((configs, count))
 }
 
@@ -54,15 +50,9 @@ fn base_values(pairs: Vec<(Text, Tree)>) -> Option<(Text, Text, Vec<(Text, Tree)
         ∷ mapping (members_of v.2.items) ∷ []) }
 {
     let mut values = pairs.into_iter();
-    let Some(format) = next_text(&mut values) else {
-        return None;
-    };
-    let Some(digits) = next_text(&mut values) else {
-        return None;
-    };
-    let Some(configs) = next_pairs(&mut values) else {
-        return None;
-    };
+    let format = next_text(&mut values)?;
+    let digits = next_text(&mut values)?;
+    let configs = next_pairs(&mut values)?;
     if next_value(&mut values).is_some() {
         return None;
     }

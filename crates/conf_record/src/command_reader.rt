@@ -1,17 +1,17 @@
 // The command and the number of a record's tree.
-ghost use Rattle.std.specs.Prelude.{◌≡◌, ◌&&◌, [], ◌∷◌, None, map, option_map, is_ok, IfOk, IfSome, MatchOption};
+ghost use Rattle.std.specs.Prelude.{◌≡◌, ◌&&◌, [], ◌∷◌, Some, None, map, option_map, is_ok, IfOk, IfSome, MatchOption};
 ghost use Rattle.std.specs.Str.{chars};
-ghost use Rattle.yaml_grammar.specs.Trees.{text, sequence, mapping};
-ghost use Rattle.yaml_data.specs.TextBytes.{text_bytes};
+ghost use Rattle.yaml_grammar.specs.Trees.{sequence, mapping};
 ghost use Rattle.yaml_config.specs.Kept.{IsKept};
 ghost use Rattle.yaml_data.specs.Seen.{Pair, tree_of, elements_of, members_of};
 ghost use Rattle.json_pointer.specs.Pointers.{path_of};
 ghost use Rattle.conf_state.specs.Commands.{edit_of, command_of};
 ghost use Rattle.conf_state.specs.Names.{good_name};
-ghost use Rattle.conf_record.specs.RecordsRead.{values, if_good, import_of, set_of, delete_of, edit_from, edit_in, edits_of, batch_of, command_from, record_of};
-ghost use Rattle.conf_record.specs.Reading.{AreKept, AreKeptElements, command_and_number};
+ghost use Rattle.conf_record.specs.RecordsRead.{values, if_good, edit_from, edit_in, edits_of, batch_of, command_from, record_of};
+ghost use Rattle.conf_record.specs.Reading.{AreKept, AreKeptElements, KeepsTree, edit_seen, command_and_number};
 
-use crate::fields::{is_same, keys_are, next_text, next_value, number_from};
+use crate::edit_members::{EditMembers, members_from};
+use crate::fields::{is_same, keys_are, last_value, number_from, text_in};
 use crate::parts::part;
 use conf_state::{Command, Edit, good_name};
 use json_pointer::is_pointer;
@@ -44,23 +44,24 @@ fn split_number(pairs: Vec<(Text, Tree)>) -> Option<(u64, Vec<(Text, Tree)>)>
         ≡ option_map (λ command. (command, v.0)) (command_from (members_of v.1.items))) }
     ensures rest { IfSome result (λ v. (pair : Pair) × (pairs.items ≡ pair ∷ v.1.items)) }
 {
-    if pairs.is_empty() {
-        return None;
-    }
-    let mut rest = pairs;
-    let (key, digits) = rest.remove(0);
+    let ((key, value), rest) = split_first(pairs)?;
     if !is_same(&key, "at") {
         return None;
     }
-    let digits = match digits {
-        Tree::Text(digits) => digits,
-        Tree::Seq(_) => return None,
-        Tree::Map(_) => return None,
-    };
-    match number_from(&digits) {
-        Some(number) => Some((number, rest)),
-        None => None,
+    let digits = text_in(value)?;
+    let number = number_from(&digits)?;
+    Some((number, rest))
+}
+
+/// The first pair, and those after it.
+fn split_first(mut pairs: Vec<(Text, Tree)>) -> Option<((Text, Tree), Vec<(Text, Tree)>)>
+    ensures { MatchOption result (pairs.items ≡ []) (λ v. pairs.items ≡ v.0 ∷ v.1.items) }
+{
+    if pairs.is_empty() {
+        return None;
     }
+    let first = pairs.remove(0);
+    Some((first, pairs))
 }
 
 /// The command of the pairs after the number; `None` if they are no command's.
@@ -99,19 +100,11 @@ fn batch_items(pairs: Vec<(Text, Tree)>) -> Option<Vec<Tree>>
     ensures { MatchOption result (batch_of (values (members_of pairs.items)) ≡ None)
         (λ v. values (members_of pairs.items) ≡ sequence (elements_of v.items) ∷ []) }
 {
-    let mut values = pairs.into_iter();
-    let Some(value) = next_value(&mut values) else {
-        return None;
-    };
-    let items = match value {
-        Tree::Text(_) => return None,
-        Tree::Seq(items) => items,
-        Tree::Map(_) => return None,
-    };
-    if next_value(&mut values).is_some() {
-        return None;
+    match last_value(pairs.into_iter())? {
+        Tree::Text(_) => None,
+        Tree::Seq(items) => Some(items),
+        Tree::Map(_) => None,
     }
-    Some(items)
 }
 
 /// The edits of a batch, in their order; `None` if one of them is none.
@@ -142,132 +135,49 @@ fn edit_in(alloc: Global, tree: Tree) -> Result<Option<Edit>, AllocError>
     }
 }
 
-/// The edit of a mapping's pairs; `None` if they are no edit's.
+/// The edit of a mapping's pairs; `None` if they are no edit's, or its name or its path is not good.
 fn edit_from(alloc: Global, pairs: Vec<(Text, Tree)>) -> Result<Option<Edit>, AllocError>
     requires kept { AreKept (values (members_of pairs.items)) }
     ensures { IfOk result (λ read. option_map edit_of read ≡ edit_from (members_of pairs.items)) }
 {
-    if keys_are(&["import", "tree"], &pairs) {
-        import_from(alloc, pairs)
-    } else if keys_are(&["set", "path", "value"], &pairs) {
-        set_from(alloc, pairs)
-    } else if keys_are(&["delete", "path"], &pairs) {
-        delete_from(alloc, pairs)
-    } else {
-        Ok(None)
+    match members_from(pairs, "tree") {
+        Some(members) => good_edit(alloc, members),
+        None => Ok(None),
     }
 }
 
-/// The import with these values: the name and the tree. Returns `None` if they are others, or the name is not good.
-fn import_from(alloc: Global, pairs: Vec<(Text, Tree)>) -> Result<Option<Edit>, AllocError>
-    requires kept { AreKept (values (members_of pairs.items)) }
-    ensures { IfOk result (λ read. option_map edit_of read
-        ≡ if_good (import_of (values (members_of pairs.items)))) }
+/// The edit with these members; `None` if its name or its path is not good.
+fn good_edit(alloc: Global, members: EditMembers<Text, Tree>) -> Result<Option<Edit>, AllocError>
+    requires kept { KeepsTree (edit_seen members) }
+    ensures { IfOk result (λ edit. option_map edit_of edit ≡ if_good (Some (edit_seen members))) }
 {
-    let Some((name, tree)) = import_values(pairs) else {
-        return Ok(None);
-    };
-    if !good_name(&name) {
-        return Ok(None);
+    match members {
+        EditMembers::Import { name, value } => {
+            if !good_name(&name) {
+                return Ok(None);
+            }
+            let name = name.into_string(alloc)?;
+            let tree = part(value);
+            Ok(Some(Edit::Import { name, tree }))
+        }
+        EditMembers::Set { name, path, value } => {
+            if !are_good(&name, &path) {
+                return Ok(None);
+            }
+            let name = name.into_string(alloc)?;
+            let path = path.into_string(alloc)?;
+            let value = part(value);
+            Ok(Some(Edit::Set { name, path, value }))
+        }
+        EditMembers::Delete { name, path } => {
+            if !are_good(&name, &path) {
+                return Ok(None);
+            }
+            let name = name.into_string(alloc)?;
+            let path = path.into_string(alloc)?;
+            Ok(Some(Edit::Delete { name, path }))
+        }
     }
-    let name = name.into_string(alloc)?;
-    let tree = part(tree);
-    Ok(Some(Edit::Import { name, tree }))
-}
-
-/// The values of an import: a text and a tree; `None` if they are others.
-fn import_values(pairs: Vec<(Text, Tree)>) -> Option<(Text, Tree)>
-    ensures { MatchOption result (import_of (values (members_of pairs.items)) ≡ None)
-        (λ v. values (members_of pairs.items)
-        ≡ text (chars (text_bytes v.0)) ∷ tree_of v.1 ∷ []) }
-{
-    let mut values = pairs.into_iter();
-    let Some(name) = next_text(&mut values) else {
-        return None;
-    };
-    let Some(tree) = next_value(&mut values) else {
-        return None;
-    };
-    if next_value(&mut values).is_some() {
-        return None;
-    }
-    Some((name, tree))
-}
-
-/// The set with these values: the name, the path and the value. Returns `None` if they are others, or the name or the
-/// path is not good.
-fn set_from(alloc: Global, pairs: Vec<(Text, Tree)>) -> Result<Option<Edit>, AllocError>
-    requires kept { AreKept (values (members_of pairs.items)) }
-    ensures { IfOk result (λ read. option_map edit_of read
-        ≡ if_good (set_of (values (members_of pairs.items)))) }
-{
-    let Some((name, path, value)) = set_values(pairs) else {
-        return Ok(None);
-    };
-    if !are_good(&name, &path) {
-        return Ok(None);
-    }
-    let name = name.into_string(alloc)?;
-    let path = path.into_string(alloc)?;
-    let value = part(value);
-    Ok(Some(Edit::Set { name, path, value }))
-}
-
-/// The values of a set: two texts and a tree; `None` if they are others.
-fn set_values(pairs: Vec<(Text, Tree)>) -> Option<(Text, Text, Tree)>
-    ensures { MatchOption result (set_of (values (members_of pairs.items)) ≡ None)
-        (λ v. values (members_of pairs.items)
-        ≡ text (chars (text_bytes v.0)) ∷ text (chars (text_bytes v.1)) ∷ tree_of v.2 ∷ []) }
-{
-    let mut values = pairs.into_iter();
-    let Some(name) = next_text(&mut values) else {
-        return None;
-    };
-    let Some(path) = next_text(&mut values) else {
-        return None;
-    };
-    let Some(value) = next_value(&mut values) else {
-        return None;
-    };
-    if next_value(&mut values).is_some() {
-        return None;
-    }
-    Some((name, path, value))
-}
-
-/// The delete with these values: the name and the path. Returns `None` if they are others, or one of them is not good.
-fn delete_from(alloc: Global, pairs: Vec<(Text, Tree)>) -> Result<Option<Edit>, AllocError>
-    ensures { IfOk result (λ read. option_map edit_of read
-        ≡ if_good (delete_of (values (members_of pairs.items)))) }
-{
-    let Some((name, path)) = delete_values(pairs) else {
-        return Ok(None);
-    };
-    if !are_good(&name, &path) {
-        return Ok(None);
-    }
-    let name = name.into_string(alloc)?;
-    let path = path.into_string(alloc)?;
-    Ok(Some(Edit::Delete { name, path }))
-}
-
-/// The values of a delete: two texts; `None` if they are others.
-fn delete_values(pairs: Vec<(Text, Tree)>) -> Option<(Text, Text)>
-    ensures { MatchOption result (delete_of (values (members_of pairs.items)) ≡ None)
-        (λ v. values (members_of pairs.items)
-        ≡ text (chars (text_bytes v.0)) ∷ text (chars (text_bytes v.1)) ∷ []) }
-{
-    let mut values = pairs.into_iter();
-    let Some(name) = next_text(&mut values) else {
-        return None;
-    };
-    let Some(path) = next_text(&mut values) else {
-        return None;
-    };
-    if next_value(&mut values).is_some() {
-        return None;
-    }
-    Some((name, path))
 }
 
 /// Whether a name and a path (RFC 6901) are good.

@@ -1,5 +1,5 @@
 // The fields of a document's mapping: its keys, its values in order, and what each value is.
-ghost use Rattle.std.specs.Prelude.{◌≡◌, List, [], ◌∷◌, MatchOption, map, None};
+ghost use Rattle.std.specs.Prelude.{◌≡◌, false, List, [], ◌∷◌, MatchOption, IfSome, map, None, decimal, encode_utf8_all};
 ghost use Rattle.std.specs.Str.{chars};
 ghost use Rattle.std.specs.Vec.Iter.{into_iter_items};
 ghost use Rattle.yaml_grammar.specs.Texts.{same_text};
@@ -7,7 +7,7 @@ ghost use Rattle.yaml_grammar.specs.Trees.{text, mapping};
 ghost use Rattle.yaml_data.specs.Seen.{tree_of, members_of};
 ghost use Rattle.yaml_data.specs.TextBytes.{text_bytes};
 ghost use Rattle.conf_record.specs.RecordsRead.{number_from_digits, keys_are, values};
-ghost use Rattle.conf_record.specs.Reading.{texts, text_first, mapping_first};
+ghost use Rattle.conf_record.specs.Reading.{texts, text_first, mapping_first, is_text, is_one, is_one_text};
 
 use itoa::Buffer;
 use std::vec::IntoIter;
@@ -54,10 +54,40 @@ pub fn next_text(pairs: &mut IntoIter<(Text, Tree)>) -> Option<Text>
         (λ t. values (members_of (into_iter_items pairs.old))
         ≡ text (chars (text_bytes t)) ∷ values (members_of (into_iter_items pairs.new))) }
 {
-    match next_value(pairs)? {
+    text_in(next_value(pairs)?)
+}
+
+/// The text that a tree is; `None` if it is none.
+pub(crate) fn text_in(tree: Tree) -> Option<Text>
+    ensures { MatchOption result (is_text (tree_of tree) ≡ false)
+        (λ t. tree_of tree ≡ text (chars (text_bytes t))) }
+{
+    match tree {
         Tree::Text(text) => Some(text),
         Tree::Seq(_) => None,
         Tree::Map(_) => None,
+    }
+}
+
+/// The one value that is left, if there is exactly one and it is a text.
+pub fn last_text(pairs: IntoIter<(Text, Tree)>) -> Option<Text>
+    ensures { MatchOption result
+        (is_one_text (values (members_of (into_iter_items pairs))) ≡ false)
+        (λ t. values (members_of (into_iter_items pairs)) ≡ text (chars (text_bytes t)) ∷ []) }
+{
+    text_in(last_value(pairs)?)
+}
+
+/// The one value that is left, if there is exactly one.
+pub fn last_value(mut pairs: IntoIter<(Text, Tree)>) -> Option<Tree>
+    ensures { MatchOption result
+        (is_one (values (members_of (into_iter_items pairs))) ≡ false)
+        (λ t. values (members_of (into_iter_items pairs)) ≡ tree_of t ∷ []) }
+{
+    let value = next_value(&mut pairs)?;
+    match next_value(&mut pairs) {
+        Some(_) => None,
+        None => Some(value),
     }
 }
 
@@ -79,7 +109,8 @@ pub(crate) fn next_pairs(pairs: &mut IntoIter<(Text, Tree)>) -> Option<Vec<(Text
 /// The number whose decimal text this is: `0`, or digits without a leading zero, at most 18,446,744,073,709,551,615.
 /// Returns `None` for any other text.
 pub(crate) fn number_from(digits: &str) -> Option<u64>
-    ensures { result ≡ number_from_digits (chars digits.now) }
+    ensures read { result ≡ number_from_digits (chars digits.now) }
+    ensures spelled { IfSome result (λ number. digits.now ≡ encode_utf8_all (decimal number)) }
 {
     let number = digits.parse::<u64>().ok()?;
     let mut buffer = Buffer::new();

@@ -6,8 +6,9 @@
 //!
 //! The states and commands are those of `conf_state`, which can be named from here too.
 //!
-//! [`keys_are`], [`next_text`], [`next_value`] and [`part`] take such a document's mapping apart, for readers of other
-//! documents. The functions of [`lines`] read its lines in the one style without the general reader.
+//! [`keys_are`], [`next_text`], [`next_value`], [`last_text`], [`last_value`] and [`part`] take such a document's mapping
+//! apart, for readers of other documents. The functions of [`lines`] cut its lines without the general reader. An edit is
+//! read in one place, whatever its document: by [`members_from`] of its mapping, by [`cut_edit`] of its lines.
 #![tactic(auto)]
 
 mod base_reader;
@@ -16,9 +17,11 @@ mod command_reader;
 mod comparison;
 mod documents;
 mod edit_lines;
+mod edit_members;
 mod fields;
 mod laws;
 pub mod lines;
+mod miss;
 mod parts;
 mod read;
 mod record;
@@ -30,7 +33,9 @@ mod written_base;
 pub use base_writer::base_text;
 pub use conf_state::{Command, Edit, Names, State, good_name, step};
 pub use documents::{documents_are_read, documents_close};
-pub use fields::{is_same, keys_are, next_text, next_value};
+pub use edit_lines::{Place, cut_edit, cut_element};
+pub use edit_members::{EditMembers, members_from};
+pub use fields::{is_same, keys_are, last_text, last_value, next_text, next_value};
 pub use laws::records_read;
 pub use parts::part;
 pub use read::{read_base, read_record};

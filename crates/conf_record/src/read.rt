@@ -8,6 +8,7 @@ ghost use Rattle.conf_record.specs.Documents.{IsRecord, IsBase, IsNoRecord, IsNo
 
 use crate::base_reader::base_from;
 use crate::command_reader::record_from;
+use crate::miss::Miss;
 use crate::parts::configurations;
 use crate::written::written_record;
 use crate::written_base::written_base;
@@ -31,10 +32,11 @@ pub fn read_record(alloc: Global, bytes: &[u8]) -> Result<Option<(Command, u64)>
         IsRecord bytes.now (command_of r.0) r.1)) }
     ensures none { IfOk result (λ read. IfNone read (IsNoRecord bytes.now)) }
 {
-    if let Some(record) = written_record(alloc, bytes)? {
-        return Ok(Some(record));
+    match written_record(alloc, bytes) {
+        Ok(record) => Ok(Some(record)),
+        Err(Miss::OtherForm) => spelled_record(alloc, bytes),
+        Err(Miss::OutOfMemory) => Err(AllocError),
     }
-    spelled_record(alloc, bytes)
 }
 
 /// Reads a record in any spelling, as [`read_record`] does.
@@ -64,10 +66,11 @@ pub fn read_base(alloc: Global, bytes: &[u8]) -> Result<Option<State>, AllocErro
     ensures some { IfOk result (λ read. IfSome read (λ state. IsBase bytes.now state)) }
     ensures none { IfOk result (λ read. IfNone read (IsNoBase bytes.now)) }
 {
-    if let Some(state) = written_base(alloc, bytes)? {
-        return Ok(Some(state));
+    match written_base(alloc, bytes) {
+        Ok(state) => Ok(Some(state)),
+        Err(Miss::OtherForm) => spelled_base(alloc, bytes),
+        Err(Miss::OutOfMemory) => Err(AllocError),
     }
-    spelled_base(alloc, bytes)
 }
 
 /// Reads a base in any spelling, as [`read_base`] does.

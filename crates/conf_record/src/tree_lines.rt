@@ -3,28 +3,9 @@
 // Nothing is promised of what they give: whoever asks has to write it, and to compare. So nothing is looked at that a
 // comparison sees.
 
-use std::alloc::{AllocError, AllocFailed, Global};
+use crate::miss::Miss;
+use std::alloc::Global;
 use yaml_tree::{Text, Tree};
-
-/// Why lines give no tree.
-#[derive(Drop)]
-pub(crate) enum Miss {
-    /// They have a form that is not read here, as a key on two lines.
-    OtherForm,
-    OutOfMemory,
-}
-
-impl From<AllocError> for Miss {
-    fn from(_: AllocError) -> Miss {
-        Miss::OutOfMemory
-    }
-}
-
-impl<T: Drop> From<AllocFailed<T>> for Miss {
-    fn from(_: AllocFailed<T>) -> Miss {
-        Miss::OutOfMemory
-    }
-}
 
 /// The most collections in one another that are read: more than a base has.
 const MOST_LEVELS: usize = 132;

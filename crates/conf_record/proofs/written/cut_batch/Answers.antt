@@ -1,9 +1,8 @@
-use Rattle.std.proofs.Common.{IfSome, [], ◌∷◌, ◌≡◌, List, length, map, codes, sym, subst, refl, arith}
+use Rattle.std.proofs.Common.{[], ◌∷◌, ◌≡◌, List, length, map, sym, refl, arith}
 use Rattle.std.proofs.lemmas.Bool.{eqb-false}
 use Rattle.std.specs.Vec.{vec_len}
 use Rattle.conf_state.specs.Commands.{edit_of}
 use Rattle.conf_state.specs.declared.command.Edit as code
-use Rattle.conf_record.specs.Written.{ElementsWritten}
 use Rattle.conf_record.proofs.WrittenLemmas.{batch_written}
 use Rattle.conf_record.proofs.written.cut_batch.Goals as goal
 
@@ -13,7 +12,5 @@ some_left (e ∷ es) some none = cc
 
 pub returns : goal.returns
 returns c =
-    let elements = c.args.elements.now in
-    let edits = c.in-Some.edits.items in
-    let all = subst (λ cut. IfSome cut (λ edits. ElementsWritten elements (map edit_of edits.items) (codes "...\n"))) c.in-Some.is c.in_ok-edits.ensures in
-    batch_written elements (map edit_of edits) (some_left edits (λ none. eqb-false (vec_len c.in-Some.edits) 0 (sym c.if-is_empty.ensures) (omega (arith, c.in-Some.edits.ok, none)))) all
+    let edits = c.in_ok-edits.edits in
+    batch_written c.args.elements.now (map edit_of edits.items) (some_left edits.items (λ none. eqb-false (vec_len edits) 0 (sym c.if-is_empty.ensures) (omega (arith, edits.ok, none)))) c.in_ok-edits.ensures

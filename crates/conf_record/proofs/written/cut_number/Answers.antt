@@ -4,9 +4,10 @@ use Rattle.conf_record.proofs.written.cut_number.Goals as goal
 
 pub returns-clause-lines : goal.returns-clause-lines
 returns-clause-lines c =
-    let lines = c.in-Some.lines.now in
-    let quoted = strip_suffix_char 34 c.in-Some.line.now (Some c.in-Some-strip_suffix.digits) c.in-Some-strip_suffix.ensures.cases (lit< tt) in
-    c.in-Some.ensures
+    let lines = c.in_ok-line.lines.now in
+    let digits = c.in_ok-digits.digits in
+    let quoted = strip_suffix_char 34 c.in_ok-line.line.now (Some digits) c.in_ok-digits.ensures.cases (lit< tt) in
+    c.in_ok-line.ensures
     ∙ ap (λ bs. codes "---\nat: \"" ++ (bs ++ 10 ∷ lines)) quoted
-    ∙ ap (λ bs. codes "---\nat: \"" ++ bs) (append_assoc c.in-Some-strip_suffix.digits.now (34 ∷ []) (10 ∷ lines))
-    ∙ ap (λ bs. codes "---\nat: \"" ++ (bs ++ 34 ∷ 10 ∷ lines)) c.in-Some-digits_number.ensures.digits
+    ∙ ap (λ bs. codes "---\nat: \"" ++ bs) (append_assoc digits.now (34 ∷ []) (10 ∷ lines))
+    ∙ ap (λ bs. codes "---\nat: \"" ++ (bs ++ 34 ∷ 10 ∷ lines)) c.in_ok-number.ensures.spelled
