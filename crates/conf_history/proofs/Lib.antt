@@ -5,3 +5,4 @@ pub mod BesideLemmas
 pub mod OutputLemmas
 pub mod LogLemmas
 pub mod LineLemmas
+pub mod SalvageLemmas

@@ -1,5 +1,5 @@
 -- The log: what is written so far, and how writing it ends.
-use Rattle.std.proofs.Common.{◌≡◌, inl, inr, refl, sym, ◌∙◌, ap, subst, arith, append_assoc}
+use Rattle.std.proofs.Common.{◌≡◌, inl, inr, refl, sym, ◌∙◌, ap, subst, arith, ◌<◌, append_assoc}
 use Rattle.std.specs.Prelude.{ℕ, ◌+◌, false, List, [], ◌∷◌, ◌++◌, length, take, Option, Some, None, Ok, IfSome}
 use Rattle.std.specs.List.{All, concat}
 use Rattle.std.specs.Io.KnownBytes.{Appends}
@@ -198,9 +198,9 @@ module _ (form : LogForm) (given left : Option (List ℕ)) (walk : Walk) (pieces
   }
 
   -- a piece was not written whole
-  pub piece-fails : (at : Option ℕ) (written : Option (List ℕ)) → IsAtPiece given left walk pieces start commands → (f : HistoryFault) → FailsToLogPiece form walk mid written f
-      → FailsToLog at form given held written f
-  piece-fails at written p Output cut =
+  pub piece-fails : (at : Option ℕ) → IfSome at (λ number. walk.state.count < number) → (written : Option (List ℕ)) → IsAtPiece given left walk pieces start commands → (f : HistoryFault)
+      → FailsToLogPiece form walk mid written f → FailsToLog at form given held written f
+  piece-fails at before written p Output cut =
       let piece = piece_or_rest walk.pieces in
       let entry = entry_bytes form (walk.state.count + 1) piece cut.command in
       let all = pieces ++ piece ∷ [] in
@@ -220,26 +220,26 @@ module _ (form : LogForm) (given left : Option (List ℕ)) (walk : Walk) (pieces
             })
             (begun-log form given left cut.new all start made some (ahead cut.new.pieces) next);
       }
-  piece-fails at written p (Damaged bad) r =
+  piece-fails at before written p (Damaged bad) r =
       record {
         log = log;
         out = subst (Appends held written) (append-nil log) (Appends-trans held mid written log [] out r.1);
         before = some-both given (λ bytes. RefusesReading bytes at (Damaged bad)) (λ bytes. (b : BeginsLog bytes form log) × (length b.pieces ≡ length pieces))
             (λ bytes. LogsBefore bytes at form log (Damaged bad))
             (λ bytes refused b. (refused, b.0, b.1 ∙ p.read.place.number ∙ r.0.number))
-            (refuses-piece given left walk pieces start commands some p at (Damaged bad) r.0)
+            (refuses-piece given left walk pieces start commands some p at before (Damaged bad) r.0)
             (begins-log form given left walk pieces start commands some (piece_or_rest walk.pieces ++ ahead walk.pieces) p.read);
       }
-  piece-fails at written p OutOfMemory r =
+  piece-fails at before written p OutOfMemory r =
       record {
         log = log;
         out = subst (Appends held written) (append-nil log) (Appends-trans held mid written log [] out r.1);
         before = some-map given (λ bytes. BeginsLog bytes form log) (λ bytes. LogsBefore bytes at form log OutOfMemory) (λ bytes b. (tt, inr b))
             (begun-log form given left walk pieces start commands some (piece_or_rest walk.pieces ++ ahead walk.pieces) p.read);
       }
-  piece-fails at written p NotAStore r = absurd r.0
-  piece-fails at written p Input r = absurd r.0
-  piece-fails at written p NoSuchCommand r = absurd r.0
+  piece-fails at before written p NotAStore r = absurd r.0
+  piece-fails at before written p Input r = absurd r.0
+  piece-fails at before written p NoSuchCommand r = absurd r.0
 
   -- one record more was written
   pub logged-more : (written : Option (List ℕ)) (command : Command) → ArePerformed pieces start commands walk.state

@@ -1,11 +1,11 @@
 -- The state at a number: each way in which reading ends.
-use Rattle.std.proofs.Common.{◌≡◌, ◌≢◌, inl, inr, refl, sym, ◌∙◌, subst, arith, ◌<◌, ◌≤◌}
+use Rattle.std.proofs.Common.{◌≡◌, ◌≢◌, inl, inr, refl, sym, ◌∙◌, ap, subst, arith, ◌<◌, ◌≤◌}
 use Rattle.std.specs.Prelude.{ℕ, ◌+◌, Bool, true, false, List, Option, Some, None, Result, Ok, Err, IfSome}
 use Rattle.yaml_recognizers.specs.Closings.{SomePieces}
 use Rattle.conf_state.specs.Commands.{Command}
 use Rattle.conf_state.specs.States.{Contents}
 use Rattle.conf_state.specs.Limits.{IsState}
-use Rattle.conf_history.specs.Histories.{HoldsAt, ReadsState, RefusesReading, RefusesSurvey, StartsAfter}
+use Rattle.conf_history.specs.Histories.{HoldsAt, IsBadAt, ReadsState, RefusesReading, RefusesSurvey, StartsAfter}
 use Rattle.conf_history.specs.Walks.{IsBetween, IsAtPiece, IsAtEndOf, RefusesPiece, AfterAdvance, AfterGoing}
 use Rattle.conf_history.specs.declared.walk.Walk.{Walk}
 use Rattle.conf_history.specs.declared.fault.HistoryFault.{HistoryFault}
@@ -18,6 +18,11 @@ below a n le ne = grind (arith, le, ne)
 
 less : (a n : ℕ) → a ≤ n → (a ≡ n → ⊥) → a < n
 less a n le ne = grind (arith, le, ne)
+
+-- a number that is not passed and not reached, if there is one, is greater
+pub before-number : (at : Option ℕ) (count : ℕ) → (at ≢ Some count) → ((number : ℕ) → at ≡ Some number → count ≤ number) → IfSome at (λ number. count < number)
+before-number None count ne up_to = tt
+before-number (Some number) count ne up_to = less count number (up_to number refl) (λ e. ne (ap Some (sym e)))
 
 -- what cannot be surveyed cannot be read
 pub survey-reading : (bytes : List ℕ) (at : Option ℕ) (f : HistoryFault) → RefusesSurvey bytes f → RefusesReading bytes at f
@@ -49,13 +54,16 @@ module _ (given left : Option (List ℕ)) (walk : Walk) (pieces : List (List ℕ
       subst (λ f. IfSome given (λ bytes. RefusesReading bytes at f)) (sym is) (subst (λ a. IfSome given (λ bytes. RefusesReading bytes a NoSuchCommand)) (sym before.1) none)
 
   -- a piece that is not performed
-  pub refuses-piece : SomePieces → IsAtPiece given left walk pieces start commands → (at : Option ℕ) (f : HistoryFault) → RefusesPiece walk f → IfSome given (λ bytes. RefusesReading bytes at f)
-  refuses-piece some p at (Damaged bad) r = bad-at given left walk pieces start commands p some bad r
-  refuses-piece some p at OutOfMemory r = any-bytes given _ (λ bytes. tt)
-  refuses-piece some p at NotAStore r = absurd r
-  refuses-piece some p at Input r = absurd r
-  refuses-piece some p at Output r = absurd r
-  refuses-piece some p at NoSuchCommand r = absurd r
+  pub refuses-piece : SomePieces → IsAtPiece given left walk pieces start commands → (at : Option ℕ) → IfSome at (λ number. walk.state.count < number) → (f : HistoryFault) → RefusesPiece walk f
+      → IfSome given (λ bytes. RefusesReading bytes at f)
+  refuses-piece some p at before (Damaged bad) r =
+      some-map given (λ bytes. (following : ℕ) × IsBadAt bytes walk.state bad following) (λ bytes. RefusesReading bytes at (Damaged bad)) (λ bytes b. (walk.state, b.0, b.1, before))
+      (bad-at given left walk pieces start commands p some bad r)
+  refuses-piece some p at before OutOfMemory r = any-bytes given _ (λ bytes. tt)
+  refuses-piece some p at before NotAStore r = absurd r
+  refuses-piece some p at before Input r = absurd r
+  refuses-piece some p at before Output r = absurd r
+  refuses-piece some p at before NoSuchCommand r = absurd r
 
   -- a number beyond the last record
   pub refuses-after : (at : Option ℕ) → AfterGoing at given left walk pieces start commands (Ok false) → ((number : ℕ) → at ≡ Some number → walk.state.count ≤ number) → (f : HistoryFault) → f ≡ NoSuchCommand

@@ -292,13 +292,12 @@ module _ (given left : Option (List ℕ)) (old : Walk) (pieces : List (List ℕ)
       }
 
   -- a piece that is none is the first bad one
-  pub bad-at : SomePieces → (bad : BadPiece) → IsBadHere old bad → IfSome given (λ bytes. (s : Contents) × (following : ℕ) × IsBadAt bytes s bad following)
+  pub bad-at : SomePieces → (bad : BadPiece) → IsBadHere old bad → IfSome given (λ bytes. (following : ℕ) × IsBadAt bytes old.state bad following)
   bad-at some bad here =
       let piece = piece_or_rest old.pieces in
       known given left (concat pieces ++ (piece ++ ahead old.pieces)) _ at.read.taken
       (λ after.
       (let all = begins-with-piece some pieces piece (ahead old.pieces) after at.read.performed.closed at.piece in (
-        old.state,
         length all.0,
         record {
           pieces = pieces;

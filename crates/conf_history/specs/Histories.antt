@@ -58,10 +58,12 @@ HasNoCommand bytes number = StartsAfter bytes number ⊎ ((s : Contents) × Mean
 abbrev pub IsNoStore : List ℕ → Type 0
 IsNoStore bytes = (store_limit < length bytes) ⊎ HasNoBase bytes
 
--- Why the bytes don't answer with a state. Input and OutOfMemory say nothing of them.
+-- Why the bytes don't answer with a state. With a number, Damaged is told of a piece up to its record alone: the state
+-- before the piece has a smaller count. Input and OutOfMemory say nothing of the bytes.
 abbrev pub RefusesReading : List ℕ → Option ℕ → HistoryFault → Type 0
 RefusesReading bytes at NotAStore = IsNoStore bytes
-RefusesReading bytes at (Damaged bad) = (s : Contents) × (following : ℕ) × IsBadAt bytes s bad following
+RefusesReading bytes at (Damaged bad) =
+    (s : Contents) × (following : ℕ) × IsBadAt bytes s bad following × IfSome at (λ number. s.count < number)
 RefusesReading bytes None NoSuchCommand = ⊥
 RefusesReading bytes (Some number) NoSuchCommand = HasNoCommand bytes number
 RefusesReading bytes at Output = ⊥

@@ -1,7 +1,10 @@
 -- What is saved from a store's file, and why nothing is.
-use Rattle.std.specs.Prelude.{◌≡◌, ℕ, List, Option, Some, None, Result, Ok, Err, IfSome}
+use Rattle.std.specs.Prelude.{◌≡◌, ◌⊎◌, ℕ, List, Option, Some, None, Result, Ok, Err, IfSome}
 use Rattle.conf_disk.specs.Folder.{Folder, bytes_under}
+use Rattle.conf_disk.specs.Models.{DiskModel}
+use Rattle.conf_disk.specs.Moments.{LeavesOnly}
 use Rattle.conf_disk.specs.declared.disk.Name.TheVariants.{Store}
+use Rattle.conf_journal.specs.Store.{IsStoreOf}
 use Rattle.conf_state.specs.BaseTexts.{base_bytes}
 use Rattle.conf_state.specs.States.{Contents}
 use Rattle.conf_store.specs.Creates.{RefusesCreation}
@@ -35,6 +38,18 @@ RefusesSalvage given left old new (History fault) = IfSome given (λ bytes. Refu
 RefusesSalvage given left old new StoreExists = Refused given left old new create.StoreExists
 RefusesSalvage given left old new Device = Refused given left old new create.Device
 RefusesSalvage given left old new OutOfMemory = Refused given left old new create.OutOfMemory
+
+-- the whole base of the state that stands before the first bad piece of what was read
+pub record IsSaved (given left : Option (List ℕ)) (store : Option (List ℕ)) : Type 0 where
+  pub s : Contents
+  pub findings : Findings
+  pub reads : ReadsSurvey given left s findings
+  pub is : store ≡ Some (base_bytes s)
+
+-- a crash at any moment since `old` leaves an old store, or the whole new one
+abbrev pub LeavesOldOrSaved : {D : Type 0} → DiskModel D → Option (List ℕ) → Option (List ℕ) → D → D → Type 0
+LeavesOldOrSaved model given left old new =
+    LeavesOnly model old new (λ image. IsStoreOf (model.folder old) image.store ⊎ IsSaved given left image.store)
 
 -- the disk that is handed back
 abbrev pub disk_of : {D : Type 0} → Result (D × Findings) (D × SalvageFault) → D

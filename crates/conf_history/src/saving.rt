@@ -1,8 +1,9 @@
 // A new store of what stands in a damaged file.
 ghost use Rattle.std.specs.Prelude.{◌≡◌, ◌≤◌, IfOk, IfErr, IfSome};
+ghost use Rattle.conf_store.specs.Calls.{HasFailed};
 ghost use Rattle.conf_history.specs.declared.fault.HistoryFault.{HistoryFault};
 ghost use Rattle.conf_history.specs.Histories.{RefusesSurvey};
-ghost use Rattle.conf_history.specs.Salvages.{RefusesSalvage, Saves, disk_of};
+ghost use Rattle.conf_history.specs.Salvages.{LeavesOldOrSaved, RefusesSalvage, Saves, disk_of};
 
 use crate::fault::SalvageFault;
 use crate::survey::{Findings, survey_store};
@@ -15,7 +16,8 @@ use std::io::Read;
 /// the disk, and what stood in the file.
 ///
 /// The file is read as by [`survey_store`], and can't be changed by this. The new store is made on `disk`, which may
-/// have no `store.yaml`. It keeps the count of commands, and is synced when this returns `Ok`.
+/// have no `store.yaml`. It keeps the count of commands, and is synced when this returns `Ok`. A crash at any moment of
+/// the call leaves what it could leave before, or the whole new file.
 ///
 /// # Errors
 /// The disk is returned with the fault. `History`: the file can't be read, or is no store; nothing is written.
@@ -33,6 +35,11 @@ pub fn salvage<R: Read, D: Disk + Drop>(
     // This holds also if the disk isn't honest.
     ensures unread { IfErr result (λ r. (fault : HistoryFault) → r.1 ≡ SalvageFault.History fault
         → IfSome (R.remaining reader.old) (λ bytes. RefusesSurvey bytes fault)) }
+    // A crash at any moment of the call leaves an old store, or the whole new one, whatever it returns.
+    ensures leaves { D.model.honest → LeavesOldOrSaved D.model (R.remaining reader.old)
+        (R.remaining reader.new) disk (disk_of result) }
+    ensures cause { IfErr result (λ r. r.1 ≡ SalvageFault.Device →
+        HasFailed (D.model.failure_count disk) (D.model.failure_count r.0)) }
     // The number of failures never falls.
     ensures risen { D.model.failure_count disk ≤ D.model.failure_count (disk_of result) }
 {

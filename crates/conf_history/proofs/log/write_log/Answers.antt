@@ -11,7 +11,7 @@ use Rattle.conf_state.proofs.RunLaws.{step-one}
 use Rattle.conf_history.specs.Walks.{IsAtPiece, AfterGoing}
 use Rattle.conf_history.specs.declared.place.Place.{Place}
 use Rattle.conf_history.proofs.WalkLemmas.{closed-some, has-room, performs-on}
-use Rattle.conf_history.proofs.ReadingLemmas.{below, refuses-before, refuses-after}
+use Rattle.conf_history.proofs.ReadingLemmas.{below, before-number, refuses-before, refuses-after}
 use Rattle.conf_history.proofs.LogLemmas.{begins-empty, begin-fails, start-fails, next-fails, piece-fails, number-fails, logs-all, logged-more}
 use Rattle.conf_history.proofs.log.write_log.Goals as goal
 
@@ -134,7 +134,9 @@ returns-in_err-log_piece-clause-refused g c =
     let some = c.one_list_of_pieces.ensures.some in
     let going : (c.args.at ≢ Some walk.state.count) × IsAtPiece given left walk walked.0 walked.1 walked.2 =
     subst (λ b. AfterGoing c.args.at given left walk walked.0 walked.1 walked.2 (Ok b)) c.if-branch.true (c.in_ok-goes_on.ensures.walks given walked.0 walked.1 walked.2 walked.3) in
-    let fails = piece-fails c.args.form given left walk walked.0 walked.1 walked.2 some held mid walked.4 c.args.at (g.W.Write.contents c.log_piece.new.writer) going.1
+    let count : walk.state.count ≡ c.records.walk.state.count = ap (λ (t : Contents). t.count) c.in_ok-goes_on.ensures.state in
+    let before = before-number c.args.at walk.state.count going.0 (λ number is. subst (λ n. n ≤ number) (sym count) (inv.up_to number is)) in
+    let fails = piece-fails c.args.form given left walk walked.0 walked.1 walked.2 some held mid walked.4 c.args.at before (g.W.Write.contents c.log_piece.new.writer) going.1
     c.in_err-log_piece.field-0.0 c.in_err-log_piece.ensures.refused in
     let p = err_from_is_err_and c.from_residual-in_err-log_piece.result c.from_residual-in_err-log_piece.ensures.1 in
     rw (p.1, p.2) fails

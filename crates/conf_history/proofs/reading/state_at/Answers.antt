@@ -9,7 +9,7 @@ use Rattle.conf_state.proofs.RunLaws.{step-one}
 use Rattle.conf_history.specs.Walks.{IsAtPiece, AfterGoing}
 use Rattle.conf_history.specs.declared.place.Place.{Place}
 use Rattle.conf_history.proofs.WalkLemmas.{closed-some, has-room, performs-on}
-use Rattle.conf_history.proofs.ReadingLemmas.{below, refuses-all, refuses-before, refuses-piece, refuses-after, reads-state}
+use Rattle.conf_history.proofs.ReadingLemmas.{below, before-number, refuses-all, refuses-before, refuses-piece, refuses-after, reads-state}
 use Rattle.conf_history.proofs.reading.state_at.Goals as goal
 
 pub returns-in_err-check_start-clause-refused : goal.returns-in_err-check_start-clause-refused
@@ -87,7 +87,9 @@ returns-in_err-perform_piece-clause-refused g c =
     let left = g.R.Read.remaining c.goes_on.new.reader in
     let going : (c.args.at ≢ Some walk.state.count) × IsAtPiece given left walk walked.0 walked.1 walked.2 =
     subst (λ b. AfterGoing c.args.at given left walk walked.0 walked.1 walked.2 (Ok b)) c.if-branch.true (c.in_ok-goes_on.ensures.walks given walked.0 walked.1 walked.2 walked.3) in
-    let fails = refuses-piece given left walk walked.0 walked.1 walked.2 c.one_list_of_pieces.ensures.some going.1 c.args.at c.in_err-perform_piece.field-0.0 c.in_err-perform_piece.ensures.refused in
+    let count : walk.state.count ≡ c.records.walk.state.count = ap (λ (t : Contents). t.count) c.in_ok-goes_on.ensures.state in
+    let before = before-number c.args.at walk.state.count going.0 (λ number is. subst (λ n. n ≤ number) (sym count) (inv.up_to number is)) in
+    let fails = refuses-piece given left walk walked.0 walked.1 walked.2 c.one_list_of_pieces.ensures.some going.1 c.args.at before c.in_err-perform_piece.field-0.0 c.in_err-perform_piece.ensures.refused in
     let p = err_from_is_err_and c.from_residual-in_err-perform_piece.result c.from_residual-in_err-perform_piece.ensures.1 in
     rw (p.1, p.2) fails
 
