@@ -10,8 +10,6 @@ mod invocation;
 mod read_words;
 mod refusal;
 mod subcommand;
-#[cfg(test)]
-mod tests;
 mod text_words;
 mod unparsed;
 mod words;
