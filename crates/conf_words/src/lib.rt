@@ -1,19 +1,22 @@
-//! The words that the program `confstore` takes, with their help ([`command`]), and how they are shown ([`escaped`]).
+//! The words that the program `confstore` takes. [`parse`] reads them to an [`Invocation`], or says what their help is
+//! or why they are wrong; [`escaped`] shows texts from outside.
 #![tactic(auto)]
 
+mod arguments;
+mod change_words;
 mod escapes;
 mod folder_word;
-mod reads;
+mod invocation;
+mod read_words;
 mod refusal;
 mod subcommand;
+mod text_words;
+mod unparsed;
 mod words;
 
 pub use escapes::escaped;
 pub use folder_word::FolderWord;
-pub use reads::{AT, NEW, RAW};
-pub use refusal::wrong_words;
+pub use invocation::{Formatting, Grouping, Invocation, LogForm, STANDARD_INPUT, Value, ValueForm};
 pub use subcommand::Subcommand;
-pub use words::{
-    CHECKPOINT_AFTER, FILE, FOLDER, GROUP, IN_PLACE, NAME, ONLY_CHECK, POINTER, VALUE, YAML,
-    command,
-};
+pub use unparsed::Unparsed;
+pub use words::parse;

@@ -52,6 +52,15 @@ impl Subcommand {
         Subcommand::Check,
     ];
 
+    /// The subcommand that the program's words ask for; `None` if there is none. The first word is the program's name,
+    /// and the second one asks.
+    pub fn asked_in(words: &[String]) -> Option<Subcommand> {
+        match words {
+            [_, word, ..] => Subcommand::named(word),
+            _ => None,
+        }
+    }
+
     /// The subcommand of this name; `None` if there is none.
     pub fn named(name: &str) -> Option<Subcommand> {
         Subcommand::ALL

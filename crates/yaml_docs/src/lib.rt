@@ -2,7 +2,7 @@
 //!
 //! [`events`] reads bytes as a stream, and returns its events or the reason why they are refused. [`next_close`] finds
 //! closing lines, and a [`Cutter`] cuts bytes that come in parts after each of them. [`Pieces`] does so with the bytes of
-//! a reader.
+//! a reader. [`place_at`] gives the line and the column of a byte.
 #![tactic(auto)]
 
 mod closing;
@@ -11,11 +11,13 @@ mod directive;
 mod documents;
 mod laws;
 mod pieces;
+mod place;
 mod read;
 
 pub use closing::next_close;
 pub use cutter::{CutFault, Cutter, Fed};
 pub use laws::nodes_are_at_their_places;
 pub use pieces::{Pieces, PiecesFault};
+pub use place::{Place, place_at};
 pub use read::events;
 pub use yaml_events::{Brief, ReadFault};

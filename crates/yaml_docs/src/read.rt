@@ -8,8 +8,9 @@ ghost use Rattle.yaml_recognizers.specs.Ranges.{RangesInOrder};
 ghost use Rattle.yaml_docs.specs.Reading.{ReadsAs, RefusesBytes, IsSyntax};
 
 use crate::documents::stream;
+use crate::place::{Place, place_at};
 use std::alloc::Global;
-use yaml_chars::{CharFault, checked, next_break};
+use yaml_chars::{CharFault, checked};
 use yaml_events::{Events, ReadFault, ScanFault, Why};
 
 /// Returns the events of all documents of a text, in order.
@@ -51,27 +52,24 @@ pub fn events<'a>(alloc: Global, bytes: &'a [u8], max: u64) -> Result<Events<'a>
     }
 }
 
-/// Returns the fault at byte `at`, with its line and column. No contract says which these are.
+/// Returns the fault at byte `at`, with its line and column. No contract says which these are, nor which reason it has.
 fn syntax(text: &str, at: usize, why: Why) -> ReadFault
     ensures { IsSyntax result }
 {
-    let bytes = text.as_bytes();
-    let mut line = 1;
-    let mut start = 0;
-    while let Some((place, len)) = next_break(text, start) {
-        if place + len > at {
-            break;
-        }
-        line += 1;
-        start = place + len;
-    }
-    let column = 1 + code_points(&bytes[start..at.clamp(start, bytes.len())]);
+    let Place { line, column } = place_at(text, at);
+    let why = match why {
+        Why::Character if is_tab_in_indentation(text.as_bytes(), at) => Why::Indent,
+        why => why,
+    };
     ReadFault::Syntax { line, column, why }
 }
 
-/// Returns how many characters begin in these bytes of a text.
-fn code_points(bytes: &[u8]) -> u64
-    ensures { result ≤ length bytes.now }
-{
-    bytes.iter().filter(|byte| **byte & 0xc0 != 0x80).count() as u64
+/// Whether byte `at` is a TAB that only spaces and TABs come before on its line (YAML 1.2.2, 6.1).
+fn is_tab_in_indentation(bytes: &[u8], at: usize) -> bool {
+    let (before, after) = bytes.split_at(at.min(bytes.len()));
+    let previous = before
+        .iter()
+        .rev()
+        .find(|byte| !matches!(byte, b' ' | b'\t'));
+    after.first() == Some(&b'\t') && matches!(previous, None | Some(b'\n' | b'\r'))
 }

@@ -1,6 +1,6 @@
 use Rattle.std.proofs.Common.{arith}
 use Rattle.std.proofs.lemmas.Str.{IsCharBoundary-start}
-use Rattle.yaml_docs.proofs.read.syntax.Goals as goal
+use Rattle.yaml_docs.proofs.place.place_at.Goals as goal
 
 pub loop-place-init : goal.loop-place-init
 loop-place-init c = record { within = omega arith; boundary = IsCharBoundary-start c.args.text.now c.utf8.text; few = omega arith }

@@ -1,6 +1,6 @@
 use Rattle.std.proofs.Common.{length, ◌+◌, ◌-◌, ◌≤◌}
 use Rattle.std.specs.Str.{IsCharBoundary}
-use Rattle.yaml_docs.proofs.read.syntax.Given as goal
+use Rattle.yaml_docs.proofs.place.place_at.Given as goal
 
 abbrev pub invariant-loop-place : goal.invariant-loop-place
 invariant-loop-place l = record {

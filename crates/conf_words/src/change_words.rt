@@ -1,0 +1,249 @@
+// The words of the program that change a store.
+ghost use Rattle.std.specs.Prelude.{IfSome};
+ghost use Rattle.conf_words.specs.Invocations.{HasFittingFiles};
+
+use crate::arguments::{
+    FILE, FOLDER, NAME, POINTER, WHOLE, YAML, flag_arg, folder_arg, name_arg, whole_pointer_arg,
+};
+use crate::invocation::{Grouping, Invocation, STANDARD_INPUT, Value};
+use clap::{Arg, ArgMatches, Command, value_parser};
+use std::alloc::{AllocError, Global};
+
+const INIT_HELP: &str = "\
+A folder that is there serves too. It is refused if it has a store.yaml (StoreExists).
+
+Example:  confstore init store";
+
+pub(crate) fn init_arguments<'a>(
+    alloc: Global,
+    init: Command<'a>,
+) -> Result<Command<'a>, AllocError> {
+    init.after_help(INIT_HELP).arg(folder_arg(alloc))
+}
+
+pub(crate) fn init_invocation<'w>(words: &ArgMatches<'w>) -> Option<Invocation<'w>>
+    ensures { IfSome result HasFittingFiles }
+{
+    Some(Invocation::Init {
+        folder: words.get_str(FOLDER)?,
+    })
+}
+
+const IMPORT_HELP: &str = "\
+A configuration that has the name is replaced. Nothing is printed where it is done.
+
+Examples:
+  confstore import store web web.yaml
+  printf 'port: 80\\n' | confstore import store web";
+
+const TEXT_FILE_HELP: &str = "The file of the text; standard input if it is left out or `-`";
+
+pub(crate) fn import_arguments<'a>(
+    alloc: Global,
+    import: Command<'a>,
+) -> Result<Command<'a>, AllocError> {
+    import
+        .after_help(IMPORT_HELP)
+        .arg(folder_arg(alloc))?
+        .arg(name_arg(alloc))?
+        .arg(Arg::new(alloc, FILE).help(TEXT_FILE_HELP))
+}
+
+pub(crate) fn import_invocation<'w>(words: &ArgMatches<'w>) -> Option<Invocation<'w>>
+    ensures { IfSome result HasFittingFiles }
+{
+    Some(Invocation::Import {
+        folder: words.get_str(FOLDER)?,
+        name: words.get_str(NAME)?,
+        file: words.get_str(FILE).unwrap_or(STANDARD_INPUT),
+    })
+}
+
+const SET_HELP: &str = "\
+VALUE is the text itself. With `--yaml` it is read as a YAML text, so that a list or a mapping can be
+set; then `-` stands for standard input. The pointer \"\" stands for the whole configuration. Nothing
+is printed where it is done.
+
+Examples:
+  confstore set store web /port 80
+  confstore set store web /tags '[a, b]' --yaml
+  confstore set store web /tags - --yaml < tags.yaml";
+
+const POINTER_HELP: &str = "A JSON Pointer, as /port or /tags/0";
+
+/// The argument of `set` that is the value.
+const VALUE: &str = "VALUE";
+
+const VALUE_HELP: &str = "The value; after `--` if it begins with `-` and is no number";
+
+const SET_YAML_HELP: &str = "Reads VALUE, or standard input if that is `-`, as a YAML text";
+
+pub(crate) fn set_arguments<'a>(
+    alloc: Global,
+    set: Command<'a>,
+) -> Result<Command<'a>, AllocError> {
+    let value = Arg::new(alloc, VALUE)
+        .required(true)
+        .allow_negative_numbers(true)
+        .help(VALUE_HELP);
+    set.after_help(SET_HELP)
+        .arg(flag_arg(alloc, YAML, SET_YAML_HELP))?
+        .arg(folder_arg(alloc))?
+        .arg(name_arg(alloc))?
+        .arg(Arg::new(alloc, POINTER).required(true).help(POINTER_HELP))?
+        .arg(value)
+}
+
+pub(crate) fn set_invocation<'w>(words: &ArgMatches<'w>) -> Option<Invocation<'w>>
+    ensures { IfSome result HasFittingFiles }
+{
+    Some(Invocation::Set {
+        folder: words.get_str(FOLDER)?,
+        name: words.get_str(NAME)?,
+        pointer: words.get_str(POINTER)?,
+        value: value_of(words)?,
+    })
+}
+
+fn value_of<'w>(words: &ArgMatches<'w>) -> Option<Value<'w>> {
+    let text = words.get_str(VALUE)?;
+    if words.get_flag(YAML) {
+        Some(Value::Yaml(text))
+    } else {
+        Some(Value::Text(text))
+    }
+}
+
+const DELETE_HELP: &str = "\
+Nothing is printed where it is done.
+
+Examples:
+  confstore delete store web /tags/0
+  confstore delete store web";
+
+pub(crate) fn delete_arguments<'a>(
+    alloc: Global,
+    delete: Command<'a>,
+) -> Result<Command<'a>, AllocError> {
+    delete
+        .after_help(DELETE_HELP)
+        .arg(folder_arg(alloc))?
+        .arg(name_arg(alloc))?
+        .arg(whole_pointer_arg(alloc))
+}
+
+pub(crate) fn delete_invocation<'w>(words: &ArgMatches<'w>) -> Option<Invocation<'w>>
+    ensures { IfSome result HasFittingFiles }
+{
+    Some(Invocation::Delete {
+        folder: words.get_str(FOLDER)?,
+        name: words.get_str(NAME)?,
+        pointer: words.get_str(POINTER).unwrap_or(WHOLE),
+    })
+}
+
+const CHECKPOINT_HELP: &str = "\
+What earlier commands were is gone then.
+
+Example:  confstore checkpoint store";
+
+pub(crate) fn checkpoint_arguments<'a>(
+    alloc: Global,
+    checkpoint: Command<'a>,
+) -> Result<Command<'a>, AllocError> {
+    checkpoint
+        .after_help(CHECKPOINT_HELP)
+        .arg(folder_arg(alloc))
+}
+
+pub(crate) fn checkpoint_invocation<'w>(words: &ArgMatches<'w>) -> Option<Invocation<'w>>
+    ensures { IfSome result HasFittingFiles }
+{
+    Some(Invocation::Checkpoint {
+        folder: words.get_str(FOLDER)?,
+    })
+}
+
+const RUN_HELP: &str = "\
+Each command is a YAML document that a line of `...` closes. It is performed as soon as that line
+has come, and answered by one document. `ok` comes after the change is on the disk.
+
+  import: NAME   text: TEXT                reads a YAML text, and puts its tree under a name
+  set: NAME      path: POINTER   value: TREE   sets the value at a JSON Pointer
+  delete: NAME   path: POINTER             removes what is there; the pointer \"\" removes the name
+  batch: [EDIT, ..]                        makes all these edits, or none: each is one of the above
+  get: NAME      path: POINTER             answers the value there
+  export: NAME                             answers the text of the tree in the one style
+  names:                                   answers the names
+  checkpoint:                              makes the store file as short as its state
+
+A refused command changes nothing, and leaves the status 0. The folder must be there; the store in
+it is made on the first run, and locked while a run lasts. What follows the last closing line is not
+performed; if it is not blank, a line on standard error says so.
+
+With `--group`, all commands that one read brings are performed, then synced together, and only then
+answered. So a client that sends many commands before it reads an answer waits for one sync, and not
+for one each. Every answer still comes after its change is on the disk. But if an answer can't be
+written, or the device fails, more than one command after the last answer may have been performed.
+`--checkpoint-after BYTES` makes the store file short again each time that it has grown by so many
+bytes. The new file is written in slices, one after each group of commands.
+
+Limits: a name has 1 to 64 of a-z, 0-9, `_` and `-`, a letter first. A text and a configuration have
+at most 4,194,304 bytes, and are at most 128 deep. A command has at most 16,777,216 bytes.
+
+Example:
+  mkdir store
+  printf '%s\\n' --- 'import: web' 'text: \"host: example\"' ... | confstore run store
+
+The `---` before a command may be left out. Other YAML readers want one after each `...`.";
+
+/// The word of `run` that has the commands of one read share a sync.
+const GROUP: &str = "group";
+
+const GROUP_HELP: &str = "Syncs once for all commands that one read brings, and then answers them";
+
+/// The word of `run` that says after how many bytes a checkpoint is made. It needs [`GROUP`].
+const CHECKPOINT_AFTER: &str = "checkpoint-after";
+
+const BYTES: &str = "BYTES";
+
+const CHECKPOINT_AFTER_HELP: &str =
+    "Makes a checkpoint each time the store file has grown by so many bytes; needs --group";
+
+pub(crate) fn run_arguments<'a>(
+    alloc: Global,
+    run: Command<'a>,
+) -> Result<Command<'a>, AllocError> {
+    run.after_help(RUN_HELP)
+        .arg(flag_arg(alloc, GROUP, GROUP_HELP))?
+        .arg(checkpoint_after(alloc)?)?
+        .arg(folder_arg(alloc))
+}
+
+fn checkpoint_after<'a>(alloc: Global) -> Result<Arg<'a>, AllocError> {
+    Arg::new(alloc, CHECKPOINT_AFTER)
+        .long(CHECKPOINT_AFTER)
+        .value_name(BYTES)
+        .value_parser(value_parser!(u64).range(1..))
+        .help(CHECKPOINT_AFTER_HELP)
+        .requires_arg(GROUP)
+}
+
+pub(crate) fn run_invocation<'w>(words: &ArgMatches<'w>) -> Option<Invocation<'w>>
+    ensures { IfSome result HasFittingFiles }
+{
+    Some(Invocation::Run {
+        folder: words.get_str(FOLDER)?,
+        grouping: grouping_of(words),
+    })
+}
+
+fn grouping_of(words: &ArgMatches<'_>) -> Grouping {
+    if words.get_flag(GROUP) {
+        Grouping::Grouped {
+            checkpoint_after: words.get_one(CHECKPOINT_AFTER),
+        }
+    } else {
+        Grouping::Single
+    }
+}

@@ -1,0 +1,137 @@
+// The words of the program that read texts.
+ghost use Rattle.std.specs.Prelude.{IfNone, IfOk, map};
+ghost use Rattle.conf_words.specs.Invocations.{FilesFit, HasFittingFiles};
+
+use crate::arguments::{FILE, flag_arg};
+use crate::invocation::{Formatting, Invocation, STANDARD_INPUT};
+use crate::refusal::{OTHER, refused};
+use crate::unparsed::Unparsed;
+use clap::{Arg, ArgMatches, Command};
+use std::alloc::{AllocError, Global};
+
+const FILES_HELP: &str = "The files of the texts; standard input if none is given, or for `-`";
+
+/// The argument that names any number of files.
+fn files_arg<'a>(alloc: Global) -> Arg<'a> {
+    Arg::new(alloc, FILE).num_args(1..).help(FILES_HELP)
+}
+
+/// The files that the words name.
+fn files_of<'m, 'w>(words: &'m ArgMatches<'w>) -> &'m [&'w str] {
+    words.get_strs(FILE).unwrap_or_default()
+}
+
+const FORMAT_HELP: &str = "\
+One FILE, or standard input, is written to standard output. More FILEs need -i or --check. Each FILE
+is tried, and the status is the worst. With -i a FILE that stands in the one style is not touched.
+Another is replaced whole: where the power fails, it is the old one or the new one. It keeps its mode,
+and its owner where the system allows it. A text that is refused is left as it is, and reported
+on standard error, as `web.yaml:3:7: Syntax Flow`.
+
+With --check the status is 1 where a FILE would change.
+
+Examples:
+  confstore format < web.yaml
+  confstore format -i *.yaml
+  confstore format --check *.yaml";
+
+/// The word of `format` that has each file replaced.
+const IN_PLACE: &str = "in-place";
+
+const IN_PLACE_HELP: &str = "Replaces each FILE that would change by its text in the one style";
+
+/// The word of `format` that has the files named that would change.
+const ONLY_CHECK: &str = "check";
+
+const ONLY_CHECK_HELP: &str = "Changes nothing, and names each FILE that would change";
+
+pub(crate) fn format_arguments<'a>(
+    alloc: Global,
+    format: Command<'a>,
+) -> Result<Command<'a>, AllocError> {
+    let in_place = flag_arg(alloc, IN_PLACE, IN_PLACE_HELP)
+        .short('i')
+        .requires_arg(FILE)?;
+    let only_check = flag_arg(alloc, ONLY_CHECK, ONLY_CHECK_HELP).conflicts_with(IN_PLACE)?;
+    format
+        .after_help(FORMAT_HELP)
+        .arg(in_place)?
+        .arg(only_check)?
+        .arg(files_arg(alloc))
+}
+
+pub(crate) fn format_invocation<'w>(
+    alloc: Global,
+    words: &ArgMatches<'w>,
+) -> Result<Invocation<'w>, Unparsed>
+    ensures { IfOk result HasFittingFiles }
+{
+    let (formatting, files) = (formatting_of(words), files_of(words));
+    match why_not(formatting, files) {
+        Some(why) => Err(refused(alloc, why)),
+        None => Ok(Invocation::Format {
+            formatting,
+            files: Vec::from_slice(alloc, files)?,
+        }),
+    }
+}
+
+/// Why files may not be formatted so; `None` if they may. clap has refused to replace no file.
+fn why_not(formatting: Formatting, files: &[&str]) -> Option<&'static str>
+    ensures { IfNone result (FilesFit formatting (map (λ file. file.now) files.now)) }
+{
+    match formatting {
+        Formatting::Write => (files.len() > 1).then_some("more than one FILE needs -i or --check"),
+        Formatting::InPlace if files.is_empty() => Some(OTHER),
+        Formatting::InPlace => {
+            files
+                .contains(&STANDARD_INPUT)
+                .then_some("standard input can't be replaced")
+        }
+        Formatting::Check => None,
+    }
+}
+
+fn formatting_of(words: &ArgMatches<'_>) -> Formatting {
+    if words.get_flag(IN_PLACE) {
+        Formatting::InPlace
+    } else if words.get_flag(ONLY_CHECK) {
+        Formatting::Check
+    } else {
+        Formatting::Write
+    }
+}
+
+const CHECK_HELP: &str = "\
+Each finding is one line: of a FILE as `web.yaml:3: S1 the line ends in a space or TAB`, and of
+standard input without a FILE as `S1 3`, the rule and the number of the line, from 1.
+  S1  the line ends in a space or TAB
+  S2  the line ends in CR LF or CR, or it is the last line and has no break
+  S3  the line has more than 120 characters
+  S4  the text is not what `confstore format` writes for it, and first differs from that on this line
+
+A refused text is reported on standard error, as `web.yaml:3:7: Syntax Flow`. Each FILE is tried.
+The status is 0 where nothing is found. It is 1 where something is, or a text is refused, and 3 where
+a FILE can't be read.
+
+Examples:
+  confstore check *.yaml
+  confstore check < file";
+
+pub(crate) fn check_arguments<'a>(
+    alloc: Global,
+    check: Command<'a>,
+) -> Result<Command<'a>, AllocError> {
+    check.after_help(CHECK_HELP).arg(files_arg(alloc))
+}
+
+pub(crate) fn check_invocation<'w>(
+    alloc: Global,
+    words: &ArgMatches<'w>,
+) -> Result<Invocation<'w>, AllocError>
+    ensures { IfOk result HasFittingFiles }
+{
+    Ok(Invocation::Check {
+        files: Vec::from_slice(alloc, files_of(words))?,
+    })
+}
