@@ -16,8 +16,7 @@ use probe_words::{Answers, answer_lines, bytes_of, no_order, wrong_escape};
 use std::alloc::{AllocError, Global};
 use std::io;
 use std::process::ExitCode;
-use yaml_refusals::{Excerpt, Limits, Refusal, remedy};
-use yaml_style::first_comment;
+use yaml_refusals::{Excerpt, Limits, Refusal, first_comment, remedy};
 use yaml_tree::read_one;
 
 /// Limits that short texts can pass.

@@ -35,7 +35,9 @@ fn text_start(bytes: &[u8], style: Style, span: Span) -> usize {
     match style {
         Style::Literal | Style::Folded => {
             let written = bytes.get(span.start..span.end).unwrap_or_default();
-            let header = written.iter().position(|byte| matches!(byte, b'\n' | b'\r'));
+            let header = written
+                .iter()
+                .position(|byte| matches!(byte, b'\n' | b'\r'));
             span.start.saturating_add(header.unwrap_or(written.len()))
         }
         _ => span.start,
