@@ -29,7 +29,7 @@ CONFSTORE=$(command -v "$CONFSTORE") || {
 }
 CONFSTORE=$(realpath "$CONFSTORE")
 export CONFSTORE
-folder=$(mktemp -d) || exit 1
+folder=$(mktemp -d) && chmod 755 "$folder" || exit 1  # other users run the server that is in it
 server=
 finish() {
     [ -z "$server" ] || kill "$server" 2>/dev/null
