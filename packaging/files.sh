@@ -21,6 +21,8 @@ put_files() { # PROGRAM FOLDER
         put 644 "$top/completions/_confstore" "$2/share/zsh/vendor-completions/_confstore" &&
         put 644 "$top/completions/confstore.fish" "$2/share/fish/vendor_completions.d/confstore.fish" || return
     for page in "$top"/docs/man/*.[1-9]; do
+        # confstorectl is a part of the Python package.
+        [ "${page##*/}" != confstorectl.1 ] || continue
         put 644 "$page" "$2/share/man/man${page##*.}/${page##*/}" || return
     done
 }
