@@ -20,8 +20,8 @@ pub enum EditMembers<T, V> {
     Delete { name: T, path: T },
 }
 
-/// The members of the edit that a mapping is, by its pairs, if an import has its value under `import_key`. `None` if the
-/// keys are those of no edit, in their order, or a name or a path is no text. It takes no memory.
+/// The members of the edit that a mapping is, by its pairs, if an import has its value under `import_key`. Returns
+/// `None` if the keys are those of no edit, in their order, or a name or a path is no text. It takes no memory.
 pub fn members_from(pairs: Vec<(Text, Tree)>, import_key: &str) -> Option<EditMembers<Text, Tree>>
     requires kept { AreKept (values (members_of pairs.items)) }
     ensures read { option_map edit_seen result

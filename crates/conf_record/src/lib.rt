@@ -6,9 +6,10 @@
 //!
 //! The states and commands are those of `conf_state`, which can be named from here too.
 //!
-//! [`keys_are`], [`next_text`], [`next_value`], [`last_text`], [`last_value`] and [`part`] take such a document's mapping
-//! apart, for readers of other documents. The functions of [`lines`] cut its lines without the general reader. An edit is
-//! read in one place, whatever its document: by [`members_from`] of its mapping, by [`cut_edit`] of its lines.
+//! [`keys_are`], [`next_text`], [`next_value`], [`last_text`], [`last_value`] and [`part`] take such a document's
+//! mapping apart, for readers of other documents. The functions of [`lines`] cut its lines without the general reader.
+//! An edit is read in one place, whatever its document: by [`members_from`] of its mapping, by [`cut_edit`] of its
+//! lines.
 #![tactic(auto)]
 
 mod base_reader;

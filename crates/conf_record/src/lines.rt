@@ -28,9 +28,9 @@ pub fn cut_line<'t>(lines: &'t str, key: &str) -> Option<(&'t str, &'t str)>
     Some((line, rest))
 }
 
-/// The text that the one style writes as this line after a key, after whatever indentation. The line is without its line
-/// feed. The text is not read if it is written with an escape, on several lines, or in quotes with a character that is
-/// not ASCII.
+/// The text that the one style writes as this line after a key, after whatever indentation. The line is without its
+/// line feed. The text is not read if it is written with an escape, on several lines, or in quotes with a character
+/// that is not ASCII.
 fn line_text(line: &str) -> Result<&str, Miss>
     ensures { IfOk result (λ text. IsLineOf line.now (chars text.now)) }
 {
