@@ -1,6 +1,6 @@
 -- What a piece asks for is answered: no fault of a request is one that ends a session.
-use Rattle.std.proofs.Common.{◌≡◌, ◌≢◌, ⊎_elim, refl, sym, ap, ◌∙◌}
-use Rattle.std.specs.Prelude.{ℕ, suc, ◌+◌, Bool, true, false, nat_le, nat_lt, if◌then◌else◌, List, [], ◌∷◌, ◌++◌, Option, Some, None, Result, Ok, Err, is_some, is_ok}
+use Rattle.std.proofs.Common.{◌≡◌, ◌≢◌, ⊎_elim, refl, ap, ◌∙◌}
+use Rattle.std.specs.Prelude.{ℕ, suc, ◌+◌, Bool, true, false, nat_le, nat_lt, if◌then◌else◌, List, [], ◌∷◌, Option, Some, None, Result, Ok, Err, is_some, is_ok}
 use Rattle.yaml_grammar.specs.Texts.{byte_len}
 use Rattle.yaml_grammar.specs.Style.{style_text}
 use Rattle.yaml_grammar.specs.Trees.{Tree, depth}
@@ -22,11 +22,11 @@ use Rattle.conf_state.specs.declared.fault.StoreFault.TheVariants as store
 use Rattle.conf_state.specs.declared.room.Room.{Room}
 use Rattle.conf_state.specs.declared.room.Room.TheVariants.{Enough, LongRecord, Missing}
 use Rattle.conf_store.specs.Calls.{outcome, room_for, tree_named}
-use Rattle.conf_store.specs.Imports.{IsImportOf, RefusesText}
+use Rattle.conf_store.specs.Imports.{RefusesText}
 use Rattle.conf_session.specs.declared.fault.SessionFault.{SessionFault}
 use Rattle.conf_session.specs.declared.words.Refusal.{Refusal}
 use Rattle.conf_session.specs.Said.{Part, import_text, plain, Said, single_part, batch_of_parts, get_at, export_of, all_names, checkpoint_now, nothing}
-use Rattle.conf_session.specs.Requests.{Request, changing, unread, getting, exporting, naming, checkpointing, bad, RefusesPart, IsFirstRefused, MeansRequest, Asks}
+use Rattle.conf_session.specs.Requests.{Request, changing, unread, getting, exporting, naming, checkpointing, bad, RefusesPart, MeansRequest, Asks}
 use Rattle.conf_session.specs.Answers.{Stored, longest, answer, answered, path_answered, read_answered, refused_answer, answer_or_refusal, value_at_path}
 
 -- ---- results whose fault is answered

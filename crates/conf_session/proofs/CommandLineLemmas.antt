@@ -1,6 +1,6 @@
 -- What commands that are spelled one key a line say.
 use Rattle.std.proofs.Common.{◌≡◌, refl, sym, ap, subst, ◌∙◌, inl, arith, ◌≤◌, append_assoc, append-nil}
-use Rattle.std.specs.Prelude.{ℕ, zero, suc, ◌+◌, ◌*◌, ◌==◌, Bool, true, false, ◌&&◌, nat_lt, if◌then◌else◌, List, [], ◌∷◌, ◌++◌, codes, length, Some}
+use Rattle.std.specs.Prelude.{ℕ, zero, suc, ◌+◌, ◌*◌, ◌==◌, Bool, true, false, nat_lt, if◌then◌else◌, List, [], ◌∷◌, ◌++◌, codes, length, Some}
 use Rattle.std.specs.List.{list_all}
 use Rattle.std.specs.Str.{chars, IsUtf8, IsAscii}
 use Rattle.std.proofs.lemmas.Bool.{and_parts, and_from, ltb-true}
@@ -21,7 +21,7 @@ use Rattle.yaml_config.proofs.TextTreeLemmas.{chars-IsText}
 use Rattle.conf_state.specs.Commands.{set_at, delete_at}
 use Rattle.conf_record.proofs.SizeLemmas.{scalar_most}
 use Rattle.conf_session.specs.Said.{Part, Said, Says, command_limits, piece_limit, import_text, plain, single_part, batch_of_parts, get_at, said_by, part_from, parts_of, parts_said, first_and_rest}
-use Rattle.conf_session.specs.CommandLines.{Spelling, bare, quoted, Line, spelled, bare_char, begins_bare, stands, IsField, line_text, lines_text, members_of_lines, IsLine, AreLines, Entry, entry_text, entry_members, IsEntry, elements_text, elements_of_entries, AreEntries, SaysPart, SayParts, BeginsWithPart, IsElement, ArePartLines, Layout, single, batch_of, layout_text, layout_members, IsLayout, IsCommandLines}
+use Rattle.conf_session.specs.CommandLines.{Spelling, bare, quoted, Line, spelled, bare_char, begins_bare, stands, IsField, line_text, lines_text, members_of_lines, IsLine, AreLines, Entry, entry_text, entry_members, elements_text, elements_of_entries, AreEntries, SaysPart, SayParts, BeginsWithPart, IsElement, ArePartLines, Layout, single, batch_of, layout_text, layout_members, IsLayout, IsCommandLines}
 use Rattle.conf_session.proofs.LinesPresented.{Unambiguous, KeysAreText, AllKeysAreText, LayoutIsText, marker_text, document_of, lines_give}
 
 -- ---- all is ASCII

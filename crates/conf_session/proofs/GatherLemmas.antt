@@ -9,7 +9,7 @@ use Rattle.std.proofs.lemmas.List.{append-nil}
 use Rattle.std.proofs.lemmas.List.Folds.{concat-append}
 use Rattle.std.proofs.lemmas.List.Elements.{All-nil}
 use Rattle.yaml_grammar.specs.Closings.{ClosesOnce}
-use Rattle.conf_disk.specs.Folder.{Folder, bytes_under}
+use Rattle.conf_disk.specs.Folder.{bytes_under}
 use Rattle.conf_disk.specs.Image.{Image, IsImage}
 use Rattle.conf_disk.specs.Models.{DiskModel}
 use Rattle.conf_disk.specs.Moments.{LeavesOnly}
@@ -28,13 +28,14 @@ use Rattle.conf_session.specs.Input.{ahead, piece_or_rest, AdvancesAhead, Advanc
 use Rattle.conf_session.specs.Requests.{Request, Asks}
 use Rattle.conf_session.specs.Answers.{Stored, answer_bytes, output, stored_after_all, accepted_command, accepted_commands, refused_of, flushed_after, waiting_after}
 use Rattle.conf_session.specs.Runs.{stored_of}
-use Rattle.conf_session.specs.Replies.{LeavesPrefixes, DidPiece, Performs, reply_bytes}
+use Rattle.conf_session.specs.Groups.{all_asked}
+use Rattle.conf_session.specs.Replies.{DidAsked, MeansPrefixes, Performs, PerformsAll, reply_bytes}
 use Rattle.conf_session.specs.declared.input.Input.{Input}
 use Rattle.conf_session.specs.declared.reply.Reply.{Reply}
 use Rattle.conf_session.specs.declared.unwritten.Unwritten.{Unwritten}
 use Rattle.conf_session.specs.declared.fault.SessionFault.{SessionFault}
 use Rattle.conf_session.specs.declared.fault.SessionFault.TheVariants as fault
-use Rattle.conf_session.specs.Gathering.{answers_limit, last_bytes, unwritten_bytes, HasRoomFor, KeepsAnswer, KeepsAnswers, GathersPiece, FailsInGroup, TakesUp, Submits, PerformsTurns, AnswersGroup, BreaksOff, StopsShort, FlushesAll, SubmitsGroup, EndsGroup, WritesAnswers, CutsAnswers, FailsToWrite, PassesGroup, CutsGroup, PerformsGroup}
+use Rattle.conf_session.specs.Gathering.{answers_limit, last_bytes, unwritten_bytes, HasRoomFor, KeepsAnswer, KeepsAnswers, GathersPiece, LeavesPiece, IsAtPiece, TakesUp, Submits, PerformsTurns, AnswersGroup, BreaksOff, StopsShort, FlushesAll, SubmitsGroup, EndsGroup, WritesAnswers, CutsAnswers, CutsSending, FailsToWrite, SendsAnswers, PassesGroup, CutsGroup, PerformsGroup, PerformsPiece}
 use Rattle.conf_session.proofs.PassedLemmas.{few-accepted, few-refused, continues, prefix-whole, pieces-last, performs-none, performs-more, state-more, moments-more, accepted_commands-last, output-last, refusals-last}
 use Rattle.conf_session.proofs.TurnLemmas.{asked-stored, asked-accepted, files-asked}
 
@@ -86,67 +87,107 @@ shorter-piece was then advances =
     let piece = advances.piece.closes.ends in
     omega (arith, joined, sum, piece)
 
-module _ {D : Type 0} (model : DiskModel D) where
-  -- a piece without an answer
-  pub fails-in-group : (old new : StoreView D) (piece : List ℕ) (f : SessionFault) → DidPiece false model old new piece (Err f) → FailsInGroup model old new piece f
-  fails-in-group old new piece fault.OutOfMemory did = did
-  fails-in-group old new piece fault.Device did = (did.0, did.1, did.2.0, did.2.1)
-  fails-in-group old new piece fault.Read did = absurd did
-  fails-in-group old new piece fault.TooLong did = absurd did
-  fails-in-group old new piece fault.SessionLong did = absurd did
-  fails-in-group old new piece fault.Reopen did = absurd did
-  fails-in-group old new piece (fault.Write written) did = absurd did
+-- all answers that are kept are written
+module _ (held written : Option (List ℕ)) (bytes further : List ℕ) (start : Stored) (rs : List Request) (before mid : Unwritten) (none : unwritten_bytes before ≡ [])
+    (takes : TakesUp bytes further rs) (keeps : KeepsAnswers start rs before mid) where
+  -- none is kept but those to these requests
+  these : unwritten_bytes mid ≡ output start rs
+  these = keeps.bytes ∙ ap (λ l. l ++ output start rs) none
 
+  pub sends : (after : Unwritten) → WritesAnswers held written mid after → SendsAnswers held written bytes further start rs before after
+  sends after writes = record {
+    takes = takes;
+    out = subst (Appends held written) these writes.out;
+    short = keeps.short;
+    documents = ap (λ t. t.documents) writes.tally ∙ keeps.documents;
+    accepted = ap (λ t. t.accepted) writes.tally ∙ keeps.accepted;
+    refused = ap (λ t. t.refused) writes.tally ∙ keeps.refused;
+    sent = (let long = ap length these in let kept = keeps.written in omega (arith, writes.sent, long, kept));
+  }
+
+  pub cuts-sending : (total : ℕ) → CutsAnswers held written mid total → CutsSending held written bytes start rs before.written total
+  cuts-sending total writes = record {
+    further = further;
+    takes = takes;
+    short = keeps.short;
+    count = writes.count;
+    is = (let kept = keeps.written in omega (arith, writes.is, kept));
+    cut = (let long = ap length these in omega (arith, writes.cut, long));
+    out = subst (λ l. Appends held written (take writes.count l)) these writes.out;
+  }
+
+-- no answer is kept once all are written
+pub none-kept : (held written : Option (List ℕ)) (before after : Unwritten) → WritesAnswers held written before after → unwritten_bytes after ≡ []
+none-kept held written before after writes = ap (λ l. l ++ last_bytes after.last) writes.empty ∙ ap last_bytes writes.none
+
+-- there is room once they are written
+pub room-written : (held written : Option (List ℕ)) (before after : Unwritten) (left total : ℕ) → HasRoomFor before left total → WritesAnswers held written before after → HasRoomFor after left total
+room-written held written before after left total room writes =
+    let documents = ap (λ t. t.documents) writes.tally in
+    let accepted = ap (λ t. t.accepted) writes.tally in
+    let refused = ap (λ t. t.refused) writes.tally in
+    let empty = ap length writes.empty in
+    let none = ap length (none-kept held written before after writes) in
+    record {
+      within = omega (arith, empty);
+      few = omega (arith, room.few, documents);
+      limit = room.limit;
+      accepted = omega (arith, room.accepted, documents, accepted);
+      refused = omega (arith, room.refused, documents, refused);
+      out = omega (arith, room.out, documents, writes.sent, none);
+    }
+
+module _ {D : Type 0} (model : DiskModel D) where
   -- a piece with an answer
-  pub gathers : (old new : StoreView D) (piece : List ℕ) (before after : Unwritten) (reply : Reply) → DidPiece false model old new piece (Ok reply) → KeepsAnswer before after reply
-      → GathersPiece model old new piece before after
-  gathers old new piece before after reply did keeps = record { request = did.0; asks = did.1; sound = did.2.1; performs = did.2.2; reply = reply; replies = did.2.0; keeps = keeps }
+  pub gathers : (at_once : Bool) (old new : StoreView D) (piece : List ℕ) (before after : Unwritten) (reply : Reply) → DidAsked at_once model old new (Asks piece) (Ok reply) → KeepsAnswer before after reply
+      → GathersPiece at_once model old new piece before after
+  gathers at_once old new piece before after reply did keeps =
+      record { request = did.0; asks = did.1; sound = did.2.1; performs = did.2.2; reply = reply; replies = did.2.0; keeps = keeps }
+
+  -- one answer more is kept
+  pub keeps-more : (at_once : Bool) (old now new : StoreView D) (piece : List ℕ) (before mid after : Unwritten) (rs : List Request) → stored_of now ≡ stored_after_all (stored_of old) rs
+      → KeepsAnswers (stored_of old) rs before mid → (one : GathersPiece at_once model now new piece mid after) → KeepsAnswers (stored_of old) (rs ++ one.request ∷ []) before after
+  keeps-more at_once old now new piece before mid after rs here kept one =
+      let start = stored_of old in
+      let r = one.request in
+      let all : output start (rs ++ r ∷ []) ≡ output start rs ++ answer_bytes (stored_of now) r =
+      output-last start rs r ∙ ap (λ t. output start rs ++ answer_bytes t r) (sym here) in
+      record {
+        bytes = one.keeps.bytes ∙ ap (λ l. unwritten_bytes mid ++ l) one.replies.bytes ∙ ap (λ l. l ++ answer_bytes (stored_of now) r) kept.bytes
+            ∙ append_assoc (unwritten_bytes before) (output start rs) (answer_bytes (stored_of now) r) ∙ ap (λ l. unwritten_bytes before ++ l) (sym all);
+        within = one.keeps.within;
+        short = (let long = ap length all in let sum = length-append (output start rs) (answer_bytes (stored_of now) r) in let count = length-append rs (r ∷ []) in
+            omega (arith, long, sum, count, kept.short, one.replies.short));
+        documents = (let count = length-append rs (r ∷ []) in omega (arith, one.keeps.documents, kept.documents, count));
+        accepted = (let same = ap (λ t. length (accepted_command t r)) here in let last = ap length (accepted_commands-last start rs r) in
+            let sum = length-append (accepted_commands start rs) (accepted_command (stored_after_all start rs) r) in
+            omega (arith, one.keeps.accepted, one.replies.accepted, kept.accepted, same, last, sum));
+        refused = (let same = ap (λ t. refused_of t r) here in omega (arith, one.keeps.refused, one.replies.refused, kept.refused, same, refusals-last start rs r));
+        written = one.keeps.written ∙ kept.written;
+      }
 
   -- ---- the loop over the pieces
 
   pub submits-none : (store : StoreView D) (bytes : List ℕ) (answers : Unwritten) → store.reopen ≡ false → length answers.text.items ≤ answers_limit
       → ((image : Image) → model.honest → model.left store.disk (model.moment store.disk) image → IsImage (model.folder store.disk) image)
-      → (model.honest → LeavesPrefixes (model.folder store.disk) store.state)
+      → MeansPrefixes model store
       → Submits model bytes bytes store store answers answers
   submits-none store bytes answers off within only means = record {
     requests = [];
     takes = takes-none bytes;
-    performs = performs-none false model store off only (λ h on. means h);
+    performs = performs-none false model store off only means;
     keeps = keeps-none (stored_of store) answers within;
   }
 
   module _ (bytes piece rest : List ℕ) (old now : StoreView D) (before mid : Unwritten) (s : Submits model bytes (piece ++ rest) old now before mid)
       (closes : ClosesOnce piece) (short : length piece ≤ piece_limit) (new : StoreView D) where
-    -- one answer more is kept
-    keeps-more : (after : Unwritten) (one : GathersPiece model now new piece mid after) → KeepsAnswers (stored_of old) (s.requests ++ one.request ∷ []) before after
-    keeps-more after one =
-        let start = stored_of old in
-        let rs = s.requests in
-        let r = one.request in
-        let here = s.performs.stored in
-        let all : output start (rs ++ r ∷ []) ≡ output start rs ++ answer_bytes (stored_of now) r =
-        output-last start rs r ∙ ap (λ t. output start rs ++ answer_bytes t r) (sym here) in
-        record {
-          bytes = one.keeps.bytes ∙ ap (λ l. unwritten_bytes mid ++ l) one.replies.bytes ∙ ap (λ l. l ++ answer_bytes (stored_of now) r) s.keeps.bytes
-              ∙ append_assoc (unwritten_bytes before) (output start rs) (answer_bytes (stored_of now) r) ∙ ap (λ l. unwritten_bytes before ++ l) (sym all);
-          within = one.keeps.within;
-          short = (let long = ap length all in let sum = length-append (output start rs) (answer_bytes (stored_of now) r) in let count = length-append rs (r ∷ []) in
-              omega (arith, long, sum, count, s.keeps.short, one.replies.short));
-          documents = (let count = length-append rs (r ∷ []) in omega (arith, one.keeps.documents, s.keeps.documents, count));
-          accepted = (let same = ap (λ t. length (accepted_command t r)) here in let last = ap length (accepted_commands-last start rs r) in
-              let sum = length-append (accepted_commands start rs) (accepted_command (stored_after_all start rs) r) in
-              omega (arith, one.keeps.accepted, one.replies.accepted, s.keeps.accepted, same, last, sum));
-          refused = (let same = ap (λ t. refused_of t r) here in omega (arith, one.keeps.refused, one.replies.refused, s.keeps.refused, same, refusals-last start rs r));
-          written = one.keeps.written ∙ s.keeps.written;
-        }
-
     -- the next piece is performed
-    pub submits-more : (after : Unwritten) → GathersPiece model now new piece mid after → Submits model bytes rest old new before after
+    pub submits-more : (after : Unwritten) → GathersPiece false model now new piece mid after → Submits model bytes rest old new before after
     submits-more after one = record {
       requests = s.requests ++ one.request ∷ [];
       takes = takes-more bytes piece rest s.requests one.request s.takes closes short one.asks;
       performs = performs-more false model old now new s.requests one.request s.performs one.performs one.sound;
-      keeps = keeps-more after one;
+      keeps = keeps-more false old now new piece before mid after s.requests s.performs.stored s.keeps one;
     }
 
     -- the device fails at the next piece
@@ -162,7 +203,7 @@ module _ {D : Type 0} (model : DiskModel D) where
 
   -- the next piece has no answer
   pub submits-failing : (bytes piece rest : List ℕ) (old now new : StoreView D) (before mid after : Unwritten) → Submits model bytes (piece ++ rest) old now before mid
-      → ClosesOnce piece → length piece ≤ piece_limit → after ≡ mid → (f : SessionFault) → FailsInGroup model now new piece f
+      → ClosesOnce piece → length piece ≤ piece_limit → after ≡ mid → (f : SessionFault) → LeavesPiece false model now new piece f
       → (input : Input) → SubmitsGroup model bytes input old new before after (Err f)
   submits-failing bytes piece rest old now new before mid after s closes short same fault.OutOfMemory fails input = (
     piece ++ rest,
@@ -170,7 +211,7 @@ module _ {D : Type 0} (model : DiskModel D) where
         (subst (λ (t : StoreView D). Submits model bytes (piece ++ rest) old t before mid) (sym fails) s),
   )
   submits-failing bytes piece rest old now new before mid after s closes short same fault.Device fails input =
-      breaks-at bytes piece rest old now before mid s closes short new fails.0 fails.1 fails.2 fails.3
+      breaks-at bytes piece rest old now before mid s closes short new fails.0 fails.1 fails.2.0 fails.2.1
   submits-failing bytes piece rest old now new before mid after s closes short same fault.Read fails input = absurd fails
   submits-failing bytes piece rest old now new before mid after s closes short same fault.TooLong fails input = absurd fails
   submits-failing bytes piece rest old now new before mid after s closes short same fault.SessionLong fails input = absurd fails
@@ -178,9 +219,9 @@ module _ {D : Type 0} (model : DiskModel D) where
   submits-failing bytes piece rest old now new before mid after s closes short same (fault.Write written) fails input = absurd fails
 
   -- one answer more has room
-  pub room-more : (old new : StoreView D) (piece rest : List ℕ) (before after : Unwritten) (total : ℕ) → ClosesOnce piece → HasRoomFor before (length (piece ++ rest)) total
-      → GathersPiece model old new piece before after → HasRoomFor after (length rest) total
-  room-more old new piece rest before after total closes room one =
+  pub room-more : (at_once : Bool) (old new : StoreView D) (piece rest : List ℕ) (before after : Unwritten) (total : ℕ) → ClosesOnce piece → HasRoomFor before (length (piece ++ rest)) total
+      → GathersPiece at_once model old new piece before after → HasRoomFor after (length rest) total
+  room-more at_once old new piece rest before after total closes room one =
       let keeps = one.keeps in
       record {
         within = keeps.within;
@@ -233,35 +274,39 @@ module _ {D : Type 0} (model : DiskModel D) where
     now = means;
   }
 
-  module _ (bytes further : List ℕ) (old mid : StoreView D) (before after : Unwritten) (s : Submits model bytes further old mid before after) (new : StoreView D) where
+  module _ (old mid new : StoreView D) (rs : List Request) (before : PerformsAll false model old mid rs) where
     -- what a crash leaves up to the flush's end
-    flush-moments : (model.honest → (flushed : Contents) (waiting : List Command) → HasFlushed (model.folder mid.disk) flushed waiting mid.state → LeavesOnly model mid.disk new.disk (λ image. AfterPrefix flushed waiting image.store))
+    pub flush-moments : (model.honest → (flushed : Contents) (waiting : List Command) → HasFlushed (model.folder mid.disk) flushed waiting mid.state → LeavesOnly model mid.disk new.disk (λ image. AfterPrefix flushed waiting image.store))
         → model.honest → (flushed : Contents) (waiting : List Command) → HasFlushed (model.folder old.disk) flushed waiting old.state
-        → LeavesOnly model old.disk new.disk (λ image. AfterPrefix flushed (waiting ++ accepted_commands (stored_of old) s.requests) image.store)
+        → LeavesOnly model old.disk new.disk (λ image. AfterPrefix flushed (waiting ++ accepted_commands (stored_of old) rs) image.store)
     flush-moments run h flushed waiting has =
-        let f = flushed_after false (stored_of old) flushed s.requests in
-        let w = waiting_after false (stored_of old) waiting s.requests in
-        LeavesOnly-joined model old.disk mid.disk new.disk _ _ _ (s.performs.any_moment h flushed waiting has) (run h f w (s.performs.waits h flushed waiting has))
+        let f = flushed_after false (stored_of old) flushed rs in
+        let w = waiting_after false (stored_of old) waiting rs in
+        LeavesOnly-joined model old.disk mid.disk new.disk _ _ _ (before.any_moment h flushed waiting has) (run h f w (before.waits h flushed waiting has))
         (λ image some. some)
-        (λ image. prefix-whole flushed f (waiting ++ accepted_commands (stored_of old) s.requests) w image.store (continues false (stored_of old) flushed waiting s.requests has.journal.leads))
+        (λ image. prefix-whole flushed f (waiting ++ accepted_commands (stored_of old) rs) w image.store (continues false (stored_of old) flushed waiting rs has.journal.leads))
 
+    -- what was submitted is flushed
+    pub all-flushed : PerformsTurns model mid new [] → PerformsTurns model old new (all_asked rs)
+    all-flushed flush = record {
+      sound = flush.sound;
+      stored = flush.stored ∙ before.stored ∙ sym (asked-stored (stored_of old) rs);
+      files = λ h. files-asked model.folder old new rs (ap (λ f. f.store) (flush.files h) ∙ before.reads h) (ap (λ f. f.staged) (flush.files h) ∙ before.stages h);
+      any_moment = λ h flushed waiting has.
+          subst (λ (l : List Command). LeavesOnly model old.disk new.disk (λ image. AfterPrefix flushed (waiting ++ l) image.store)) (sym (asked-accepted (stored_of old) rs))
+          (flush-moments (λ h f w there. subst (λ (l : List Command). LeavesOnly model mid.disk new.disk (λ image. AfterPrefix f l image.store)) (append-nil w) (flush.any_moment h f w there)) h flushed waiting has);
+      flushed = flush.flushed;
+      now = flush.now;
+    }
+
+    -- the flush failed
+    pub flush-state : StopsShort model mid new → new.state ≡ (stored_after_all (stored_of old) rs).state
+    flush-state stops = stops.state ∙ ap (λ (t : Stored). t.state) before.stored
+
+  module _ (bytes further : List ℕ) (old mid : StoreView D) (before after : Unwritten) (s : Submits model bytes further old mid before after) (new : StoreView D) where
     -- the pieces that were submitted are flushed
     pub answers-flushed : PerformsTurns model mid new [] → AnswersGroup model bytes further old new before after
-    answers-flushed flush = record {
-      requests = s.requests;
-      takes = s.takes;
-      performs = record {
-        sound = flush.sound;
-        stored = flush.stored ∙ s.performs.stored ∙ sym (asked-stored (stored_of old) s.requests);
-        files = λ h. files-asked model.folder old new s.requests (ap (λ f. f.store) (flush.files h) ∙ s.performs.reads h) (ap (λ f. f.staged) (flush.files h) ∙ s.performs.stages h);
-        any_moment = λ h flushed waiting has.
-            subst (λ (l : List Command). LeavesOnly model old.disk new.disk (λ image. AfterPrefix flushed (waiting ++ l) image.store)) (sym (asked-accepted (stored_of old) s.requests))
-            (flush-moments (λ h f w there. subst (λ (l : List Command). LeavesOnly model mid.disk new.disk (λ image. AfterPrefix f l image.store)) (append-nil w) (flush.any_moment h f w there)) h flushed waiting has);
-        flushed = flush.flushed;
-        now = flush.now;
-      };
-      keeps = s.keeps;
-    }
+    answers-flushed flush = record { requests = s.requests; takes = s.takes; performs = all-flushed old mid new s.requests s.performs flush; keeps = s.keeps }
 
     -- the flush fails
     pub breaks-unflushed : StopsShort model mid new → BreaksOff model bytes old new
@@ -270,8 +315,8 @@ module _ {D : Type 0} (model : DiskModel D) where
       requests = s.requests;
       further = further;
       takes = s.takes;
-      state = stops.state ∙ ap (λ (t : Stored). t.state) s.performs.stored;
-      any_moment = flush-moments stops.any_moment;
+      state = flush-state old mid new s.requests s.performs stops;
+      any_moment = flush-moments old mid new s.requests s.performs stops.any_moment;
     }
 
     -- the flush fails, whatever the group would have returned
@@ -317,34 +362,18 @@ module _ {D : Type 0} (model : DiskModel D) where
 
   module _ (held written : Option (List ℕ)) (bytes further : List ℕ) (old new : StoreView D) (before mid : Unwritten) (none : unwritten_bytes before ≡ [])
       (s : AnswersGroup model bytes further old new before mid) where
-    -- only this group's answers are kept
-    these : unwritten_bytes mid ≡ output (stored_of old) s.requests
-    these = s.keeps.bytes ∙ ap (λ l. l ++ output (stored_of old) s.requests) none
-
     pub passes : (after : Unwritten) → WritesAnswers held written mid after → PassesGroup model held written bytes further old new before after
     passes after writes = record {
       requests = s.requests;
-      takes = s.takes;
       performs = s.performs;
-      out = subst (Appends held written) these writes.out;
-      short = s.keeps.short;
-      documents = ap (λ t. t.documents) writes.tally ∙ s.keeps.documents;
-      accepted = ap (λ t. t.accepted) writes.tally ∙ s.keeps.accepted;
-      refused = ap (λ t. t.refused) writes.tally ∙ s.keeps.refused;
-      sent = (let long = ap length these in let kept = s.keeps.written in omega (arith, writes.sent, long, kept));
+      sends = sends held written bytes further (stored_of old) s.requests before mid none s.takes s.keeps after writes;
     }
 
     cuts : (total : ℕ) → CutsAnswers held written mid total → CutsGroup model held written bytes old new before.written total
     cuts total writes = record {
       requests = s.requests;
-      further = further;
-      takes = s.takes;
       performs = s.performs;
-      short = s.keeps.short;
-      count = writes.count;
-      is = (let kept = s.keeps.written in omega (arith, writes.is, kept));
-      cut = (let long = ap length these in omega (arith, writes.cut, long));
-      out = subst (λ l. Appends held written (take writes.count l)) these writes.out;
+      cuts = cuts-sending held written bytes further (stored_of old) s.requests before mid none s.takes s.keeps total writes;
     }
 
     -- a write that fails
@@ -363,8 +392,55 @@ module _ {D : Type 0} (model : DiskModel D) where
       → (r : Result (Unit {0}) SessionFault) → OnOk r (WritesAnswers held written mid after) → IfErr r (FailsToWrite held written mid)
       → PerformsGroup model held written bytes input old new before after r
   performs-writing held written bytes input old new before mid after none s (Ok done) writes fails =
-      (s.0, ap (λ l. l ++ last_bytes after.last) writes.empty ∙ ap last_bytes writes.none, writes.none, passes held written bytes (ahead input) old new before mid none s.1 after writes)
+      (s.0, none-kept held written mid after writes, writes.none, passes held written bytes (ahead input) old new before mid none s.1 after writes)
   performs-writing held written bytes input old new before mid after none s (Err f) writes fails = cuts-by held written bytes (ahead input) old new before mid none s.1 input after f fails
+
+  -- ---- a piece that is a group by itself
+
+  module _ (held : Option (List ℕ)) (input : Input) (old new : StoreView D) (before : Unwritten) (at : IsAtPiece input) where
+    abbrev all : List ℕ
+    all = piece_or_rest input ++ ahead input
+
+    takes-one : (r : Request) → Asks (piece_or_rest input) r → TakesUp all (ahead input) (r ∷ [])
+    takes-one r asks = takes-more all (piece_or_rest input) (ahead input) [] r (takes-none all) at.piece at.short asks
+
+    -- it is performed, and its answer is kept
+    module _ (mid : Unwritten) (none : unwritten_bytes before ≡ []) (within : length before.text.items ≤ answers_limit) (one : GathersPiece true model old new (piece_or_rest input) before mid) where
+      keeps-one : KeepsAnswers (stored_of old) (one.request ∷ []) before mid
+      keeps-one = keeps-more true old old new (piece_or_rest input) before before mid [] refl (keeps-none (stored_of old) before within) one
+
+      pub piece-writing : (written : Option (List ℕ)) (after : Unwritten) (r : Result (Unit {0}) SessionFault) → OnOk r (WritesAnswers held written mid after) → IfErr r (FailsToWrite held written mid)
+          → PerformsPiece model held written input old new before after r
+      piece-writing written after (Ok done) writes fails = (
+        none-kept held written mid after writes,
+        writes.none,
+        one.request,
+        one.sound,
+        one.performs,
+        sends held written all (ahead input) (stored_of old) (one.request ∷ []) before mid none (takes-one one.request one.asks) keeps-one after writes,
+      )
+      piece-writing written after (Err (fault.Write total)) writes fails = (
+        one.request,
+        one.sound,
+        one.performs,
+        cuts-sending held written all (ahead input) (stored_of old) (one.request ∷ []) before mid none (takes-one one.request one.asks) keeps-one total fails,
+      )
+      piece-writing written after (Err fault.Read) writes fails = absurd fails
+      piece-writing written after (Err fault.TooLong) writes fails = absurd fails
+      piece-writing written after (Err fault.SessionLong) writes fails = absurd fails
+      piece-writing written after (Err fault.OutOfMemory) writes fails = absurd fails
+      piece-writing written after (Err fault.Device) writes fails = absurd fails
+      piece-writing written after (Err fault.Reopen) writes fails = absurd fails
+
+    -- it has no answer
+    pub piece-left : (after : Unwritten) (f : SessionFault) → LeavesPiece true model old new (piece_or_rest input) f → PerformsPiece model held held input old new before after (Err f)
+    piece-left after fault.OutOfMemory did = (did, Keeps-refl held)
+    piece-left after fault.Device did = (did.0, did.2.0, did.2.1, takes-one did.0 did.1, Keeps-refl held)
+    piece-left after fault.Read did = absurd did
+    piece-left after fault.TooLong did = absurd did
+    piece-left after fault.SessionLong did = absurd did
+    piece-left after fault.Reopen did = absurd did
+    piece-left after (fault.Write written) did = absurd did
 
   -- nothing is written where the device failed
   pub performs-broken : (held : Option (List ℕ)) (bytes : List ℕ) (input : Input) (old new : StoreView D) (before after : Unwritten) (f : SessionFault) → (f ≡ fault.OutOfMemory → ⊥)

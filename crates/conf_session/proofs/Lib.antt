@@ -4,8 +4,8 @@ pub mod RefusalLemmas
 pub mod AnsweredLemmas
 pub mod RequestLemmas
 pub mod PassedLemmas
+pub mod ReadLemmas
 pub mod SessionLemmas
-pub mod RoundLemmas
 pub mod AnswerLemmas
 pub mod ReplyLemmas
 pub mod SaidLemmas
@@ -16,4 +16,5 @@ pub mod OutputLemmas
 pub mod TurnLemmas
 pub mod TendLemmas
 pub mod GatherLemmas
+pub mod RoundLemmas
 pub mod GroupLemmas

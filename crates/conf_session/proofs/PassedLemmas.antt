@@ -5,7 +5,7 @@ use Rattle.std.proofs.lemmas.List.{append-nil}
 use Rattle.std.proofs.lemmas.List.Elements.{All-push}
 use Rattle.yaml_grammar.specs.Closings.{ClosesOnce}
 use Rattle.conf_disk.specs.Image.{Image, IsImage}
-use Rattle.conf_disk.specs.Folder.{Folder, bytes_under}
+use Rattle.conf_disk.specs.Folder.{bytes_under}
 use Rattle.conf_disk.specs.Models.{DiskModel}
 use Rattle.conf_disk.specs.Moments.{LeavesOnly}
 use Rattle.conf_disk.specs.declared.disk.Name.TheVariants.{Store}
@@ -25,8 +25,7 @@ use Rattle.conf_session.specs.Said.{piece_limit}
 use Rattle.conf_session.specs.Requests.{Request, Asks, AllAsk, changing, unread, getting, exporting, naming, checkpointing, bad}
 use Rattle.conf_session.specs.Answers.{Stored, longest, syncs, flushed_after, waiting_after, acknowledged, AllAreAcknowledged, answer_bytes, output, stored_after, stored_after_all, file_after, file_after_all, staged_after, staged_after_all, accepted_commands, accepted_command, accepted_by, stored_after_change, refused_of, refusals, is_refused, value_at_path}
 use Rattle.conf_session.specs.Runs.{stored_of, ArePieces, AfterAtLeast}
-use Rattle.conf_session.specs.Replies.{LeavesPrefixes, Performs}
-use Rattle.conf_session.specs.Progress.{PerformsAll}
+use Rattle.conf_session.specs.Replies.{LeavesPrefixes, Performs, PerformsAll}
 
 -- ---- what the definitions give for one request more
 

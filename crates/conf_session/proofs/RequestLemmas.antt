@@ -1,8 +1,9 @@
 -- What one request does.
-use Rattle.std.proofs.Common.{◌≡◌, ◌≢◌, ◌⊎◌, inl, inr, ⊎_elim, refl, sym, ◌∙◌, ap, subst, arith, length-append}
+use Rattle.std.proofs.Common.{◌≡◌, ◌≢◌, ◌≤◌, ◌⊎◌, inl, inr, ⊎_elim, refl, sym, ◌∙◌, ap, subst, arith, length-append}
 use Rattle.std.specs.Prelude.{ℕ, ◌+◌, min, max, Bool, true, false, List, [], ◌∷◌, ◌++◌, length, decimal, codes, Option, Some, None, option_map, unwrap_or, ◌&&◌, if◌then◌else◌, Result, Ok, Err, is_ok, IfOk, String, string_bytes}
 use Rattle.std.specs.Str.{chars, IsUtf8}
 use Rattle.std.specs.declared.alloc.Global.{Global}
+use Rattle.std.proofs.lemmas.Bool.{cases_lt}
 use Rattle.std.proofs.lemmas.Str.{encodes-chars}
 use Rattle.std.proofs.lemmas.List.{append-nil, take_all}
 use Rattle.yaml_grammar.specs.Trees.{text}
@@ -10,7 +11,7 @@ use Rattle.yaml_recognizers.specs.Closings.{framed_text_bytes}
 use Rattle.conf_disk.specs.Folder.{Folder, bytes_under}
 use Rattle.conf_disk.specs.Image.{Image, IsImage}
 use Rattle.conf_disk.specs.Models.{DiskModel}
-use Rattle.conf_disk.specs.Moments.{LeavesOnly}
+use Rattle.conf_disk.specs.Moments.{LeavesOnly, greatest}
 use Rattle.conf_disk.specs.declared.disk.Name.TheVariants.{Store}
 use Rattle.conf_journal.specs.Store.{file_with_bytes}
 use Rattle.conf_disk.proofs.Moments.{LeavesOnly-start, LeavesOnly-weaker}
@@ -22,7 +23,7 @@ use Rattle.conf_state.specs.Steps.{step, after}
 use Rattle.conf_state.specs.declared.fault.StoreFault.{StoreFault}
 use Rattle.conf_state.specs.declared.room.Room.{Room}
 use Rattle.conf_state.specs.declared.fault.StoreFault.TheVariants as state
-use Rattle.conf_store.specs.Calls.{outcome, room_for, next_record, journal_length, Accepts, RefusesCommand}
+use Rattle.conf_store.specs.Calls.{HasFailed, outcome, room_for, next_record, journal_length, Accepts, RefusesCommand}
 use Rattle.conf_store.specs.Imports.{IsImportOf, RefusesText}
 use Rattle.conf_store.specs.Staged.{Staged, staged_length, with_more}
 use Rattle.conf_store.specs.Meaning.{FileMeans}
@@ -32,16 +33,16 @@ use Rattle.conf_state.proofs.RefusalLemmas.{accepted-room}
 use Rattle.conf_store.proofs.StepLemmas.{accepted-anyway}
 use Rattle.conf_store.proofs.MeaningLemmas.{after-done, after-joined}
 use Rattle.conf_store.proofs.HeldLemmas.{prefix-longer}
-use Rattle.conf_session.specs.Said.{Said, import_text, single_part, Says}
+use Rattle.conf_session.specs.Said.{import_text, single_part}
 use Rattle.conf_session.specs.declared.fault.SessionFault.{SessionFault}
 use Rattle.conf_session.specs.declared.fault.SessionFault.TheVariants as fault
 use Rattle.conf_session.specs.Requests.{MeansRequest, Request, changing, unread, getting, exporting, naming, checkpointing, bad}
 use Rattle.conf_session.specs.Answers.{Stored, longest, one, change_answer, stored_after_change, stored_after, file_after_change, accepted_by, accepted_command, is_refused, answered, refused_answer, document_bytes}
 use Rattle.conf_session.specs.Runs.{stored_of}
-use Rattle.conf_session.specs.Replies.{OnlyReads, LeavesPrefixes, Performs, Replies, Did, DidSaid, DidPiece, refused_as}
+use Rattle.conf_session.specs.Replies.{OnlyReads, LeavesPrefixes, MeansPrefixes, Performs, Replies, Did, DidAsked, CountsFailures, Handles, refused_as}
 use Rattle.conf_session.specs.declared.words.Refusal.{Refusal}
 use Rattle.conf_session.proofs.LengthLemmas.{step-few, answer-short, refused-short}
-use Rattle.conf_session.proofs.RefusalLemmas.{OnlyMemory, answered-memory, is-device}
+use Rattle.conf_session.proofs.RefusalLemmas.{OnlyMemory, answered-memory, is-device, no-device}
 use Rattle.conf_session.specs.declared.reply.Reply.{Reply}
 use Rattle.conf_session.specs.declared.reply.Reply.TheVariants.{Accepted, Refused}
 
@@ -113,6 +114,33 @@ refused-waits : (at_once : Bool) (folder : Folder) (flushed s : Contents) (waiti
     → HasFlushed folder (if at_once && false then s else flushed) (if at_once && false then [] else waiting ++ []) s
 refused-waits true folder flushed s waiting has = still folder flushed s waiting has
 refused-waits false folder flushed s waiting has = still folder flushed s waiting has
+
+-- ---- failures of the device
+
+-- they did not become fewer before the call
+failed-before : (old mid new : ℕ) → old ≤ mid → mid ≤ new → HasFailed mid new → HasFailed old new
+failed-before old mid new rose risen (inl less) = inl (omega (arith, rose, less))
+failed-before old mid new rose risen (inr most) =
+    ⊎_elim (λ below. inl (omega (arith, below, most, risen))) (λ above. inr (omega (arith, above, most, rose))) (cases_lt old greatest)
+
+module _ {D : Type 0} (model : DiskModel D) where
+  -- a call that is handed on
+  pub failures-told : {A B : Type 0} (old new : StoreView D) (r : Result A SessionFault) (q : Result B SessionFault) → (q ≡ Err fault.Device → r ≡ Err fault.Device)
+      → CountsFailures model old new r → CountsFailures model old new q
+  failures-told old new r q told h = record { cause = λ e. h.cause (told e); risen = h.risen }
+
+  -- the last of some calls, which did not fail before
+  pub failures-after : {A : Type 0} (old mid new : StoreView D) (r : Result A SessionFault) → model.failure_count old.disk ≤ model.failure_count mid.disk
+      → CountsFailures model mid new r → CountsFailures model old new r
+  failures-after old mid new r rose h = record {
+    cause = λ e. failed-before (model.failure_count old.disk) (model.failure_count mid.disk) (model.failure_count new.disk) rose h.risen (h.cause e);
+    risen = (let risen = h.risen in omega (arith, rose, risen));
+  }
+
+  -- a call that did not fail by the device
+  pub failures-none : {A : Type 0} (old new : StoreView D) (r : Result A SessionFault) → model.failure_count old.disk ≤ model.failure_count new.disk → (r ≡ Err fault.Device → ⊥)
+      → CountsFailures model old new r
+  failures-none old new r rose other = record { cause = λ e. absurd (other e); risen = rose }
 
 module _ (at_once : Bool) {D : Type 0} (model : DiskModel D) where
   -- a store that is as it was
@@ -201,51 +229,70 @@ module _ (at_once : Bool) {D : Type 0} (model : DiskModel D) where
     waits = λ h on flushed waiting has. subst (λ (s : Contents). HasFlushed (model.folder new.disk) s [] new.state) same (flushes h on);
   }
 
-  -- ---- what is said, and the request that it means
+  -- ---- what is asked for
 
-  pub did-said : (old new : StoreView D) (said : Said) (request : Request) → MeansRequest said request → (r : Result Reply SessionFault)
-      → Did at_once model old new request r → DidSaid at_once model old new said r
-  did-said old new said request means (Ok reply) did = (request, means, did)
-  did-said old new said request means (Err fault.Device) did = (request, means, did)
-  did-said old new said request means (Err fault.OutOfMemory) did = did
-  did-said old new said request means (Err fault.Read) did = absurd did
-  did-said old new said request means (Err fault.TooLong) did = absurd did
-  did-said old new said request means (Err fault.SessionLong) did = absurd did
-  did-said old new said request means (Err fault.Reopen) did = absurd did
-  did-said old new said request means (Err (fault.Write written)) did = absurd did
+  -- the request is known
+  pub did-asked : (old new : StoreView D) (Asked : Request → Type 0) (request : Request) → Asked request → (r : Result Reply SessionFault)
+      → Did at_once model old new request r → DidAsked at_once model old new Asked r
+  did-asked old new Asked request is (Ok reply) did = (request, is, did)
+  did-asked old new Asked request is (Err fault.Device) did = (request, is, did)
+  did-asked old new Asked request is (Err fault.OutOfMemory) did = did
+  did-asked old new Asked request is (Err fault.Read) did = absurd did
+  did-asked old new Asked request is (Err fault.TooLong) did = absurd did
+  did-asked old new Asked request is (Err fault.SessionLong) did = absurd did
+  did-asked old new Asked request is (Err fault.Reopen) did = absurd did
+  did-asked old new Asked request is (Err (fault.Write written)) did = absurd did
 
-  pub did-piece : (old new : StoreView D) (piece : List ℕ) (said : Said) → Says piece said → (r : Result Reply SessionFault)
-      → DidSaid at_once model old new said r → DidPiece at_once model old new piece r
-  did-piece old new piece said says (Ok reply) did = (did.0, (said, says, did.1), did.2)
-  did-piece old new piece said says (Err fault.Device) did = (did.0, (said, says, did.1), did.2)
-  did-piece old new piece said says (Err fault.OutOfMemory) did = did
-  did-piece old new piece said says (Err fault.Read) did = absurd did
-  did-piece old new piece said says (Err fault.TooLong) did = absurd did
-  did-piece old new piece said says (Err fault.SessionLong) did = absurd did
-  did-piece old new piece said says (Err fault.Reopen) did = absurd did
-  did-piece old new piece said says (Err (fault.Write written)) did = absurd did
+  -- what is asked for is told in other words
+  pub did-retold : (old new : StoreView D) (A B : Request → Type 0) → ((request : Request) → A request → B request) → (r : Result Reply SessionFault)
+      → DidAsked at_once model old new A r → DidAsked at_once model old new B r
+  did-retold old new A B told (Ok reply) did = (did.0, told did.0 did.1, did.2)
+  did-retold old new A B told (Err fault.Device) did = (did.0, told did.0 did.1, did.2)
+  did-retold old new A B told (Err fault.OutOfMemory) did = did
+  did-retold old new A B told (Err fault.Read) did = absurd did
+  did-retold old new A B told (Err fault.TooLong) did = absurd did
+  did-retold old new A B told (Err fault.SessionLong) did = absurd did
+  did-retold old new A B told (Err fault.Reopen) did = absurd did
+  did-retold old new A B told (Err (fault.Write written)) did = absurd did
 
-  pub said-read : (store : StoreView D) → store.reopen ≡ false → ((image : Image) → model.honest → model.left store.disk (model.moment store.disk) image → IsImage (model.folder store.disk) image)
-      → (model.honest → store.reopen ≡ false → LeavesPrefixes (model.folder store.disk) store.state)
-      → (said : Said) (request : Request) → MeansRequest said request → OnlyReads request → (reply : Reply) → Replies (stored_of store) request reply
-      → DidSaid at_once model store store said (Ok reply)
-  said-read store off only means said request asks is reply replies = (request, asks, (replies, off, only-read store off request is only means))
+  pub handles-retold : (old new : StoreView D) (A B : Request → Type 0) → ((request : Request) → A request → B request) → (r : Result Reply SessionFault)
+      → Handles at_once model old new A r → Handles at_once model old new B r
+  handles-retold old new A B told r h = record { did = λ off. did-retold old new A B told r (h.did off); failures = h.failures; means = h.means }
 
--- a checkpoint is the same, whenever commands are flushed
-pub did-checkpoint : (at_once : Bool) {D : Type 0} (model : DiskModel D) (old new : StoreView D) (r : Result Reply SessionFault)
-    → Did true model old new checkpointing r → Did at_once model old new checkpointing r
-did-checkpoint at_once model old new (Ok reply) did =
-    let p = did.2 in
-    (did.0, did.1, record { state = p.state; stored = p.stored; reads = p.reads; stages = p.stages; any_moment = p.any_moment; waits = p.waits })
-did-checkpoint at_once model old new (Err fault.Device) did =
-    let p = did.1 in
-    (did.0, record { state = p.state; stored = p.stored; reads = p.reads; stages = p.stages; any_moment = p.any_moment; waits = p.waits })
-did-checkpoint at_once model old new (Err fault.OutOfMemory) did = did
-did-checkpoint at_once model old new (Err fault.Read) did = absurd did
-did-checkpoint at_once model old new (Err fault.TooLong) did = absurd did
-did-checkpoint at_once model old new (Err fault.SessionLong) did = absurd did
-did-checkpoint at_once model old new (Err fault.Reopen) did = absurd did
-did-checkpoint at_once model old new (Err (fault.Write written)) did = absurd did
+  -- ---- where the store stays as it is
+
+  module _ (store : StoreView D) (means : MeansPrefixes model store) (Asked : Request → Type 0) where
+    handles-same : (r : Result Reply SessionFault) → OnlyMemory r → (store.reopen ≡ false → DidAsked at_once model store store Asked r) → Handles at_once model store store Asked r
+    handles-same r memory did = record {
+      did = did;
+      failures = record { cause = λ e. absurd (no-device r memory e); risen = omega arith };
+      means = λ at. means;
+    }
+
+    -- memory ran out
+    pub handles-none : Handles at_once model store store Asked (Err fault.OutOfMemory)
+    handles-none = handles-same (Err fault.OutOfMemory) refl (λ off. refl)
+
+    module _ (only : (image : Image) → model.honest → model.left store.disk (model.moment store.disk) image → IsImage (model.folder store.disk) image) where
+      -- a request that only reads is answered
+      pub handles-reading : (request : Request) → Asked request → OnlyReads request → (r : Result Reply SessionFault) → IfOk r (Replies (stored_of store) request) → OnlyMemory r
+          → Handles at_once model store store Asked r
+      handles-reading request asks is r replies memory = handles-same r memory (λ off. by off r replies memory)
+        where
+          by : store.reopen ≡ false → (r : Result Reply SessionFault) → IfOk r (Replies (stored_of store) request) → OnlyMemory r → DidAsked at_once model store store Asked r
+          by off (Ok reply) replies memory = (request, asks, (replies, off, only-read store off request is only means))
+          by off (Err end) replies memory = subst (λ (e : SessionFault). DidAsked at_once model store store Asked (Err e)) (sym memory) refl
+
+      -- what is asked for is no command, and is answered by that refusal
+      pub handles-unread : (f : StoreFault) → ((reason : Refusal) → answered f ≡ Ok reason → Asked (unread f)) → OnlyMemory (answered f)
+          → Handles at_once model store store Asked (refused_as (answered f))
+      handles-unread f asks memory = by (answered f) refl memory
+        where
+          by : (r : Result Refusal SessionFault) → answered f ≡ r → OnlyMemory r → Handles at_once model store store Asked (refused_as r)
+          by (Ok reason) is memory =
+              handles-reading (unread f) (asks reason is) tt (Ok (Refused reason))
+              (record { bytes = ap (λ a. document_bytes (refused_answer a)) (sym is); accepted = refl; refused = refl; short = refused-short (answered f) }) tt
+          by (Err end) is memory = subst (λ (e : SessionFault). Handles at_once model store store Asked (Err e)) (sym memory) handles-none
 
 -- an `import` under a good name whose text gives a tree is the command
 pub text-given : (name bytes : List ℕ) (command : Command) → IsUtf8 bytes → IsImportOf name bytes command → MeansRequest (single_part (import_text name (chars bytes))) (changing command)
@@ -300,29 +347,6 @@ module _ (at_once : Bool) {D : Type 0} (model : DiskModel D) where
   did-refused old new request f shut device same reply =
       ⊎_elim (λ is. subst (λ (x : StoreFault). Did at_once model old new request (refused_as (answered x))) (sym is) (device is))
       (λ other. settled old new request (answered f) (answered-memory f shut other) (same other) (λ reason. reply reason other)) (is-device f)
-
-  -- what is said asks for no command, and is answered by that refusal
-  pub said-unread : (store : StoreView D) → store.reopen ≡ false → ((image : Image) → model.honest → model.left store.disk (model.moment store.disk) image → IsImage (model.folder store.disk) image)
-      → (model.honest → store.reopen ≡ false → LeavesPrefixes (model.folder store.disk) store.state)
-      → (said : Said) (f : StoreFault) → ((reason : Refusal) → answered f ≡ Ok reason → MeansRequest said (unread f)) → OnlyMemory (answered f)
-      → DidSaid at_once model store store said (refused_as (answered f))
-  said-unread store off only means said f asks memory = by (answered f) refl memory
-    where
-      by : (r : Result Refusal SessionFault) → answered f ≡ r → OnlyMemory r → DidSaid at_once model store store said (refused_as r)
-      by (Ok reason) is memory =
-          said-read at_once model store off only means said (unread f) (asks reason is) tt (Refused reason)
-          (record { bytes = ap (λ a. document_bytes (refused_answer a)) (sym is); accepted = refl; refused = refl; short = refused-short (answered f) })
-      by (Err end) is memory = subst (λ (e : SessionFault). DidSaid at_once model store store said (Err e)) (sym memory) refl
-
-  -- what is said asks to read
-  pub said-reads : (store : StoreView D) → store.reopen ≡ false → ((image : Image) → model.honest → model.left store.disk (model.moment store.disk) image → IsImage (model.folder store.disk) image)
-      → (model.honest → store.reopen ≡ false → LeavesPrefixes (model.folder store.disk) store.state)
-      → (said : Said) (request : Request) → MeansRequest said request → OnlyReads request → (r : Result Reply SessionFault)
-      → IfOk r (Replies (stored_of store) request) → OnlyMemory r → DidSaid at_once model store store said r
-  said-reads store off only means said request asks is (Ok reply) replies memory =
-      said-read at_once model store off only means said request asks is reply replies
-  said-reads store off only means said request asks is (Err end) replies memory =
-      subst (λ (e : SessionFault). DidSaid at_once model store store said (Err e)) (sym memory) refl
 
 -- why a command was refused that is answered by a refusal
 pub refused-outcome : {D : Type 0} (old new : StoreView D) (command : Command) (f : StoreFault) (reason : Refusal) → answered f ≡ Ok reason → RefusesCommand old command new f

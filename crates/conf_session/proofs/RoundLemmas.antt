@@ -1,36 +1,32 @@
 -- Pieces of a round, one after the other.
 use Rattle.std.proofs.Common.{◌≡◌, inl, inr, refl, sym, ◌∙◌, ap, subst, arith, ◌≤◌, ◌<◌, get_or, length-append}
-use Rattle.std.specs.Prelude.{ℕ, ◌+◌, false, List, [], ◌∷◌, ◌++◌, length, codes, take, option_map, Result, Ok, Err}
+use Rattle.std.specs.Prelude.{ℕ, ◌+◌, false, List, [], ◌∷◌, ◌++◌, length, codes, take, Ok, Err}
 use Rattle.std.specs.declared.vec.Vec.{Vec}
 use Rattle.std.specs.declared.alloc.Global.{Global}
 use Rattle.std.proofs.lemmas.List.{length-take-le, length-map, take_more, get_or-map}
 use Rattle.yaml_grammar.specs.Closings.{ClosesAt, ClosesOnce}
 use Rattle.yaml_docs.specs.NextClosing.{IsNextClosing, NoClosingAfter}
-use Rattle.conf_disk.specs.Folder.{Folder, bytes_under}
 use Rattle.conf_disk.specs.Image.{Image, IsImage}
 use Rattle.conf_disk.specs.Models.{DiskModel}
 use Rattle.conf_disk.specs.Moments.{LeavesOnly}
-use Rattle.conf_disk.specs.declared.disk.Name.TheVariants.{Store}
-use Rattle.conf_disk.proofs.Moments.{LeavesOnly-joined}
 use Rattle.conf_state.specs.Commands.{Command}
-use Rattle.conf_state.specs.States.{Contents}
-use Rattle.conf_store.specs.Durable.{AfterPrefix, AllImagesMean, HasFlushed, staged_text}
-use Rattle.conf_store.specs.Slices.{StaysTheSame}
-use Rattle.conf_store.specs.Staged.{Staged}
+use Rattle.conf_store.specs.Durable.{AfterPrefix}
 use Rattle.conf_store.specs.View.{StoreView}
 use Rattle.conf_session.specs.Requests.{Request}
-use Rattle.conf_session.specs.Answers.{Stored, answer_bytes as answer_to, answers, stored_after, stored_after_all, accepted_commands, flushed_after, waiting_after}
+use Rattle.conf_session.specs.Answers.{Stored, answer_bytes as answer_to, answers, stored_after, stored_after_all}
 use Rattle.conf_session.specs.Runs.{stored_of}
-use Rattle.conf_session.specs.Replies.{LeavesPrefixes, Performs, DidPiece, reply_bytes}
+use Rattle.conf_session.specs.Replies.{DidAsked, MeansPrefixes, Performs, PerformsAll, reply_bytes}
 use Rattle.conf_session.specs.declared.reply.Reply.{Reply}
 use Rattle.conf_session.specs.declared.fault.SessionFault.{SessionFault}
 use Rattle.conf_session.specs.declared.fault.SessionFault.TheVariants as session
 use Rattle.conf_session.specs.declared.rounds.Piece.{Piece}
 use Rattle.conf_session.specs.declared.rounds.RoundFault.{RoundFault}
 use Rattle.conf_session.specs.declared.rounds.RoundFault.TheVariants as fault
-use Rattle.conf_session.specs.Progress.{PerformsAll}
-use Rattle.conf_session.specs.Rounds.{RoundAsks, AllRoundAsk, Rounds, DidInRound, AnswersPiece, FailsPiece, round_fault, answer_bytes, piece_bytes}
-use Rattle.conf_session.proofs.PassedLemmas.{continues, prefix-whole, performs-none, performs-more, state-more, moments-more}
+use Rattle.conf_session.specs.Gathering.{FlushesAll, PerformsTurns, StopsShort}
+use Rattle.conf_session.specs.Rounds.{RoundAsks, AllRoundAsk, Rounds, AnswersPiece, FailsPiece, round_fault, answer_bytes, piece_bytes}
+use Rattle.conf_session.proofs.PassedLemmas.{performs-none, performs-more, state-more, moments-more}
+use Rattle.conf_session.proofs.TurnLemmas.{asked-accepted, asked-stored}
+use Rattle.conf_session.proofs.GatherLemmas.{all-flushed, flush-moments, flush-state}
 
 -- ---- pieces that are closed once
 
@@ -81,19 +77,8 @@ one-more old new bytes e =
 -- ---- what became of one piece
 
 module _ {D : Type 0} (model : DiskModel D) (old new : StoreView D) where
-  -- bytes that are closed once ask for what they ask for in a session
-  pub in-round : (piece : List ℕ) → ClosesOnce piece → (r : Result Reply SessionFault) → DidPiece false model old new piece r → DidInRound model old new piece r
-  in-round piece closes (Ok reply) did = (did.0, inl (closes, did.1), did.2)
-  in-round piece closes (Err session.Device) did = (did.0, inl (closes, did.1), did.2)
-  in-round piece closes (Err session.OutOfMemory) did = did
-  in-round piece closes (Err session.Read) did = absurd did
-  in-round piece closes (Err session.TooLong) did = absurd did
-  in-round piece closes (Err session.SessionLong) did = absurd did
-  in-round piece closes (Err session.Reopen) did = absurd did
-  in-round piece closes (Err (session.Write written)) did = absurd did
-
   -- a piece that was not performed, or whose command met the device's failure
-  pub fails-by : (piece : List ℕ) (f : SessionFault) (count performed : ℕ) → performed ≡ count → DidInRound model old new piece (Err f)
+  pub fails-by : (piece : List ℕ) (f : SessionFault) (count performed : ℕ) → performed ≡ count → DidAsked false model old new (RoundAsks piece) (Err f)
       → FailsPiece model old new piece count (round_fault f performed)
   fails-by piece session.OutOfMemory count performed is did = inl (is, did)
   fails-by piece session.Device count performed is did = (did.2.0, record { request = did.0; asks = did.1; performs = did.2.1 })
@@ -104,7 +89,7 @@ module _ {D : Type 0} (model : DiskModel D) (old new : StoreView D) where
   fails-by piece (session.Write written) count performed is did = absurd did
 
   -- a piece that was performed and answered
-  pub answered : (piece : List ℕ) (reply : Reply) (before after : List (List ℕ)) → DidInRound model old new piece (Ok reply) → after ≡ before ++ reply_bytes reply ∷ []
+  pub answered : (piece : List ℕ) (reply : Reply) (before after : List (List ℕ)) → DidAsked false model old new (RoundAsks piece) (Ok reply) → after ≡ before ++ reply_bytes reply ∷ []
       → AnswersPiece model old new piece before after
   answered piece reply before after did is = record {
     takes = record { request = did.0; asks = did.1; performs = did.2.2 };
@@ -143,7 +128,7 @@ pub record RoundSoFar {D : Type 0} (model : DiskModel D)
 module _ {D : Type 0} (model : DiskModel D) where
   pub round-none : (store : StoreView D) → store.reopen ≡ false
       → ((image : Image) → model.honest → model.left store.disk (model.moment store.disk) image → IsImage (model.folder store.disk) image)
-      → (model.honest → store.reopen ≡ false → LeavesPrefixes (model.folder store.disk) store.state) → RoundSoFar model store store [] []
+      → MeansPrefixes model store → RoundSoFar model store store [] []
   round-none store off only means = record { requests = []; ask = tt; answers = refl; performs = performs-none false model store off only means }
 
   module _ (old now : StoreView D) (pieces written : List (List ℕ)) (s : RoundSoFar model old now pieces written) where
@@ -159,23 +144,6 @@ module _ {D : Type 0} (model : DiskModel D) where
             ∙ sym (answers-last (stored_of old) s.requests r);
         performs = performs-more false model old now new s.requests r s.performs does off;
       }
-
-    -- what a crash leaves up to a flush
-    flush-moments : (new : StoreView D)
-        → (model.honest → (flushed : Contents) (waiting : List Command) → HasFlushed (model.folder now.disk) flushed waiting now.state → LeavesOnly model now.disk new.disk (λ image. AfterPrefix flushed waiting image.store))
-        → model.honest → (flushed : Contents) (waiting : List Command) → HasFlushed (model.folder old.disk) flushed waiting old.state
-        → LeavesOnly model old.disk new.disk (λ image. AfterPrefix flushed (waiting ++ accepted_commands (stored_of old) s.requests) image.store)
-    flush-moments new run h flushed waiting has =
-        let f = flushed_after false (stored_of old) flushed s.requests in
-        let w = waiting_after false (stored_of old) waiting s.requests in
-        LeavesOnly-joined model old.disk now.disk new.disk _ _ _ (s.performs.any_moment h flushed waiting has) (run h f w (s.performs.waits h flushed waiting has))
-        (λ image some. some)
-        (λ image. prefix-whole flushed f (waiting ++ accepted_commands (stored_of old) s.requests) w image.store (continues false (stored_of old) flushed waiting s.requests has.journal.leads))
-
-    -- a flush leaves what is stored
-    same-stored : (new : StoreView D) → StaysTheSame now new → stored_of new ≡ stored_after_all (stored_of old) s.requests
-    same-stored new same =
-        (λ i. record { state = same.state i; size = same.size i; staged = option_map (λ (t : Staged). t.written + length t.left) (same.staged i) }) ∙ s.performs.stored
 
     -- ---- how a round ends, where these are the first pieces of all
 
@@ -201,36 +169,46 @@ module _ {D : Type 0} (model : DiskModel D) where
         any_moment = λ h on. s.performs.any_moment h;
       }
 
-      -- the flush failed
-      pub ends-unflushed : (new : StoreView D) → StaysTheSame now new
-          → (model.honest → (flushed : Contents) (waiting : List Command) → HasFlushed (model.folder now.disk) flushed waiting now.state → LeavesOnly model now.disk new.disk (λ image. AfterPrefix flushed waiting image.store))
-          → Rounds model old new all (Err fault.Device)
-      ends-unflushed new same run = record {
+      -- the last flush failed
+      ends-unflushed : (new : StoreView D) → StopsShort model now new → Rounds model old new all (Err fault.Device)
+      ends-unflushed new stops = record {
         requests = s.requests;
         ask = first-ask s.requests s.ask;
-        ends = ap (λ (t : Stored). t.state) (same-stored new same);
-        any_moment = λ h on. flush-moments new run h;
+        ends = flush-state model old now new s.requests s.performs stops;
+        any_moment = λ h on. flush-moments model old now new s.requests s.performs stops.any_moment h;
       }
 
+      pub ends-failed : (new : StoreView D) (f : SessionFault) → FlushesAll model now new (Err f) → Rounds model old new all (Err fault.Device)
+      ends-failed new session.Device stops = ends-unflushed new stops
+      ends-failed new session.OutOfMemory stops = absurd stops
+      ends-failed new session.Read stops = absurd stops
+      ends-failed new session.TooLong stops = absurd stops
+      ends-failed new session.SessionLong stops = absurd stops
+      ends-failed new session.Reopen stops = absurd stops
+      ends-failed new (session.Write count) stops = absurd stops
+
       -- all is flushed
-      pub ends-flushed : i ≡ length all → (new : StoreView D) (given : Vec (Vec ℕ Global) Global) → answer_bytes given.items ≡ written → StaysTheSame now new
-          → (model.honest → bytes_under (model.folder new.disk) Store ≡ bytes_under (model.folder now.disk) Store)
-          → (model.honest → staged_text (model.folder new.disk) new.staged ≡ staged_text (model.folder now.disk) now.staged)
-          → (model.honest → (flushed : Contents) (waiting : List Command) → HasFlushed (model.folder now.disk) flushed waiting now.state → LeavesOnly model now.disk new.disk (λ image. AfterPrefix flushed waiting image.store))
-          → (model.honest → HasFlushed (model.folder new.disk) new.state [] new.state) → (model.honest → AllImagesMean (model.folder new.disk) new.state)
+      pub ends-flushed : i ≡ length all → (new : StoreView D) (given : Vec (Vec ℕ Global) Global) → answer_bytes given.items ≡ written → PerformsTurns model now new []
           → Rounds model old new all (Ok given)
-      ends-flushed whole new given is same reads stages run flushes means = record {
-        requests = s.requests;
-        ask = first-ask s.requests s.ask;
-        ends = record {
-          all = counted ∙ whole;
-          performs = record { stored = same-stored new same; reads = λ h. reads h ∙ s.performs.reads h; stages = λ h. stages h ∙ s.performs.stages h };
-          answers = is ∙ s.answers;
-          flushed = flushes;
-          now = means;
-        };
-        any_moment = λ h on. flush-moments new run h;
-      }
+      ends-flushed whole new given is flush =
+          let performs = all-flushed model old now new s.requests s.performs flush in
+          record {
+            requests = s.requests;
+            ask = first-ask s.requests s.ask;
+            ends = record {
+              all = counted ∙ whole;
+              performs = record {
+                stored = performs.stored ∙ asked-stored (stored_of old) s.requests;
+                reads = λ h. ap (λ f. f.store) (flush.files h) ∙ s.performs.reads h;
+                stages = λ h. ap (λ f. f.staged) (flush.files h) ∙ s.performs.stages h;
+              };
+              answers = is ∙ s.answers;
+              flushed = performs.flushed;
+              now = performs.now;
+            };
+            any_moment = λ h on flushed waiting has.
+                subst (λ (l : List Command). LeavesOnly model old.disk new.disk (λ image. AfterPrefix flushed (waiting ++ l) image.store)) (asked-accepted (stored_of old) s.requests) (performs.any_moment h flushed waiting has);
+          }
 
       -- the device failed at the next piece
       pub ends-device : (new : StoreView D) (piece : List ℕ) (r : Request) → RoundAsks piece r → Performs false model now new r → i + 1 ≤ length all → take (i + 1) all ≡ take i all ++ piece ∷ []

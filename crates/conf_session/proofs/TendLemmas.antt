@@ -2,7 +2,7 @@
 use Rattle.std.proofs.Common.{◌≡◌, refl, sym, ◌∙◌, ap, subst, arith, ◌≤◌, length-drop}
 use Rattle.std.specs.Prelude.{ℕ, ◌+◌, min, false, List, [], ◌∷◌, ◌++◌, length, Option, Some, None, option_map, unwrap_or, Result, Ok, Err}
 use Rattle.std.proofs.lemmas.List.{append-nil, take_all}
-use Rattle.conf_disk.specs.Folder.{Folder, bytes_under}
+use Rattle.conf_disk.specs.Folder.{bytes_under}
 use Rattle.conf_disk.specs.Image.{Image, IsImage}
 use Rattle.conf_disk.specs.Models.{DiskModel}
 use Rattle.conf_disk.specs.Moments.{LeavesOnly}
@@ -20,7 +20,6 @@ use Rattle.conf_store.specs.Grown.{HasGrown}
 use Rattle.conf_store.specs.View.{StoreView}
 use Rattle.conf_store.specs.declared.slicing.Progress.{Progress}
 use Rattle.conf_store.specs.declared.slicing.Progress.TheVariants.{Left, Done}
-use Rattle.conf_session.specs.Replies.{LeavesPrefixes}
 use Rattle.conf_session.specs.declared.fault.SessionFault.{SessionFault}
 use Rattle.conf_session.specs.declared.fault.SessionFault.TheVariants as fault
 use Rattle.conf_session.specs.declared.groups.Checkpoints.{Checkpoints}
@@ -39,9 +38,6 @@ whole-prefix flushed s waiting file leads means = record {
   leads = ap (after flushed) (take_all (length waiting) waiting (omega arith)) ∙ leads;
   means = means;
 }
-
-pub means-prefixes : (folder : Folder) (s : Contents) → AllImagesMean folder s → LeavesPrefixes folder s
-means-prefixes folder s means flushed waiting has image is = whole-prefix flushed s waiting image.store has.journal.leads (means image is)
 
 -- the length of a new file, as it is stored
 staged-size : (staged : Option Staged) → staged_length staged ≡ unwrap_or (option_map (λ (s : Staged). s.written + length s.left) staged) 0

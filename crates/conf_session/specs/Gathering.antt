@@ -1,10 +1,8 @@
 -- One group of a grouped session: the pieces that one read brought are performed, flushed and then answered.
-use Rattle.std.specs.Prelude.{◌≡◌, ℕ, ◌+◌, ◌*◌, ◌<◌, ◌≤◌, true, false, List, [], ◌++◌, length, take, Option, Some, None, Result, Ok, Err}
+use Rattle.std.specs.Prelude.{◌≡◌, ℕ, ◌+◌, ◌*◌, ◌<◌, ◌≤◌, true, false, Bool, List, [], ◌∷◌, ◌++◌, length, take, Option, Some, None, Result, Ok, Err}
 use Rattle.std.specs.List.{concat}
 use Rattle.std.specs.Io.KnownBytes.{Appends, Keeps}
 use Rattle.yaml_grammar.specs.Closings.{ClosesOnce}
-use Rattle.conf_disk.specs.Folder.{Folder}
-use Rattle.conf_disk.specs.Image.{Image}
 use Rattle.conf_disk.specs.Models.{DiskModel}
 use Rattle.conf_disk.specs.Moments.{LeavesOnly}
 use Rattle.conf_state.specs.Commands.{Command}
@@ -13,13 +11,12 @@ use Rattle.conf_store.specs.Durable.{AfterPrefix, AllImagesMean, HasFlushed}
 use Rattle.conf_store.specs.Grown.{HasGrown}
 use Rattle.conf_store.specs.View.{StoreView}
 use Rattle.conf_session.specs.Said.{piece_limit}
-use Rattle.conf_session.specs.Input.{IsSound, ahead, piece_or_rest, session_limit}
+use Rattle.conf_session.specs.Input.{IsSound, ahead, bytes_read, piece_or_rest, session_limit}
 use Rattle.conf_session.specs.declared.input.Input.{Input}
 use Rattle.conf_session.specs.Requests.{Request, Asks}
 use Rattle.conf_session.specs.Answers.{Stored, answer_limit, output, stored_after_all, accepted_commands, refusals}
 use Rattle.conf_session.specs.Runs.{ArePieces, stored_of}
-use Rattle.conf_session.specs.Replies.{Performs, Replies, accepts, refuses, reply_bytes}
-use Rattle.conf_session.specs.Progress.{PerformsAll}
+use Rattle.conf_session.specs.Replies.{DidAsked, MeansPrefixes, Performs, PerformsAll, Replies, accepts, refuses, reply_bytes}
 use Rattle.conf_session.specs.Groups.{AreDue, Turn, all_asked, files_after_turns, files_of, requests_of, stored_after_turns, turns_accepted}
 use Rattle.conf_session.specs.declared.groups.Checkpoints.{Checkpoints}
 use Rattle.conf_session.specs.declared.groups.Checkpoints.TheVariants.{Asked, After}
@@ -148,24 +145,20 @@ Tends model checkpoints old new (Err fault) = ⊥
 -- ---- one piece
 
 -- the piece is performed, and its answer is kept
-pub record GathersPiece {D : Type 0} (model : DiskModel D) (old new : StoreView D) (piece : List ℕ)
-    (before after : Unwritten) : Type 0 where
+pub record GathersPiece (at_once : Bool) {D : Type 0} (model : DiskModel D) (old new : StoreView D)
+    (piece : List ℕ) (before after : Unwritten) : Type 0 where
   pub request : Request
   pub asks : Asks piece request
   pub sound : new.reopen ≡ false
-  pub performs : Performs false model old new request
+  pub performs : Performs at_once model old new request
   pub reply : Reply
   pub replies : Replies (stored_of old) request reply
   pub keeps : KeepsAnswer before after reply
 
--- What became of a piece that has no answer. If memory ran out, nothing was changed.
-abbrev pub FailsInGroup : {D : Type 0} → DiskModel D → StoreView D
-    → StoreView D → List ℕ → SessionFault → Type 0
-FailsInGroup model old new piece fault.OutOfMemory = new ≡ old
-FailsInGroup model old new piece fault.Device =
-    (request : Request) × Asks piece request × (new.reopen ≡ true)
-    × Performs false model old new request
-FailsInGroup model old new piece fault = ⊥
+-- what became of a piece that has no answer
+abbrev pub LeavesPiece : Bool → {D : Type 0} → DiskModel D → StoreView D → StoreView D → List ℕ → SessionFault
+    → Type 0
+LeavesPiece at_once model old new piece fault = DidAsked at_once model old new (Asks piece) (Err fault)
 
 -- ---- the pieces of a group
 
@@ -242,35 +235,79 @@ EndsGroup model bytes input old new before after (Err fault.Device) =
     BreaksOff model bytes old new
 EndsGroup model bytes input old new before after (Err fault) = ⊥
 
--- ---- a group with its answers written
+-- ---- what holds before a group, and after it
+
+-- the store is open, a piece is in hand, and there is room for the answers to all that was read
+pub record CanTakeGroup {D : Type 0} (model : DiskModel D) (store : StoreView D) (input : Input) (answers : Unwritten)
+    : Type 0 where
+  pub sound : store.reopen ≡ false
+  pub means : MeansPrefixes model store
+  pub piece : IsAtPiece input
+  pub no_last : answers.last ≡ None
+  pub room : HasRoomFor answers (length (piece_or_rest input ++ ahead input)) (bytes_read input)
+
+-- nothing more was read, and there is room for the answers to what is left
+pub record CanGoOn (old new : Input) (answers : Unwritten) : Type 0 where
+  pub read : bytes_read new ≡ bytes_read old
+  pub less : length (ahead new) ≤ length (ahead old)
+  pub room : HasRoomFor answers (length (ahead new)) (bytes_read new)
+
+-- ---- answers that are written
+
+-- the bytes begin with pieces that ask for these requests, and all their answers are written
+pub record SendsAnswers (held written : Option (List ℕ)) (bytes further : List ℕ) (start : Stored)
+    (requests : List Request) (before after : Unwritten) : Type 0 where
+  pub takes : TakesUp bytes further requests
+  pub out : Appends held written (output start requests)
+  pub short : length (output start requests) ≤ length requests * answer_limit
+  pub documents : after.tally.documents ≡ before.tally.documents + length requests
+  pub accepted : after.tally.accepted ≡ before.tally.accepted + length (accepted_commands start requests)
+  pub refused : after.tally.refused ≡ before.tally.refused + refusals start requests
+  pub sent : after.written ≡ before.written + length (output start requests)
+
+-- and only so many bytes are written, with those of the answers before
+pub record CutsSending (held written : Option (List ℕ)) (bytes : List ℕ) (start : Stored) (requests : List Request)
+    (sent total : ℕ) : Type 0 where
+  pub further : List ℕ
+  pub takes : TakesUp bytes further requests
+  pub short : length (output start requests) ≤ length requests * answer_limit
+  pub count : ℕ
+  pub is : total ≡ sent + count
+  pub cut : count < length (output start requests)
+  pub out : Appends held written (take count (output start requests))
+
+-- What became of a piece that is a group by itself: its command is flushed at once, and then it is answered.
+abbrev pub PerformsPiece : {D : Type 0} → DiskModel D → Option (List ℕ) → Option (List ℕ) → Input → StoreView D
+    → StoreView D → Unwritten → Unwritten → Result (Unit {0}) SessionFault → Type 0
+PerformsPiece model held written input old new before after (Ok done) =
+    (unwritten_bytes after ≡ []) × (after.last ≡ None)
+    × (request : Request) × (new.reopen ≡ false) × Performs true model old new request
+    × SendsAnswers held written (piece_or_rest input ++ ahead input) (ahead input) (stored_of old) (request ∷ [])
+    before after
+PerformsPiece model held written input old new before after (Err fault.OutOfMemory) =
+    (new ≡ old) × Keeps held written
+PerformsPiece model held written input old new before after (Err fault.Device) =
+    (request : Request) × (new.reopen ≡ true) × Performs true model old new request
+    × TakesUp (piece_or_rest input ++ ahead input) (ahead input) (request ∷ []) × Keeps held written
+PerformsPiece model held written input old new before after (Err (fault.Write total)) =
+    (request : Request) × (new.reopen ≡ false) × Performs true model old new request
+    × CutsSending held written (piece_or_rest input ++ ahead input) (stored_of old) (request ∷ [])
+    before.written total
+PerformsPiece model held written input old new before after (Err fault) = ⊥
 
 -- the pieces are performed, flushed and answered
 pub record PassesGroup {D : Type 0} (model : DiskModel D) (held written : Option (List ℕ)) (bytes further : List ℕ)
-    (old new : StoreView D)
-    (before after : Unwritten) : Type 0 where
+    (old new : StoreView D) (before after : Unwritten) : Type 0 where
   pub requests : List Request
-  pub takes : TakesUp bytes further requests
   pub performs : PerformsTurns model old new (all_asked requests)
-  pub out : Appends held written (output (stored_of old) requests)
-  pub short : length (output (stored_of old) requests) ≤ length requests * answer_limit
-  pub documents : after.tally.documents ≡ before.tally.documents + length requests
-  pub accepted : after.tally.accepted ≡ before.tally.accepted + length (accepted_commands (stored_of old) requests)
-  pub refused : after.tally.refused ≡ before.tally.refused + refusals (stored_of old) requests
-  pub sent : after.written ≡ before.written + length (output (stored_of old) requests)
+  pub sends : SendsAnswers held written bytes further (stored_of old) requests before after
 
 -- the pieces are performed and flushed, and so many bytes were written, with those of the answers before
 pub record CutsGroup {D : Type 0} (model : DiskModel D) (held written : Option (List ℕ)) (bytes : List ℕ)
-    (old new : StoreView D)
-    (sent total : ℕ) : Type 0 where
+    (old new : StoreView D) (sent total : ℕ) : Type 0 where
   pub requests : List Request
-  pub further : List ℕ
-  pub takes : TakesUp bytes further requests
   pub performs : PerformsTurns model old new (all_asked requests)
-  pub short : length (output (stored_of old) requests) ≤ length requests * answer_limit
-  pub count : ℕ
-  pub is : total ≡ sent + count
-  pub cut : count < length (output (stored_of old) requests)
-  pub out : Appends held written (take count (output (stored_of old) requests))
+  pub cuts : CutsSending held written bytes (stored_of old) requests sent total
 
 abbrev pub PerformsGroup : {D : Type 0} → DiskModel D → Option (List ℕ)
     → Option (List ℕ) → List ℕ → Input → StoreView D → StoreView D → Unwritten → Unwritten

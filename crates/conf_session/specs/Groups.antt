@@ -1,5 +1,5 @@
 -- What a grouped session has read, answered and stored, for each of its results.
-use Rattle.std.specs.Prelude.{◌≡◌, ℕ, ◌+◌, ◌*◌, ◌<◌, ◌≤◌, false, List, [], ◌∷◌, ◌++◌, length, take, map, Option, Some, None, unwrap_or, Result, Ok, Err}
+use Rattle.std.specs.Prelude.{◌≡◌, ℕ, ◌+◌, ◌*◌, ◌<◌, ◌≤◌, false, List, [], ◌∷◌, ◌++◌, length, take, map, Option, Some, None, unwrap_or, Result, Err}
 use Rattle.std.specs.Io.KnownBytes.{Consumes, Keeps, Appends}
 use Rattle.conf_disk.specs.Folder.{Folder, bytes_under}
 use Rattle.conf_disk.specs.Image.{Image, IsImage}
@@ -14,7 +14,7 @@ use Rattle.conf_store.specs.Grown.{HasGrown}
 use Rattle.conf_store.specs.View.{StoreView}
 use Rattle.conf_session.specs.Requests.{Request}
 use Rattle.conf_session.specs.Answers.{Stored, answer_bytes, answer_limit, stored_after, file_after, staged_after, accepted_command, refused_of}
-use Rattle.conf_session.specs.Runs.{AfterAtLeast, AsksAll, BeginsWith, EndsEarly, EndsInInput, EndsWell, ShowsSessionLong, ShowsTooLong, stored_of}
+use Rattle.conf_session.specs.Runs.{AfterAtLeast, BeginsWith, EndsAnswered, EndsEarly, stored_of}
 use Rattle.conf_session.specs.declared.fault.SessionFault.{SessionFault}
 use Rattle.conf_session.specs.declared.fault.SessionFault.TheVariants as fault
 use Rattle.conf_session.specs.declared.groups.Checkpoints.{Checkpoints}
@@ -133,30 +133,18 @@ pub record EndsInGroup (given left held written : Option (List ℕ)) (start : St
   pub cut : count < length (turns_output start (answered ++ asked last ∷ []))
   pub bound : count ≤ length (requests_of answered ++ unanswered) * answer_limit
 
--- How a grouped session ends, by its result. `given` and `left` are what the reader has before and after, `held` and
--- `written` what the writer has, where they are known.
+-- how a grouped session ends, by its result
 abbrev pub GroupedEnds : Option (List ℕ) → Option (List ℕ) → Option (List ℕ) → Option (List ℕ) → Stored → List Turn
     → List Request → Result Tally SessionFault → Type 0
-GroupedEnds given left held written start answered unanswered (Ok tally) =
-    (unanswered ≡ []) × EndsWell given left held written (requests_of answered) (turns_output start answered)
-    (length (turns_accepted start answered)) (turns_refused start answered) tally
-GroupedEnds given left held written start answered unanswered (Err fault.Read) =
-    (unanswered ≡ [])
-    × EndsInInput given left held written (requests_of answered) (turns_output start answered) AsksAll
 GroupedEnds given left held written start answered unanswered (Err (fault.Write count)) =
     EndsInGroup given left held written start answered unanswered count
-GroupedEnds given left held written start answered unanswered (Err fault.TooLong) =
-    (unanswered ≡ [])
-    × EndsInInput given left held written (requests_of answered) (turns_output start answered) ShowsTooLong
-GroupedEnds given left held written start answered unanswered (Err fault.SessionLong) =
-    (unanswered ≡ [])
-    × EndsInInput given left held written (requests_of answered) (turns_output start answered) ShowsSessionLong
-GroupedEnds given left held written start answered unanswered (Err fault.OutOfMemory) =
-    (unanswered ≡ []) × EndsEarly given left held written (requests_of answered) [] (turns_output start answered)
 GroupedEnds given left held written start answered unanswered (Err fault.Device) =
     EndsEarly given left held written (requests_of answered) unanswered (turns_output start answered)
 GroupedEnds given left held written start answered unanswered (Err fault.Reopen) =
     Keeps given left × Keeps held written × (answered ≡ []) × (unanswered ≡ [])
+GroupedEnds given left held written start answered unanswered result =
+    (unanswered ≡ []) × EndsAnswered given left held written (requests_of answered) (turns_output start answered)
+    (length (turns_accepted start answered)) (turns_refused start answered) result
 
 -- ---- a grouped session
 

@@ -2,7 +2,6 @@ pub mod Requests
 pub mod Answers
 pub mod Runs
 pub mod Replies
-pub mod Progress
 pub mod Said
 pub mod CommandLines
 pub mod PartLines

@@ -1,20 +1,19 @@
 -- What the code's requests and replies are, and what one request does.
-use Rattle.std.specs.Prelude.{◌≡◌, ◌≤◌, ℕ, Bool, true, false, List, [], ◌∷◌, ◌++◌, codes, length, string_bytes, Result, Ok, Err}
+use Rattle.std.specs.Prelude.{◌≡◌, ◌≤◌, ℕ, Bool, true, false, List, [], ◌∷◌, ◌++◌, codes, length, string_bytes, Result, Ok, Err, IsErrOf}
 use Rattle.yaml_recognizers.specs.Closings.{framed_text_bytes}
 use Rattle.conf_disk.specs.Folder.{Folder, bytes_under}
-use Rattle.conf_disk.specs.Image.{Image}
 use Rattle.conf_disk.specs.Models.{DiskModel}
 use Rattle.conf_disk.specs.Moments.{LeavesOnly}
 use Rattle.conf_disk.specs.declared.disk.Name.TheVariants.{Store}
 use Rattle.conf_state.specs.Commands.{Command}
 use Rattle.conf_state.specs.States.{Contents}
+use Rattle.conf_store.specs.Calls.{HasFailed}
 use Rattle.conf_store.specs.Durable.{AfterPrefix, HasFlushed, AllImagesAfterPrefix, staged_text}
 use Rattle.conf_store.specs.View.{StoreView}
-use Rattle.conf_session.specs.Said.{Said}
 use Rattle.conf_session.specs.declared.fault.SessionFault.{SessionFault}
 use Rattle.conf_session.specs.declared.fault.SessionFault.TheVariants.{OutOfMemory, Device}
-use Rattle.conf_session.specs.Requests.{Request, changing, checkpointing, MeansRequest, Asks}
-use Rattle.conf_session.specs.Answers.{Stored, answer_bytes, answer_limit, refusal, word, stored_after, file_after, staged_after, accepted_command, refused_of, flushed_after, waiting_after}
+use Rattle.conf_session.specs.Requests.{Request, changing, checkpointing}
+use Rattle.conf_session.specs.Answers.{Stored, answer_bytes, answer_limit, refusal, word, stored_after, file_after, staged_after, accepted_command, refused_of, flushed_after, waiting_after, stored_after_all, file_after_all, staged_after_all, accepted_commands}
 use Rattle.conf_session.specs.Runs.{stored_of}
 use Rattle.conf_session.specs.declared.reply.Way.{Way}
 use Rattle.conf_session.specs.declared.reply.Way.TheVariants.{AtOnce, Submitted}
@@ -54,7 +53,7 @@ refuses reply = 0
 -- whether an accepted command is flushed before it is answered
 abbrev pub is_at_once : Way → Bool
 is_at_once AtOnce = true
-is_at_once (Submitted client) = false
+is_at_once Submitted = false
 
 -- whatever a crash leaves now means the state after a prefix of the commands that wait
 abbrev pub LeavesPrefixes : Folder → Contents → Type 0
@@ -83,6 +82,24 @@ pub record Performs (at_once : Bool) {D : Type 0} (model : DiskModel D) (old new
       → HasFlushed (model.folder new.disk) (flushed_after at_once (stored_of old) flushed (request ∷ []))
       (waiting_after at_once (stored_of old) waiting (request ∷ [])) new.state
 
+-- The requests are performed, one after the other.
+pub record PerformsAll (at_once : Bool) {D : Type 0} (model : DiskModel D) (old new : StoreView D)
+    (requests : List Request) : Type 0 where
+  pub sound : new.reopen ≡ false
+  pub stored : stored_of new ≡ stored_after_all (stored_of old) requests
+  pub reads : model.honest → bytes_under (model.folder new.disk) Store
+      ≡ file_after_all (bytes_under (model.folder old.disk) Store) (stored_of old) requests
+  pub stages : model.honest → staged_text (model.folder new.disk) new.staged
+      ≡ staged_after_all (staged_text (model.folder old.disk) old.staged) (stored_of old) requests
+  pub any_moment : model.honest → (flushed : Contents) (waiting : List Command)
+      → HasFlushed (model.folder old.disk) flushed waiting old.state
+      → LeavesOnly model old.disk new.disk
+      (λ image. AfterPrefix flushed (waiting ++ accepted_commands (stored_of old) requests) image.store)
+  pub waits : model.honest → (flushed : Contents) (waiting : List Command)
+      → HasFlushed (model.folder old.disk) flushed waiting old.state
+      → HasFlushed (model.folder new.disk) (flushed_after at_once (stored_of old) flushed requests)
+      (waiting_after at_once (stored_of old) waiting requests) new.state
+
 -- the answer to the request
 pub record Replies (now : Stored) (request : Request) (reply : Reply) : Type 0 where
   pub bytes : reply_bytes reply ≡ answer_bytes now request
@@ -101,23 +118,32 @@ Did at_once model old new request (Err Device) =
 Did at_once model old new request (Err OutOfMemory) = new ≡ old
 Did at_once model old new request (Err fault) = ⊥
 
--- The same of what a document says. If memory ran out, the request may be unknown.
-abbrev pub DidSaid : Bool → {D : Type 0} → DiskModel D → StoreView D
-    → StoreView D → Said → Result Reply SessionFault → Type 0
-DidSaid at_once model old new said (Ok reply) =
-    (request : Request) × MeansRequest said request × Did at_once model old new request (Ok reply)
-DidSaid at_once model old new said (Err Device) =
-    (request : Request) × MeansRequest said request
-    × Did at_once model old new request (Err Device)
-DidSaid at_once model old new said (Err OutOfMemory) = new ≡ old
-DidSaid at_once model old new said (Err fault) = ⊥
+-- What became of a request for which `Asked` holds. If memory ran out, nothing was changed, and the request may be unknown.
+abbrev pub DidAsked : Bool → {D : Type 0} → DiskModel D → StoreView D → StoreView D → (Request → Type 0)
+    → Result Reply SessionFault → Type 0
+DidAsked at_once model old new Asked (Ok reply) =
+    (request : Request) × Asked request × Did at_once model old new request (Ok reply)
+DidAsked at_once model old new Asked (Err Device) =
+    (request : Request) × Asked request × Did at_once model old new request (Err Device)
+DidAsked at_once model old new Asked (Err OutOfMemory) = new ≡ old
+DidAsked at_once model old new Asked (Err fault) = ⊥
 
--- The same of a piece. If memory ran out, what it asks for may be unknown.
-abbrev pub DidPiece : Bool → {D : Type 0} → DiskModel D → StoreView D
-    → StoreView D → List ℕ → Result Reply SessionFault → Type 0
-DidPiece at_once model old new piece (Ok reply) =
-    (request : Request) × Asks piece request × Did at_once model old new request (Ok reply)
-DidPiece at_once model old new piece (Err Device) =
-    (request : Request) × Asks piece request × Did at_once model old new request (Err Device)
-DidPiece at_once model old new piece (Err OutOfMemory) = new ≡ old
-DidPiece at_once model old new piece (Err fault) = ⊥
+-- ---- what each call on a store says
+
+-- Unless the store has to be opened again, whatever a crash leaves now means the state after a prefix of what waits.
+abbrev pub MeansPrefixes : {D : Type 0} → DiskModel D → StoreView D → Type 0
+MeansPrefixes model seen =
+    model.honest → seen.reopen ≡ false → LeavesPrefixes (model.folder seen.disk) seen.state
+
+-- `Device` is told only where the device has failed in the meantime, and its failures never become fewer.
+pub record CountsFailures {T D : Type 0} (model : DiskModel D) (old new : StoreView D)
+    (result : Result T SessionFault) : Type 0 where
+  pub cause : IsErrOf result Device → HasFailed (model.failure_count old.disk) (model.failure_count new.disk)
+  pub risen : model.failure_count old.disk ≤ model.failure_count new.disk
+
+-- what a call did that makes the reply to a request for which `Asked` holds
+pub record Handles (at_once : Bool) {D : Type 0} (model : DiskModel D) (old new : StoreView D)
+    (Asked : Request → Type 0) (result : Result Reply SessionFault) : Type 0 where
+  pub did : old.reopen ≡ false → DidAsked at_once model old new Asked result
+  pub failures : CountsFailures model old new result
+  pub means : at_once ≡ true → MeansPrefixes model new

@@ -3,8 +3,7 @@ use Rattle.std.specs.Prelude.{◌≡◌, ◌⊎◌, ℕ, ◌+◌, false, true, L
 use Rattle.std.specs.declared.vec.Vec.{Vec}
 use Rattle.std.specs.declared.alloc.Global.{Global}
 use Rattle.yaml_grammar.specs.Closings.{ClosesOnce}
-use Rattle.conf_disk.specs.Folder.{Folder, bytes_under}
-use Rattle.conf_disk.specs.Image.{Image}
+use Rattle.conf_disk.specs.Folder.{bytes_under}
 use Rattle.conf_disk.specs.Models.{DiskModel}
 use Rattle.conf_disk.specs.Moments.{LeavesOnly}
 use Rattle.conf_disk.specs.declared.disk.Name.TheVariants.{Store}
@@ -15,8 +14,7 @@ use Rattle.conf_store.specs.View.{StoreView}
 use Rattle.conf_session.specs.Requests.{Request, bad, Asks}
 use Rattle.conf_session.specs.Answers.{answer_bytes as answer_to, answers, stored_after_all, file_after_all, staged_after_all, accepted_commands, flushed_after, waiting_after}
 use Rattle.conf_session.specs.Runs.{stored_of}
-use Rattle.conf_session.specs.Replies.{Did, Performs}
-use Rattle.conf_session.specs.declared.reply.Reply.{Reply}
+use Rattle.conf_session.specs.Replies.{Performs}
 use Rattle.conf_session.specs.declared.fault.SessionFault.{SessionFault}
 use Rattle.conf_session.specs.declared.fault.SessionFault.TheVariants as session
 use Rattle.conf_session.specs.declared.rounds.Piece.{Piece}
@@ -96,17 +94,6 @@ pub record Rounds {D : Type 0} (model : DiskModel D) (old new : StoreView D) (pi
       (λ image. AfterPrefix flushed (waiting ++ accepted_commands (stored_of old) requests) image.store)
 
 -- ---- one piece of a round
-
--- What became of a piece. If memory ran out, nothing was changed, and what it asks for may be unknown.
-abbrev pub DidInRound : {D : Type 0} → DiskModel D → StoreView D
-    → StoreView D → List ℕ → Result Reply SessionFault → Type 0
-DidInRound model old new piece (Ok reply) =
-    (request : Request) × RoundAsks piece request × Did false model old new request (Ok reply)
-DidInRound model old new piece (Err session.Device) =
-    (request : Request) × RoundAsks piece request
-    × Did false model old new request (Err session.Device)
-DidInRound model old new piece (Err session.OutOfMemory) = new ≡ old
-DidInRound model old new piece (Err fault) = ⊥
 
 -- why a round ends at a piece, where so many are performed
 abbrev pub round_fault : SessionFault → ℕ → RoundFault

@@ -3,7 +3,7 @@ use Rattle.std.specs.Prelude.{◌≡◌, ℕ, ◌+◌, ◌*◌, ◌<◌, ◌≤�
 use Rattle.std.specs.List.{concat}
 use Rattle.std.specs.Io.KnownBytes.{Consumes, IsAtEnd, Keeps, Appends}
 use Rattle.yaml_grammar.specs.Closings.{ClosesOnce, Pieces}
-use Rattle.conf_disk.specs.Folder.{Folder, bytes_under}
+use Rattle.conf_disk.specs.Folder.{bytes_under}
 use Rattle.conf_disk.specs.Image.{Image, IsImage}
 use Rattle.conf_disk.specs.Models.{DiskModel}
 use Rattle.conf_disk.specs.Moments.{LeavesOnly}
@@ -116,28 +116,35 @@ pub record EndsInOutput (given left held written : Option (List ℕ)) (start : S
   pub cut : count < length (output start performed)
   pub bound : count ≤ length performed * answer_limit
 
--- How a run ends, by its result, where these requests were performed. `given` and `left` are what the reader has before
--- and after, `held` and `written` what the writer has, where they are known.
+-- How a session ends that answered all that it performed, by its result. `given` and `left` are what the reader has
+-- before and after, `held` and `written` what the writer has, where they are known.
+abbrev pub EndsAnswered : Option (List ℕ) → Option (List ℕ) → Option (List ℕ) → Option (List ℕ) → List Request
+    → List ℕ → ℕ → ℕ → Result Tally SessionFault → Type 0
+EndsAnswered given left held written answered answers accepted refused (Ok tally) =
+    EndsWell given left held written answered answers accepted refused tally
+EndsAnswered given left held written answered answers accepted refused (Err fault.Read) =
+    EndsInInput given left held written answered answers AsksAll
+EndsAnswered given left held written answered answers accepted refused (Err fault.TooLong) =
+    EndsInInput given left held written answered answers ShowsTooLong
+EndsAnswered given left held written answered answers accepted refused (Err fault.SessionLong) =
+    EndsInInput given left held written answered answers ShowsSessionLong
+EndsAnswered given left held written answered answers accepted refused (Err fault.OutOfMemory) =
+    EndsEarly given left held written answered [] answers
+EndsAnswered given left held written answered answers accepted refused (Err fault) = ⊥
+
+-- How a run ends, by its result, where these requests were performed.
 abbrev pub Ends : Option (List ℕ) → Option (List ℕ) → Option (List ℕ) → Option (List ℕ) → Stored → List Request
     → List Request → Result Tally SessionFault → Type 0
-Ends given left held written start answered performed (Ok tally) =
-    (performed ≡ answered) × EndsWell given left held written answered (output start answered)
-    (length (accepted_commands start answered)) (refusals start answered) tally
-Ends given left held written start answered performed (Err fault.Read) =
-    (performed ≡ answered) × EndsInInput given left held written answered (output start answered) AsksAll
 Ends given left held written start answered performed (Err (fault.Write count)) =
     EndsInOutput given left held written start answered performed count
-Ends given left held written start answered performed (Err fault.TooLong) =
-    (performed ≡ answered) × EndsInInput given left held written answered (output start answered) ShowsTooLong
-Ends given left held written start answered performed (Err fault.SessionLong) =
-    (performed ≡ answered) × EndsInInput given left held written answered (output start answered) ShowsSessionLong
-Ends given left held written start answered performed (Err fault.OutOfMemory) =
-    (performed ≡ answered) × EndsEarly given left held written answered [] (output start answered)
 Ends given left held written start answered performed (Err fault.Device) =
     (last : Request) × (performed ≡ answered ++ last ∷ [])
     × EndsEarly given left held written answered (last ∷ []) (output start answered)
 Ends given left held written start answered performed (Err fault.Reopen) =
     Keeps given left × Keeps held written × (answered ≡ []) × (performed ≡ [])
+Ends given left held written start answered performed result =
+    (performed ≡ answered) × EndsAnswered given left held written answered (output start answered)
+    (length (accepted_commands start answered)) (refusals start answered) result
 
 -- ---- a run
 

@@ -1,15 +1,16 @@
 // A session in groups: all commands that one read brought are performed, flushed by one sync, and then answered.
-ghost use Rattle.std.specs.Prelude.{◌≡◌, ◌+◌, ◌^◌, ◌<◌, ◌≤◌, ◌⊎◌, ◌↔◌, ◌++◌, [], true, false, None, OnOk, IfErr, IsErrOf, IsSome, length};
+ghost use Rattle.std.specs.Prelude.{◌≡◌, ◌+◌, ◌^◌, ◌<◌, ◌≤◌, ◌⊎◌, ◌↔◌, ◌++◌, [], true, false, None, OnOk, IsErrOf, IsSome, length};
 ghost use Rattle.conf_store.specs.Calls.{HasFailed};
 ghost use Rattle.conf_store.specs.Durable.{AllImagesMean, HasFlushed};
-ghost use Rattle.conf_session.specs.Input.{ahead, bytes_read, piece_or_rest, session_limit};
-ghost use Rattle.conf_session.specs.Replies.{LeavesPrefixes};
-ghost use Rattle.conf_session.specs.Gathering.{EndsGroup, FailsInGroup, FlushesAll, GathersPiece, HasRoomFor, IsAtPiece, PerformsGroup, SubmitsGroup, Tends, TendsByBeginning, TendsBySlice, unwritten_bytes};
+ghost use Rattle.conf_session.specs.Input.{ahead, piece_or_rest};
+ghost use Rattle.conf_session.specs.Replies.{CountsFailures};
+ghost use Rattle.conf_session.specs.Gathering.{CanGoOn, CanTakeGroup, EndsGroup, FlushesAll, PerformsGroup, SubmitsGroup, Tends, TendsByBeginning, TendsBySlice, unwritten_bytes};
 ghost use Rattle.conf_session.specs.Groups.{RunsGrouped};
 
 use crate::fault::SessionFault;
 use crate::input::Input;
-use crate::reply::{Way, answer_piece};
+use crate::pieces::submit_piece;
+use crate::reply::Way;
 use crate::session::Tally;
 use crate::unwritten::Unwritten;
 use conf_disk::Disk;
@@ -32,48 +33,15 @@ pub enum Checkpoints {
 ///
 /// # Errors
 /// `Device`: a crash may still take back commands that waited, and the store has to be opened again.
-fn flush_all<D: Disk>(store: &mut Store<D>) -> Result<(), SessionFault>
+pub(crate) fn flush_all<D: Disk>(store: &mut Store<D>) -> Result<(), SessionFault>
     requires { store.old.reopen ≡ false }
     ensures flushes { FlushesAll D.model store.old store.new result }
-    ensures cause { IsErrOf result SessionFault.Device →
-        HasFailed (D.model.failure_count store.old.disk) (D.model.failure_count store.new.disk) }
-    ensures risen { D.model.failure_count store.old.disk ≤ D.model.failure_count store.new.disk }
+    ensures failures { CountsFailures D.model store.old store.new result }
 {
     match store.flush() {
         Ok(()) => Ok(()),
         Err(_) => Err(SessionFault::Device),
     }
-}
-
-/// Performs a piece without a flush, and keeps its answer.
-///
-/// # Errors
-/// `Reopen` if the store has to be opened again. `OutOfMemory`: the piece changed nothing. `Device`: its command is
-/// performed or not, and the store has to be opened again.
-fn submit_piece<D: Disk>(
-    alloc: Global,
-    store: &mut Store<D>,
-    piece: &[u8],
-    answers: &mut Unwritten,
-) -> Result<(), SessionFault>
-    requires no_last { answers.old.last ≡ None }
-    requires room { HasRoomFor answers.old (length piece.now) session_limit }
-    ensures ok { store.old.reopen ≡ false → OnOk result
-        (GathersPiece D.model store.old store.new
-        piece.now answers.old answers.new) }
-    ensures fails { store.old.reopen ≡ false → IfErr result
-        (FailsInGroup D.model store.old store.new piece.now) }
-    ensures kept { IfErr result (λ _. answers.new ≡ answers.old) }
-    ensures cause { IsErrOf result SessionFault.Device →
-        HasFailed (D.model.failure_count store.old.disk) (D.model.failure_count store.new.disk) }
-    ensures risen { D.model.failure_count store.old.disk ≤ D.model.failure_count store.new.disk }
-{
-    if store.needs_reopen() {
-        return Err(SessionFault::Reopen);
-    }
-    let reply = answer_piece(alloc, store, piece, Way::Submitted { client: 0 })?;
-    answers.keep(reply);
-    Ok(())
 }
 
 /// Performs the piece in hand, and each further one that was read, until the answers are full. Nothing is flushed,
@@ -88,26 +56,16 @@ fn submit_group<D: Disk>(
     input: &mut Input,
     answers: &mut Unwritten,
 ) -> Result<(), SessionFault>
-    requires sound { store.old.reopen ≡ false }
-    requires means { D.model.honest → LeavesPrefixes (D.model.folder store.old.disk) store.old.state }
-    requires piece { IsAtPiece input.old }
-    requires no_last { answers.old.last ≡ None }
-    requires room { HasRoomFor answers.old
-        (length (piece_or_rest input.old ++ ahead input.old)) (bytes_read input.old) }
+    requires can { CanTakeGroup D.model store.old input.old answers.old }
     ensures submits { SubmitsGroup D.model
         (piece_or_rest input.old ++ ahead input.old) input.new store.old store.new
         answers.old answers.new result }
     ensures small { answers.new.written + length (unwritten_bytes answers.new) < 2 ^ 64 }
-    ensures read { OnOk result (bytes_read input.new ≡ bytes_read input.old) }
-    ensures less { OnOk result (length (ahead input.new) ≤ length (ahead input.old)) }
-    ensures room { OnOk result
-        (HasRoomFor answers.new (length (ahead input.new)) (bytes_read input.new)) }
-    ensures cause { IsErrOf result SessionFault.Device →
-        HasFailed (D.model.failure_count store.old.disk) (D.model.failure_count store.new.disk) }
-    ensures risen { D.model.failure_count store.old.disk ≤ D.model.failure_count store.new.disk }
+    ensures goes_on { OnOk result (CanGoOn input.old input.new answers.new) }
+    ensures failures { CountsFailures D.model store.old store.new result }
 {
     'pieces: loop {
-        submit_piece(alloc, store, input.piece(), answers)?;
+        submit_piece(alloc, store, input, Way::Submitted, answers)?;
         if answers.is_full() || !input.has_piece_ahead() {
             return Ok(());
         }
@@ -128,25 +86,15 @@ fn answer_group<D: Disk>(
     input: &mut Input,
     answers: &mut Unwritten,
 ) -> Result<(), SessionFault>
-    requires sound { store.old.reopen ≡ false }
-    requires means { D.model.honest → LeavesPrefixes (D.model.folder store.old.disk) store.old.state }
-    requires piece { IsAtPiece input.old }
-    requires no_last { answers.old.last ≡ None }
-    requires room { HasRoomFor answers.old
-        (length (piece_or_rest input.old ++ ahead input.old)) (bytes_read input.old) }
+    requires can { CanTakeGroup D.model store.old input.old answers.old }
     ensures ends { EndsGroup D.model
         (piece_or_rest input.old ++ ahead input.old) input.new store.old store.new
         answers.old answers.new result }
     ensures now { D.model.honest → store.new.reopen ≡ false →
         AllImagesMean (D.model.folder store.new.disk) store.new.state }
     ensures small { answers.new.written + length (unwritten_bytes answers.new) < 2 ^ 64 }
-    ensures read { OnOk result (bytes_read input.new ≡ bytes_read input.old) }
-    ensures less { OnOk result (length (ahead input.new) ≤ length (ahead input.old)) }
-    ensures room { OnOk result
-        (HasRoomFor answers.new (length (ahead input.new)) (bytes_read input.new)) }
-    ensures cause { IsErrOf result SessionFault.Device →
-        HasFailed (D.model.failure_count store.old.disk) (D.model.failure_count store.new.disk) }
-    ensures risen { D.model.failure_count store.old.disk ≤ D.model.failure_count store.new.disk }
+    ensures goes_on { OnOk result (CanGoOn input.old input.new answers.new) }
+    ensures failures { CountsFailures D.model store.old store.new result }
 {
     match submit_group(alloc, store, input, answers) {
         Ok(()) => flush_all(store),
@@ -171,24 +119,14 @@ fn perform_group<D: Disk, W: Write>(
     writer: &mut W,
     answers: &mut Unwritten,
 ) -> Result<(), SessionFault>
-    requires sound { store.old.reopen ≡ false }
-    requires means { D.model.honest → LeavesPrefixes (D.model.folder store.old.disk) store.old.state }
-    requires piece { IsAtPiece input.old }
-    requires no_last { answers.old.last ≡ None }
-    requires room { HasRoomFor answers.old
-        (length (piece_or_rest input.old ++ ahead input.old)) (bytes_read input.old) }
+    requires can { CanTakeGroup D.model store.old input.old answers.old }
     requires none { unwritten_bytes answers.old ≡ [] }
     ensures performs { PerformsGroup D.model
         (W.contents writer.old) (W.contents writer.new)
         (piece_or_rest input.old ++ ahead input.old) input.new store.old store.new
         answers.old answers.new result }
-    ensures read { OnOk result (bytes_read input.new ≡ bytes_read input.old) }
-    ensures less { OnOk result (length (ahead input.new) ≤ length (ahead input.old)) }
-    ensures room { OnOk result
-        (HasRoomFor answers.new (length (ahead input.new)) (bytes_read input.new)) }
-    ensures cause { IsErrOf result SessionFault.Device →
-        HasFailed (D.model.failure_count store.old.disk) (D.model.failure_count store.new.disk) }
-    ensures risen { D.model.failure_count store.old.disk ≤ D.model.failure_count store.new.disk }
+    ensures goes_on { OnOk result (CanGoOn input.old input.new answers.new) }
+    ensures failures { CountsFailures D.model store.old store.new result }
 {
     match answer_group(alloc, store, input, answers) {
         Ok(()) => answers.write(writer),
@@ -212,9 +150,7 @@ fn begin_checkpoint<D: Disk>(store: &mut Store<D>) -> Result<(), SessionFault>
     requires now { D.model.honest → AllImagesMean (D.model.folder store.old.disk) store.old.state }
     ensures tends { TendsByBeginning D.model
         store.old store.new result }
-    ensures cause { IsErrOf result SessionFault.Device →
-        HasFailed (D.model.failure_count store.old.disk) (D.model.failure_count store.new.disk) }
-    ensures risen { D.model.failure_count store.old.disk ≤ D.model.failure_count store.new.disk }
+    ensures failures { CountsFailures D.model store.old store.new result }
 {
     let Err(fault) = store.begin_checkpoint() else {
         return Ok(());
@@ -237,9 +173,7 @@ fn write_slice<D: Disk>(store: &mut Store<D>) -> Result<(), SessionFault>
     requires now { D.model.honest → AllImagesMean (D.model.folder store.old.disk) store.old.state }
     ensures tends { TendsBySlice D.model
         store.old store.new result }
-    ensures cause { IsErrOf result SessionFault.Device →
-        HasFailed (D.model.failure_count store.old.disk) (D.model.failure_count store.new.disk) }
-    ensures risen { D.model.failure_count store.old.disk ≤ D.model.failure_count store.new.disk }
+    ensures failures { CountsFailures D.model store.old store.new result }
 {
     match store.slice() {
         Ok(_) => Ok(()),
@@ -261,9 +195,7 @@ fn tend_checkpoint<D: Disk>(
     requires now { D.model.honest → AllImagesMean (D.model.folder store.old.disk) store.old.state }
     ensures tends { Tends D.model checkpoints
         store.old store.new result }
-    ensures cause { IsErrOf result SessionFault.Device →
-        HasFailed (D.model.failure_count store.old.disk) (D.model.failure_count store.new.disk) }
-    ensures risen { D.model.failure_count store.old.disk ≤ D.model.failure_count store.new.disk }
+    ensures failures { CountsFailures D.model store.old store.new result }
 {
     let Checkpoints::After { bytes } = checkpoints else {
         return Ok(());
@@ -325,6 +257,7 @@ pub fn run_grouped<D: Disk, R: Read, W: Write>(
         ↔ ((store.old.reopen ≡ true) ⊎ IsErrOf result SessionFault.Device) }
     ensures cause { IsErrOf result SessionFault.Device →
         HasFailed (D.model.failure_count store.old.disk) (D.model.failure_count store.new.disk) }
+    ensures risen { D.model.failure_count store.old.disk ≤ D.model.failure_count store.new.disk }
 {
     if store.needs_reopen() {
         return Err(SessionFault::Reopen);

@@ -1,43 +1,18 @@
-// Performing one piece, and writing its answer.
-ghost use Rattle.std.specs.Prelude.{◌≡◌, ◌≤◌, false, IfOk, IfErr, IsErrOf};
-ghost use Rattle.conf_store.specs.Calls.{HasFailed};
-ghost use Rattle.conf_session.specs.Replies.{accepts, refuses, reply_bytes, LeavesPrefixes};
-ghost use Rattle.conf_session.specs.Progress.{Answered, Fails, HasRoom};
+// One piece: its command is performed, and its answer is kept or written.
+ghost use Rattle.std.specs.Prelude.{◌≡◌, ◌+◌, ◌^◌, ◌<◌, ◌++◌, [], true, false, None, OnOk, IfErr, length};
+ghost use Rattle.conf_session.specs.Gathering.{CanGoOn, CanTakeGroup, GathersPiece, HasRoomFor, IsAtPiece, LeavesPiece, PerformsPiece, unwritten_bytes};
+ghost use Rattle.conf_session.specs.Input.{ahead, bytes_read, piece_or_rest};
+ghost use Rattle.conf_session.specs.Replies.{accepts, refuses, reply_bytes, is_at_once, CountsFailures, MeansPrefixes};
 
 use crate::fault::SessionFault;
-use crate::output::write_or_count;
+use crate::input::Input;
 use crate::reply::{Reply, Way, answer_piece};
-use crate::session::Tally;
+use crate::unwritten::Unwritten;
 use crate::words::refusal_bytes;
 use conf_disk::Disk;
 use conf_store::Store;
 use std::alloc::Global;
 use std::io::Write;
-
-/// What was done so far, and how many bytes of answers were written.
-#[derive(Clone, Copy)]
-pub struct Counts {
-    pub tally: Tally,
-    pub written: u64,
-}
-
-impl Counts {
-    /// Counts of zero: nothing was done yet.
-    pub fn new() -> Counts
-        ensures documents { result.tally.documents ≡ 0 }
-        ensures accepted { result.tally.accepted ≡ 0 }
-        ensures refused { result.tally.refused ≡ 0 }
-        ensures written { result.written ≡ 0 }
-    {
-        let tally = Tally {
-            documents: 0,
-            accepted: 0,
-            refused: 0,
-            rest: 0,
-        };
-        Counts { tally, written: 0 }
-    }
-}
 
 /// How many commands a reply accepts: 1 or 0.
 pub fn count_accepted(reply: &Reply) -> u64
@@ -73,50 +48,62 @@ pub fn bytes_of(reply: &Reply) -> &[u8]
     }
 }
 
-/// Performs a piece and writes its answer. Returns the counts with this piece.
+/// Performs the piece in hand, and keeps its answer.
+///
+/// # Errors
+/// `Reopen` if the store has to be opened again. `OutOfMemory`: the piece changed nothing. `Device`: its command is
+/// performed or not, and the store has to be opened again.
+pub(crate) fn submit_piece<D: Disk>(
+    alloc: Global,
+    store: &mut Store<D>,
+    input: &Input,
+    way: Way,
+    answers: &mut Unwritten,
+) -> Result<(), SessionFault>
+    requires sound { store.old.reopen ≡ false }
+    requires piece { IsAtPiece input.now }
+    requires no_last { answers.old.last ≡ None }
+    requires room { HasRoomFor answers.old
+        (length (piece_or_rest input.now ++ ahead input.now)) (bytes_read input.now) }
+    ensures ok { OnOk result (GathersPiece (is_at_once way) D.model store.old store.new
+        (piece_or_rest input.now) answers.old answers.new) }
+    ensures fails { IfErr result (LeavesPiece (is_at_once way) D.model store.old store.new
+        (piece_or_rest input.now)) }
+    ensures kept { IfErr result (λ _. answers.new ≡ answers.old) }
+    ensures room { OnOk result
+        (HasRoomFor answers.new (length (ahead input.now)) (bytes_read input.now)) }
+    ensures small { answers.new.written + length (unwritten_bytes answers.new) < 2 ^ 64 }
+    ensures means { is_at_once way ≡ true → MeansPrefixes D.model store.new }
+    ensures failures { CountsFailures D.model store.old store.new result }
+{
+    if store.needs_reopen() {
+        return Err(SessionFault::Reopen);
+    }
+    let reply = answer_piece(alloc, store, input.piece(), way)?;
+    answers.keep(reply);
+    Ok(())
+}
+
+/// Performs the piece in hand as a group by itself: its command is flushed at once, and then its answer is written.
 ///
 /// # Errors
 /// `Write`: the piece is performed, and `written` counts the bytes of all answers. `OutOfMemory`: the piece changed
 /// nothing. `Device`: its command is performed or not, and the store has to be opened again.
-pub fn perform_piece<D: Disk, W: Write>(
+pub(crate) fn perform_piece<D: Disk, W: Write>(
     alloc: Global,
     store: &mut Store<D>,
+    input: &Input,
     writer: &mut W,
-    piece: &[u8],
-    counts: Counts,
-) -> Result<Counts, SessionFault>
-    requires room { HasRoom counts }
-    requires means { D.model.honest → store.old.reopen ≡ false →
-        LeavesPrefixes (D.model.folder store.old.disk) store.old.state }
-    ensures ok { store.old.reopen ≡ false → IfOk result
-        (Answered D.model (W.contents writer.old) (W.contents writer.new)
-        store.old store.new piece.now counts) }
-    ensures fails { store.old.reopen ≡ false → IfErr result
-        (Fails D.model (W.contents writer.old) (W.contents writer.new)
-        store.old store.new piece.now counts.written) }
-    ensures cause { IsErrOf result SessionFault.Device →
-        HasFailed (D.model.failure_count store.old.disk) (D.model.failure_count store.new.disk) }
-    ensures risen { D.model.failure_count store.old.disk ≤ D.model.failure_count store.new.disk }
-    ensures now { D.model.honest → store.new.reopen ≡ false →
-        LeavesPrefixes (D.model.folder store.new.disk) store.new.state }
+    answers: &mut Unwritten,
+) -> Result<(), SessionFault>
+    requires can { CanTakeGroup D.model store.old input.now answers.old }
+    requires none { unwritten_bytes answers.old ≡ [] }
+    ensures performs { PerformsPiece D.model (W.contents writer.old) (W.contents writer.new)
+        input.now store.old store.new answers.old answers.new result }
+    ensures goes_on { OnOk result (CanGoOn input.now input.now answers.new) }
+    ensures means { MeansPrefixes D.model store.new }
+    ensures failures { CountsFailures D.model store.old store.new result }
 {
-    let reply = answer_piece(alloc, store, piece, Way::AtOnce)?;
-    let accepted = count_accepted(&reply);
-    let refused = count_refused(&reply);
-    let bytes = bytes_of(&reply);
-    match write_or_count(writer, bytes) {
-        Ok(()) => {
-            let tally = Tally {
-                documents: counts.tally.documents + 1,
-                accepted: counts.tally.accepted + accepted,
-                refused: counts.tally.refused + refused,
-                rest: counts.tally.rest,
-            };
-            let written = counts.written + bytes.len() as u64;
-            Ok(Counts { tally, written })
-        }
-        Err(count) => Err(SessionFault::Write {
-            written: counts.written + count as u64,
-        }),
-    }
+    submit_piece(alloc, store, input, Way::AtOnce, answers)?;
+    answers.write(writer)
 }

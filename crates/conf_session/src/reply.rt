@@ -1,5 +1,5 @@
 // What is answered to one piece, and what is done for it.
-ghost use Rattle.std.specs.Prelude.{◌≡◌, ◌≢◌, ◌≤◌, ◌⊎◌, ◌↔◌, ◌++◌, ◌∷◌, [], List, IsErrOf, IfOk, IfErr, OnOk, true, false, if◌then◌else◌};
+ghost use Rattle.std.specs.Prelude.{◌≡◌, ◌≢◌, ◌≤◌, ◌⊎◌, ◌↔◌, ◌++◌, ◌∷◌, [], Bool, List, IsErrOf, IfOk, IfErr, OnOk, true, false, if◌then◌else◌};
 ghost use Rattle.std.specs.Str.{chars};
 ghost use Rattle.conf_disk.specs.Folder.{bytes_under};
 ghost use Rattle.conf_disk.specs.Moments.{LeavesOnly};
@@ -10,10 +10,10 @@ ghost use Rattle.conf_store.specs.Calls.{Accepts, HasFailed, RefusesCommand, nex
 ghost use Rattle.conf_store.specs.Durable.{AfterPrefix, AllImagesMean, HasFlushed, staged_text};
 ghost use Rattle.conf_store.specs.Meaning.{FileMeans};
 ghost use Rattle.conf_session.specs.Said.{import_text, single_part, batch_of_parts, part_seen, parts_seen};
-ghost use Rattle.conf_session.specs.Requests.{changing, checkpointing};
+ghost use Rattle.conf_session.specs.Requests.{Asks, MeansRequest, changing, checkpointing};
 ghost use Rattle.conf_session.specs.Said.{said_of};
 ghost use Rattle.conf_session.specs.Answers.{answered};
-ghost use Rattle.conf_session.specs.Replies.{Did, DidPiece, DidSaid, LeavesPrefixes, is_at_once, refused_as};
+ghost use Rattle.conf_session.specs.Replies.{Handles, MeansPrefixes, is_at_once, refused_as};
 
 use crate::answer::{count_answer, export_answer, get_answer, names_answer};
 use crate::fault::SessionFault;
@@ -43,8 +43,8 @@ pub enum Reply {
 pub enum Way {
     /// Before it is answered.
     AtOnce,
-    /// By a later flush. The client's number changes nothing.
-    Submitted { client: u64 },
+    /// By a later flush.
+    Submitted,
 }
 
 /// The reply to a request that is refused.
@@ -97,7 +97,7 @@ fn perform<D: Disk>(store: &mut Store<D>, command: Command, way: Way) -> Result<
 {
     match way {
         Way::AtOnce => store.apply(command),
-        Way::Submitted { client } => store.submit(client, command),
+        Way::Submitted => store.submit(0, command),
     }
 }
 
@@ -108,16 +108,9 @@ fn change<D: Disk>(
     command: Command,
     way: Way,
 ) -> Result<Reply, SessionFault>
-    requires means { D.model.honest → store.old.reopen ≡ false →
-        LeavesPrefixes (D.model.folder store.old.disk) store.old.state }
-    ensures did { store.old.reopen ≡ false →
-        Did (is_at_once way) D.model store.old store.new
-        (changing (command_of command)) result }
-    ensures cause { IsErrOf result SessionFault.Device →
-        HasFailed (D.model.failure_count store.old.disk) (D.model.failure_count store.new.disk) }
-    ensures risen { D.model.failure_count store.old.disk ≤ D.model.failure_count store.new.disk }
-    ensures now { is_at_once way ≡ true → D.model.honest → store.new.reopen ≡ false →
-        LeavesPrefixes (D.model.folder store.new.disk) store.new.state }
+    requires means { MeansPrefixes D.model store.old }
+    ensures { Handles (is_at_once way) D.model store.old store.new
+        (λ request. request ≡ changing (command_of command)) result }
 {
     let next = store.count().saturating_add(1);
     let answer = count_answer(alloc, next)?;
@@ -129,15 +122,9 @@ fn change<D: Disk>(
 
 /// Makes a checkpoint. The memory for its answer is taken first.
 fn checkpoint<D: Disk>(alloc: Global, store: &mut Store<D>) -> Result<Reply, SessionFault>
-    requires means { D.model.honest → store.old.reopen ≡ false →
-        LeavesPrefixes (D.model.folder store.old.disk) store.old.state }
-    ensures did { store.old.reopen ≡ false →
-        Did true D.model store.old store.new checkpointing result }
-    ensures cause { IsErrOf result SessionFault.Device →
-        HasFailed (D.model.failure_count store.old.disk) (D.model.failure_count store.new.disk) }
-    ensures risen { D.model.failure_count store.old.disk ≤ D.model.failure_count store.new.disk }
-    ensures now { D.model.honest → store.new.reopen ≡ false →
-        LeavesPrefixes (D.model.folder store.new.disk) store.new.state }
+    requires means { MeansPrefixes D.model store.old }
+    ensures { (at_once : Bool) → Handles at_once D.model store.old store.new
+        (λ request. request ≡ checkpointing) result }
 {
     let answer = count_answer(alloc, store.count())?;
     match store.checkpoint() {
@@ -156,16 +143,9 @@ fn import<D: Disk>(
     source: &str,
     way: Way,
 ) -> Result<Reply, SessionFault>
-    requires means { D.model.honest → store.old.reopen ≡ false →
-        LeavesPrefixes (D.model.folder store.old.disk) store.old.state }
-    ensures did { store.old.reopen ≡ false →
-        DidSaid (is_at_once way) D.model store.old store.new
-        (single_part (import_text (chars name.now) (chars source.now))) result }
-    ensures cause { IsErrOf result SessionFault.Device →
-        HasFailed (D.model.failure_count store.old.disk) (D.model.failure_count store.new.disk) }
-    ensures risen { D.model.failure_count store.old.disk ≤ D.model.failure_count store.new.disk }
-    ensures now { is_at_once way ≡ true → D.model.honest → store.new.reopen ≡ false →
-        LeavesPrefixes (D.model.folder store.new.disk) store.new.state }
+    requires means { MeansPrefixes D.model store.old }
+    ensures { Handles (is_at_once way) D.model store.old store.new
+        (MeansRequest (single_part (import_text (chars name.now) (chars source.now)))) result }
 {
     match import_command(alloc, name, source.as_bytes()) {
         Ok(command) => change(alloc, store, command, way),
@@ -180,16 +160,9 @@ fn change_single<D: Disk>(
     part: Part,
     way: Way,
 ) -> Result<Reply, SessionFault>
-    requires means { D.model.honest → store.old.reopen ≡ false →
-        LeavesPrefixes (D.model.folder store.old.disk) store.old.state }
-    ensures did { store.old.reopen ≡ false →
-        DidSaid (is_at_once way) D.model store.old store.new
-        (single_part (part_seen part)) result }
-    ensures cause { IsErrOf result SessionFault.Device →
-        HasFailed (D.model.failure_count store.old.disk) (D.model.failure_count store.new.disk) }
-    ensures risen { D.model.failure_count store.old.disk ≤ D.model.failure_count store.new.disk }
-    ensures now { is_at_once way ≡ true → D.model.honest → store.new.reopen ≡ false →
-        LeavesPrefixes (D.model.folder store.new.disk) store.new.state }
+    requires means { MeansPrefixes D.model store.old }
+    ensures { Handles (is_at_once way) D.model store.old store.new
+        (MeansRequest (single_part (part_seen part))) result }
 {
     match part {
         Part::Import { name, text } => import(alloc, store, &name, &text, way),
@@ -204,16 +177,9 @@ fn change_batch<D: Disk>(
     parts: Vec<Part>,
     way: Way,
 ) -> Result<Reply, SessionFault>
-    requires means { D.model.honest → store.old.reopen ≡ false →
-        LeavesPrefixes (D.model.folder store.old.disk) store.old.state }
-    ensures did { store.old.reopen ≡ false →
-        DidSaid (is_at_once way) D.model store.old store.new
-        (batch_of_parts (parts_seen parts.items)) result }
-    ensures cause { IsErrOf result SessionFault.Device →
-        HasFailed (D.model.failure_count store.old.disk) (D.model.failure_count store.new.disk) }
-    ensures risen { D.model.failure_count store.old.disk ≤ D.model.failure_count store.new.disk }
-    ensures now { is_at_once way ≡ true → D.model.honest → store.new.reopen ≡ false →
-        LeavesPrefixes (D.model.folder store.new.disk) store.new.state }
+    requires means { MeansPrefixes D.model store.old }
+    ensures { Handles (is_at_once way) D.model store.old store.new
+        (MeansRequest (batch_of_parts (parts_seen parts.items))) result }
 {
     match read_parts(alloc, parts) {
         Ok(edits) => change(alloc, store, Command::Batch { edits }, way),
@@ -228,15 +194,9 @@ fn answer_said<D: Disk>(
     said: Said,
     way: Way,
 ) -> Result<Reply, SessionFault>
-    requires means { D.model.honest → store.old.reopen ≡ false →
-        LeavesPrefixes (D.model.folder store.old.disk) store.old.state }
-    ensures did { store.old.reopen ≡ false →
-        DidSaid (is_at_once way) D.model store.old store.new (said_of said) result }
-    ensures cause { IsErrOf result SessionFault.Device →
-        HasFailed (D.model.failure_count store.old.disk) (D.model.failure_count store.new.disk) }
-    ensures risen { D.model.failure_count store.old.disk ≤ D.model.failure_count store.new.disk }
-    ensures now { is_at_once way ≡ true → D.model.honest → store.new.reopen ≡ false →
-        LeavesPrefixes (D.model.folder store.new.disk) store.new.state }
+    requires means { MeansPrefixes D.model store.old }
+    ensures { Handles (is_at_once way) D.model store.old store.new
+        (MeansRequest (said_of said)) result }
 {
     match said {
         Said::Single(part) => change_single(alloc, store, part, way),
@@ -256,15 +216,8 @@ pub fn answer_piece<D: Disk>(
     piece: &[u8],
     way: Way,
 ) -> Result<Reply, SessionFault>
-    requires means { D.model.honest → store.old.reopen ≡ false →
-        LeavesPrefixes (D.model.folder store.old.disk) store.old.state }
-    ensures did { store.old.reopen ≡ false →
-        DidPiece (is_at_once way) D.model store.old store.new piece.now result }
-    ensures cause { IsErrOf result SessionFault.Device →
-        HasFailed (D.model.failure_count store.old.disk) (D.model.failure_count store.new.disk) }
-    ensures risen { D.model.failure_count store.old.disk ≤ D.model.failure_count store.new.disk }
-    ensures now { is_at_once way ≡ true → D.model.honest → store.new.reopen ≡ false →
-        LeavesPrefixes (D.model.folder store.new.disk) store.new.state }
+    requires means { MeansPrefixes D.model store.old }
+    ensures { Handles (is_at_once way) D.model store.old store.new (Asks piece.now) result }
 {
     let said = read_said(alloc, piece)?;
     answer_said(alloc, store, said, way)

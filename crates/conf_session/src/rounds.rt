@@ -2,10 +2,11 @@
 ghost use Rattle.std.specs.Prelude.{◌≡◌, ◌<◌, ◌≤◌, ◌⊎◌, ◌↔◌, ◌++◌, ◌∷◌, [], true, false, length, IfOk, IfErr, OnOk, IsErrOf};
 ghost use Rattle.yaml_grammar.specs.Closings.{ClosesOnce};
 ghost use Rattle.conf_store.specs.Calls.{HasFailed};
-ghost use Rattle.conf_session.specs.Replies.{LeavesPrefixes, reply_bytes};
-ghost use Rattle.conf_session.specs.Rounds.{AnswersPiece, DidInRound, FailsPiece, Rounds, answer_bytes, piece_bytes, round_fault};
+ghost use Rattle.conf_session.specs.Replies.{Handles, MeansPrefixes, reply_bytes};
+ghost use Rattle.conf_session.specs.Rounds.{AnswersPiece, FailsPiece, RoundAsks, Rounds, answer_bytes, piece_bytes, round_fault};
 
 use crate::fault::SessionFault;
+use crate::groups::flush_all;
 use crate::pieces::bytes_of;
 use crate::reply::{Reply, Way, answer_piece};
 use conf_disk::Disk;
@@ -65,22 +66,14 @@ fn submit_piece<D: Disk>(
     store: &mut Store<D>,
     piece: &Piece,
 ) -> Result<Reply, SessionFault>
-    requires means { D.model.honest → store.old.reopen ≡ false →
-        LeavesPrefixes (D.model.folder store.old.disk) store.old.state }
-    ensures did { store.old.reopen ≡ false →
-        DidInRound D.model store.old store.new
-        piece.now.bytes.items result }
-    ensures cause { IsErrOf result SessionFault.Device →
-        HasFailed (D.model.failure_count store.old.disk) (D.model.failure_count store.new.disk) }
-    ensures risen { D.model.failure_count store.old.disk ≤ D.model.failure_count store.new.disk }
+    requires means { MeansPrefixes D.model store.old }
+    ensures { Handles false D.model store.old store.new
+        (RoundAsks piece.now.bytes.items) result }
 {
     if !closes_once(&piece.bytes) {
         return Ok(Reply::NoCommand);
     }
-    let way = Way::Submitted {
-        client: piece.client,
-    };
-    answer_piece(alloc, store, &piece.bytes, way)
+    answer_piece(alloc, store, &piece.bytes, Way::Submitted)
 }
 
 /// Appends the bytes of a reply to the answers.
@@ -171,6 +164,7 @@ pub fn round<D: Disk>(
         ↔ ((store.old.reopen ≡ true) ⊎ IsErrOf result RoundFault.Device) }
     ensures cause { IsErrOf result RoundFault.Device →
         HasFailed (D.model.failure_count store.old.disk) (D.model.failure_count store.new.disk) }
+    ensures risen { D.model.failure_count store.old.disk ≤ D.model.failure_count store.new.disk }
 {
     if store.needs_reopen() {
         return Err(RoundFault::Reopen);
@@ -179,7 +173,7 @@ pub fn round<D: Disk>(
     'turns: for piece in pieces {
         take_piece(alloc, store, piece, &mut answers)?;
     }
-    match store.flush() {
+    match flush_all(store) {
         Ok(()) => Ok(answers),
         Err(_) => Err(RoundFault::Device),
     }

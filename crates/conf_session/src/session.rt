@@ -1,11 +1,12 @@
 // A session: commands in, answers out.
-ghost use Rattle.std.specs.Prelude.{◌≡◌, ◌⊎◌, ◌↔◌, true, IsErrOf};
+ghost use Rattle.std.specs.Prelude.{◌≡◌, ◌≤◌, ◌⊎◌, ◌↔◌, true, IsErrOf};
 ghost use Rattle.conf_store.specs.Calls.{HasFailed};
 ghost use Rattle.conf_session.specs.Runs.{Runs};
 
 use crate::fault::SessionFault;
 use crate::input::Input;
-use crate::pieces::{Counts, perform_piece};
+use crate::pieces::perform_piece;
+use crate::unwritten::Unwritten;
 use conf_disk::Disk;
 use conf_store::Store;
 use std::alloc::Global;
@@ -62,16 +63,17 @@ pub fn run<D: Disk, R: Read, W: Write>(
         ↔ ((store.old.reopen ≡ true) ⊎ IsErrOf result SessionFault.Device) }
     ensures cause { IsErrOf result SessionFault.Device →
         HasFailed (D.model.failure_count store.old.disk) (D.model.failure_count store.new.disk) }
+    ensures risen { D.model.failure_count store.old.disk ≤ D.model.failure_count store.new.disk }
 {
     if store.needs_reopen() {
         return Err(SessionFault::Reopen);
     }
     let mut input = Input::new(alloc)?;
-    let mut counts = Counts::new();
+    let mut answers = Unwritten::new(alloc);
     'pieces: while input.advance(reader)? {
-        counts = perform_piece(alloc, store, writer, input.piece(), counts)?;
+        perform_piece(alloc, store, &input, writer, &mut answers)?;
     }
-    let mut tally = counts.tally;
+    let mut tally = answers.tally;
     tally.rest = input.piece().len() as u64;
     Ok(tally)
 }

@@ -1,5 +1,5 @@
 -- The group is flushed, whether or not there was memory for all of it.
-use Rattle.std.proofs.Common.{◌++◌, subst}
+use Rattle.std.proofs.Common.{◌++◌, arith, subst}
 use Rattle.std.specs.Prelude.{Err}
 use Rattle.std.proofs.lemmas.Result.{err_from_is_err_and}
 use Rattle.conf_session.specs.declared.fault.SessionFault.{SessionFault}
@@ -7,6 +7,7 @@ use Rattle.conf_session.specs.declared.fault.SessionFault.TheVariants.{OutOfMemo
 use Rattle.conf_session.specs.Input.{ahead, piece_or_rest}
 use Rattle.conf_session.specs.Gathering.{SubmitsGroup}
 use Rattle.conf_session.proofs.GatherLemmas.{answers-flushed, ends-flushing, ends-unflushed}
+use Rattle.conf_session.proofs.RequestLemmas.{failures-after, failures-none}
 use Rattle.conf_session.proofs.groups.answer_group.Goals as goal
 
 pub returns-in-Ok-clause-ends : goal.returns-in-Ok-clause-ends
@@ -40,3 +41,23 @@ returns-in_ok-flush_all-in-Err-OutOfMemory-clause-ends g c =
       answers-flushed d.model bytes s.0 c.args.store.now new.store c.args.answers.now new.answers s.1 c.flush_all-in-Err-OutOfMemory.new.store
           c.in_ok-flush_all-in-Err-OutOfMemory.ensures.flushes,
     )
+
+-- ---- failures of the device
+
+pub returns-in-Ok-clause-failures : goal.returns-in-Ok-clause-failures
+returns-in-Ok-clause-failures g c =
+    failures-after g.D.Disk.model c.args.store.now c.submit_group.new.store c.flush_all.new.store c.flush_all.result c.submit_group.ensures.failures.risen c.flush_all.ensures.failures
+
+pub returns-in_err-flush_all-in-Err-OutOfMemory-clause-failures : goal.returns-in_err-flush_all-in-Err-OutOfMemory-clause-failures
+returns-in_err-flush_all-in-Err-OutOfMemory-clause-failures g c =
+    let d = g.D.Disk in
+    let all = failures-after d.model c.args.store.now c.submit_group.new.store c.flush_all-in-Err-OutOfMemory.new.store (Err c.in_err-flush_all-in-Err-OutOfMemory.field-0.0) c.submit_group.ensures.failures.risen
+    c.in_err-flush_all-in-Err-OutOfMemory.ensures.failures in
+    let p = err_from_is_err_and c.from_residual.result c.from_residual.ensures.1 in
+    rw (p.1, p.2) all
+
+pub returns-in_ok-flush_all-in-Err-OutOfMemory-clause-failures : goal.returns-in_ok-flush_all-in-Err-OutOfMemory-clause-failures
+returns-in_ok-flush_all-in-Err-OutOfMemory-clause-failures g c =
+    let d = g.D.Disk in
+    failures-none d.model c.args.store.now c.flush_all-in-Err-OutOfMemory.new.store (Err OutOfMemory)
+    (omega (arith, c.submit_group.ensures.failures.risen, c.flush_all-in-Err-OutOfMemory.ensures.failures.risen)) (λ e. cc e)

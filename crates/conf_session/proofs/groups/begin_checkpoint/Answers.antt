@@ -49,6 +49,5 @@ returns-in_default-fault g c =
     record {
       tends = stops-short d.model c.args.store.now c.begin_checkpoint.new.self f c.requires.sound (λ e. absurd (opened e)) (inr device)
           (λ e. c.in-Err.ensures.device (ap Err e)) c.begin_checkpoint.ensures.state (λ h. c.begin_checkpoint.ensures.any_moment h c.requires.sound);
-      cause = λ e. c.begin_checkpoint.ensures.cause (c.in-Err.is ∙ ap Err device);
-      risen = c.begin_checkpoint.ensures.risen;
+      failures = record { cause = λ e. c.begin_checkpoint.ensures.cause (c.in-Err.is ∙ ap Err device); risen = c.begin_checkpoint.ensures.risen };
     }

@@ -5,8 +5,8 @@ use Rattle.std.proofs.lemmas.Bool.{false≢true}
 use Rattle.std.proofs.lemmas.Result.{err_from_is_err_and}
 use Rattle.conf_session.specs.Input.{Advances, AdvancesToPiece, AdvancesToEnd, ahead, bytes_read}
 use Rattle.conf_session.specs.Gathering.{last_bytes, unwritten_bytes}
-use Rattle.conf_session.proofs.SessionLemmas.{longer-piece}
-use Rattle.conf_session.proofs.TendLemmas.{means-prefixes}
+use Rattle.conf_session.proofs.ReadLemmas.{longer-piece, room-read}
+use Rattle.conf_session.proofs.RequestLemmas.{synced-leaves}
 use Rattle.conf_session.proofs.GroupLemmas.{GroupsSoFar, reopens, groups-none, groups-more, groups-tended, ends-well, ends-in_input, ends-failing, ends-tending, starts-failing, starts-without-memory}
 use Rattle.conf_session.proofs.groups.run_grouped.Goals as goal
 
@@ -60,7 +60,7 @@ groups-init g c =
         refused = omega (arith, zero.documents, zero.refused);
         out = omega (arith, zero.documents, zero.written, unwritten);
       };
-      risen = c.flush_all.ensures.risen;
+      risen = c.flush_all.ensures.failures.risen;
     }
 
 pub returns-in_err-advance-clause-runs : goal.returns-in_err-advance-clause-runs
@@ -74,8 +74,19 @@ returns-in_err-advance-clause-runs g c =
     let p = err_from_is_err_and c.from_residual-in_err-advance.result c.from_residual-in_err-advance.ensures.1 in
     rw (p.1, p.2) ends
 
-pub perform_group-requires-clause-means : goal.perform_group-requires-clause-means
-perform_group-requires-clause-means g c h = means-prefixes (g.D.Disk.model.folder c.groups.store.disk) c.groups.store.state (c.groups.invariant.so_far.performs.now h)
+pub perform_group-requires-clause-can : goal.perform_group-requires-clause-can
+perform_group-requires-clause-can g c =
+    let given = g.R.Read.remaining in
+    let inv = c.groups.invariant in
+    let advances : AdvancesToPiece (given c.groups.reader) (given c.advance.new.reader) c.groups.input c.advance.new.self =
+    subst (λ b. Advances (given c.groups.reader) (given c.advance.new.reader) c.groups.input c.advance.new.self (Ok b)) c.if-branch.true c.in_ok-advance.ensures in
+    record {
+      sound = inv.sound;
+      means = λ h off. synced-leaves (g.D.Disk.model.folder c.groups.store.disk) c.groups.store.state (inv.so_far.performs.now h);
+      piece = record { sound = advances.sound; piece = advances.piece; short = advances.short };
+      no_last = inv.no_last;
+      room = room-read (given c.groups.reader) (given c.advance.new.reader) c.groups.input c.advance.new.self c.groups.answers inv.room advances;
+    }
 
 pub returns-in_err-perform_group-clause-runs : goal.returns-in_err-perform_group-clause-runs
 returns-in_err-perform_group-clause-runs g c =
@@ -100,8 +111,8 @@ groups-smaller g c =
     subst (λ b. Advances (given c.groups.reader) (given c.advance.new.reader) c.groups.input c.advance.new.self (Ok b)) c.if-branch.true c.in_ok-advance.ensures in
     let longer = longer-piece (given c.groups.reader) (given c.advance.new.reader) c.groups.input c.advance.new.self advances in
     let within = advances.sound.total in
-    let less = c.in_ok-perform_group.ensures.less in
-    let read = c.in_ok-perform_group.ensures.read in
+    let less = c.in_ok-perform_group.ensures.goes_on.less in
+    let read = c.in_ok-perform_group.ensures.goes_on.read in
     omega (arith, longer, within, less, read)
 
 pub groups-preserved : goal.groups-preserved
@@ -117,7 +128,7 @@ groups-preserved g c =
     let so_far : GroupsSoFar d.model (given c.args.reader.now) (given c.advance.new.reader) (held c.args.writer.now) (held new.writer) c.args.checkpoints c.args.store.now new.store
     (ahead new.input) new.answers (bytes_read new.input) =
     subst (λ (n : ℕ). GroupsSoFar d.model (given c.args.reader.now) (given c.advance.new.reader) (held c.args.writer.now) (held new.writer) c.args.checkpoints c.args.store.now new.store
-    (ahead new.input) new.answers n) (sym c.in_ok-perform_group.ensures.read)
+    (ahead new.input) new.answers n) (sym c.in_ok-perform_group.ensures.goes_on.read)
     (groups-more d.model c.args.checkpoints (given c.args.reader.now) (given c.groups.reader) (given c.advance.new.reader)
     (held c.args.writer.now) (held c.groups.writer) c.args.store.now c.groups.store c.groups.input c.advance.new.self c.groups.answers inv.so_far advances
     (held new.writer) new.store new.answers (ahead new.input) performs.3) in
@@ -130,8 +141,8 @@ groups-preserved g c =
           (held c.args.writer.now) (held new.writer) c.args.store.now new.store new.input new.input new.answers so_far c.tend_checkpoint.new.store tends.0 tends.1 tends.2 tends.3 tends.4;
       no_last = performs.2;
       none = performs.1;
-      room = c.in_ok-perform_group.ensures.room;
-      risen = omega (arith, inv.risen, c.perform_group.ensures.risen, c.tend_checkpoint.ensures.risen);
+      room = c.in_ok-perform_group.ensures.goes_on.room;
+      risen = omega (arith, inv.risen, c.perform_group.ensures.failures.risen, c.tend_checkpoint.ensures.failures.risen);
     }
 
 pub returns-in_err-tend_checkpoint-clause-runs : goal.returns-in_err-tend_checkpoint-clause-runs
@@ -147,7 +158,7 @@ returns-in_err-tend_checkpoint-clause-runs g c =
     let so_far : GroupsSoFar d.model (given c.args.reader.now) (given c.advance.new.reader) (held c.args.writer.now) (held new.writer) c.args.checkpoints c.args.store.now new.store
     (ahead new.input) new.answers (bytes_read new.input) =
     subst (λ (n : ℕ). GroupsSoFar d.model (given c.args.reader.now) (given c.advance.new.reader) (held c.args.writer.now) (held new.writer) c.args.checkpoints c.args.store.now new.store
-    (ahead new.input) new.answers n) (sym c.in_ok-perform_group.ensures.read)
+    (ahead new.input) new.answers n) (sym c.in_ok-perform_group.ensures.goes_on.read)
     (groups-more d.model c.args.checkpoints (given c.args.reader.now) (given c.groups.reader) (given c.advance.new.reader)
     (held c.args.writer.now) (held c.groups.writer) c.args.store.now c.groups.store c.groups.input c.advance.new.self c.groups.answers inv.so_far advances
     (held new.writer) new.store new.answers (ahead new.input) performs.3) in

@@ -5,7 +5,7 @@ use Rattle.std.proofs.lemmas.Result.{err_from_is_err_and}
 use Rattle.conf_session.specs.Answers.{answer_bytes as answer_to}
 use Rattle.conf_session.specs.Runs.{stored_of}
 use Rattle.conf_session.specs.Rounds.{answer_bytes, piece_bytes}
-use Rattle.conf_session.proofs.RoundLemmas.{RoundSoFar, round-none, round-more, next-piece, all-pieces, one-more, ends-failing, ends-flushed, ends-unflushed}
+use Rattle.conf_session.proofs.RoundLemmas.{RoundSoFar, round-none, round-more, next-piece, all-pieces, one-more, ends-failing, ends-flushed, ends-failed}
 use Rattle.conf_session.proofs.rounds.round.Goals as goal
 
 pub turns-init : goal.turns-init
@@ -68,7 +68,7 @@ returns-in-Ok-clause-rounds g c =
     let upto : i ≤ length c.args.pieces.now = c.turns.auto.piece-index-end in
     let past : length c.args.pieces.now ≤ i = c.turns-test.false in
     ends-flushed d.model c.args.store.now c.turns.store (take i all) (answer_bytes c.turns.answers.items) inv.so_far all i (omega (arith, long, upto)) refl (omega (arith, long, upto, past))
-    c.flush.new.self c.turns.answers refl c.flush.ensures.same c.flush.ensures.reads c.flush.ensures.stages (λ h. c.flush.ensures.any_moment h inv.sound) c.in-Ok.ensures.flushed c.in-Ok.ensures.now
+    c.flush_all.new.store c.turns.answers refl c.in-Ok.ensures.flushes
 
 pub returns-in-Err-clause-rounds : goal.returns-in-Err-clause-rounds
 returns-in-Err-clause-rounds g c =
@@ -78,5 +78,5 @@ returns-in-Err-clause-rounds g c =
     let all = piece_bytes c.args.pieces.now in
     let long = all-pieces c.args.pieces.now in
     let upto : i ≤ length c.args.pieces.now = c.turns.auto.piece-index-end in
-    ends-unflushed d.model c.args.store.now c.turns.store (take i all) (answer_bytes c.turns.answers.items) inv.so_far all i (omega (arith, long, upto)) refl
-    c.flush.new.self c.flush.ensures.same (λ h. c.flush.ensures.any_moment h inv.sound)
+    ends-failed d.model c.args.store.now c.turns.store (take i all) (answer_bytes c.turns.answers.items) inv.so_far all i (omega (arith, long, upto)) refl
+    c.flush_all.new.store c.in-Err.field-0 c.in-Err.ensures.flushes

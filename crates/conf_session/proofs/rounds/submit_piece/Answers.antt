@@ -1,32 +1,30 @@
 -- Bytes that are closed once are performed as a piece of a session, and others are no command.
-use Rattle.std.proofs.Common.{false, inr, refl, sym, ◌∙◌, subst}
+use Rattle.std.proofs.Common.{false, inl, inr, refl, sym, ◌∙◌, subst}
+use Rattle.std.specs.Prelude.{Ok}
 use Rattle.std.proofs.lemmas.Bool.{false≢true}
 use Rattle.yaml_grammar.specs.Closings.{ClosesOnce}
-use Rattle.conf_session.specs.Requests.{bad}
-use Rattle.conf_session.specs.Replies.{DidPiece}
+use Rattle.conf_session.specs.Requests.{Asks, bad}
+use Rattle.conf_session.specs.Replies.{Handles}
+use Rattle.conf_session.specs.Rounds.{RoundAsks}
+use Rattle.conf_session.specs.declared.reply.Reply.TheVariants.{NoCommand}
 use Rattle.conf_session.proofs.LengthLemmas.{bad-short}
-use Rattle.conf_session.proofs.RequestLemmas.{only-read}
-use Rattle.conf_session.proofs.RoundLemmas.{in-round}
+use Rattle.conf_session.proofs.RequestLemmas.{handles-reading, handles-retold}
 use Rattle.conf_session.proofs.rounds.submit_piece.Goals as goal
 
-pub returns-then-not-closes_once-clause-did : goal.returns-then-not-closes_once-clause-did
-returns-then-not-closes_once-clause-did g c off =
+pub returns-then-not-closes_once : goal.returns-then-not-closes_once
+returns-then-not-closes_once g c =
     let d = g.D.Disk in
-    let store = c.args.store.now in (
-      bad,
-      inr (λ closes. false≢true (sym c.if-not-closes_once.true ∙ c.closes_once.ensures.1 (subst ClosesOnce (sym c.deref.ensures.value) closes)), refl),
-      (
-        record { bytes = refl; accepted = refl; refused = refl; short = bad-short },
-        off,
-        only-read false d.model store off bad tt (λ image h is. g.met.D.Disk.only_now store.disk image h is) c.requires.means,
-      ),
-    )
+    let store = c.args.store.now in
+    handles-reading false d.model store c.requires.means (RoundAsks c.args.piece.now.bytes.items) (λ image h is. g.met.D.Disk.only_now store.disk image h is) bad
+    (inr (λ closes. false≢true (sym c.if-not-closes_once.true ∙ c.closes_once.ensures.1 (subst ClosesOnce (sym c.deref.ensures.value) closes)), refl)) tt
+    (Ok NoCommand) (record { bytes = refl; accepted = refl; refused = refl; short = bad-short }) tt
 
-pub returns-clause-did : goal.returns-clause-did
-returns-clause-did g c off =
+pub returns : goal.returns
+returns g c =
     let d = g.D.Disk in
     let old = c.args.store.now in
     let new = c.answer_piece.new.store in
-    let closes : ClosesOnce c.args.piece.now.bytes.items = subst ClosesOnce c.deref.ensures.value (c.closes_once.ensures.0 c.if-not-closes_once.false) in
-    in-round d.model old new c.args.piece.now.bytes.items closes c.answer_piece.result
-    (subst (λ b. DidPiece false d.model old new b c.answer_piece.result) c.deref-2.ensures.value (c.answer_piece.ensures.did off))
+    let bytes = c.args.piece.now.bytes.items in
+    let closes : ClosesOnce bytes = subst ClosesOnce c.deref.ensures.value (c.closes_once.ensures.0 c.if-not-closes_once.false) in
+    handles-retold false d.model old new (Asks bytes) (RoundAsks bytes) (λ request asks. inl (closes, asks)) c.answer_piece.result
+    (subst (λ b. Handles false d.model old new (Asks b) c.answer_piece.result) c.deref-2.ensures.value c.answer_piece.ensures)
