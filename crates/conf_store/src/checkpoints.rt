@@ -1,12 +1,11 @@
 // Checkpoints of an open store.
-ghost use Rattle.std.specs.Prelude.{◌≡◌, ◌≢◌, ◌≤◌, ◌⊎◌, ◌↔◌, [], true, false, List, length, IfOk, IfErr, IsErrOf, OnOk, Some, None, IsSome, is_some};
+ghost use Rattle.std.specs.Prelude.{◌≡◌, ◌⊎◌, ◌↔◌, true, false, List, length, IfOk, IfErr, IsErrOf, OnOk, Some, None, IsSome, is_some};
 ghost use Rattle.conf_disk.specs.Folder.{bytes_under};
-ghost use Rattle.conf_disk.specs.Moments.{LeavesOnly};
 ghost use Rattle.conf_state.specs.BaseTexts.{base_bytes};
-ghost use Rattle.conf_state.specs.Commands.{Command as GivenCommand};
+ghost use Rattle.conf_state.specs.Commands.{Command};
 ghost use Rattle.conf_state.specs.States.{Contents};
-ghost use Rattle.conf_store.specs.Calls.{HasFailed};
-ghost use Rattle.conf_store.specs.Durable.{AfterPrefix, AllImagesMean, HasFlushed, staged_text};
+ghost use Rattle.conf_store.specs.Changing.{CrashesLeaveState, DeviceHasCause, FailuresNeverFall, LeavesPrefix, NoneWaits, RefusalsChangeNothing, SameWait, new_file, store_file};
+ghost use Rattle.conf_store.specs.Durable.{HasFlushed};
 ghost use Rattle.conf_store.specs.Slices.{Begins, SliceFlushes, SliceReads, Slices, SyncedWhenDue};
 
 use crate::base_file::write_base;
@@ -31,35 +30,23 @@ impl<D: Disk> Store<D> {
         ensures reopen { IsErrOf result StoreFault.Reopen ↔ (self.old.reopen ≡ true) }
         ensures ok { OnOk result ((self.new.reopen ≡ false) × (self.new.staged ≡ None)
             × (self.new.size ≡ length (base_bytes self.old.state))) }
-        ensures refused { IfErr result (λ fault.
-            (fault ≡ StoreFault.Reopen) ⊎ (fault ≡ StoreFault.Device)
-            ⊎ (fault ≡ StoreFault.OutOfMemory)) }
+        ensures refused { IfErr result (λ fault. (fault ≡ StoreFault.Reopen)
+            ⊎ (fault ≡ StoreFault.Device) ⊎ (fault ≡ StoreFault.OutOfMemory)) }
         ensures running { IfErr result (λ _. self.new.staged ≡ self.old.staged) }
-        ensures unchanged { IfErr result (λ fault.
-            fault ≢ StoreFault.Device → self.new ≡ self.old) }
+        ensures unchanged { RefusalsChangeNothing self.old self.new result }
         ensures state { self.new.state ≡ self.old.state }
         ensures device { IsErrOf result StoreFault.Device → self.new.reopen ≡ true }
-        ensures cause { IsErrOf result StoreFault.Device →
-            HasFailed (D.model.failure_count self.old.disk) (D.model.failure_count self.new.disk) }
-        // The number of failures never falls.
-        ensures risen { D.model.failure_count self.old.disk ≤ D.model.failure_count self.new.disk }
+        ensures cause { DeviceHasCause D.model self.old self.new result }
+        ensures risen { FailuresNeverFall D.model self.old self.new }
         ensures reads { D.model.honest →
-            OnOk result (bytes_under (D.model.folder self.new.disk) Name.Store
-            ≡ Some (base_bytes self.old.state)) }
+            OnOk result (store_file D.model self.new.disk ≡ Some (base_bytes self.old.state)) }
         // After Ok there is no `next.yaml`.
         ensures gone { D.model.honest →
             OnOk result (bytes_under (D.model.folder self.new.disk) Name.Next ≡ None) }
-        // A crash at any moment of the call leaves the state after a prefix of the commands that waited.
-        ensures any_moment { D.model.honest → self.old.reopen ≡ false →
-            (flushed : Contents) (since : List GivenCommand)
-            → HasFlushed (D.model.folder self.old.disk) flushed since self.old.state →
-            LeavesOnly D.model self.old.disk self.new.disk
-            (λ image. AfterPrefix flushed since image.store) }
+        ensures any_moment { LeavesPrefix D.model self.old self.new }
         // After Ok none waits, and whatever a crash leaves means the state.
-        ensures flushed { D.model.honest → OnOk result
-            (HasFlushed (D.model.folder self.new.disk) self.new.state [] self.new.state) }
-        ensures now { D.model.honest → OnOk result
-            (AllImagesMean (D.model.folder self.new.disk) self.new.state) }
+        ensures flushed { D.model.honest → OnOk result (NoneWaits D.model self.new) }
+        ensures now { D.model.honest → OnOk result (CrashesLeaveState D.model self.new) }
     {
         documents_close();
         held_store_is_left();
@@ -94,34 +81,21 @@ impl<D: Disk> Store<D> {
         requires { self.old.staged ≡ None }
         ensures reopen { IsErrOf result StoreFault.Reopen ↔ (self.old.reopen ≡ true) }
         ensures ok { OnOk result (Begins self.old self.new) }
-        ensures refused { IfErr result (λ fault.
-            (fault ≡ StoreFault.Reopen) ⊎ (fault ≡ StoreFault.Device)
-            ⊎ (fault ≡ StoreFault.OutOfMemory)) }
+        ensures refused { IfErr result (λ fault. (fault ≡ StoreFault.Reopen)
+            ⊎ (fault ≡ StoreFault.Device) ⊎ (fault ≡ StoreFault.OutOfMemory)) }
         ensures not_running { IfErr result (λ _. self.new.staged ≡ None) }
         ensures state { self.new.state ≡ self.old.state }
-        ensures unchanged { IfErr result (λ fault.
-            fault ≢ StoreFault.Device → self.new ≡ self.old) }
+        ensures unchanged { RefusalsChangeNothing self.old self.new result }
         ensures device { IsErrOf result StoreFault.Device → self.new.reopen ≡ true }
-        ensures cause { IsErrOf result StoreFault.Device →
-            HasFailed (D.model.failure_count self.old.disk) (D.model.failure_count self.new.disk) }
-        // The number of failures never falls.
-        ensures risen { D.model.failure_count self.old.disk ≤ D.model.failure_count self.new.disk }
-        ensures reads { D.model.honest → bytes_under (D.model.folder self.new.disk) Name.Store
-            ≡ bytes_under (D.model.folder self.old.disk) Name.Store }
-        ensures stages { D.model.honest → OnOk result
-            (staged_text (D.model.folder self.new.disk) self.new.staged
-            ≡ Some (base_bytes self.old.state)) }
-        // A crash at any moment of the call leaves the state after a prefix of the commands that wait.
-        ensures any_moment { D.model.honest → self.old.reopen ≡ false →
-            (flushed : Contents) (since : List GivenCommand)
-            → HasFlushed (D.model.folder self.old.disk) flushed since self.old.state →
-            LeavesOnly D.model self.old.disk self.new.disk
-            (λ image. AfterPrefix flushed since image.store) }
+        ensures cause { DeviceHasCause D.model self.old self.new result }
+        ensures risen { FailuresNeverFall D.model self.old self.new }
+        ensures reads { D.model.honest →
+            store_file D.model self.new.disk ≡ store_file D.model self.old.disk }
+        ensures stages { D.model.honest →
+            OnOk result (new_file D.model self.new ≡ Some (base_bytes self.old.state)) }
+        ensures any_moment { LeavesPrefix D.model self.old self.new }
         // The same commands wait.
-        ensures waits { D.model.honest → self.old.reopen ≡ false →
-            (flushed : Contents) (since : List GivenCommand)
-            → HasFlushed (D.model.folder self.old.disk) flushed since self.old.state →
-            OnOk result (HasFlushed (D.model.folder self.new.disk) flushed since self.new.state) }
+        ensures waits { SameWait D.model self.old self.new result }
     {
         documents_are_read();
         documents_close();
@@ -162,28 +136,20 @@ impl<D: Disk> Store<D> {
             (fault ≡ StoreFault.Reopen) ⊎ (fault ≡ StoreFault.Device)) }
         ensures running { IfErr result (λ _. IsSome self.new.staged) }
         ensures state { self.new.state ≡ self.old.state }
-        ensures unchanged { IfErr result (λ fault.
-            fault ≢ StoreFault.Device → self.new ≡ self.old) }
+        ensures unchanged { RefusalsChangeNothing self.old self.new result }
         ensures device { IsErrOf result StoreFault.Device → self.new.reopen ≡ true }
-        ensures cause { IsErrOf result StoreFault.Device →
-            HasFailed (D.model.failure_count self.old.disk) (D.model.failure_count self.new.disk) }
-        // The number of failures never falls.
-        ensures risen { D.model.failure_count self.old.disk ≤ D.model.failure_count self.new.disk }
+        ensures cause { DeviceHasCause D.model self.old self.new result }
+        ensures risen { FailuresNeverFall D.model self.old self.new }
         ensures reads { D.model.honest → self.old.reopen ≡ false → IfOk result
             (SliceReads D.model.folder self.old self.new) }
         // After each 1,048,576 bytes of `next.yaml` none of them is pending.
         ensures synced { D.model.honest → self.old.reopen ≡ false → OnOk result
             (SyncedWhenDue (D.model.folder self.new.disk) self.new.staged) }
-        // A crash at any moment of the call leaves the state after a prefix of the commands that wait.
-        ensures any_moment { D.model.honest → self.old.reopen ≡ false →
-            (flushed : Contents) (since : List GivenCommand)
-            → HasFlushed (D.model.folder self.old.disk) flushed since self.old.state →
-            LeavesOnly D.model self.old.disk self.new.disk
-            (λ image. AfterPrefix flushed since image.store) }
+        ensures any_moment { LeavesPrefix D.model self.old self.new }
         // If something is left, the same commands wait. Once it is done none waits, and whatever a crash leaves means
         // the state.
         ensures waits { D.model.honest → self.old.reopen ≡ false →
-            (flushed : Contents) (since : List GivenCommand)
+            (flushed : Contents) (since : List Command)
             → HasFlushed (D.model.folder self.old.disk) flushed since self.old.state →
             IfOk result (SliceFlushes D.model.folder flushed since self.new) }
     {

@@ -1,22 +1,17 @@
 // Commands on an open store.
-ghost use Rattle.std.specs.Prelude.{◌≡◌, ◌≢◌, ◌≤◌, ◌⊎◌, ◌↔◌, ◌++◌, ◌∷◌, [], true, false, List, IfOk, IfErr, IsErrOf, OnOk, Err, is_some};
+ghost use Rattle.std.specs.Prelude.{◌≡◌, ◌⊎◌, ◌↔◌, true, false, IfOk, IfErr, IsErrOf, OnOk, Err, is_some};
 ghost use Rattle.std.specs.Str.{chars};
-ghost use Rattle.conf_disk.specs.Folder.{bytes_under};
-ghost use Rattle.conf_disk.specs.Moments.{LeavesOnly};
-ghost use Rattle.conf_journal.specs.Store.{file_with_bytes};
-ghost use Rattle.conf_state.specs.Commands.{Command as GivenCommand, command_of};
+ghost use Rattle.conf_state.specs.Commands.{command_of};
 ghost use Rattle.conf_state.specs.Names.{good_name};
-ghost use Rattle.conf_state.specs.States.{Contents};
-ghost use Rattle.conf_store.specs.Calls.{Accepts, HasFailed, RefusesCommand, next_record};
-ghost use Rattle.conf_store.specs.Durable.{AfterPrefix, AllImagesMean, HasFlushed, staged_text};
+ghost use Rattle.conf_store.specs.Calls.{Accepts, RefusesCommand};
+ghost use Rattle.conf_store.specs.Changing.{AppendsRecord, CommandWaits, CrashesLeaveState, DeviceHasCause, FailuresNeverFall, LeavesPrefix, LeavesPrefixOrNew, NoneWaits, RefusalsChangeNothing, new_file, store_file};
 ghost use Rattle.conf_store.specs.Imports.{AppendsImport, Imports, RefusesImport};
-ghost use Rattle.conf_store.specs.Meaning.{FileMeans};
 ghost use Rattle.conf_store.specs.Slices.{StaysTheSame};
 
 use crate::accepting::accept;
 use crate::importing::import_command;
 use crate::store::Store;
-use conf_disk::{Disk, Name};
+use conf_disk::Disk;
 use conf_journal::{append_store, held_store_is_left, sync_store};
 use conf_record::documents_close;
 use conf_state::{Command, StoreFault};
@@ -39,36 +34,19 @@ impl<D: Disk> Store<D> {
         ensures refused { IfErr result (RefusesCommand self.old (command_of command) self.new) }
         // Whatever it returns, a running checkpoint goes on.
         ensures running { is_some self.new.staged ≡ is_some self.old.staged }
-        ensures unchanged { IfErr result (λ fault.
-            fault ≢ StoreFault.Device → self.new ≡ self.old) }
+        ensures unchanged { RefusalsChangeNothing self.old self.new result }
         ensures device { IsErrOf result StoreFault.Device → self.new.reopen ≡ true }
-        ensures cause { IsErrOf result StoreFault.Device →
-            HasFailed (D.model.failure_count self.old.disk) (D.model.failure_count self.new.disk) }
-        // The number of failures never falls.
-        ensures risen { D.model.failure_count self.old.disk ≤ D.model.failure_count self.new.disk }
+        ensures cause { DeviceHasCause D.model self.old self.new result }
+        ensures risen { FailuresNeverFall D.model self.old self.new }
         ensures reads { D.model.honest → self.old.reopen ≡ false →
-            OnOk result (bytes_under (D.model.folder self.new.disk) Name.Store
-            ≡ file_with_bytes (bytes_under (D.model.folder self.old.disk) Name.Store)
-            (next_record self.old.state (command_of command))) }
+            OnOk result (AppendsRecord self.old (command_of command)
+            (store_file D.model self.old.disk) (store_file D.model self.new.disk)) }
         // So does the new file of a running checkpoint.
         ensures stages { D.model.honest → self.old.reopen ≡ false →
-            OnOk result (staged_text (D.model.folder self.new.disk) self.new.staged
-            ≡ file_with_bytes (staged_text (D.model.folder self.old.disk) self.old.staged)
-            (next_record self.old.state (command_of command))) }
-        // A crash at any moment of the call leaves the state after a prefix of the commands that wait, or after this
-        // one.
-        ensures any_moment { D.model.honest → self.old.reopen ≡ false →
-            (flushed : Contents) (since : List GivenCommand)
-            → HasFlushed (D.model.folder self.old.disk) flushed since self.old.state →
-            LeavesOnly D.model self.old.disk self.new.disk
-            (λ image. AfterPrefix flushed since image.store
-            ⊎ FileMeans image.store self.new.state) }
-        // The command waits, behind those that wait.
-        ensures waits { D.model.honest → self.old.reopen ≡ false →
-            (flushed : Contents) (since : List GivenCommand)
-            → HasFlushed (D.model.folder self.old.disk) flushed since self.old.state →
-            OnOk result (HasFlushed (D.model.folder self.new.disk) flushed
-            (since ++ command_of command ∷ []) self.new.state) }
+            OnOk result (AppendsRecord self.old (command_of command)
+            (new_file D.model self.old) (new_file D.model self.new)) }
+        ensures any_moment { LeavesPrefixOrNew D.model self.old self.new }
+        ensures waits { CommandWaits D.model self.old (command_of command) self.new result }
     {
         documents_close();
         held_store_is_left();
@@ -110,28 +88,17 @@ impl<D: Disk> Store<D> {
         ensures refused { IfErr result (λ fault.
             (fault ≡ StoreFault.Reopen) ⊎ (fault ≡ StoreFault.Device)) }
         ensures same { StaysTheSame self.old self.new }
-        ensures unchanged { IfErr result (λ fault.
-            fault ≢ StoreFault.Device → self.new ≡ self.old) }
+        ensures unchanged { RefusalsChangeNothing self.old self.new result }
         ensures device { IsErrOf result StoreFault.Device → self.new.reopen ≡ true }
-        ensures cause { IsErrOf result StoreFault.Device →
-            HasFailed (D.model.failure_count self.old.disk) (D.model.failure_count self.new.disk) }
-        // The number of failures never falls.
-        ensures risen { D.model.failure_count self.old.disk ≤ D.model.failure_count self.new.disk }
-        ensures reads { D.model.honest → bytes_under (D.model.folder self.new.disk) Name.Store
-            ≡ bytes_under (D.model.folder self.old.disk) Name.Store }
-        ensures stages { D.model.honest → staged_text (D.model.folder self.new.disk) self.new.staged
-            ≡ staged_text (D.model.folder self.old.disk) self.old.staged }
-        // A crash at any moment of the call leaves the state after a prefix of the commands that wait.
-        ensures any_moment { D.model.honest → self.old.reopen ≡ false →
-            (flushed : Contents) (since : List GivenCommand)
-            → HasFlushed (D.model.folder self.old.disk) flushed since self.old.state →
-            LeavesOnly D.model self.old.disk self.new.disk
-            (λ image. AfterPrefix flushed since image.store) }
+        ensures cause { DeviceHasCause D.model self.old self.new result }
+        ensures risen { FailuresNeverFall D.model self.old self.new }
+        ensures reads { D.model.honest →
+            store_file D.model self.new.disk ≡ store_file D.model self.old.disk }
+        ensures stages { D.model.honest → new_file D.model self.new ≡ new_file D.model self.old }
+        ensures any_moment { LeavesPrefix D.model self.old self.new }
         // After Ok none waits, and whatever a crash leaves means the state.
-        ensures flushed { D.model.honest → OnOk result
-            (HasFlushed (D.model.folder self.new.disk) self.new.state [] self.new.state) }
-        ensures now { D.model.honest → OnOk result
-            (AllImagesMean (D.model.folder self.new.disk) self.new.state) }
+        ensures flushed { D.model.honest → OnOk result (NoneWaits D.model self.new) }
+        ensures now { D.model.honest → OnOk result (CrashesLeaveState D.model self.new) }
     {
         documents_close();
         held_store_is_left();
@@ -173,35 +140,21 @@ impl<D: Disk> Store<D> {
             Accepts self.old (command_of command) self.new × (count ≡ self.new.state.count)) }
         ensures refused { IfErr result (RefusesCommand self.old (command_of command) self.new) }
         ensures running { is_some self.new.staged ≡ is_some self.old.staged }
-        ensures unchanged { IfErr result (λ fault.
-            fault ≢ StoreFault.Device → self.new ≡ self.old) }
+        ensures unchanged { RefusalsChangeNothing self.old self.new result }
         ensures device { IsErrOf result StoreFault.Device → self.new.reopen ≡ true }
-        ensures cause { IsErrOf result StoreFault.Device →
-            HasFailed (D.model.failure_count self.old.disk) (D.model.failure_count self.new.disk) }
-        // The number of failures never falls.
-        ensures risen { D.model.failure_count self.old.disk ≤ D.model.failure_count self.new.disk }
+        ensures cause { DeviceHasCause D.model self.old self.new result }
+        ensures risen { FailuresNeverFall D.model self.old self.new }
         ensures reads { D.model.honest → self.old.reopen ≡ false →
-            OnOk result (bytes_under (D.model.folder self.new.disk) Name.Store
-            ≡ file_with_bytes (bytes_under (D.model.folder self.old.disk) Name.Store)
-            (next_record self.old.state (command_of command))) }
+            OnOk result (AppendsRecord self.old (command_of command)
+            (store_file D.model self.old.disk) (store_file D.model self.new.disk)) }
         // So does the new file of a running checkpoint.
         ensures stages { D.model.honest → self.old.reopen ≡ false →
-            OnOk result (staged_text (D.model.folder self.new.disk) self.new.staged
-            ≡ file_with_bytes (staged_text (D.model.folder self.old.disk) self.old.staged)
-            (next_record self.old.state (command_of command))) }
-        // A crash at any moment of the call leaves the state after a prefix of the commands that waited, or after this
-        // one.
-        ensures any_moment { D.model.honest → self.old.reopen ≡ false →
-            (flushed : Contents) (since : List GivenCommand)
-            → HasFlushed (D.model.folder self.old.disk) flushed since self.old.state →
-            LeavesOnly D.model self.old.disk self.new.disk
-            (λ image. AfterPrefix flushed since image.store
-            ⊎ FileMeans image.store self.new.state) }
+            OnOk result (AppendsRecord self.old (command_of command)
+            (new_file D.model self.old) (new_file D.model self.new)) }
+        ensures any_moment { LeavesPrefixOrNew D.model self.old self.new }
         // After Ok none waits, and whatever a crash leaves means the state.
-        ensures flushed { D.model.honest → OnOk result
-            (HasFlushed (D.model.folder self.new.disk) self.new.state [] self.new.state) }
-        ensures now { D.model.honest → OnOk result
-            (AllImagesMean (D.model.folder self.new.disk) self.new.state) }
+        ensures flushed { D.model.honest → OnOk result (NoneWaits D.model self.new) }
+        ensures now { D.model.honest → OnOk result (CrashesLeaveState D.model self.new) }
     {
         match self.submit(0, command) {
             Ok(count) => match self.flush() {
@@ -228,35 +181,21 @@ impl<D: Disk> Store<D> {
             → result ≡ Err StoreFault.BadName }
         ensures refused { IfErr result (RefusesImport self.old (chars name.now) text.now self.new) }
         ensures running { is_some self.new.staged ≡ is_some self.old.staged }
-        ensures unchanged { IfErr result (λ fault.
-            fault ≢ StoreFault.Device → self.new ≡ self.old) }
+        ensures unchanged { RefusalsChangeNothing self.old self.new result }
         ensures device { IsErrOf result StoreFault.Device → self.new.reopen ≡ true }
-        ensures cause { IsErrOf result StoreFault.Device →
-            HasFailed (D.model.failure_count self.old.disk) (D.model.failure_count self.new.disk) }
-        // The number of failures never falls.
-        ensures risen { D.model.failure_count self.old.disk ≤ D.model.failure_count self.new.disk }
+        ensures cause { DeviceHasCause D.model self.old self.new result }
+        ensures risen { FailuresNeverFall D.model self.old self.new }
         ensures reads { D.model.honest → self.old.reopen ≡ false →
             OnOk result (AppendsImport self.old (chars name.now) text.now
-            (bytes_under (D.model.folder self.old.disk) Name.Store)
-            (bytes_under (D.model.folder self.new.disk) Name.Store)) }
+            (store_file D.model self.old.disk) (store_file D.model self.new.disk)) }
         // So does the new file of a running checkpoint.
         ensures stages { D.model.honest → self.old.reopen ≡ false →
             OnOk result (AppendsImport self.old (chars name.now) text.now
-            (staged_text (D.model.folder self.old.disk) self.old.staged)
-            (staged_text (D.model.folder self.new.disk) self.new.staged)) }
-        // A crash at any moment of the call leaves the state after a prefix of the commands that waited, or after this
-        // one.
-        ensures any_moment { D.model.honest → self.old.reopen ≡ false →
-            (flushed : Contents) (since : List GivenCommand)
-            → HasFlushed (D.model.folder self.old.disk) flushed since self.old.state →
-            LeavesOnly D.model self.old.disk self.new.disk
-            (λ image. AfterPrefix flushed since image.store
-            ⊎ FileMeans image.store self.new.state) }
+            (new_file D.model self.old) (new_file D.model self.new)) }
+        ensures any_moment { LeavesPrefixOrNew D.model self.old self.new }
         // After Ok none waits, and whatever a crash leaves means the state.
-        ensures flushed { D.model.honest → OnOk result
-            (HasFlushed (D.model.folder self.new.disk) self.new.state [] self.new.state) }
-        ensures now { D.model.honest → OnOk result
-            (AllImagesMean (D.model.folder self.new.disk) self.new.state) }
+        ensures flushed { D.model.honest → OnOk result (NoneWaits D.model self.new) }
+        ensures now { D.model.honest → OnOk result (CrashesLeaveState D.model self.new) }
     {
         if self.needs_reopen() {
             return Err(StoreFault::Reopen);

@@ -8,7 +8,8 @@ ghost use Rattle.conf_state.specs.Commands.{Command as GivenCommand};
 ghost use Rattle.conf_state.specs.Limits.{IsState};
 ghost use Rattle.conf_state.specs.States.{Contents, names_of};
 ghost use Rattle.conf_store.specs.Calls.{Exports, HasFailed, tree_at, tree_named};
-ghost use Rattle.conf_store.specs.Durable.{AllImagesMean, AllImagesAfterPrefix, HasFlushed, staged_text};
+ghost use Rattle.conf_store.specs.Changing.{new_file, store_file};
+ghost use Rattle.conf_store.specs.Durable.{AllImagesMean, AllImagesAfterPrefix, HasFlushed};
 ghost use Rattle.conf_store.specs.Files.{FilesStay, HasLength, IsOldOrBase, LeavesOldOrBase};
 ghost use Rattle.conf_store.specs.Grown.{HasGrown};
 ghost use Rattle.conf_store.specs.Meaning.{FileMeans};
@@ -105,21 +106,19 @@ impl<D: Disk> Store<D> {
     /// before the first change. `Device`: `store.yaml` is the old file or the whole new base.
     pub fn open(alloc: Global, disk: D) -> Result<(Store<D>, Opened), (D, OpenFault)>
         ensures found { D.model.honest → IfOk result (λ r.
-            FileRecoversTo (bytes_under (D.model.folder disk) Name.Store)
-            r.0.state r.1.commands r.1.dropped) }
+            FileRecoversTo (store_file D.model disk) r.0.state r.1.commands r.1.dropped) }
         // The state is what `store.yaml` means.
         ensures means { D.model.honest → IfOk result (λ r.
-            FileMeans (bytes_under (D.model.folder disk) Name.Store) r.0.state) }
+            FileMeans (store_file D.model disk) r.0.state) }
         ensures no_reopen { IfOk result (λ r. r.0.reopen ≡ false) }
         ensures no_checkpoint { IfOk result (λ r. r.0.staged ≡ None) }
-        ensures reads { D.model.honest → IfOk result (λ r.
-            ReadsAfterOpening (bytes_under (D.model.folder disk) Name.Store) r.0.state r.1.dropped
-            (bytes_under (D.model.folder r.0.disk) Name.Store)) }
+        ensures reads { D.model.honest → IfOk result (λ r. ReadsAfterOpening
+            (store_file D.model disk) r.0.state r.1.dropped (store_file D.model r.0.disk)) }
         ensures refused { D.model.honest → IfErr result (λ r.
-            RefusesOpening r.1 (bytes_under (D.model.folder disk) Name.Store)) }
+            RefusesOpening r.1 (store_file D.model disk)) }
         // A file that is refused means nothing.
         ensures no_meaning { D.model.honest → IfErr result (λ r.
-            RefusalMeans r.1 (bytes_under (D.model.folder disk) Name.Store)) }
+            RefusalMeans r.1 (store_file D.model disk)) }
         ensures cause { IfErr result (λ r.
             r.1 ≡ OpenFault.Device → HasFailed (D.model.failure_count disk) (D.model.failure_count r.0)) }
         // The number of failures never falls.
@@ -133,25 +132,23 @@ impl<D: Disk> Store<D> {
         ensures flushed { D.model.honest → IfOk result (λ r.
             HasFlushed (D.model.folder r.0.disk) r.0.state [] r.0.state) }
         // A refusal other than Device changes no file.
-        ensures refused_stays { D.model.honest → IfErr result (λ r. r.1 ≢ OpenFault.Device →
-            FilesStay D.model disk r.0) }
+        ensures refused_stays { D.model.honest → IfErr result (λ r.
+            r.1 ≢ OpenFault.Device → FilesStay D.model disk r.0) }
         // Nor does Ok, if `store.yaml` was there and no bytes were dropped.
         ensures whole_stays { D.model.honest → IfOk result (λ r. r.1.dropped ≡ 0 →
-            IsSome (bytes_under (D.model.folder disk) Name.Store) →
-            FilesStay D.model disk r.0.disk) }
+            IsSome (store_file D.model disk) → FilesStay D.model disk r.0.disk) }
         // If a base was written, `next.yaml` is gone.
         ensures gone { D.model.honest → IfOk result (λ r.
-            ((bytes_under (D.model.folder disk) Name.Store ≡ None) ⊎ (r.1.dropped ≢ 0)) →
+            ((store_file D.model disk ≡ None) ⊎ (r.1.dropped ≢ 0)) →
             bytes_under (D.model.folder r.0.disk) Name.Next ≡ None) }
         // Whatever it returns, `store.yaml` reads as before, or as the whole new base.
-        ensures old_or_base { D.model.honest → IsOldOrBase (bytes_under (D.model.folder disk) Name.Store)
-            (bytes_under (D.model.folder (disk_after result)) Name.Store) }
+        ensures old_or_base { D.model.honest → IsOldOrBase
+            (store_file D.model disk) (store_file D.model (disk_after result)) }
         // A crash at any moment of the call leaves an old `store.yaml`, or the whole new base.
-        ensures leaves { D.model.honest →
-            LeavesOldOrBase D.model disk (disk_after result) }
+        ensures leaves { D.model.honest → LeavesOldOrBase D.model disk (disk_after result) }
         // The kept length is that of `store.yaml`.
         ensures size { D.model.honest → IfOk result (λ r.
-            HasLength (bytes_under (D.model.folder r.0.disk) Name.Store) r.0.size) }
+            HasLength (store_file D.model r.0.disk) r.0.size) }
     {
         documents_are_read();
         documents_close();
@@ -272,7 +269,7 @@ impl<D: Disk> Store<D> {
     pub fn grown(&self) -> u64
         // Unless the store has to be opened again, so many bytes follow the base.
         ensures grown { D.model.honest → self.now.reopen ≡ false →
-            HasGrown (bytes_under (D.model.folder self.now.disk) Name.Store) result }
+            HasGrown (store_file D.model self.now.disk) result }
         ensures within { result ≤ self.now.size }
     {
         self.size - self.base
@@ -292,11 +289,10 @@ impl<D: Disk> Store<D> {
             AllImagesAfterPrefix (D.model.folder self.now.disk) flushed since }
         // Unless it has to be, the kept length is that of `store.yaml`.
         ensures size { D.model.honest → self.now.reopen ≡ false →
-            HasLength (bytes_under (D.model.folder self.now.disk) Name.Store) self.now.size }
+            HasLength (store_file D.model self.now.disk) self.now.size }
         // So is that of a running checkpoint's new file.
         ensures staged_size { D.model.honest → self.now.reopen ≡ false → IsSome self.now.staged →
-            HasLength (staged_text (D.model.folder self.now.disk) self.now.staged)
-            (staged_length self.now.staged) }
+            HasLength (new_file D.model self.now) (staged_length self.now.staged) }
     {
         documents_close();
         held_store_is_left();
