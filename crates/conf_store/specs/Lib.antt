@@ -6,6 +6,7 @@ pub mod Durable
 pub mod Grown
 pub mod View
 pub mod Calls
+pub mod Changing
 pub mod Slices
 pub mod Faults
 pub mod Accepting

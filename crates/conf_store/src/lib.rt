@@ -20,6 +20,8 @@
 
 mod accepting;
 mod base_file;
+mod checkpoints;
+mod commands;
 mod creating;
 mod fault;
 mod importing;

@@ -1,39 +1,30 @@
-// An open store.
-ghost use Rattle.std.specs.Prelude.{◌≡◌, ◌≢◌, ◌≤◌, ◌⊎◌, ◌↔◌, ◌+◌, ◌++◌, ◌∷◌, [], ℕ, true, false, List, length, OnOk, IfOk, IfErr, IsErrOf, Ok, Err, Some, None, IsSome, is_some, string_bytes};
+// An open store: how it is opened and closed, and what it says of its state.
+ghost use Rattle.std.specs.Prelude.{◌≡◌, ◌≢◌, ◌≤◌, ◌⊎◌, true, false, List, OnOk, IfOk, IfErr, Ok, Err, None, IsSome, [], string_bytes};
 ghost use Rattle.std.specs.Str.{chars};
 ghost use Rattle.yaml_data.specs.Seen.{tree_of};
 ghost use Rattle.conf_disk.specs.Folder.{bytes_under};
 ghost use Rattle.conf_disk.specs.Moments.{LeavesOnly};
-ghost use Rattle.conf_journal.specs.Store.{file_with_bytes};
-ghost use Rattle.conf_state.specs.Commands.{Command as GivenCommand, command_of};
-ghost use Rattle.conf_state.specs.Names.{good_name};
+ghost use Rattle.conf_state.specs.Commands.{Command as GivenCommand};
 ghost use Rattle.conf_state.specs.Limits.{IsState};
 ghost use Rattle.conf_state.specs.States.{Contents, names_of};
-ghost use Rattle.conf_state.specs.BaseTexts.{base_bytes};
-ghost use Rattle.conf_store.specs.Meaning.{FileMeans};
-ghost use Rattle.conf_store.specs.Durable.{AllImagesMean, AllImagesAfterPrefix, AfterPrefix, HasFlushed, staged_text};
-ghost use Rattle.conf_store.specs.Grown.{HasGrown};
-ghost use Rattle.conf_store.specs.Staged.{staged_length};
-ghost use Rattle.conf_store.specs.Slices.{Begins, SliceFlushes, SliceReads, Slices, StaysTheSame, SyncedWhenDue};
-ghost use Rattle.conf_store.specs.Calls.{Accepts, RefusesCommand, HasFailed, next_record, Exports, tree_named, tree_at};
-ghost use Rattle.conf_store.specs.Imports.{Imports, AppendsImport, RefusesImport};
+ghost use Rattle.conf_store.specs.Calls.{Exports, HasFailed, tree_at, tree_named};
+ghost use Rattle.conf_store.specs.Changing.{new_file, store_file};
+ghost use Rattle.conf_store.specs.Durable.{AllImagesMean, AllImagesAfterPrefix, HasFlushed};
 ghost use Rattle.conf_store.specs.Files.{FilesStay, HasLength, IsOldOrBase, LeavesOldOrBase};
+ghost use Rattle.conf_store.specs.Grown.{HasGrown};
+ghost use Rattle.conf_store.specs.Meaning.{FileMeans};
 ghost use Rattle.conf_store.specs.Opens.{FileRecoversTo, ReadsAfterOpening, RefusesOpening, RefusalMeans, MeantAtEntry, disk_after};
+ghost use Rattle.conf_store.specs.Staged.{staged_length};
 
-use crate::accepting::accept;
 use crate::base_file::write_base;
-use crate::importing::import_command;
 use crate::opening::{Found, find_store};
 use crate::recovery::Opened;
-use crate::slicing::{Progress, write_slice};
 use crate::staging::Staging;
 use crate::{OpenFault, bytes_mean_one_state};
-use conf_disk::{Disk, DiskFault, Name, reading_is_an_image};
-use conf_journal::{
-    append_store, begin_next, held_store_is_left, held_store_is_the_only_one, sync_store,
-};
-use conf_record::{base_text, documents_are_read, documents_close};
-use conf_state::{Command, Names, State, StoreFault, good_name};
+use conf_disk::{Disk, Name, reading_is_an_image};
+use conf_journal::{held_store_is_left, held_store_is_the_only_one};
+use conf_record::{documents_are_read, documents_close};
+use conf_state::{Names, State, StoreFault, good_name};
 use std::alloc::Global;
 use std::marker::Model;
 use tree_path::Path;
@@ -55,19 +46,19 @@ use yaml_tree::{Config, Tree};
 /// is honest.
 #[derive(Drop)]
 pub struct Store<D: Disk> {
-    alloc: Global,
-    disk: D,
-    state: State,
-    size: u64,
+    pub(crate) alloc: Global,
+    pub(crate) disk: D,
+    pub(crate) state: State,
+    pub(crate) size: u64,
     /// The length of the base of `store.yaml`.
-    base: u64,
+    pub(crate) base: u64,
     /// Whether a record was appended since the last sync of `store.yaml`.
-    waits: bool,
+    pub(crate) waits: bool,
     /// The running checkpoint, if one runs.
-    staging: Staging,
+    pub(crate) staging: Staging,
     /// The length of the base of the running checkpoint's new file; 0 if none runs.
-    staged_base: u64,
-    reopen: bool,
+    pub(crate) staged_base: u64,
+    pub(crate) reopen: bool,
 }
 
 impl<D: Disk> Model for Store<D> {
@@ -115,21 +106,19 @@ impl<D: Disk> Store<D> {
     /// before the first change. `Device`: `store.yaml` is the old file or the whole new base.
     pub fn open(alloc: Global, disk: D) -> Result<(Store<D>, Opened), (D, OpenFault)>
         ensures found { D.model.honest → IfOk result (λ r.
-            FileRecoversTo (bytes_under (D.model.folder disk) Name.Store)
-            r.0.state r.1.commands r.1.dropped) }
+            FileRecoversTo (store_file D.model disk) r.0.state r.1.commands r.1.dropped) }
         // The state is what `store.yaml` means.
         ensures means { D.model.honest → IfOk result (λ r.
-            FileMeans (bytes_under (D.model.folder disk) Name.Store) r.0.state) }
+            FileMeans (store_file D.model disk) r.0.state) }
         ensures no_reopen { IfOk result (λ r. r.0.reopen ≡ false) }
         ensures no_checkpoint { IfOk result (λ r. r.0.staged ≡ None) }
-        ensures reads { D.model.honest → IfOk result (λ r.
-            ReadsAfterOpening (bytes_under (D.model.folder disk) Name.Store) r.0.state r.1.dropped
-            (bytes_under (D.model.folder r.0.disk) Name.Store)) }
+        ensures reads { D.model.honest → IfOk result (λ r. ReadsAfterOpening
+            (store_file D.model disk) r.0.state r.1.dropped (store_file D.model r.0.disk)) }
         ensures refused { D.model.honest → IfErr result (λ r.
-            RefusesOpening r.1 (bytes_under (D.model.folder disk) Name.Store)) }
+            RefusesOpening r.1 (store_file D.model disk)) }
         // A file that is refused means nothing.
         ensures no_meaning { D.model.honest → IfErr result (λ r.
-            RefusalMeans r.1 (bytes_under (D.model.folder disk) Name.Store)) }
+            RefusalMeans r.1 (store_file D.model disk)) }
         ensures cause { IfErr result (λ r.
             r.1 ≡ OpenFault.Device → HasFailed (D.model.failure_count disk) (D.model.failure_count r.0)) }
         // The number of failures never falls.
@@ -143,25 +132,23 @@ impl<D: Disk> Store<D> {
         ensures flushed { D.model.honest → IfOk result (λ r.
             HasFlushed (D.model.folder r.0.disk) r.0.state [] r.0.state) }
         // A refusal other than Device changes no file.
-        ensures refused_stays { D.model.honest → IfErr result (λ r. r.1 ≢ OpenFault.Device →
-            FilesStay D.model disk r.0) }
+        ensures refused_stays { D.model.honest → IfErr result (λ r.
+            r.1 ≢ OpenFault.Device → FilesStay D.model disk r.0) }
         // Nor does Ok, if `store.yaml` was there and no bytes were dropped.
         ensures whole_stays { D.model.honest → IfOk result (λ r. r.1.dropped ≡ 0 →
-            IsSome (bytes_under (D.model.folder disk) Name.Store) →
-            FilesStay D.model disk r.0.disk) }
+            IsSome (store_file D.model disk) → FilesStay D.model disk r.0.disk) }
         // If a base was written, `next.yaml` is gone.
         ensures gone { D.model.honest → IfOk result (λ r.
-            ((bytes_under (D.model.folder disk) Name.Store ≡ None) ⊎ (r.1.dropped ≢ 0)) →
+            ((store_file D.model disk ≡ None) ⊎ (r.1.dropped ≢ 0)) →
             bytes_under (D.model.folder r.0.disk) Name.Next ≡ None) }
         // Whatever it returns, `store.yaml` reads as before, or as the whole new base.
-        ensures old_or_base { D.model.honest → IsOldOrBase (bytes_under (D.model.folder disk) Name.Store)
-            (bytes_under (D.model.folder (disk_after result)) Name.Store) }
+        ensures old_or_base { D.model.honest → IsOldOrBase
+            (store_file D.model disk) (store_file D.model (disk_after result)) }
         // A crash at any moment of the call leaves an old `store.yaml`, or the whole new base.
-        ensures leaves { D.model.honest →
-            LeavesOldOrBase D.model disk (disk_after result) }
+        ensures leaves { D.model.honest → LeavesOldOrBase D.model disk (disk_after result) }
         // The kept length is that of `store.yaml`.
         ensures size { D.model.honest → IfOk result (λ r.
-            HasLength (bytes_under (D.model.folder r.0.disk) Name.Store) r.0.size) }
+            HasLength (store_file D.model r.0.disk) r.0.size) }
     {
         documents_are_read();
         documents_close();
@@ -199,448 +186,6 @@ impl<D: Disk> Store<D> {
             reopen: false,
         };
         Ok((store, opened))
-    }
-
-    /// Performs a command and appends its record to `store.yaml`, without a sync: the command waits. Returns the new
-    /// count, which is one more than before. The command is acknowledged when a [`flush`](Store::flush) after it
-    /// returns `Ok`. Until then a crash may take it back, and with it all that were submitted later.
-    ///
-    /// The first argument is the caller's number for the client that sent the command. It changes nothing.
-    ///
-    /// While a checkpoint runs, the record goes to the end of its new file too. Its memory is taken first.
-    ///
-    /// # Errors
-    /// As [`apply`](Store::apply). At `Device` a crash may also take back commands that waited.
-    pub fn submit(&mut self, _client: u64, command: Command) -> Result<u64, StoreFault>
-        ensures reopen { IsErrOf result StoreFault.Reopen ↔ (self.old.reopen ≡ true) }
-        ensures ok { IfOk result (λ count.
-            Accepts self.old (command_of command) self.new × (count ≡ self.new.state.count)) }
-        ensures refused { IfErr result (RefusesCommand self.old (command_of command) self.new) }
-        // Whatever it returns, a running checkpoint goes on.
-        ensures running { is_some self.new.staged ≡ is_some self.old.staged }
-        ensures unchanged { IfErr result (λ fault.
-            fault ≢ StoreFault.Device → self.new ≡ self.old) }
-        ensures device { IsErrOf result StoreFault.Device → self.new.reopen ≡ true }
-        ensures cause { IsErrOf result StoreFault.Device →
-            HasFailed (D.model.failure_count self.old.disk) (D.model.failure_count self.new.disk) }
-        // The number of failures never falls.
-        ensures risen { D.model.failure_count self.old.disk ≤ D.model.failure_count self.new.disk }
-        ensures reads { D.model.honest → self.old.reopen ≡ false →
-            OnOk result (bytes_under (D.model.folder self.new.disk) Name.Store
-            ≡ file_with_bytes (bytes_under (D.model.folder self.old.disk) Name.Store)
-            (next_record self.old.state (command_of command))) }
-        // So does the new file of a running checkpoint.
-        ensures stages { D.model.honest → self.old.reopen ≡ false →
-            OnOk result (staged_text (D.model.folder self.new.disk) self.new.staged
-            ≡ file_with_bytes (staged_text (D.model.folder self.old.disk) self.old.staged)
-            (next_record self.old.state (command_of command))) }
-        // A crash at any moment of the call leaves the state after a prefix of the commands that wait, or after this
-        // one.
-        ensures any_moment { D.model.honest → self.old.reopen ≡ false →
-            (flushed : Contents) (since : List GivenCommand)
-            → HasFlushed (D.model.folder self.old.disk) flushed since self.old.state →
-            LeavesOnly D.model self.old.disk self.new.disk
-            (λ image. AfterPrefix flushed since image.store
-            ⊎ FileMeans image.store self.new.state) }
-        // The command waits, behind those that wait.
-        ensures waits { D.model.honest → self.old.reopen ≡ false →
-            (flushed : Contents) (since : List GivenCommand)
-            → HasFlushed (D.model.folder self.old.disk) flushed since self.old.state →
-            OnOk result (HasFlushed (D.model.folder self.new.disk) flushed
-            (since ++ command_of command ∷ []) self.new.state) }
-    {
-        documents_close();
-        held_store_is_left();
-        if self.reopen {
-            return Err(StoreFault::Reopen);
-        }
-        let (record, count) = match accept(
-            self.alloc,
-            &mut self.state,
-            &mut self.staging,
-            command,
-            self.size,
-        ) {
-            Ok(accepted) => accepted,
-            Err(fault) => return Err(fault),
-        };
-        match append_store(&mut self.disk, record.as_bytes()) {
-            Ok(()) => {
-                self.size += record.len() as u64;
-                self.waits = true;
-                Ok(count)
-            }
-            Err(_) => {
-                self.reopen = true;
-                Err(StoreFault::Device)
-            }
-        }
-    }
-
-    /// Syncs `store.yaml`: all commands that wait are acknowledged. If none waits, the disk is not called. A running
-    /// checkpoint goes on. Takes no memory.
-    ///
-    /// # Errors
-    /// `Reopen` if the store has to be opened again. `Device`: a crash may still take back commands that waited, and
-    /// the store has to be opened again.
-    pub fn flush(&mut self) -> Result<(), StoreFault>
-        ensures reopen { IsErrOf result StoreFault.Reopen ↔ (self.old.reopen ≡ true) }
-        ensures ok { OnOk result (self.new.reopen ≡ false) }
-        ensures refused { IfErr result (λ fault.
-            (fault ≡ StoreFault.Reopen) ⊎ (fault ≡ StoreFault.Device)) }
-        ensures same { StaysTheSame self.old self.new }
-        ensures unchanged { IfErr result (λ fault.
-            fault ≢ StoreFault.Device → self.new ≡ self.old) }
-        ensures device { IsErrOf result StoreFault.Device → self.new.reopen ≡ true }
-        ensures cause { IsErrOf result StoreFault.Device →
-            HasFailed (D.model.failure_count self.old.disk) (D.model.failure_count self.new.disk) }
-        // The number of failures never falls.
-        ensures risen { D.model.failure_count self.old.disk ≤ D.model.failure_count self.new.disk }
-        ensures reads { D.model.honest → bytes_under (D.model.folder self.new.disk) Name.Store
-            ≡ bytes_under (D.model.folder self.old.disk) Name.Store }
-        ensures stages { D.model.honest → staged_text (D.model.folder self.new.disk) self.new.staged
-            ≡ staged_text (D.model.folder self.old.disk) self.old.staged }
-        // A crash at any moment of the call leaves the state after a prefix of the commands that wait.
-        ensures any_moment { D.model.honest → self.old.reopen ≡ false →
-            (flushed : Contents) (since : List GivenCommand)
-            → HasFlushed (D.model.folder self.old.disk) flushed since self.old.state →
-            LeavesOnly D.model self.old.disk self.new.disk
-            (λ image. AfterPrefix flushed since image.store) }
-        // After Ok none waits, and whatever a crash leaves means the state.
-        ensures flushed { D.model.honest → OnOk result
-            (HasFlushed (D.model.folder self.new.disk) self.new.state [] self.new.state) }
-        ensures now { D.model.honest → OnOk result
-            (AllImagesMean (D.model.folder self.new.disk) self.new.state) }
-    {
-        documents_close();
-        held_store_is_left();
-        if self.reopen {
-            return Err(StoreFault::Reopen);
-        }
-        if !self.waits {
-            return Ok(());
-        }
-        match sync_store(&mut self.disk) {
-            Ok(()) => {
-                self.waits = false;
-                Ok(())
-            }
-            Err(_) => {
-                self.reopen = true;
-                Err(StoreFault::Device)
-            }
-        }
-    }
-
-    /// Performs a command, appends its record to `store.yaml` and syncs it: a [`submit`](Store::submit) and a
-    /// [`flush`](Store::flush). Returns the new count, which is one more than before. Commands that waited are
-    /// acknowledged with it.
-    ///
-    /// A batch is one command, with one record: a crash leaves all of its edits or none. The cost depends on the edits
-    /// and the record, and not on the size of the store.
-    ///
-    /// # Errors
-    /// `Reopen` if the store has to be opened again. Otherwise the first refusal of the command by the state, in the
-    /// order of [`StoreFault`]. It is `RecordLong` if the record of a batch would be longer than 67,108,864 bytes, and
-    /// `JournalLong` if `store.yaml`, or the new file of a running checkpoint, would be longer than 1,073,741,824 bytes.
-    /// These, and `OutOfMemory`, leave the store and the disk as they were, so what waited still waits. `Device`: the state is the one after the command, its record may be on the disk or not, and
-    /// the store has to be opened again.
-    pub fn apply(&mut self, command: Command) -> Result<u64, StoreFault>
-        ensures reopen { IsErrOf result StoreFault.Reopen ↔ (self.old.reopen ≡ true) }
-        ensures ok { IfOk result (λ count.
-            Accepts self.old (command_of command) self.new × (count ≡ self.new.state.count)) }
-        ensures refused { IfErr result (RefusesCommand self.old (command_of command) self.new) }
-        ensures running { is_some self.new.staged ≡ is_some self.old.staged }
-        ensures unchanged { IfErr result (λ fault.
-            fault ≢ StoreFault.Device → self.new ≡ self.old) }
-        ensures device { IsErrOf result StoreFault.Device → self.new.reopen ≡ true }
-        ensures cause { IsErrOf result StoreFault.Device →
-            HasFailed (D.model.failure_count self.old.disk) (D.model.failure_count self.new.disk) }
-        // The number of failures never falls.
-        ensures risen { D.model.failure_count self.old.disk ≤ D.model.failure_count self.new.disk }
-        ensures reads { D.model.honest → self.old.reopen ≡ false →
-            OnOk result (bytes_under (D.model.folder self.new.disk) Name.Store
-            ≡ file_with_bytes (bytes_under (D.model.folder self.old.disk) Name.Store)
-            (next_record self.old.state (command_of command))) }
-        // So does the new file of a running checkpoint.
-        ensures stages { D.model.honest → self.old.reopen ≡ false →
-            OnOk result (staged_text (D.model.folder self.new.disk) self.new.staged
-            ≡ file_with_bytes (staged_text (D.model.folder self.old.disk) self.old.staged)
-            (next_record self.old.state (command_of command))) }
-        // A crash at any moment of the call leaves the state after a prefix of the commands that waited, or after this
-        // one.
-        ensures any_moment { D.model.honest → self.old.reopen ≡ false →
-            (flushed : Contents) (since : List GivenCommand)
-            → HasFlushed (D.model.folder self.old.disk) flushed since self.old.state →
-            LeavesOnly D.model self.old.disk self.new.disk
-            (λ image. AfterPrefix flushed since image.store
-            ⊎ FileMeans image.store self.new.state) }
-        // After Ok none waits, and whatever a crash leaves means the state.
-        ensures flushed { D.model.honest → OnOk result
-            (HasFlushed (D.model.folder self.new.disk) self.new.state [] self.new.state) }
-        ensures now { D.model.honest → OnOk result
-            (AllImagesMean (D.model.folder self.new.disk) self.new.state) }
-    {
-        match self.submit(0, command) {
-            Ok(count) => match self.flush() {
-                Ok(()) => Ok(count),
-                Err(fault) => Err(fault),
-            },
-            Err(fault) => Err(fault),
-        }
-    }
-
-    /// Reads a text within the limits of a configuration (4,194,304 bytes, also in the one style, and 128 deep), and
-    /// puts its tree under a name, in place of a tree that is there. Its record is synced, as by
-    /// [`apply`](Store::apply). Returns the new count, which is one more than before.
-    ///
-    /// # Errors
-    /// `Reopen` if the store has to be opened again. Otherwise `BadName` if the name may not be used, whatever the text
-    /// is; then `Read` with the reason why the text gives no tree; then the faults of [`apply`](Store::apply). Each
-    /// fault but `Device` leaves the store and the disk as they were.
-    pub fn import(&mut self, name: &str, text: &[u8]) -> Result<u64, StoreFault>
-        ensures reopen { IsErrOf result StoreFault.Reopen ↔ (self.old.reopen ≡ true) }
-        ensures ok { IfOk result (λ count.
-            Imports self.old (chars name.now) text.now self.new × (count ≡ self.new.state.count)) }
-        ensures bad_name { self.old.reopen ≡ false → good_name (chars name.now) ≡ false
-            → result ≡ Err StoreFault.BadName }
-        ensures refused { IfErr result (RefusesImport self.old (chars name.now) text.now self.new) }
-        ensures running { is_some self.new.staged ≡ is_some self.old.staged }
-        ensures unchanged { IfErr result (λ fault.
-            fault ≢ StoreFault.Device → self.new ≡ self.old) }
-        ensures device { IsErrOf result StoreFault.Device → self.new.reopen ≡ true }
-        ensures cause { IsErrOf result StoreFault.Device →
-            HasFailed (D.model.failure_count self.old.disk) (D.model.failure_count self.new.disk) }
-        // The number of failures never falls.
-        ensures risen { D.model.failure_count self.old.disk ≤ D.model.failure_count self.new.disk }
-        ensures reads { D.model.honest → self.old.reopen ≡ false →
-            OnOk result (AppendsImport self.old (chars name.now) text.now
-            (bytes_under (D.model.folder self.old.disk) Name.Store)
-            (bytes_under (D.model.folder self.new.disk) Name.Store)) }
-        // So does the new file of a running checkpoint.
-        ensures stages { D.model.honest → self.old.reopen ≡ false →
-            OnOk result (AppendsImport self.old (chars name.now) text.now
-            (staged_text (D.model.folder self.old.disk) self.old.staged)
-            (staged_text (D.model.folder self.new.disk) self.new.staged)) }
-        // A crash at any moment of the call leaves the state after a prefix of the commands that waited, or after this
-        // one.
-        ensures any_moment { D.model.honest → self.old.reopen ≡ false →
-            (flushed : Contents) (since : List GivenCommand)
-            → HasFlushed (D.model.folder self.old.disk) flushed since self.old.state →
-            LeavesOnly D.model self.old.disk self.new.disk
-            (λ image. AfterPrefix flushed since image.store
-            ⊎ FileMeans image.store self.new.state) }
-        // After Ok none waits, and whatever a crash leaves means the state.
-        ensures flushed { D.model.honest → OnOk result
-            (HasFlushed (D.model.folder self.new.disk) self.new.state [] self.new.state) }
-        ensures now { D.model.honest → OnOk result
-            (AllImagesMean (D.model.folder self.new.disk) self.new.state) }
-    {
-        if self.needs_reopen() {
-            return Err(StoreFault::Reopen);
-        }
-        match import_command(self.alloc, name, text) {
-            Ok(command) => self.apply(command),
-            Err(fault) => Err(fault),
-        }
-    }
-
-    /// Writes a base of the state as the new `store.yaml`, in place of the base and the records that are there. The
-    /// state and its count are unchanged. Commands that waited are acknowledged. A checkpoint that runs is given up. No
-    /// `next.yaml` is left.
-    ///
-    /// # Errors
-    /// `Reopen` if the store has to be opened again. `OutOfMemory` leaves the store and the disk as they were, also a
-    /// checkpoint that runs. `Device`: `store.yaml` is the old file or the whole new base, a crash may still take back
-    /// commands that waited, and the store has to be opened again.
-    pub fn checkpoint(&mut self) -> Result<(), StoreFault>
-        ensures reopen { IsErrOf result StoreFault.Reopen ↔ (self.old.reopen ≡ true) }
-        ensures ok { OnOk result ((self.new.reopen ≡ false) × (self.new.staged ≡ None)
-            × (self.new.size ≡ length (base_bytes self.old.state))) }
-        ensures refused { IfErr result (λ fault.
-            (fault ≡ StoreFault.Reopen) ⊎ (fault ≡ StoreFault.Device)
-            ⊎ (fault ≡ StoreFault.OutOfMemory)) }
-        ensures running { IfErr result (λ _. self.new.staged ≡ self.old.staged) }
-        ensures unchanged { IfErr result (λ fault.
-            fault ≢ StoreFault.Device → self.new ≡ self.old) }
-        ensures state { self.new.state ≡ self.old.state }
-        ensures device { IsErrOf result StoreFault.Device → self.new.reopen ≡ true }
-        ensures cause { IsErrOf result StoreFault.Device →
-            HasFailed (D.model.failure_count self.old.disk) (D.model.failure_count self.new.disk) }
-        // The number of failures never falls.
-        ensures risen { D.model.failure_count self.old.disk ≤ D.model.failure_count self.new.disk }
-        ensures reads { D.model.honest →
-            OnOk result (bytes_under (D.model.folder self.new.disk) Name.Store
-            ≡ Some (base_bytes self.old.state)) }
-        // After Ok there is no `next.yaml`.
-        ensures gone { D.model.honest →
-            OnOk result (bytes_under (D.model.folder self.new.disk) Name.Next ≡ None) }
-        // A crash at any moment of the call leaves the state after a prefix of the commands that waited.
-        ensures any_moment { D.model.honest → self.old.reopen ≡ false →
-            (flushed : Contents) (since : List GivenCommand)
-            → HasFlushed (D.model.folder self.old.disk) flushed since self.old.state →
-            LeavesOnly D.model self.old.disk self.new.disk
-            (λ image. AfterPrefix flushed since image.store) }
-        // After Ok none waits, and whatever a crash leaves means the state.
-        ensures flushed { D.model.honest → OnOk result
-            (HasFlushed (D.model.folder self.new.disk) self.new.state [] self.new.state) }
-        ensures now { D.model.honest → OnOk result
-            (AllImagesMean (D.model.folder self.new.disk) self.new.state) }
-    {
-        documents_close();
-        held_store_is_left();
-        if self.reopen {
-            return Err(StoreFault::Reopen);
-        }
-        match write_base(self.alloc, &mut self.disk, &self.state) {
-            Ok(size) => {
-                self.size = size;
-                self.base = size;
-                self.waits = false;
-                self.staging = Staging::none(self.alloc);
-                self.staged_base = 0;
-                Ok(())
-            }
-            Err(DiskFault::OutOfMemory) => Err(StoreFault::OutOfMemory),
-            Err(DiskFault::Device) => {
-                self.reopen = true;
-                Err(StoreFault::Device)
-            }
-        }
-    }
-
-    /// Begins a checkpoint that is written in slices: makes an empty `next.yaml`, in place of one that is there, and
-    /// keeps the text of a base of the state in memory, at most 67,108,864 bytes. None may run. `store.yaml` stays, and
-    /// what waits still waits. Commands go on, and their records go to the end of both files.
-    ///
-    /// # Errors
-    /// `Reopen` if the store has to be opened again. `OutOfMemory` leaves the store and the disk as they were.
-    /// `Device`: no checkpoint runs, `store.yaml` reads as before, and the store has to be opened again.
-    pub fn begin_checkpoint(&mut self) -> Result<(), StoreFault>
-        requires { self.old.staged ≡ None }
-        ensures reopen { IsErrOf result StoreFault.Reopen ↔ (self.old.reopen ≡ true) }
-        ensures ok { OnOk result (Begins self.old self.new) }
-        ensures refused { IfErr result (λ fault.
-            (fault ≡ StoreFault.Reopen) ⊎ (fault ≡ StoreFault.Device)
-            ⊎ (fault ≡ StoreFault.OutOfMemory)) }
-        ensures not_running { IfErr result (λ _. self.new.staged ≡ None) }
-        ensures state { self.new.state ≡ self.old.state }
-        ensures unchanged { IfErr result (λ fault.
-            fault ≢ StoreFault.Device → self.new ≡ self.old) }
-        ensures device { IsErrOf result StoreFault.Device → self.new.reopen ≡ true }
-        ensures cause { IsErrOf result StoreFault.Device →
-            HasFailed (D.model.failure_count self.old.disk) (D.model.failure_count self.new.disk) }
-        // The number of failures never falls.
-        ensures risen { D.model.failure_count self.old.disk ≤ D.model.failure_count self.new.disk }
-        ensures reads { D.model.honest → bytes_under (D.model.folder self.new.disk) Name.Store
-            ≡ bytes_under (D.model.folder self.old.disk) Name.Store }
-        ensures stages { D.model.honest → OnOk result
-            (staged_text (D.model.folder self.new.disk) self.new.staged
-            ≡ Some (base_bytes self.old.state)) }
-        // A crash at any moment of the call leaves the state after a prefix of the commands that wait.
-        ensures any_moment { D.model.honest → self.old.reopen ≡ false →
-            (flushed : Contents) (since : List GivenCommand)
-            → HasFlushed (D.model.folder self.old.disk) flushed since self.old.state →
-            LeavesOnly D.model self.old.disk self.new.disk
-            (λ image. AfterPrefix flushed since image.store) }
-        // The same commands wait.
-        ensures waits { D.model.honest → self.old.reopen ≡ false →
-            (flushed : Contents) (since : List GivenCommand)
-            → HasFlushed (D.model.folder self.old.disk) flushed since self.old.state →
-            OnOk result (HasFlushed (D.model.folder self.new.disk) flushed since self.new.state) }
-    {
-        documents_are_read();
-        documents_close();
-        held_store_is_left();
-        if self.reopen {
-            return Err(StoreFault::Reopen);
-        }
-        let Ok(base) = base_text(self.alloc, &self.state) else {
-            return Err(StoreFault::OutOfMemory);
-        };
-        match begin_next(&mut self.disk) {
-            Ok(()) => {
-                self.staged_base = base.len() as u64;
-                self.staging = Staging::begun(base);
-                Ok(())
-            }
-            Err(_) => {
-                self.reopen = true;
-                Err(StoreFault::Device)
-            }
-        }
-    }
-
-    /// Writes the next slice of the running checkpoint, at most 4,096 bytes, to `next.yaml`. One has to run. Returns
-    /// how many bytes are left. `store.yaml` isn't synced: what waits still waits. After each 1,048,576 bytes
-    /// `next.yaml` is synced, so that the last slice has few to sync. Once nothing is left the new file is synced and
-    /// takes the place of `store.yaml`; all commands that wait are acknowledged, the checkpoint is over, and this
-    /// returns `Done`. Takes no memory.
-    ///
-    /// # Errors
-    /// `Reopen` if the store has to be opened again. `Device`: `store.yaml` is the old file or the whole new one, a
-    /// crash may still take back commands that waited, and the store has to be opened again.
-    pub fn slice(&mut self) -> Result<Progress, StoreFault>
-        requires { IsSome self.old.staged }
-        ensures reopen { IsErrOf result StoreFault.Reopen ↔ (self.old.reopen ≡ true) }
-        ensures ok { IfOk result (Slices self.old self.new) }
-        ensures refused { IfErr result (λ fault.
-            (fault ≡ StoreFault.Reopen) ⊎ (fault ≡ StoreFault.Device)) }
-        ensures running { IfErr result (λ _. IsSome self.new.staged) }
-        ensures state { self.new.state ≡ self.old.state }
-        ensures unchanged { IfErr result (λ fault.
-            fault ≢ StoreFault.Device → self.new ≡ self.old) }
-        ensures device { IsErrOf result StoreFault.Device → self.new.reopen ≡ true }
-        ensures cause { IsErrOf result StoreFault.Device →
-            HasFailed (D.model.failure_count self.old.disk) (D.model.failure_count self.new.disk) }
-        // The number of failures never falls.
-        ensures risen { D.model.failure_count self.old.disk ≤ D.model.failure_count self.new.disk }
-        ensures reads { D.model.honest → self.old.reopen ≡ false → IfOk result
-            (SliceReads D.model.folder self.old self.new) }
-        // After each 1,048,576 bytes of `next.yaml` none of them is pending.
-        ensures synced { D.model.honest → self.old.reopen ≡ false → OnOk result
-            (SyncedWhenDue (D.model.folder self.new.disk) self.new.staged) }
-        // A crash at any moment of the call leaves the state after a prefix of the commands that wait.
-        ensures any_moment { D.model.honest → self.old.reopen ≡ false →
-            (flushed : Contents) (since : List GivenCommand)
-            → HasFlushed (D.model.folder self.old.disk) flushed since self.old.state →
-            LeavesOnly D.model self.old.disk self.new.disk
-            (λ image. AfterPrefix flushed since image.store) }
-        // If something is left, the same commands wait. Once it is done none waits, and whatever a crash leaves means
-        // the state.
-        ensures waits { D.model.honest → self.old.reopen ≡ false →
-            (flushed : Contents) (since : List GivenCommand)
-            → HasFlushed (D.model.folder self.old.disk) flushed since self.old.state →
-            IfOk result (SliceFlushes D.model.folder flushed since self.new) }
-    {
-        documents_close();
-        held_store_is_left();
-        if self.reopen {
-            return Err(StoreFault::Reopen);
-        }
-        match write_slice(&mut self.disk, &mut self.staging) {
-            Ok(Progress::Left { bytes }) => Ok(Progress::Left { bytes }),
-            Ok(Progress::Done) => {
-                self.size = self.staging.len() as u64;
-                self.base = self.staged_base;
-                self.waits = false;
-                self.staging = Staging::none(self.alloc);
-                self.staged_base = 0;
-                Ok(Progress::Done)
-            }
-            Err(_) => {
-                self.reopen = true;
-                Err(StoreFault::Device)
-            }
-        }
-    }
-
-    /// Whether a checkpoint runs: [`begin_checkpoint`](Store::begin_checkpoint) returned `Ok`, and since then no
-    /// [`slice`](Store::slice) returned `Done` and no [`checkpoint`](Store::checkpoint) returned `Ok`.
-    pub fn running(&self) -> bool
-        ensures { result ≡ is_some self.now.staged }
-    {
-        self.staging.is_running()
     }
 
     /// The text of a configuration in the one style.
@@ -724,7 +269,7 @@ impl<D: Disk> Store<D> {
     pub fn grown(&self) -> u64
         // Unless the store has to be opened again, so many bytes follow the base.
         ensures grown { D.model.honest → self.now.reopen ≡ false →
-            HasGrown (bytes_under (D.model.folder self.now.disk) Name.Store) result }
+            HasGrown (store_file D.model self.now.disk) result }
         ensures within { result ≤ self.now.size }
     {
         self.size - self.base
@@ -744,11 +289,10 @@ impl<D: Disk> Store<D> {
             AllImagesAfterPrefix (D.model.folder self.now.disk) flushed since }
         // Unless it has to be, the kept length is that of `store.yaml`.
         ensures size { D.model.honest → self.now.reopen ≡ false →
-            HasLength (bytes_under (D.model.folder self.now.disk) Name.Store) self.now.size }
+            HasLength (store_file D.model self.now.disk) self.now.size }
         // So is that of a running checkpoint's new file.
         ensures staged_size { D.model.honest → self.now.reopen ≡ false → IsSome self.now.staged →
-            HasLength (staged_text (D.model.folder self.now.disk) self.now.staged)
-            (staged_length self.now.staged) }
+            HasLength (new_file D.model self.now) (staged_length self.now.staged) }
     {
         documents_close();
         held_store_is_left();

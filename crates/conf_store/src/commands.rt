@@ -1,0 +1,208 @@
+// Commands on an open store.
+ghost use Rattle.std.specs.Prelude.{◌≡◌, ◌⊎◌, ◌↔◌, true, false, IfOk, IfErr, IsErrOf, OnOk, Err, is_some};
+ghost use Rattle.std.specs.Str.{chars};
+ghost use Rattle.conf_state.specs.Commands.{command_of};
+ghost use Rattle.conf_state.specs.Names.{good_name};
+ghost use Rattle.conf_store.specs.Calls.{Accepts, RefusesCommand};
+ghost use Rattle.conf_store.specs.Changing.{AppendsRecord, CommandWaits, CrashesLeaveState, DeviceHasCause, FailuresNeverFall, LeavesPrefix, LeavesPrefixOrNew, NoneWaits, RefusalsChangeNothing, new_file, store_file};
+ghost use Rattle.conf_store.specs.Imports.{AppendsImport, Imports, RefusesImport};
+ghost use Rattle.conf_store.specs.Slices.{StaysTheSame};
+
+use crate::accepting::accept;
+use crate::importing::import_command;
+use crate::store::Store;
+use conf_disk::Disk;
+use conf_journal::{append_store, held_store_is_left, sync_store};
+use conf_record::documents_close;
+use conf_state::{Command, StoreFault};
+
+impl<D: Disk> Store<D> {
+    /// Performs a command and appends its record to `store.yaml`, without a sync: the command waits. Returns the new
+    /// count, which is one more than before. The command is acknowledged when a [`flush`](Store::flush) after it
+    /// returns `Ok`. Until then a crash may take it back, and with it all that were submitted later.
+    ///
+    /// The first argument is the caller's number for the client that sent the command. It changes nothing.
+    ///
+    /// While a checkpoint runs, the record goes to the end of its new file too. Its memory is taken first.
+    ///
+    /// # Errors
+    /// As [`apply`](Store::apply). At `Device` a crash may also take back commands that waited.
+    pub fn submit(&mut self, _client: u64, command: Command) -> Result<u64, StoreFault>
+        ensures reopen { IsErrOf result StoreFault.Reopen ↔ (self.old.reopen ≡ true) }
+        ensures ok { IfOk result (λ count.
+            Accepts self.old (command_of command) self.new × (count ≡ self.new.state.count)) }
+        ensures refused { IfErr result (RefusesCommand self.old (command_of command) self.new) }
+        // Whatever it returns, a running checkpoint goes on.
+        ensures running { is_some self.new.staged ≡ is_some self.old.staged }
+        ensures unchanged { RefusalsChangeNothing self.old self.new result }
+        ensures device { IsErrOf result StoreFault.Device → self.new.reopen ≡ true }
+        ensures cause { DeviceHasCause D.model self.old self.new result }
+        ensures risen { FailuresNeverFall D.model self.old self.new }
+        ensures reads { D.model.honest → self.old.reopen ≡ false →
+            OnOk result (AppendsRecord self.old (command_of command)
+            (store_file D.model self.old.disk) (store_file D.model self.new.disk)) }
+        // So does the new file of a running checkpoint.
+        ensures stages { D.model.honest → self.old.reopen ≡ false →
+            OnOk result (AppendsRecord self.old (command_of command)
+            (new_file D.model self.old) (new_file D.model self.new)) }
+        ensures any_moment { LeavesPrefixOrNew D.model self.old self.new }
+        ensures waits { CommandWaits D.model self.old (command_of command) self.new result }
+    {
+        documents_close();
+        held_store_is_left();
+        if self.reopen {
+            return Err(StoreFault::Reopen);
+        }
+        let (record, count) = match accept(
+            self.alloc,
+            &mut self.state,
+            &mut self.staging,
+            command,
+            self.size,
+        ) {
+            Ok(accepted) => accepted,
+            Err(fault) => return Err(fault),
+        };
+        match append_store(&mut self.disk, record.as_bytes()) {
+            Ok(()) => {
+                self.size += record.len() as u64;
+                self.waits = true;
+                Ok(count)
+            }
+            Err(_) => {
+                self.reopen = true;
+                Err(StoreFault::Device)
+            }
+        }
+    }
+
+    /// Syncs `store.yaml`: all commands that wait are acknowledged. If none waits, the disk is not called. A running
+    /// checkpoint goes on. Takes no memory.
+    ///
+    /// # Errors
+    /// `Reopen` if the store has to be opened again. `Device`: a crash may still take back commands that waited, and
+    /// the store has to be opened again.
+    pub fn flush(&mut self) -> Result<(), StoreFault>
+        ensures reopen { IsErrOf result StoreFault.Reopen ↔ (self.old.reopen ≡ true) }
+        ensures ok { OnOk result (self.new.reopen ≡ false) }
+        ensures refused { IfErr result (λ fault.
+            (fault ≡ StoreFault.Reopen) ⊎ (fault ≡ StoreFault.Device)) }
+        ensures same { StaysTheSame self.old self.new }
+        ensures unchanged { RefusalsChangeNothing self.old self.new result }
+        ensures device { IsErrOf result StoreFault.Device → self.new.reopen ≡ true }
+        ensures cause { DeviceHasCause D.model self.old self.new result }
+        ensures risen { FailuresNeverFall D.model self.old self.new }
+        ensures reads { D.model.honest →
+            store_file D.model self.new.disk ≡ store_file D.model self.old.disk }
+        ensures stages { D.model.honest → new_file D.model self.new ≡ new_file D.model self.old }
+        ensures any_moment { LeavesPrefix D.model self.old self.new }
+        // After Ok none waits, and whatever a crash leaves means the state.
+        ensures flushed { D.model.honest → OnOk result (NoneWaits D.model self.new) }
+        ensures now { D.model.honest → OnOk result (CrashesLeaveState D.model self.new) }
+    {
+        documents_close();
+        held_store_is_left();
+        if self.reopen {
+            return Err(StoreFault::Reopen);
+        }
+        if !self.waits {
+            return Ok(());
+        }
+        match sync_store(&mut self.disk) {
+            Ok(()) => {
+                self.waits = false;
+                Ok(())
+            }
+            Err(_) => {
+                self.reopen = true;
+                Err(StoreFault::Device)
+            }
+        }
+    }
+
+    /// Performs a command, appends its record to `store.yaml` and syncs it: a [`submit`](Store::submit) and a
+    /// [`flush`](Store::flush). Returns the new count, which is one more than before. Commands that waited are
+    /// acknowledged with it.
+    ///
+    /// A batch is one command, with one record: a crash leaves all of its edits or none. The cost depends on the edits
+    /// and the record, and not on the size of the store.
+    ///
+    /// # Errors
+    /// `Reopen` if the store has to be opened again. Otherwise the first refusal of the command by the state, in the
+    /// order of [`StoreFault`]. It is `RecordLong` if the record of a batch would be longer than 67,108,864 bytes, and
+    /// `JournalLong` if `store.yaml`, or the new file of a running checkpoint, would be longer than 1,073,741,824
+    /// bytes. These, and `OutOfMemory`, leave the store and the disk as they were, so what waited still waits.
+    /// `Device`: the state is the one after the command, its record may be on the disk or not, and the store has to be
+    /// opened again.
+    pub fn apply(&mut self, command: Command) -> Result<u64, StoreFault>
+        ensures reopen { IsErrOf result StoreFault.Reopen ↔ (self.old.reopen ≡ true) }
+        ensures ok { IfOk result (λ count.
+            Accepts self.old (command_of command) self.new × (count ≡ self.new.state.count)) }
+        ensures refused { IfErr result (RefusesCommand self.old (command_of command) self.new) }
+        ensures running { is_some self.new.staged ≡ is_some self.old.staged }
+        ensures unchanged { RefusalsChangeNothing self.old self.new result }
+        ensures device { IsErrOf result StoreFault.Device → self.new.reopen ≡ true }
+        ensures cause { DeviceHasCause D.model self.old self.new result }
+        ensures risen { FailuresNeverFall D.model self.old self.new }
+        ensures reads { D.model.honest → self.old.reopen ≡ false →
+            OnOk result (AppendsRecord self.old (command_of command)
+            (store_file D.model self.old.disk) (store_file D.model self.new.disk)) }
+        // So does the new file of a running checkpoint.
+        ensures stages { D.model.honest → self.old.reopen ≡ false →
+            OnOk result (AppendsRecord self.old (command_of command)
+            (new_file D.model self.old) (new_file D.model self.new)) }
+        ensures any_moment { LeavesPrefixOrNew D.model self.old self.new }
+        // After Ok none waits, and whatever a crash leaves means the state.
+        ensures flushed { D.model.honest → OnOk result (NoneWaits D.model self.new) }
+        ensures now { D.model.honest → OnOk result (CrashesLeaveState D.model self.new) }
+    {
+        match self.submit(0, command) {
+            Ok(count) => match self.flush() {
+                Ok(()) => Ok(count),
+                Err(fault) => Err(fault),
+            },
+            Err(fault) => Err(fault),
+        }
+    }
+
+    /// Reads a text within the limits of a configuration (4,194,304 bytes, also in the one style, and 128 deep), and
+    /// puts its tree under a name, in place of a tree that is there. Its record is synced, as by
+    /// [`apply`](Store::apply). Returns the new count, which is one more than before.
+    ///
+    /// # Errors
+    /// `Reopen` if the store has to be opened again. Otherwise `BadName` if the name may not be used, whatever the text
+    /// is; then `Read` with the reason why the text gives no tree; then the faults of [`apply`](Store::apply). Each
+    /// fault but `Device` leaves the store and the disk as they were.
+    pub fn import(&mut self, name: &str, text: &[u8]) -> Result<u64, StoreFault>
+        ensures reopen { IsErrOf result StoreFault.Reopen ↔ (self.old.reopen ≡ true) }
+        ensures ok { IfOk result (λ count.
+            Imports self.old (chars name.now) text.now self.new × (count ≡ self.new.state.count)) }
+        ensures bad_name { self.old.reopen ≡ false → good_name (chars name.now) ≡ false
+            → result ≡ Err StoreFault.BadName }
+        ensures refused { IfErr result (RefusesImport self.old (chars name.now) text.now self.new) }
+        ensures running { is_some self.new.staged ≡ is_some self.old.staged }
+        ensures unchanged { RefusalsChangeNothing self.old self.new result }
+        ensures device { IsErrOf result StoreFault.Device → self.new.reopen ≡ true }
+        ensures cause { DeviceHasCause D.model self.old self.new result }
+        ensures risen { FailuresNeverFall D.model self.old self.new }
+        ensures reads { D.model.honest → self.old.reopen ≡ false →
+            OnOk result (AppendsImport self.old (chars name.now) text.now
+            (store_file D.model self.old.disk) (store_file D.model self.new.disk)) }
+        // So does the new file of a running checkpoint.
+        ensures stages { D.model.honest → self.old.reopen ≡ false →
+            OnOk result (AppendsImport self.old (chars name.now) text.now
+            (new_file D.model self.old) (new_file D.model self.new)) }
+        ensures any_moment { LeavesPrefixOrNew D.model self.old self.new }
+        // After Ok none waits, and whatever a crash leaves means the state.
+        ensures flushed { D.model.honest → OnOk result (NoneWaits D.model self.new) }
+        ensures now { D.model.honest → OnOk result (CrashesLeaveState D.model self.new) }
+    {
+        if self.needs_reopen() {
+            return Err(StoreFault::Reopen);
+        }
+        match import_command(self.alloc, name, text) {
+            Ok(command) => self.apply(command),
+            Err(fault) => Err(fault),
+        }
+    }
+}
