@@ -19,7 +19,7 @@ use Rattle.conf_store.specs.declared.fault.OpenFault.TheVariants.{NotAStore, Dam
 use Rattle.conf_tools.specs.Exports.{Finds, HasText, LacksText, disk_back}
 use Rattle.conf_tools.specs.Stores.{CannotOpen, OpensOn}
 use Rattle.conf_tools.specs.declared.stores.StoreToolFault.{StoreToolFault}
-use Rattle.conf_tools.specs.declared.stores.StoreToolFault.TheVariants.{Folder as InFolder, Open, Session, Export, Output, Refused, StoreExists}
+use Rattle.conf_tools.specs.declared.stores.StoreToolFault.TheVariants.{Folder as InFolder, Open, Session, Export, Refused, StoreExists}
 
 -- a failure is still one after further calls
 failed-on : (before now later : ℕ) → HasFailed before now → now ≤ later → HasFailed before later
@@ -76,7 +76,6 @@ module _ {D : Type 0} (model : DiskModel D) where
     lacks-since name new (Open fault) risen same lacks = (lacks.0, λ device. failed-on (model.failure_count old) (model.failure_count mid) (model.failure_count new) (cannot.cause refl) risen)
     lacks-since name new (Session fault) risen same lacks = absurd lacks
     lacks-since name new (Export fault) risen same lacks = record { state = lacks.state; finds = since-opening new lacks.state risen same lacks.finds; why = lacks.why }
-    lacks-since name new Output risen same lacks = absurd lacks
     lacks-since name new (Refused fault) risen same lacks = absurd lacks
     lacks-since name new StoreExists risen same lacks = absurd lacks
 

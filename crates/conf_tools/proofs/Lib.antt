@@ -1,4 +1,4 @@
-pub mod StoreLemmas
+pub mod WordLemmas
 pub mod Formatting
 pub mod ReportLemmas
 pub mod SessionLemmas

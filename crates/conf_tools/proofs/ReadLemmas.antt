@@ -8,8 +8,6 @@ use Rattle.yaml_grammar.specs.Trees.{Tree, Elements, Members, text, sequence, ma
 use Rattle.tree_path.specs.Paths.{at}
 use Rattle.json_pointer.specs.Pointers.{path_of}
 use Rattle.json_pointer.specs.declared.fault.PathFault.{PathFault}
-use Rattle.conf_disk.specs.Folder.{Folder}
-use Rattle.conf_disk.specs.Models.{DiskModel}
 use Rattle.conf_state.specs.States.{Contents}
 use Rattle.conf_state.specs.Steps.{and_then, by_path}
 use Rattle.conf_state.specs.declared.fault.StoreFault.{StoreFault}
@@ -19,10 +17,10 @@ use Rattle.conf_session.specs.Answers.{value_at_path}
 use Rattle.conf_history.specs.declared.fault.HistoryFault.TheVariants as history
 use Rattle.conf_history.specs.declared.survey.Findings.{Findings}
 use Rattle.conf_tools.specs.Reads.{name_lines, shown}
-use Rattle.conf_tools.specs.Surveys.{CannotWrite, FileIsAs, RefusesSaving, RefusesWriting, SavesOn}
+use Rattle.conf_tools.specs.Surveys.{CannotWrite, FileIsAs, RefusesWriting}
 use Rattle.conf_tools.specs.declared.reading_fault.ReadingFault.{ReadingFault}
 use Rattle.conf_tools.specs.declared.reading_fault.ReadingFault.TheVariants as reading
-use Rattle.conf_tools.specs.declared.reads.ValueForm.TheVariants.{Raw}
+use Rattle.conf_words.specs.declared.invocation.ValueForm.TheVariants.{Raw}
 
 -- bytes that were put behind others, where there was memory for them
 pub on_pushed : {A E Q : Type 0} (r : Result A E) (new more old : List ℕ) → new ≡ (if is_ok r then more else old) → (new ≡ more → Q) → OnOk r Q
@@ -112,13 +110,3 @@ cannot_write given held written state findings is (reading.History history.NoSuc
 cannot_write given held written state findings is (reading.Folder fault) cannot = absurd cannot
 cannot_write given held written state findings is (reading.Value fault) cannot = absurd cannot
 cannot_write given held written state findings is (reading.Salvage fault) cannot = absurd cannot
-
--- why the findings of a store that was made were not written whole
-pub not_written : {D : Type 0} (model : DiskModel D) (given left held written : Option (List ℕ)) (old new : D) (findings : Findings)
-    → SavesOn model given left old new findings → (fault : ReadingFault) → CannotWrite held written fault
-    → RefusesSaving model given left held written old new fault
-not_written model given left held written old new findings saves (reading.Folder fault) cannot = (findings, saves, cannot)
-not_written model given left held written old new findings saves (reading.History fault) cannot = (findings, saves, cannot)
-not_written model given left held written old new findings saves (reading.Value fault) cannot = (findings, saves, cannot)
-not_written model given left held written old new findings saves (reading.Salvage fault) cannot = absurd cannot
-not_written model given left held written old new findings saves reading.Output cannot = (findings, saves, cannot)

@@ -1,11 +1,8 @@
--- What an export has written, and from which state.
-use Rattle.std.specs.Prelude.{◌≡◌, ◌⊎◌, ℕ, List, Option, Result, Ok, Err, MatchResult, encode_utf8_all}
-use Rattle.std.specs.Io.KnownBytes.{Keeps, Appends}
+-- What an export finds, and in which state.
+use Rattle.std.specs.Prelude.{◌≡◌, ◌⊎◌, ℕ, List, Option, Result, Ok, Err, encode_utf8_all}
 use Rattle.std.specs.Str.{chars}
-use Rattle.conf_disk.specs.Folder.{Folder, bytes_under}
-use Rattle.conf_disk.specs.Image.{Image}
+use Rattle.conf_disk.specs.Folder.{bytes_under}
 use Rattle.conf_disk.specs.Models.{DiskModel}
-use Rattle.conf_disk.specs.Moments.{LeavesOnly}
 use Rattle.conf_disk.specs.declared.disk.Name.TheVariants.{Store}
 use Rattle.conf_state.specs.States.{Contents}
 use Rattle.conf_state.specs.declared.fault.StoreFault.{StoreFault}
@@ -13,10 +10,10 @@ use Rattle.conf_state.specs.declared.fault.StoreFault.TheVariants.{OutOfMemory}
 use Rattle.conf_store.specs.Calls.{Exports, HasFailed, tree_named}
 use Rattle.conf_store.specs.Files.{IsNewBase}
 use Rattle.conf_store.specs.Meaning.{FileMeans}
-use Rattle.conf_store.specs.Opens.{MeantAtEntry, RefusesOpening}
+use Rattle.conf_store.specs.Opens.{RefusesOpening}
 use Rattle.conf_store.specs.declared.fault.OpenFault.TheVariants as OpenFaults
 use Rattle.conf_tools.specs.declared.stores.StoreToolFault.{StoreToolFault}
-use Rattle.conf_tools.specs.declared.stores.StoreToolFault.TheVariants.{Open, Export, Output}
+use Rattle.conf_tools.specs.declared.stores.StoreToolFault.TheVariants.{Open, Export}
 
 -- the disk that a call hands back, with a value or a fault
 abbrev pub disk_back : {D A F : Type 0} → Result (D × A) (D × F) → D
@@ -59,26 +56,3 @@ LacksText model old new name (Open fault) =
     × (fault ≡ OpenFaults.Device → HasFailed (model.failure_count old) (model.failure_count new))
 LacksText model old new name (Export fault) = HasNoText model old new name fault
 LacksText model old new name fault = ⊥
-
--- the text of the configuration under the name was written
-pub record ExportsFrom {D : Type 0} (model : DiskModel D) (old new : D)
-    (name : List ℕ) (held written : Option (List ℕ)) : Type 0 where
-  pub bytes : List ℕ
-  pub text : HasText model old new name bytes
-  pub out : Appends held written bytes
-
--- Why no configuration was written whole. Nothing was written, but where the writer failed.
-abbrev pub RefusesExport : {D : Type 0} → DiskModel D → D → D → List ℕ → Option (List ℕ)
-    → Option (List ℕ) → StoreToolFault → Type 0
-RefusesExport model old new name held written Output = Unit {0}
-RefusesExport model old new name held written fault =
-    LacksText model old new name fault × Keeps held written
-
--- What was written, or why not, from a disk that was let go before anything was written.
-pub record ExportsAndLetsGo {D : Type 0} (model : DiskModel D) (old : D) (name : List ℕ)
-    (held written : Option (List ℕ))
-    (result : Result Unit StoreToolFault) : Type 0 where
-  pub new : D
-  pub exports : MatchResult result (λ done. ExportsFrom model old new name held written)
-      (RefusesExport model old new name held written)
-  pub crashes : model.honest → LeavesOnly model old new (λ image. MeantAtEntry (model.folder old) image.store)

@@ -10,3 +10,7 @@ pub mod Dropped
 pub mod Reads
 pub mod Surveys
 pub mod ReadingStatuses
+pub mod Worlds
+pub mod StoreWords
+pub mod TextWords
+pub mod Performs

@@ -1,17 +1,12 @@
--- The statuses of the words that read a store, and what they may have written before a fault.
-use Rattle.std.specs.Prelude.{◌≡◌, ◌⊎◌, ℕ, List, Option}
-use Rattle.std.specs.Io.KnownBytes.{Appends}
+-- The statuses of the words that read a store.
 use Rattle.conf_folder.specs.declared.fault.FolderFault.TheVariants as FolderFault
 use Rattle.conf_history.specs.declared.fault.HistoryFault.{HistoryFault}
 use Rattle.conf_history.specs.declared.fault.HistoryFault.TheVariants as HistoryFaults
 use Rattle.conf_history.specs.declared.fault.SalvageFault.TheVariants as SalvageFault
-use Rattle.conf_history.specs.declared.survey.Findings.{Findings}
-use Rattle.conf_tools.specs.Surveys.{findings_text, soundness_of}
 use Rattle.conf_tools.specs.declared.program.Status.{Status}
 use Rattle.conf_tools.specs.declared.program.Status.TheVariants.{Refused, Device}
 use Rattle.conf_tools.specs.declared.reading_fault.ReadingFault.{ReadingFault}
 use Rattle.conf_tools.specs.declared.reading_fault.ReadingFault.TheVariants.{Folder, History, Value, Salvage, Output}
-use Rattle.conf_tools.specs.declared.surveys.Soundness.TheVariants.{Damaged}
 
 -- the status after a fault of a store's file
 abbrev pub status_of_history : HistoryFault → Status
@@ -30,16 +25,3 @@ status_of_reading (Salvage (SalvageFault.History fault)) = status_of_history fau
 status_of_reading (Salvage SalvageFault.Device) = Device
 status_of_reading (Salvage fault) = Refused
 status_of_reading Output = Device
-
--- lines of a log were written, before the fault
-abbrev pub LogsSome : Option (List ℕ) → Option (List ℕ) → Type 0
-LogsSome held written = (lines : List ℕ) × Appends held written lines
-
--- what an opening would find in a damaged store was written
-abbrev pub FindsDamage : Option (List ℕ) → Option (List ℕ) → Type 0
-FindsDamage held written =
-    (findings : Findings) × (soundness_of findings.bad ≡ Damaged) × Appends held written (findings_text findings)
-
--- what a word that reads a store has written where its status is 1
-abbrev pub TellsOfStore : Option (List ℕ) → Option (List ℕ) → Type 0
-TellsOfStore held written = LogsSome held written ⊎ FindsDamage held written

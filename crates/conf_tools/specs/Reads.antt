@@ -8,8 +8,8 @@ use Rattle.conf_state.specs.declared.fault.StoreFault.{StoreFault}
 use Rattle.conf_state.specs.declared.fault.StoreFault.TheVariants.{OutOfMemory}
 use Rattle.conf_history.specs.Histories.{HoldsAt, RefusesReading}
 use Rattle.conf_session.specs.Answers.{value_at_path}
-use Rattle.conf_tools.specs.declared.reads.ValueForm.{ValueForm}
-use Rattle.conf_tools.specs.declared.reads.ValueForm.TheVariants.{Styled, Raw}
+use Rattle.conf_words.specs.declared.invocation.ValueForm.{ValueForm}
+use Rattle.conf_words.specs.declared.invocation.ValueForm.TheVariants.{Styled, Raw}
 use Rattle.conf_tools.specs.declared.reading_fault.ReadingFault.{ReadingFault}
 use Rattle.conf_tools.specs.declared.reading_fault.ReadingFault.TheVariants.{History, Value, Output}
 

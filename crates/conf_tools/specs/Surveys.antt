@@ -1,5 +1,5 @@
 -- What is written of a store's file by `verify`: what an opening would find in it.
-use Rattle.std.specs.Prelude.{◌≡◌, ℕ, List, [], ◌++◌, Option, Some, None, IfSome, Result, MatchResult, codes, decimal}
+use Rattle.std.specs.Prelude.{◌≡◌, ℕ, List, [], ◌++◌, Option, Some, None, IfSome, codes, decimal}
 use Rattle.std.specs.Io.KnownBytes.{Keeps, Appends}
 use Rattle.yaml_events.specs.declared.read_fault.ReadFault.{ReadFault}
 use Rattle.yaml_events.specs.declared.read_fault.ReadFault.TheVariants as read
@@ -8,17 +8,14 @@ use Rattle.json_pointer.specs.declared.fault.PathFault.TheVariants as path
 use Rattle.conf_state.specs.States.{Contents}
 use Rattle.conf_state.specs.declared.fault.StoreFault.{StoreFault}
 use Rattle.conf_state.specs.declared.fault.StoreFault.TheVariants as store
-use Rattle.conf_disk.specs.Folder.{Folder}
-use Rattle.conf_disk.specs.Models.{DiskModel}
 use Rattle.conf_history.specs.Histories.{IsSurvey, RefusesSurvey}
-use Rattle.conf_history.specs.Salvages.{RefusesSalvage, Saves}
 use Rattle.conf_history.specs.declared.fault.HistoryFault.TheVariants.{OutOfMemory}
 use Rattle.conf_history.specs.declared.place.NoRecord.{NoRecord}
 use Rattle.conf_history.specs.declared.place.NoRecord.TheVariants.{NotARecord, WrongNumber, Refused}
 use Rattle.conf_history.specs.declared.survey.Bad.{Bad}
 use Rattle.conf_history.specs.declared.survey.Findings.{Findings}
 use Rattle.conf_tools.specs.declared.reading_fault.ReadingFault.{ReadingFault}
-use Rattle.conf_tools.specs.declared.reading_fault.ReadingFault.TheVariants.{History, Salvage, Output}
+use Rattle.conf_tools.specs.declared.reading_fault.ReadingFault.TheVariants.{History, Output}
 use Rattle.conf_tools.specs.declared.surveys.Soundness.{Soundness}
 use Rattle.conf_tools.specs.declared.surveys.Soundness.TheVariants.{Whole, Damaged}
 
@@ -123,33 +120,3 @@ RefusesWriting given held written (History fault) =
     IfSome given (λ bytes. RefusesSurvey bytes fault) × Keeps held written
 RefusesWriting given held written Output = (state : Contents) × (findings : Findings) × FileIsAs given state findings
 RefusesWriting given held written fault = ⊥
-
--- ---- a store of what stands before the damage
-
--- The store was made of what stands in the file before its first bad piece, if the disk is honest.
-abbrev pub SavesOn : {D : Type 0} → DiskModel D → Option (List ℕ) → Option (List ℕ) → D → D → Findings → Type 0
-SavesOn model given left old new findings =
-    model.honest → Saves given left (model.folder old) (model.folder new) findings
-
--- the store was made, and what stands in the file was written
-abbrev pub SavesStore : {D : Type 0} → DiskModel D → Option (List ℕ) → Option (List ℕ) → Option (List ℕ)
-    → Option (List ℕ) → D → D → Type 0
-SavesStore model given left held written old new =
-    (findings : Findings) × SavesOn model given left old new findings
-    × Appends held written (findings_text findings)
-
--- Why no store was made, and nothing was written; or the store was made, and what stands in the file was not written
--- whole.
-abbrev pub RefusesSaving : {D : Type 0} → DiskModel D → Option (List ℕ) → Option (List ℕ) → Option (List ℕ)
-    → Option (List ℕ) → D → D → ReadingFault → Type 0
-RefusesSaving model given left held written old new (Salvage fault) =
-    (model.honest → RefusesSalvage given left (model.folder old) (model.folder new) fault) × Keeps held written
-RefusesSaving model given left held written old new fault =
-    (findings : Findings) × SavesOn model given left old new findings × CannotWrite held written fault
-
--- What was made and written, or why not, where the disk was let go before anything was written.
-pub record SavesAndLetsGo {D : Type 0} (model : DiskModel D)
-    (given left held written : Option (List ℕ)) (old : D) (result : Result Unit ReadingFault) : Type 0 where
-  pub new : D
-  pub saves : MatchResult result (λ done. SavesStore model given left held written old new)
-      (RefusesSaving model given left held written old new)

@@ -1,4 +1,4 @@
-// Writing one configuration of a store, over any disk and writer.
+// The text of one configuration of a store, over any disk.
 ghost use Rattle.std.specs.Prelude.{◌≡◌, ◌≤◌, ◌⊎◌, IfOk, IfErr, Err, string_bytes};
 ghost use Rattle.std.specs.Io.KnownBytes.{Keeps};
 ghost use Rattle.std.specs.Str.{chars};
@@ -8,10 +8,9 @@ ghost use Rattle.conf_store.specs.Calls.{Exports, tree_named};
 ghost use Rattle.conf_store.specs.Files.{FilesStay};
 ghost use Rattle.conf_store.specs.Opens.{MeantAtEntry};
 ghost use Rattle.conf_tools.specs.Dropped.{HasNoRest};
-ghost use Rattle.conf_tools.specs.Exports.{ExportsAndLetsGo, HasText, LacksText, disk_back};
+ghost use Rattle.conf_tools.specs.Exports.{HasText, LacksText, disk_back};
 
 use crate::stores::{StoreToolFault, open_store};
-use crate::texts::write_whole;
 use conf_disk::{Disk, Name, reading_is_an_image};
 use conf_state::{State, StoreFault, good_name};
 use conf_store::{OpenFault, read_state};
@@ -108,37 +107,5 @@ pub fn export_text<D: Disk + Drop, E: Write>(
     match exported {
         Ok(text) => Ok((disk, text)),
         Err(fault) => Err((disk, StoreToolFault::Export(fault))),
-    }
-}
-
-/// Writes the configuration under a name to `writer`, in the one style, as [`export_text`] finds it in the store on
-/// `disk`. The disk is let go before anything is written, so that no other run waits for whoever reads the output.
-///
-/// # Errors
-/// Those of [`export_text`]; then nothing is written. `Output` if the writer fails: some of the text may be written.
-pub fn export_store<D: Disk + Drop, W: Write, E: Write>(
-    alloc: Global,
-    disk: D,
-    name: &str,
-    writer: &mut W,
-    errors: &mut E,
-) -> Result<(), StoreToolFault>
-    // What was written, of the disk that was let go, and what a crash leaves of that.
-    ensures exports { ExportsAndLetsGo D.model disk
-        (chars name.now) (W.contents writer.old) (W.contents writer.new) result }
-    ensures quiet { D.model.honest → HasNoRest (bytes_under (D.model.folder disk) Name.Store)
-        → Keeps (E.contents errors.old) (E.contents errors.new) }
-{
-    let (disk, text) = match export_text(alloc, disk, name, errors) {
-        Ok(found) => found,
-        Err((disk, fault)) => {
-            drop(disk);
-            return Err(fault);
-        }
-    };
-    drop(disk);
-    match write_whole(writer, text.as_bytes()) {
-        Ok(()) => Ok(()),
-        Err(_) => Err(StoreToolFault::Output),
     }
 }

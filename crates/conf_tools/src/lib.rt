@@ -1,10 +1,10 @@
-//! What the program `confstore` does, over any reader and writer: [`perform`] does what its words say, and returns the
-//! status.
+//! What the program `confstore` does, over any streams and any [`World`] of folders and files: [`perform`] does what an
+//! invocation asks for, and returns the status. [`Host`] is the world of the system.
 //!
 //! The tools are there without the words, too. [`format_text`] writes a text's tree in the one style, and
 //! [`check_text`] reports where a text departs from it. For the text of a file that was named, [`restyle`] returns what
 //! it is in the one style, [`list_changed`] writes the name if that is another text, and [`check_file`] reports as
-//! `FILE:LINE: S1`. [`run_store`] performs a session of commands, and [`export_store`] writes one configuration.
+//! `FILE:LINE: S1`. [`run_store`] performs a session of commands, and [`export_text`] gives the text of one configuration.
 //! [`change_store`] makes a single change, and [`make_store`] an empty store. The store may be on any disk. Each of these
 //! says on a writer for errors how many bytes opening dropped. [`calls_hold`] says what these calls keep over any crashes.
 #![tactic(auto)]
@@ -16,6 +16,7 @@ mod exports;
 mod file_texts;
 mod file_words;
 mod findings;
+mod host;
 mod input;
 mod laws;
 mod program;
@@ -28,15 +29,18 @@ mod stores;
 mod surveys;
 mod tail;
 mod texts;
+mod world;
 
 pub use changes::{Change, change_store, make_store};
-pub use exports::{export_store, export_text};
+pub use exports::export_text;
 pub use file_texts::{Restyled, check_file, list_changed, restyle};
+pub use host::Host;
 pub use laws::calls_hold;
-pub use program::{perform, refuse_words};
+pub use program::{Status, perform, refuse_words, show_unparsed};
 pub use reading_fault::ReadingFault;
-pub use reads::{ValueForm, write_names, write_value};
+pub use reads::{write_names, write_value};
 pub use stores::{Grouping, StoreToolFault, run_store};
-pub use surveys::{Soundness, salvage_store, write_survey};
+pub use surveys::{Soundness, write_findings, write_survey};
 pub use tail::{KEPT, Tail, TailReader};
 pub use texts::{ToolFault, check_text, format_text};
+pub use world::{Access, World};

@@ -1,32 +1,31 @@
-// What the program does with the words that it is given.
-ghost use Rattle.std.specs.Prelude.{◌≡◌, ◌⊎◌, ◌≤◌};
-ghost use Rattle.std.specs.Io.KnownBytes.{Keeps};
-ghost use Rattle.conf_tools.specs.Statuses.{Performs, code_of, status_of, status_of_store};
+// What the program does for an invocation.
+ghost use Rattle.std.specs.Prelude.{◌≡◌, ◌⊎◌};
+ghost use Rattle.conf_tools.specs.Exports.{disk_back};
+ghost use Rattle.conf_tools.specs.Performs.{Performs, checkpoints_of, grouping_of};
+ghost use Rattle.conf_tools.specs.Statuses.{ShowsUnparsed, code_of, status_of, status_of_store};
+ghost use Rattle.conf_tools.specs.StoreWords.{ExportsFromFolder, RunsOnFolder, WritesFound, WritesWhole, status_at_end};
+ghost use Rattle.conf_tools.specs.Worlds.{around};
 
-use crate::change_words::{
-    change_folder, delete_in_folder, import_into_folder, init_folder, set_in_folder,
-};
+use crate::change_words::{change_folder, delete_of, import_of, init_folder, set_of};
 use crate::changes::Change;
-use crate::exports::export_store;
-use crate::file_words::{check_words, format_words};
+use crate::exports::export_text;
+use crate::file_words::{check_files, format_files};
 use crate::read_words::{
-    get_from_folder, log_of_folder, names_of_folder, salvage_folder, verify_folder,
+    Asked, log_form_of, open_file, save_file, tell_log, tell_names, tell_survey, tell_value,
 };
 use crate::rest::write_rest;
 use crate::stores::{Grouping, StoreToolFault, run_store};
-use crate::tail::TailReader;
-use crate::texts::ToolFault;
-use clap::ArgMatches;
-use conf_folder::{FolderDisk, FolderFault};
-use conf_session::{Checkpoints, SessionFault};
+use crate::tail::{Tail, TailReader};
+use crate::texts::{ToolFault, write_whole};
+use crate::world::{Access, World};
+use conf_folder::FolderFault;
+use conf_session::{Checkpoints, SessionFault, Tally};
 use conf_state::StoreFault;
 use conf_store::OpenFault;
-use conf_words::{CHECKPOINT_AFTER, FOLDER, GROUP, NAME, Subcommand, command, wrong_words};
+use conf_words::{Invocation, Unparsed};
 use std::alloc::{AllocError, Global};
-use std::fs::File;
 use std::io;
 use std::io::{ErrorKind, Read, Write};
-use std::rt::Files;
 
 /// What the program ends with.
 #[derive(Clone, Copy, Debug, PartialEq, Eq)]
@@ -57,166 +56,229 @@ impl Status {
     }
 }
 
-/// Does what the program does, and returns its status. `words` are its words, of which the first is its name. The files
-/// of a store are those of `rt`.
+/// Does what an invocation asks for, with the folders and files of `world`, and returns the status.
 ///
-/// The status is 0 if all was done (help and version too), and 2 for wrong words. It is 1 if a text or a store is
-/// refused, memory ran out or something was found in a text. It is 3 if reading or writing failed, or the folder is
-/// missing or locked. A fault is written to `errors` in one line; if that write fails, it is ignored. Commands that are
-/// refused inside a session leave the status 0. So do bytes after the last closing line of its input; if they are not
-/// blank, one line to `errors` says that they were not performed, and the likely cause. Another line there says how many
-/// bytes after the last whole record of a store were dropped, if there were any.
-pub fn perform<F: Files<File = File>, R: Read, W: Write, E: Write>(
-    rt: &F,
+/// It is `Done` if all was done. It is `Refused` if a text or a store is refused or memory ran out, `Found` if something
+/// was found in a text, and `Device` if reading or writing failed, or a folder is missing or locked. A fault is written
+/// to `errors` in one line; if that write fails, it is ignored. Commands that are refused inside a session leave the
+/// status `Done`. So do bytes after the last closing line of its input; if they are not blank, one line to `errors` says
+/// that they were not performed, and the likely cause. Another line there says how many bytes after the last whole record
+/// of a store were dropped, if there were any.
+///
+/// Each disk that the world hands out is given back to it before this returns, and before anything is written to `output`
+/// but the answers of a session.
+pub fn perform<A: World, R: Read, W: Write, E: Write>(
+    world: &mut A,
     alloc: Global,
-    words: &[String],
-    reader: &mut TailReader<R>,
-    writer: &mut W,
+    invocation: Invocation<'_>,
+    input: &mut TailReader<R>,
+    output: &mut W,
     errors: &mut E,
-) -> u8
-    ensures { Performs (R.remaining reader.old.inner) (R.remaining reader.new.inner)
-        (W.contents writer.old) (W.contents writer.new) result }
+) -> Status
+    ensures { Performs A.model A.Disk.model A.File.remaining invocation.entry
+        (around world.old (R.remaining input.old.inner) (W.contents output.old))
+        (around world.new (R.remaining input.new.inner) (W.contents output.new)) result }
 {
-    let Ok(command) = command(alloc, words) else {
-        return write_fault(errors, ToolFault::from(AllocError)).code();
-    };
-    match command.try_get_matches_from(words) {
-        Ok(matches) => obey(rt, alloc, &matches, reader, writer, errors).code(),
-        Err(error) if error.kind() == clap::error::ErrorKind::OutOfMemory => {
-            write_fault(errors, ToolFault::from(AllocError)).code()
+    match invocation {
+        Invocation::Init { folder } => init_folder(world, alloc, folder, errors),
+        Invocation::Import { folder, name, file } => {
+            let change = import_of(world, alloc, name, file, input);
+            change_folder(world, alloc, folder, change, errors)
         }
-        Err(error) if error.use_stderr() => match wrong_words(alloc, words) {
-            Ok(lines) => {
-                let _ = errors.write_all(lines.as_bytes());
-                Status::WrongWords.code()
-            }
-            Err(fault) => write_fault(errors, ToolFault::from(fault)).code(),
-        },
-        Err(error) => match write!(writer, "{error}") {
-            Ok(()) => Status::Done.code(),
-            Err(_) => write_fault(errors, ToolFault::Output).code(),
-        },
+        Invocation::Set {
+            folder,
+            name,
+            pointer,
+            value,
+        } => {
+            let change = set_of(alloc, name, pointer, value, input);
+            change_folder(world, alloc, folder, change, errors)
+        }
+        Invocation::Delete {
+            folder,
+            name,
+            pointer,
+        } => {
+            let change = delete_of(alloc, name, pointer);
+            change_folder(world, alloc, folder, change, errors)
+        }
+        Invocation::Checkpoint { folder } => {
+            change_folder(world, alloc, folder, Ok(Change::Checkpoint), errors)
+        }
+        Invocation::Run { folder, grouping } => {
+            run_folder(
+                world,
+                alloc,
+                folder,
+                grouping_of(grouping),
+                input,
+                output,
+                errors,
+            )
+        }
+        Invocation::Export { folder, name } => {
+            export_folder(world, alloc, folder, name, output, errors)
+        }
+        Invocation::Names { folder, at } => {
+            let file = open_file(world, alloc, folder);
+            tell_names(alloc, file, at, output, errors)
+        }
+        Invocation::Get {
+            folder,
+            name,
+            pointer,
+            at,
+            form,
+        } => {
+            let file = open_file(world, alloc, folder);
+            let asked = Asked {
+                name,
+                pointer,
+                at,
+                form,
+            };
+            tell_value(alloc, file, asked, output, errors)
+        }
+        Invocation::Log { folder, at, form } => {
+            let file = open_file(world, alloc, folder);
+            tell_log(alloc, file, at, log_form_of(form), output, errors)
+        }
+        Invocation::Verify { folder } => {
+            let file = open_file(world, alloc, folder);
+            tell_survey(alloc, file, folder, output, errors)
+        }
+        Invocation::Salvage { folder, new } => {
+            let file = open_file(world, alloc, folder);
+            save_file(world, alloc, file, new, output, errors)
+        }
+        Invocation::Format { formatting, files } => {
+            format_files(world, alloc, formatting, &files, input, output, errors)
+        }
+        Invocation::Check { files } => check_files(world, alloc, &files, input, output, errors),
     }
 }
 
-/// Does what the subcommand says, and returns the status.
-fn obey<F: Files<File = File>, R: Read, W: Write, E: Write>(
-    rt: &F,
+/// Performs the commands of `input` on the store in a folder. One line to `errors` says if bytes at the end of the input
+/// were not performed.
+fn run_folder<A: World, R: Read, W: Write, E: Write>(
+    world: &mut A,
     alloc: Global,
-    matches: &ArgMatches<'_>,
-    reader: &mut TailReader<R>,
-    writer: &mut W,
+    folder: &str,
+    grouping: Grouping,
+    input: &mut TailReader<R>,
+    output: &mut W,
     errors: &mut E,
 ) -> Status
-    ensures { Performs (R.remaining reader.old.inner) (R.remaining reader.new.inner)
-        (W.contents writer.old) (W.contents writer.new) (code_of result) }
+    ensures { RunsOnFolder A.model A.Disk.model folder.now grouping
+        (around world.old (R.remaining input.old.inner) (W.contents output.old))
+        (around world.new (R.remaining input.new.inner) (W.contents output.new)) result }
 {
-    let Some((name, words)) = matches.subcommand() else {
-        return Status::WrongWords;
-    };
-    let Some(subcommand) = Subcommand::named(name) else {
-        return Status::WrongWords;
-    };
-    match subcommand {
-        Subcommand::Run => run_folder(rt, alloc, words, reader, writer, errors),
-        Subcommand::Export => export_folder(rt, alloc, words, writer, errors),
-        Subcommand::Init => init_folder(rt, alloc, words, errors),
-        Subcommand::Import => import_into_folder(rt, alloc, words, reader, errors),
-        Subcommand::Set => set_in_folder(rt, alloc, words, reader, errors),
-        Subcommand::Delete => delete_in_folder(rt, alloc, words, errors),
-        Subcommand::Checkpoint => change_folder(rt, alloc, words, Change::Checkpoint, errors),
-        Subcommand::Names => names_of_folder(rt, alloc, words, writer, errors),
-        Subcommand::Get => get_from_folder(rt, alloc, words, writer, errors),
-        Subcommand::Log => log_of_folder(rt, alloc, words, writer, errors),
-        Subcommand::Verify => verify_folder(rt, alloc, words, writer, errors),
-        Subcommand::Salvage => salvage_folder(rt, alloc, words, writer, errors),
-        Subcommand::Format => format_words(rt, alloc, words, reader, writer, errors),
-        Subcommand::Check => check_words(rt, alloc, words, reader, writer, errors),
+    match world.open(alloc, Access::Changing, folder) {
+        Ok(disk) => {
+            let ended = run_store(alloc, disk, grouping, input, output, errors);
+            end_session(world, ended, &input.tail, errors)
+        }
+        Err(fault) => write_store_fault(errors, StoreToolFault::Folder(fault)),
     }
 }
 
-/// Performs the commands of `reader` on the store in the folder that the words name. One line to `errors` says if bytes
-/// at the end of the input were not performed.
-fn run_folder<F: Files<File = File>, R: Read, W: Write, E: Write>(
-    rt: &F,
-    alloc: Global,
-    words: &ArgMatches<'_>,
-    reader: &mut TailReader<R>,
-    writer: &mut W,
+/// Gives the disk back, writes why a session ended early, or how many bytes it did not perform, and returns the status.
+fn end_session<A: World, E: Write>(
+    world: &mut A,
+    ended: Result<(A::Disk, Tally), (A::Disk, StoreToolFault)>,
+    tail: &Tail,
     errors: &mut E,
 ) -> Status
-    ensures { Performs (R.remaining reader.old.inner) (R.remaining reader.new.inner)
-        (W.contents writer.old) (W.contents writer.new) (code_of result) }
+    ensures back { A.model.given_back (disk_back ended) world.old world.new }
+    ensures ends { result ≡ status_at_end ended }
 {
-    let Some(folder) = words.get_str(FOLDER) else {
-        return Status::WrongWords;
-    };
-    let disk = match FolderDisk::new(rt, alloc, folder) {
-        Ok(disk) => disk,
-        Err(fault) => return write_store_fault(errors, StoreToolFault::Folder(fault)),
-    };
-    match run_store(alloc, disk, grouping_of(words), reader, writer, errors) {
+    match ended {
         Ok((disk, tally)) => {
-            disk.release();
-            write_rest(errors, &reader.tail, tally.rest);
+            world.give_back(disk);
+            write_rest(errors, tail, tally.rest);
             Status::Done
         }
         Err((disk, fault)) => {
-            disk.release();
+            world.give_back(disk);
             write_store_fault(errors, fault)
         }
     }
 }
 
-/// How the words of `run` group its commands.
-fn grouping_of(words: &ArgMatches<'_>) -> Grouping {
-    if !words.get_flag(GROUP) {
-        return Grouping::Single;
-    }
-    match words.get_one::<u64>(CHECKPOINT_AFTER) {
-        Some(bytes) => Grouping::Grouped(Checkpoints::After { bytes }),
-        None => Grouping::Grouped(Checkpoints::Asked),
-    }
-}
-
-/// Writes the configuration that the words name, from the store in the folder that they name, in the one style. If
-/// nothing can be written in the folder, it is read.
-fn export_folder<F: Files<File = File>, W: Write, E: Write>(
-    rt: &F,
-    alloc: Global,
-    words: &ArgMatches<'_>,
-    writer: &mut W,
-    errors: &mut E,
-) -> Status
-    ensures known { code_of result ≤ 3 }
-    ensures refused { code_of result ≡ 1 → Keeps (W.contents writer.old) (W.contents writer.new) }
-    ensures wrong { code_of result ≡ 2 → Keeps (W.contents writer.old) (W.contents writer.new) }
+/// How a session groups its commands, as the words say.
+fn grouping_of(asked: conf_words::Grouping) -> Grouping
+    ensures { result ≡ grouping_of asked }
 {
-    let Some(folder) = words.get_str(FOLDER) else {
-        return Status::WrongWords;
-    };
-    let Some(name) = words.get_str(NAME) else {
-        return Status::WrongWords;
-    };
-    let disk = match disk_to_read(rt, alloc, folder) {
-        Ok(disk) => disk,
-        Err(fault) => return write_store_fault(errors, StoreToolFault::Folder(fault)),
-    };
-    match export_store(alloc, disk, name, writer, errors) {
-        Ok(()) => Status::Done,
-        Err(fault) => write_store_fault(errors, fault),
+    match asked {
+        conf_words::Grouping::Single => Grouping::Single,
+        conf_words::Grouping::Grouped { checkpoint_after } => {
+            Grouping::Grouped(checkpoints_of(checkpoint_after))
+        }
     }
 }
 
-/// The disk of a folder, for reading alone if nothing can be written there.
-fn disk_to_read<'r, F: Files<File = File>>(
-    rt: &'r F,
+/// Which checkpoints a session in groups makes: each time that its file has grown by so many bytes, or those that are
+/// asked for.
+fn checkpoints_of(after: Option<u64>) -> Checkpoints
+    ensures { result ≡ checkpoints_of after }
+{
+    match after {
+        Some(bytes) => Checkpoints::After { bytes },
+        None => Checkpoints::Asked,
+    }
+}
+
+/// Writes the configuration under a name, from the store in a folder, in the one style. The disk is given back before
+/// anything is written, so that no other run waits for whoever reads the output.
+fn export_folder<A: World, W: Write, E: Write>(
+    world: &mut A,
     alloc: Global,
     folder: &str,
-) -> Result<FolderDisk<'r, F>, FolderFault> {
-    match FolderDisk::new(rt, alloc, folder) {
-        Err(FolderFault::Device) => FolderDisk::for_reading(rt, alloc, folder),
-        done => done,
+    name: &str,
+    output: &mut W,
+    errors: &mut E,
+) -> Status
+    ensures { ExportsFromFolder A.model A.Disk.model folder.now name.now world.old world.new
+        (W.contents output.old) (W.contents output.new) result }
+{
+    match world.open(alloc, Access::Reading, folder) {
+        Ok(disk) => {
+            let found = export_text(alloc, disk, name, errors);
+            write_found(world, found, output, errors)
+        }
+        Err(fault) => write_store_fault(errors, StoreToolFault::Folder(fault)),
+    }
+}
+
+/// Gives the disk back, writes the text that an export found, or why it found none, and returns the status.
+fn write_found<A: World, W: Write, E: Write>(
+    world: &mut A,
+    found: Result<(A::Disk, String), (A::Disk, StoreToolFault)>,
+    output: &mut W,
+    errors: &mut E,
+) -> Status
+    ensures back { A.model.given_back (disk_back found) world.old world.new }
+    ensures writes { WritesFound found (W.contents output.old) (W.contents output.new) result }
+{
+    match found {
+        Ok((disk, text)) => {
+            world.give_back(disk);
+            write_text(&text, output, errors)
+        }
+        Err((disk, fault)) => {
+            world.give_back(disk);
+            write_store_fault(errors, fault)
+        }
+    }
+}
+
+/// Writes a text whole, and returns the status.
+fn write_text<W: Write, E: Write>(text: &str, output: &mut W, errors: &mut E) -> Status
+    ensures { WritesWhole text.now (W.contents output.old) (W.contents output.new) result }
+{
+    match write_whole(output, text.as_bytes()) {
+        Ok(()) => Status::Done,
+        Err(fault) => write_fault(errors, fault),
     }
 }
 
@@ -238,8 +300,7 @@ pub(crate) fn write_store_fault<E: Write>(errors: &mut E, fault: StoreToolFault)
     let _ = writeln!(errors, "confstore: {fault}");
     match fault {
         StoreToolFault::Folder(FolderFault::Device | FolderFault::Locked)
-        | StoreToolFault::Open(OpenFault::Device)
-        | StoreToolFault::Output => Status::Device,
+        | StoreToolFault::Open(OpenFault::Device) => Status::Device,
         StoreToolFault::Session(
             SessionFault::Read
             | SessionFault::Write { .. }
@@ -252,14 +313,33 @@ pub(crate) fn write_store_fault<E: Write>(errors: &mut E, fault: StoreToolFault)
     }
 }
 
+/// Writes why there is no invocation, and returns the status. Help and the version are written to `writer`: 0, or 3 if
+/// that fails. Wrong words are reported on `errors`: 2. So is memory that ran out: 1.
+pub fn show_unparsed<W: Write, E: Write>(
+    unparsed: &Unparsed,
+    writer: &mut W,
+    errors: &mut E,
+) -> Status
+    ensures { ShowsUnparsed unparsed.now (W.contents writer.old) (W.contents writer.new) result }
+{
+    match unparsed {
+        Unparsed::Shown(text) => write_text(text, writer, errors),
+        Unparsed::Wrong(lines) => {
+            let _ = errors.write_all(lines.as_bytes());
+            Status::WrongWords
+        }
+        Unparsed::OutOfMemory => write_fault(errors, ToolFault::from(AllocError)),
+    }
+}
+
 /// Writes why the program's arguments could not be read, and returns the status. Words that are not UTF-8 are wrong
 /// words; otherwise memory ran out.
-pub fn refuse_words<E: Write>(errors: &mut E, error: &io::Error) -> u8
-    ensures { result ≤ 2 }
+pub fn refuse_words<E: Write>(errors: &mut E, error: &io::Error) -> Status
+    ensures { (result ≡ Status.WrongWords) ⊎ (result ≡ Status.Refused) }
 {
     if error.kind() == ErrorKind::InvalidData {
         let _ = writeln!(errors, "error: the words are not UTF-8");
-        return Status::WrongWords.code();
+        return Status::WrongWords;
     }
-    write_fault(errors, ToolFault::from(AllocError)).code()
+    write_fault(errors, ToolFault::from(AllocError))
 }

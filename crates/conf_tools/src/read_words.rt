@@ -1,140 +1,161 @@
 // The words of the program that only read a store, and the one that makes a store of what a damaged one still says.
-ghost use Rattle.std.specs.Prelude.{◌≡◌, ◌≤◌, ◌⊎◌};
-ghost use Rattle.std.specs.Io.KnownBytes.{Keeps};
-ghost use Rattle.conf_tools.specs.ReadingStatuses.{FindsDamage, LogsSome, status_of_history, status_of_reading};
-ghost use Rattle.conf_tools.specs.Statuses.{code_of};
+ghost use Rattle.std.specs.Prelude.{◌≡◌};
+ghost use Rattle.conf_tools.specs.Performs.{log_form_of};
+ghost use Rattle.conf_tools.specs.ReadingStatuses.{status_of_history, status_of_reading};
+ghost use Rattle.conf_tools.specs.Exports.{disk_back};
+ghost use Rattle.conf_tools.specs.StoreWords.{OpensFile, OpensNew, SavesFound, SavesInFolder, SaysLog, SaysNames, SaysOfFile, SaysSurvey, SaysValue, WritesFindings, status_after_log, status_after_reading, status_after_survey};
 
 use crate::program::Status;
 use crate::reading_fault::ReadingFault;
-use crate::reads::{ValueForm, write_names, write_value};
-use crate::surveys::{Soundness, salvage_store, write_survey};
-use clap::ArgMatches;
-use conf_folder::{FolderDisk, FolderFault, make_folder, open_store_file};
-use conf_history::{HistoryFault, LogForm, SalvageFault, write_log};
-use conf_words::{AT, FOLDER, FolderWord, NAME, NEW, POINTER, RAW, YAML};
+use crate::reads::{write_names, write_value};
+use crate::surveys::{Soundness, write_findings, write_survey};
+use crate::world::{Access, World};
+use conf_folder::FolderFault;
+use conf_history::{Findings, HistoryFault, LogForm, SalvageFault, salvage, write_log};
+use conf_words::{FolderWord, ValueForm};
 use std::alloc::Global;
-use std::fs::File;
-use std::io::Write;
-use std::rt::Files;
+use std::io::{Read, Write};
 
-/// Writes the names of the configurations of the store in the folder that the words name.
-pub(crate) fn names_of_folder<F: Files<File = File>, W: Write, E: Write>(
-    rt: &F,
+/// Which value of a store is asked for, and how it is to be written.
+#[derive(Clone, Copy)]
+pub(crate) struct Asked<'w> {
+    /// The name of the configuration.
+    pub(crate) name: &'w str,
+    /// The JSON Pointer of the value.
+    pub(crate) pointer: &'w str,
+    /// The number of the command after which it stands there; the last one if there is no number.
+    pub(crate) at: Option<u64>,
+    /// How it is to be written.
+    pub(crate) form: ValueForm,
+}
+
+/// Writes the names of the configurations that a store's file holds, or why there is no file.
+pub(crate) fn tell_names<F: Read + Drop, W: Write, E: Write>(
     alloc: Global,
-    words: &ArgMatches<'_>,
-    writer: &mut W,
+    file: Result<F, ReadingFault>,
+    at: Option<u64>,
+    output: &mut W,
     errors: &mut E,
 ) -> Status
-    ensures known { code_of result ≤ 3 }
-    ensures refused { code_of result ≡ 1 → Keeps (W.contents writer.old) (W.contents writer.new) }
-    ensures wrong { code_of result ≡ 2 → Keeps (W.contents writer.old) (W.contents writer.new) }
+    ensures { SaysOfFile F.remaining (SaysNames at) file
+        (W.contents output.old) (W.contents output.new) result }
 {
-    let Some(folder) = words.get_str(FOLDER) else {
-        return Status::WrongWords;
-    };
-    let mut file = match open_file(rt, alloc, folder) {
-        Ok(file) => file,
-        Err(fault) => return write_reading_fault(errors, fault),
-    };
-    match write_names(alloc, &mut file, words.get_one(AT), writer) {
-        Ok(()) => Status::Done,
+    match file {
+        Ok(mut file) => {
+            let ended = write_names(alloc, &mut file, at, output);
+            tell_reading(errors, ended)
+        }
         Err(fault) => write_reading_fault(errors, fault),
     }
 }
 
-/// Writes the value that the words name, from the store in the folder that they name.
-pub(crate) fn get_from_folder<F: Files<File = File>, W: Write, E: Write>(
-    rt: &F,
+/// Writes the value that is asked for, of a store's file, or why there is no file.
+pub(crate) fn tell_value<F: Read + Drop, W: Write, E: Write>(
     alloc: Global,
-    words: &ArgMatches<'_>,
-    writer: &mut W,
+    file: Result<F, ReadingFault>,
+    asked: Asked<'_>,
+    output: &mut W,
     errors: &mut E,
 ) -> Status
-    ensures known { code_of result ≤ 3 }
-    ensures refused { code_of result ≡ 1 → Keeps (W.contents writer.old) (W.contents writer.new) }
-    ensures wrong { code_of result ≡ 2 → Keeps (W.contents writer.old) (W.contents writer.new) }
+    ensures { SaysOfFile F.remaining
+        (SaysValue asked.entry.at asked.entry.name.now asked.entry.pointer.now asked.entry.form)
+        file (W.contents output.old) (W.contents output.new) result }
 {
-    let (Some(folder), Some(name)) = (words.get_str(FOLDER), words.get_str(NAME)) else {
-        return Status::WrongWords;
-    };
-    let pointer = words.get_str(POINTER).unwrap_or("");
-    let mut file = match open_file(rt, alloc, folder) {
-        Ok(file) => file,
-        Err(fault) => return write_reading_fault(errors, fault),
-    };
-    let (number, form) = (words.get_one(AT), form_of_value(words));
-    match write_value(alloc, &mut file, number, name, pointer, form, writer) {
-        Ok(()) => Status::Done,
+    let Asked {
+        name,
+        pointer,
+        at,
+        form,
+    } = asked;
+    match file {
+        Ok(mut file) => {
+            let ended = write_value(alloc, &mut file, at, name, pointer, form, output);
+            tell_reading(errors, ended)
+        }
         Err(fault) => write_reading_fault(errors, fault),
     }
 }
 
-fn form_of_value(words: &ArgMatches<'_>) -> ValueForm {
-    if words.get_flag(RAW) {
-        ValueForm::Raw
-    } else {
-        ValueForm::Styled
+/// Writes the commands of a store's file, or why there is no file.
+pub(crate) fn tell_log<F: Read + Drop, W: Write, E: Write>(
+    alloc: Global,
+    file: Result<F, ReadingFault>,
+    at: Option<u64>,
+    form: LogForm,
+    output: &mut W,
+    errors: &mut E,
+) -> Status
+    ensures { SaysOfFile F.remaining (SaysLog at form) file
+        (W.contents output.old) (W.contents output.new) result }
+{
+    match file {
+        Ok(mut file) => {
+            let ended = write_log(alloc, &mut file, at, form, output);
+            end_log(errors, ended)
+        }
+        Err(fault) => write_reading_fault(errors, fault),
     }
 }
 
-/// Writes the commands of the store in the folder that the words name.
-pub(crate) fn log_of_folder<F: Files<File = File>, W: Write, E: Write>(
-    rt: &F,
-    alloc: Global,
-    words: &ArgMatches<'_>,
-    writer: &mut W,
-    errors: &mut E,
-) -> Status
-    ensures known { code_of result ≤ 3 }
-    ensures refused { code_of result ≡ 1 →
-        LogsSome (W.contents writer.old) (W.contents writer.new)
-        ⊎ Keeps (W.contents writer.old) (W.contents writer.new) }
-    ensures wrong { code_of result ≡ 2 → Keeps (W.contents writer.old) (W.contents writer.new) }
+/// Writes why a log ended early, if it did, and returns the status.
+fn end_log<E: Write>(errors: &mut E, ended: Result<(), HistoryFault>) -> Status
+    ensures { result ≡ status_after_log ended }
 {
-    let Some(folder) = words.get_str(FOLDER) else {
-        return Status::WrongWords;
-    };
-    let mut file = match open_file(rt, alloc, folder) {
-        Ok(file) => file,
-        Err(fault) => return write_reading_fault(errors, fault),
-    };
-    let (number, form) = (words.get_one(AT), form_of_log(words));
-    match write_log(alloc, &mut file, number, form, writer) {
+    match ended {
         Ok(()) => Status::Done,
         Err(fault) => write_reading_fault(errors, ReadingFault::History(fault)),
     }
 }
 
-fn form_of_log(words: &ArgMatches<'_>) -> LogForm {
-    if words.get_flag(YAML) {
-        LogForm::Records
-    } else {
-        LogForm::Lines
+/// Writes why nothing was read, or not all was written, if that is so, and returns the status.
+fn tell_reading<E: Write>(errors: &mut E, ended: Result<(), ReadingFault>) -> Status
+    ensures { result ≡ status_after_reading ended }
+{
+    match ended {
+        Ok(()) => Status::Done,
+        Err(fault) => write_reading_fault(errors, fault),
     }
 }
 
-/// Writes whether the store in the folder that the words name can be opened.
-pub(crate) fn verify_folder<F: Files<File = File>, W: Write, E: Write>(
-    rt: &F,
+/// How a log is written, as the words say.
+pub(crate) fn log_form_of(asked: conf_words::LogForm) -> LogForm
+    ensures { result ≡ log_form_of asked }
+{
+    match asked {
+        conf_words::LogForm::Lines => LogForm::Lines,
+        conf_words::LogForm::Records => LogForm::Records,
+    }
+}
+
+/// Writes whether a store can be opened, of whose folder this is the file, or why there is no file.
+pub(crate) fn tell_survey<F: Read + Drop, W: Write, E: Write>(
     alloc: Global,
-    words: &ArgMatches<'_>,
-    writer: &mut W,
+    file: Result<F, ReadingFault>,
+    folder: &str,
+    output: &mut W,
     errors: &mut E,
 ) -> Status
-    ensures known { code_of result ≤ 3 }
-    ensures refused { code_of result ≡ 1 →
-        FindsDamage (W.contents writer.old) (W.contents writer.new)
-        ⊎ Keeps (W.contents writer.old) (W.contents writer.new) }
-    ensures wrong { code_of result ≡ 2 → Keeps (W.contents writer.old) (W.contents writer.new) }
+    ensures { SaysOfFile F.remaining SaysSurvey file
+        (W.contents output.old) (W.contents output.new) result }
 {
-    let Some(folder) = words.get_str(FOLDER) else {
-        return Status::WrongWords;
-    };
-    let mut file = match open_file(rt, alloc, folder) {
-        Ok(file) => file,
-        Err(fault) => return write_reading_fault(errors, fault),
-    };
-    match write_survey(alloc, &mut file, writer) {
+    match file {
+        Ok(mut file) => {
+            let ended = write_survey(alloc, &mut file, output);
+            end_survey(errors, folder, ended)
+        }
+        Err(fault) => write_reading_fault(errors, fault),
+    }
+}
+
+/// Writes that a store is damaged, or why it was not read, if that is so, and returns the status.
+fn end_survey<E: Write>(
+    errors: &mut E,
+    folder: &str,
+    ended: Result<Soundness, ReadingFault>,
+) -> Status
+    ensures { result ≡ status_after_survey ended }
+{
+    match ended {
         Ok(Soundness::Whole) => Status::Done,
         Ok(Soundness::Damaged) => write_damage(errors, folder),
         Err(fault) => write_reading_fault(errors, fault),
@@ -154,64 +175,98 @@ fn write_damage<E: Write>(errors: &mut E, folder: &str) -> Status
     Status::Refused
 }
 
-/// Makes a store in the new folder that the words name, of what the store in their first folder says before its first
-/// bad piece.
-pub(crate) fn salvage_folder<F: Files<File = File>, W: Write, E: Write>(
-    rt: &F,
+/// Makes a store in a new folder, of what a store's file says before its first bad piece, or writes why there is no file.
+pub(crate) fn save_file<A: World, W: Write, E: Write>(
+    world: &mut A,
     alloc: Global,
-    words: &ArgMatches<'_>,
-    writer: &mut W,
+    file: Result<A::File, ReadingFault>,
+    new: &str,
+    output: &mut W,
     errors: &mut E,
 ) -> Status
-    ensures known { code_of result ≤ 3 }
-    ensures refused { code_of result ≡ 1 → Keeps (W.contents writer.old) (W.contents writer.new) }
-    ensures wrong { code_of result ≡ 2 → Keeps (W.contents writer.old) (W.contents writer.new) }
+    ensures { SavesFound A.model A.Disk.model A.File.remaining new.now file
+        world.old world.new (W.contents output.old) (W.contents output.new) result }
 {
-    let (Some(folder), Some(new)) = (words.get_str(FOLDER), words.get_str(NEW)) else {
-        return Status::WrongWords;
-    };
-    let mut file = match open_file(rt, alloc, folder) {
-        Ok(file) => file,
-        Err(fault) => return write_reading_fault(errors, fault),
-    };
-    let disk = match new_disk(rt, alloc, new) {
-        Ok(disk) => disk,
-        Err(fault) => return write_reading_fault(errors, fault),
-    };
-    match salvage_store(alloc, &mut file, disk, writer) {
-        Ok(()) => Status::Done,
+    match file {
+        Ok(mut file) => save_in_folder(world, alloc, &mut file, new, output, errors),
         Err(fault) => write_reading_fault(errors, fault),
+    }
+}
+
+/// Makes a store in a new folder, of what a store's file says before its first bad piece.
+fn save_in_folder<A: World, R: Read, W: Write, E: Write>(
+    world: &mut A,
+    alloc: Global,
+    file: &mut R,
+    new: &str,
+    output: &mut W,
+    errors: &mut E,
+) -> Status
+    ensures { SavesInFolder A.model A.Disk.model new.now (R.remaining file.old)
+        world.old world.new (W.contents output.old) (W.contents output.new) result }
+{
+    match open_new(world, alloc, new) {
+        Ok(disk) => {
+            let saved = salvage(alloc, file, disk);
+            write_saved(world, alloc, saved, output, errors)
+        }
+        Err(fault) => write_reading_fault(errors, fault),
+    }
+}
+
+/// Gives the disk back, writes what stands in the file of which a store was made, or why none was, and returns the
+/// status. No other run waits for whoever reads the output.
+fn write_saved<A: World, W: Write, E: Write>(
+    world: &mut A,
+    alloc: Global,
+    saved: Result<(A::Disk, Findings), (A::Disk, SalvageFault)>,
+    output: &mut W,
+    errors: &mut E,
+) -> Status
+    ensures back { A.model.given_back (disk_back saved) world.old world.new }
+    ensures writes { WritesFindings saved (W.contents output.old) (W.contents output.new) result }
+{
+    match saved {
+        Ok((disk, findings)) => {
+            world.give_back(disk);
+            let ended = write_findings(alloc, &findings, output);
+            tell_reading(errors, ended)
+        }
+        Err((disk, fault)) => {
+            world.give_back(disk);
+            write_reading_fault(errors, ReadingFault::Salvage(fault))
+        }
     }
 }
 
 /// The disk of a folder that is to hold a new store. A missing folder is made. One that has a `store.yaml` stays as it
 /// is.
-fn new_disk<'r, F: Files<File = File>>(
-    rt: &'r F,
-    alloc: Global,
-    folder: &str,
-) -> Result<FolderDisk<'r, F>, ReadingFault> {
-    if let Err(fault) = make_folder(rt, folder) {
+fn open_new<A: World>(world: &mut A, alloc: Global, folder: &str) -> Result<A::Disk, ReadingFault>
+    ensures { OpensNew A.model folder.now world.old result world.new }
+{
+    if let Err(fault) = world.make_folder(folder) {
         return Err(ReadingFault::Folder(fault));
     }
-    match open_store_file(rt, alloc, folder) {
+    match world.open_store(alloc, folder) {
         Ok(None) => {}
         Ok(Some(_)) => return Err(ReadingFault::Salvage(SalvageFault::StoreExists)),
         Err(fault) => return Err(ReadingFault::Folder(fault)),
     }
-    match FolderDisk::new(rt, alloc, folder) {
+    match world.open(alloc, Access::Changing, folder) {
         Ok(disk) => Ok(disk),
         Err(fault) => Err(ReadingFault::Folder(fault)),
     }
 }
 
-/// Opens the file of the store in a folder to be read, without a lock. A folder without one is no store.
-fn open_file<F: Files<File = File>>(
-    rt: &F,
+/// Opens the file of the store in a folder to be read, beside whoever holds the store. A folder without one is no store.
+pub(crate) fn open_file<A: World>(
+    world: &mut A,
     alloc: Global,
     folder: &str,
-) -> Result<File, ReadingFault> {
-    match open_store_file(rt, alloc, folder) {
+) -> Result<A::File, ReadingFault>
+    ensures { OpensFile A.model folder.now world.old result world.new }
+{
+    match world.open_store(alloc, folder) {
         Ok(Some(file)) => Ok(file),
         Ok(None) => Err(ReadingFault::History(HistoryFault::NotAStore)),
         Err(fault) => Err(ReadingFault::Folder(fault)),

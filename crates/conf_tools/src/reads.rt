@@ -14,19 +14,11 @@ use crate::reading_fault::ReadingFault;
 use crate::texts::write_whole;
 use conf_history::{HistoryFault, state_at};
 use conf_state::{State, StoreFault, good_name};
+use conf_words::ValueForm;
 use std::alloc::{AllocError, Global};
 use std::io::{Read, Write};
 use tree_path::{Path, PathFault};
 use yaml_tree::{Config, Sink, Tree, write_style};
-
-/// How a value is written.
-#[derive(Clone, Copy, Debug, PartialEq, Eq)]
-pub enum ValueForm {
-    /// In the one style.
-    Styled,
-    /// A text as it is, with a line feed after it. Anything else in the one style.
-    Raw,
-}
 
 /// Writes the names of the configurations that a store's file holds, in order, each with a line feed after it: after
 /// all its commands, or after the one with the number `at`. The file is read as by [`state_at`].

@@ -30,9 +30,6 @@ pub enum StoreToolFault {
     /// The configuration can't be exported. Nothing was written.
     #[error(transparent)]
     Export(StoreFault),
-    /// The writer failed. Some of the text may have been written.
-    #[error("Output")]
-    Output,
     /// The store refuses a change. Each but `Device` leaves it as it was.
     #[error(transparent)]
     Refused(StoreFault),

@@ -1,13 +1,12 @@
-// What stands in a store's file, and a store of what stands before its first bad piece, over any reader, disk and writer.
+// What stands in a store's file, over any reader and writer.
 ghost use Rattle.std.specs.Prelude.{◌≡◌, IfOk, IfErr, OnOk};
 ghost use Rattle.std.specs.Io.KnownBytes.{Appends};
-ghost use Rattle.conf_tools.specs.Surveys.{CannotWrite, RefusesWriting, SavesAndLetsGo, WritesSurvey, findings_text, soundness_of};
+ghost use Rattle.conf_tools.specs.Surveys.{CannotWrite, RefusesWriting, WritesSurvey, findings_text, soundness_of};
 
 use crate::findings::findings_text;
 use crate::reading_fault::ReadingFault;
 use crate::texts::write_whole;
-use conf_disk::Disk;
-use conf_history::{Bad, Findings, HistoryFault, salvage, survey_store};
+use conf_history::{Bad, Findings, HistoryFault, survey_store};
 use std::alloc::Global;
 use std::io::{Read, Write};
 
@@ -56,40 +55,12 @@ fn soundness_of(bad: &Option<Bad>) -> Soundness
     }
 }
 
-/// Makes a store on `disk` of the state that stands before the first bad piece of a store's file, and writes what stands
-/// in the file, as [`write_survey`] does. The file is read as by [`salvage`]. The disk is let go before anything is
-/// written, so that no other run waits for whoever reads the output.
+/// Writes what stands in a store's file, as [`write_survey`] does.
 ///
 /// # Errors
-/// - `Salvage` if [`salvage`] fails. Nothing is written.
-/// - `History` with `OutOfMemory` if memory runs out when the store is made. Nothing is written.
-/// - `Output` if the writer fails. The store is made, and some of the text may be written.
-pub fn salvage_store<R: Read, D: Disk + Drop, W: Write>(
-    alloc: Global,
-    reader: &mut R,
-    disk: D,
-    writer: &mut W,
-) -> Result<(), ReadingFault>
-    ensures { SavesAndLetsGo D.model
-        (R.remaining reader.old) (R.remaining reader.new)
-        (W.contents writer.old) (W.contents writer.new) disk result }
-{
-    let (disk, findings) = match salvage(alloc, reader, disk) {
-        Ok(made) => made,
-        Err((disk, fault)) => {
-            drop(disk);
-            return Err(ReadingFault::Salvage(fault));
-        }
-    };
-    drop(disk);
-    match write_findings(alloc, &findings, writer) {
-        Ok(()) => Ok(()),
-        Err(fault) => Err(fault),
-    }
-}
-
-/// Writes what stands in a store's file.
-fn write_findings<W: Write>(
+/// - `History` with `OutOfMemory` if memory runs out. Nothing is written.
+/// - `Output` if the writer fails. Some of the text may be written.
+pub fn write_findings<W: Write>(
     alloc: Global,
     findings: &Findings,
     writer: &mut W,

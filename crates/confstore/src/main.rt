@@ -11,8 +11,8 @@
 mod pipe;
 
 use crate::pipe::{Errors, Output};
-use conf_tools::{TailReader, ToolFault, perform, refuse_words};
-use conf_words::Subcommand;
+use conf_tools::{Host, TailReader, ToolFault, perform, refuse_words, show_unparsed};
+use conf_words::{Subcommand, parse};
 use std::cell::Cell;
 use std::fs::{File, OpenOptions};
 use std::io::Write;
@@ -78,14 +78,6 @@ fn is_closed<S: AsFd>(stream: &S) -> bool {
     }
 }
 
-/// Whether the words, of which the first is the program's name, ask for a session.
-fn is_session(words: &[String]) -> bool {
-    match words {
-        [_, word, ..] => Subcommand::named(word) == Some(Subcommand::Run),
-        _ => false,
-    }
-}
-
 fn main(rt: HostRuntime) -> ExitCode {
     let alloc = rt.alloc();
     let stderr = rt.stderr();
@@ -99,16 +91,27 @@ fn main(rt: HostRuntime) -> ExitCode {
     };
     let words = match env::args(&rt).and_then(|words| Ok(words.collect::<Vec<String>>(alloc)?)) {
         Ok(words) => words,
-        Err(error) => return ExitCode::from(refuse_words(&mut errors, &error)),
+        Err(error) => return ExitCode::from(refuse_words(&mut errors, &error).code()),
     };
     let mut reader = TailReader::new(rt.reader());
     let (is_closed, is_never) = (Cell::new(false), Cell::new(false));
     let mut writer = Output::new(io::writer(&rt), &is_closed);
-    let is_silent = if is_session(&words) {
-        &is_never
-    } else {
-        &is_closed
+    let is_silent = match Subcommand::asked_in(&words) {
+        Some(Subcommand::Run) => &is_never,
+        _ => &is_closed,
     };
     let mut errors = Errors::new(errors, is_silent);
-    ExitCode::from(perform(&rt, alloc, &words, &mut reader, &mut writer, &mut errors))
+    let mut host = Host::new(&rt);
+    let status = match parse(alloc, &words) {
+        Ok(asked) => perform(
+            &mut host,
+            alloc,
+            asked,
+            &mut reader,
+            &mut writer,
+            &mut errors,
+        ),
+        Err(unparsed) => show_unparsed(&unparsed, &mut writer, &mut errors),
+    };
+    ExitCode::from(status.code())
 }

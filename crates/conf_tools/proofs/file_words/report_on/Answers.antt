@@ -1,10 +1,8 @@
--- What a report that ended early took and wrote.
-use Rattle.conf_tools.proofs.FileLemmas.{not_listed, not_reported, takes_at_most}
+-- What was found, and the status of that.
 use Rattle.conf_tools.proofs.file_words.report_on.Goals as goal
 
-pub returns-in-Err : goal.returns-in-Err
-returns-in-Err g c = not_reported _ _ _ _ c.in-Err.fault (takes_at_most _ _ _ c.check_file.ensures.bounded) c.in-Err.ensures.stops
+pub returns-in-Ok : goal.returns-in-Ok
+returns-in-Ok g c = rw (c.in-Findings.is) (c.in-Ok.count, c.in-Ok.ensures.ok, c.status_of_count.ensures)
 
-pub returns-in-Err-list_changed : goal.returns-in-Err-list_changed
-returns-in-Err-list_changed g c =
-    not_listed _ _ _ _ c.in-Err-list_changed.fault (takes_at_most _ _ _ c.list_changed.ensures.bounded) c.in-Err-list_changed.ensures.stops
+pub returns-in-Ok-list_changed : goal.returns-in-Ok-list_changed
+returns-in-Ok-list_changed g c = rw (c.in-Name.is) (c.in-Ok-list_changed.is_other, c.in-Ok-list_changed.ensures.ok, c.status_of_change.ensures)

@@ -1,15 +1,16 @@
--- One more file, after those that were tried.
-use Rattle.conf_tools.proofs.FileLemmas.{after_fault, after_output, after_status}
+-- One more file.
+use Rattle.std.proofs.Common.{ap, sym, ◌∙◌}
+use Rattle.std.proofs.lemmas.List.{drop_more}
+use Rattle.std.specs.Prelude.{map}
+use Rattle.conf_tools.proofs.WordLemmas.{last_one, one_more}
 use Rattle.conf_tools.proofs.file_words.try_files.Goals as goal
-use Rattle.conf_tools.proofs.file_words.try_files.Goals.{in-Ok, in-Err}
 
-pub returns-in-Err-Output : goal.returns-in-Err-Output
-returns-in-Err-Output g c =
-    rw (c.write_fault.ensures) (after_output _ _ _ _ _ _ c.loop-file.status c.in-Err-Output.field-0 c.loop-file.invariant c.in-Err-Output.ensures)
+pub returns-then-stops_all : goal.returns-then-stops_all
+returns-then-stops_all g c = rw (c.write_fault.ensures)
+    (last_one g.A.World.model g.A.File.Read.remaining _ _ _ _ _ (ap (map (λ file. file.now)) (drop_more _ _ _ c.loop-file-test.true)) _ _ _ _ c.loop-file.invariant c.try_file-ended.result c.try_file-ended.ensures
+    (sym c.stops_all.ensures ∙ c.if-stops_all.true))
 
 pub loop-file-preserved : goal.loop-file-preserved
-loop-file-preserved g c = elim c.match-try_file.branch [
-  | in-Ok w ↦ rw (w.status-is, w.worst-status.ensures) (after_status _ _ _ _ _ _ c.loop-file.status w.in-Ok.found c.loop-file.invariant w.in-Ok.ensures)
-  | in-Err w ↦ rw (w.status-is, w.worst-status-in-Err.ensures, w.write_file_fault.ensures)
-      (after_fault _ _ _ _ _ _ c.loop-file.status w.in-Err.fault c.loop-file.invariant w.in-Err.ensures)
-]
+loop-file-preserved g c = rw (c.worst-status.ensures, c.tell_report.ensures)
+    (one_more g.A.World.model g.A.File.Read.remaining _ _ _ _ _ (ap (map (λ file. file.now)) (drop_more _ _ _ c.loop-file-test.true)) _ _ _ _ c.loop-file.invariant c.try_file-ended.result c.try_file-ended.ensures
+    (sym c.stops_all.ensures ∙ c.if-stops_all.false))

@@ -1,7 +1,11 @@
--- The status so far is the worst of the files before.
-use Rattle.conf_tools.specs.Statuses.{TriesFiles}
+-- Whatever the files that are left lead to, is what all files lead to.
+use Rattle.std.proofs.Common.{drop}
+use Rattle.std.specs.Prelude.{map}
+use Rattle.conf_tools.specs.Worlds.{around}
+use Rattle.conf_tools.proofs.WordLemmas.{LeadsOn}
 use Rattle.conf_tools.proofs.file_words.try_files.Given as goal
 
 abbrev pub invariant-loop-file : goal.invariant-loop-file
-invariant-loop-file g l = TriesFiles (g.R.Read.remaining l.fn.reader) (g.R.Read.remaining l.reader)
-    (g.W.Write.contents l.fn.writer) (g.W.Write.contents l.writer) l.status
+invariant-loop-file g l = LeadsOn g.A.World.model g.A.File.Read.remaining l.fn.report (map (λ file. file.now) (drop l.file-index l.files)) l.status
+    (around l.world (g.R.Read.remaining l.input) (g.W.Write.contents l.output)) (map (λ file. file.now) l.files)
+    (around l.fn.world (g.R.Read.remaining l.fn.input) (g.W.Write.contents l.fn.output))

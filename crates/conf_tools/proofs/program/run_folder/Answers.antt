@@ -1,6 +1,15 @@
-use Rattle.conf_tools.proofs.StoreLemmas.{performs_refused}
+-- The disk was opened, used and given back.
+use Rattle.std.proofs.Common.{inr}
 use Rattle.conf_tools.proofs.program.run_folder.Goals as goal
 
-pub returns-in-Err-run_store : goal.returns-in-Err-run_store
-returns-in-Err-run_store g c =
-    rw (c.write_store_fault-in-Err-run_store.ensures) (performs_refused _ _ _ _ c.in-Err-run_store.fault c.in-Err-run_store.ensures.runs)
+pub returns-in-Ok : goal.returns-in-Ok
+returns-in-Ok g c = inr (record {
+  first = c.in-Ok.disk;
+  opened = c.open.new.self;
+  opens = c.in-Ok.ensures;
+  result = c.run_store-ended.result;
+  gives_back = c.end_session.ensures.back;
+  ends = c.end_session.ensures.ends;
+  runs = c.run_store-ended.ensures.runs;
+  survives = c.run_store-ended.ensures.crashes;
+})

@@ -1,0 +1,147 @@
+-- What the program does for an invocation, with the world around it, its input and its output, and how it ends.
+use Rattle.std.specs.Prelude.{◌≡◌, ℕ, List, [], ◌∷◌, map, Option, Some, None, Result, Ok, Err, codes, ◌⊎◌}
+use Rattle.conf_disk.specs.Models.{DiskModel}
+use Rattle.conf_history.specs.declared.log.LogForm.{LogForm as HistoryForm}
+use Rattle.conf_history.specs.declared.log.LogForm.TheVariants as history
+use Rattle.conf_session.specs.declared.groups.Checkpoints.{Checkpoints}
+use Rattle.conf_session.specs.declared.groups.Checkpoints.TheVariants.{After, Asked}
+use Rattle.conf_words.specs.declared.invocation.Formatting.TheVariants as formatting
+use Rattle.conf_words.specs.declared.invocation.Grouping.{Grouping as AskedGrouping}
+use Rattle.conf_words.specs.declared.invocation.Grouping.TheVariants as asked
+use Rattle.conf_words.specs.declared.invocation.Invocation.{Invocation}
+use Rattle.conf_words.specs.declared.invocation.Invocation.TheVariants.{Init, Import, Set, Delete, Checkpoint, Run, Export, Names, Get, Log, Verify, Salvage, Format, Check}
+use Rattle.conf_words.specs.declared.invocation.LogForm.{LogForm}
+use Rattle.conf_words.specs.declared.invocation.LogForm.TheVariants.{Lines, Records}
+use Rattle.conf_words.specs.declared.invocation.Value.{Value}
+use Rattle.conf_words.specs.declared.invocation.Formatting.{Formatting}
+use Rattle.conf_tools.specs.StoreWords.{ExportsFromFolder, Inits, MakesChange, Reads, RunsOnFolder, Salvages, SaysLog, SaysNames, SaysSurvey, SaysValue}
+use Rattle.conf_tools.specs.Statuses.{status_of}
+use Rattle.conf_tools.specs.TextWords.{FormatsFile, IsDelete, IsImport, IsSet, OfText, ReportsOnAll, RestylesAll, SaysChecked, SaysStyled, status_after, status_after_check}
+use Rattle.conf_tools.specs.Worlds.{Around, LeavesStreams, WorldModel}
+use Rattle.conf_tools.specs.declared.changes.Change.{Change}
+use Rattle.conf_tools.specs.declared.changes.Change.TheVariants as change
+use Rattle.conf_tools.specs.declared.file_words.Report.TheVariants.{Findings, Name}
+use Rattle.conf_tools.specs.declared.program.Status.{Status}
+use Rattle.conf_tools.specs.declared.program.Status.TheVariants.{Done}
+use Rattle.conf_tools.specs.declared.stores.Grouping.{Grouping}
+use Rattle.conf_tools.specs.declared.stores.Grouping.TheVariants.{Single, Grouped}
+use Rattle.conf_tools.specs.declared.texts.ToolFault.{ToolFault}
+use Rattle.conf_tools.specs.declared.texts.ToolFault.TheVariants.{Input}
+
+-- ---- what the words say, as the crates below take it
+
+abbrev pub checkpoints_of : Option ℕ → Checkpoints
+checkpoints_of (Some bytes) = After bytes
+checkpoints_of None = Asked
+
+abbrev pub grouping_of : AskedGrouping → Grouping
+grouping_of asked.Single = Single
+grouping_of (asked.Grouped checkpoint_after) = Grouped (checkpoints_of checkpoint_after)
+
+abbrev pub log_form_of : LogForm → HistoryForm
+log_form_of Lines = history.Lines
+log_form_of Records = history.Records
+
+-- ---- the input alone
+
+-- the input was written in the one style, or why not
+pub record FormatsText (given left held written : Option (List ℕ)) (status : Status) : Type 0 where
+  pub result : Result (Unit {0}) ToolFault
+  pub ends : status ≡ status_after result
+  pub does : SaysStyled result given left held written
+
+-- the findings of the input were written, or why not
+pub record ChecksText (given left held written : Option (List ℕ)) (status : Status) : Type 0 where
+  pub result : Result ℕ ToolFault
+  pub ends : status ≡ status_after_check result
+  pub does : SaysChecked result given left held written
+
+-- ---- the words
+
+module _ {W D F P : Type 0} (world : WorldModel W D F P) (disk : DiskModel D) (remaining : F → Option (List ℕ)) where
+  -- `import`: a text is read, of a file or of the input for `-`, and then the change is made
+  pub record Imports (folder name file : List ℕ) (old new : Around W) (status : Status) : Type 0 where
+    pub read : W
+    pub change : Result Change ToolFault
+    pub is : OfText world remaining file (IsImport name change) (change ≡ Err Input) old.world read old.input new.input
+    pub makes : MakesChange world disk folder change read new.world status
+    pub output : new.output ≡ old.output
+
+module _ {W D F P : Type 0} (world : WorldModel W D F P) (disk : DiskModel D) where
+  -- `set`: the value is read of the input, if the words say so, and then the change is made
+  pub record Sets (folder name pointer : List ℕ) (value : Value) (old new : Around W) (status : Status)
+      : Type 0 where
+    pub change : Result Change ToolFault
+    pub is : IsSet name pointer value change old.input new.input
+    pub makes : MakesChange world disk folder change old.world new.world status
+    pub output : new.output ≡ old.output
+
+  -- `delete`
+  pub record Deletes (folder name pointer : List ℕ) (old new : Around W) (status : Status) : Type 0 where
+    pub change : Result Change ToolFault
+    pub is : IsDelete name pointer change
+    pub makes : MakesChange world disk folder change old.world new.world status
+    pub streams : LeavesStreams old new
+
+module _ {W D F P : Type 0} (world : WorldModel W D F P) (remaining : F → Option (List ℕ)) where
+  -- `names`, `get`, `log` and `verify`
+  abbrev pub Asks : List ℕ → (Option (List ℕ) → Option (List ℕ) → Option (List ℕ) → Status → Type 0)
+      → Around W → Around W → Status → Type 0
+  Asks folder says old new status =
+      Reads world remaining folder says old.world new.world old.output new.output status × (new.input ≡ old.input)
+
+module _ {W D F P : Type 0} (world : WorldModel W D F P) (remaining : F → Option (List ℕ)) where
+  -- files were replaced
+  pub record Restyles (files : List (List ℕ)) (old new : Around W) (status : Status) : Type 0 where
+    pub does : RestylesAll world remaining files Done old.world new.world status
+    pub streams : LeavesStreams old new
+
+  -- `format`
+  abbrev pub FormatsAll : Formatting → List (List ℕ) → Around W → Around W → Status → Type 0
+  FormatsAll formatting.Write [] old new status =
+      FormatsText old.input new.input old.output new.output status × (new.world ≡ old.world)
+  FormatsAll formatting.Write (file ∷ files) old new status = FormatsFile world remaining file old new status
+  FormatsAll formatting.InPlace files old new status = Restyles files old new status
+  FormatsAll formatting.Check [] old new status =
+      ReportsOnAll world remaining Name (codes "-" ∷ []) Done old new status
+  FormatsAll formatting.Check (file ∷ files) old new status =
+      ReportsOnAll world remaining Name (file ∷ files) Done old new status
+
+  -- `check`
+  abbrev pub ChecksAll : List (List ℕ) → Around W → Around W → Status → Type 0
+  ChecksAll [] old new status =
+      ChecksText old.input new.input old.output new.output status × (new.world ≡ old.world)
+  ChecksAll (file ∷ files) old new status = ReportsOnAll world remaining Findings (file ∷ files) Done old new status
+
+-- ---- all words
+
+module _ {W D F P : Type 0} (world : WorldModel W D F P) (disk : DiskModel D) (remaining : F → Option (List ℕ)) where
+  -- What is done for an invocation: with the world, the input and the output, from `old` to `new`, and the status.
+  abbrev pub Performs : Invocation → Around W → Around W → Status → Type 0
+  Performs (Init folder) old new status =
+      Inits world disk folder.now old.world new.world status × LeavesStreams old new
+  Performs (Import folder name file) old new status =
+      Imports world disk remaining folder.now name.now file.now old new status
+  Performs (Set folder name pointer value) old new status =
+      Sets world disk folder.now name.now pointer.now value old new status
+  Performs (Delete folder name pointer) old new status =
+      Deletes world disk folder.now name.now pointer.now old new status
+  Performs (Checkpoint folder) old new status =
+      MakesChange world disk folder.now (Ok change.Checkpoint) old.world new.world status × LeavesStreams old new
+  Performs (Run folder grouping) old new status =
+      RunsOnFolder world disk folder.now (grouping_of grouping) old new status
+  Performs (Export folder name) old new status =
+      ExportsFromFolder world disk folder.now name.now old.world new.world old.output new.output status
+      × (new.input ≡ old.input)
+  Performs (Names folder at) old new status = Asks world remaining folder.now (SaysNames at) old new status
+  Performs (Get folder name pointer at form) old new status =
+      Asks world remaining folder.now (SaysValue at name.now pointer.now form) old new status
+  Performs (Log folder at form) old new status = Asks world remaining folder.now (SaysLog at (log_form_of form)) old new status
+  Performs (Verify folder) old new status = Asks world remaining folder.now SaysSurvey old new status
+  Performs (Salvage folder new_folder) old new status =
+      Salvages world disk remaining folder.now new_folder.now old.world new.world old.output new.output status
+      × (new.input ≡ old.input)
+  Performs (Format formatting files) old new status =
+      FormatsAll world remaining formatting (map (λ file. file.now) files.items) old new status
+  Performs (Check files) old new status =
+      ChecksAll world remaining (map (λ file. file.now) files.items) old new status

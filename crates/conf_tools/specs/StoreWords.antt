@@ -1,0 +1,317 @@
+-- What the words on a store do: which disk or file the world hands out, what is done with it, and that it is given back.
+use Rattle.std.specs.Prelude.{◌≡◌, ◌≢◌, ◌⊎◌, ℕ, List, Option, Some, None, Result, Ok, Err, IfOk, IfErr, OnOk, String, string_bytes}
+use Rattle.std.specs.declared.alloc.Global.{Global}
+use Rattle.std.specs.Str.{chars}
+use Rattle.std.specs.Io.KnownBytes.{Appends}
+use Rattle.conf_disk.specs.Models.{DiskModel}
+use Rattle.conf_disk.specs.Moments.{LeavesOnly}
+use Rattle.conf_folder.specs.declared.fault.FolderFault.{FolderFault}
+use Rattle.conf_history.specs.Logs.{FailsToLog, LogsAll}
+use Rattle.conf_history.specs.Salvages.{RefusesSalvage, Saves}
+use Rattle.conf_history.specs.declared.fault.HistoryFault.{HistoryFault}
+use Rattle.conf_history.specs.declared.fault.HistoryFault.TheVariants.{NotAStore}
+use Rattle.conf_history.specs.declared.fault.SalvageFault.{SalvageFault}
+use Rattle.conf_history.specs.declared.fault.SalvageFault.TheVariants.{StoreExists as NewStoreExists}
+use Rattle.conf_history.specs.declared.log.LogForm.{LogForm}
+use Rattle.conf_history.specs.declared.survey.Findings.{Findings}
+use Rattle.conf_session.specs.declared.session.Tally.{Tally}
+use Rattle.conf_store.specs.Opens.{MeantAtEntry}
+use Rattle.conf_words.specs.declared.invocation.ValueForm.{ValueForm}
+use Rattle.conf_tools.specs.Changes.{CannotChange, CannotMake, ChangeSurvives, ChangesOn, MakesStore}
+use Rattle.conf_tools.specs.Exports.{HasText, LacksText, disk_back, disk_handed_back}
+use Rattle.conf_tools.specs.Reads.{RefusesNames, RefusesValue, WritesNames, WritesValue}
+use Rattle.conf_tools.specs.ReadingStatuses.{status_of_reading}
+use Rattle.conf_tools.specs.Statuses.{status_of, status_of_store}
+use Rattle.conf_tools.specs.Stores.{RunsOn, SurvivesCrashes}
+use Rattle.conf_tools.specs.Surveys.{CannotWrite, RefusesWriting, WritesSurvey, findings_text}
+use Rattle.conf_tools.specs.Worlds.{Around, LeavesStreams, WorldModel}
+use Rattle.conf_tools.specs.declared.changes.Change.{Change}
+use Rattle.conf_tools.specs.declared.program.Status.{Status}
+use Rattle.conf_tools.specs.declared.program.Status.TheVariants.{Done, Refused, Device}
+use Rattle.conf_tools.specs.declared.reading_fault.ReadingFault.{ReadingFault}
+use Rattle.conf_tools.specs.declared.reading_fault.ReadingFault.TheVariants.{Folder as ReadingFolder, History, Salvage}
+use Rattle.conf_tools.specs.declared.stores.Grouping.{Grouping}
+use Rattle.conf_tools.specs.declared.stores.StoreToolFault.{StoreToolFault}
+use Rattle.conf_tools.specs.declared.stores.StoreToolFault.TheVariants.{Folder as InFolder}
+use Rattle.conf_tools.specs.declared.surveys.Soundness.{Soundness}
+use Rattle.conf_tools.specs.declared.surveys.Soundness.TheVariants.{Whole, Damaged}
+use Rattle.conf_tools.specs.declared.texts.ToolFault.{ToolFault}
+use Rattle.conf_tools.specs.declared.world.Access.{Access}
+use Rattle.conf_tools.specs.declared.world.Access.TheVariants.{Changing, Reading}
+
+-- ---- statuses
+
+-- the status of what was done on a disk
+abbrev pub status_at_end : {A D : Type 0} → Result A (D × StoreToolFault) → Status
+status_at_end (Ok done) = Done
+status_at_end (Err refused) = status_of_store refused.1
+
+-- the status of what was read of a store's file
+abbrev pub status_after_reading : {A : Type 0} → Result A ReadingFault → Status
+status_after_reading (Ok done) = Done
+status_after_reading (Err fault) = status_of_reading fault
+
+-- the status of a log
+abbrev pub status_after_log : Result (Unit {0}) HistoryFault → Status
+status_after_log (Ok done) = Done
+status_after_log (Err fault) = status_of_reading (History fault)
+
+-- the status of `verify`
+abbrev pub status_after_survey : Result Soundness ReadingFault → Status
+status_after_survey (Ok Whole) = Done
+status_after_survey (Ok Damaged) = Refused
+status_after_survey (Err fault) = status_of_reading fault
+
+-- the bytes were written whole, or the writer failed
+abbrev pub WritesWhole : List ℕ → Option (List ℕ) → Option (List ℕ) → Status → Type 0
+WritesWhole bytes held written status = (Appends held written bytes × (status ≡ Done)) ⊎ (status ≡ Device)
+
+-- the text was written that an export found, or nothing where it found none
+abbrev pub WritesFound : {D : Type 0} → Result (D × String Global) (D × StoreToolFault) → Option (List ℕ) → Option (List ℕ)
+    → Status → Type 0
+WritesFound (Ok found) held written status = WritesWhole (string_bytes found.1) held written status
+WritesFound (Err refused) held written status = (written ≡ held) × (status ≡ status_of_store refused.1)
+
+-- ---- words that take the disk of a folder
+
+module _ {W D F P : Type 0} (world : WorldModel W D F P) (disk : DiskModel D) where
+  -- the disk of the folder was not handed out, and that is the fault
+  pub record CannotUse (access : Access) (folder : List ℕ) (old new : W) (status : Status) : Type 0 where
+    pub fault : FolderFault
+    pub opens : world.opened access folder old (Err fault) new
+    pub ends : status ≡ status_of_store (InFolder fault)
+
+  -- An empty store was made on the disk of the folder, or why not; and the disk was given back.
+  pub record MakesIn (folder : List ℕ) (old new : W) (status : Status) : Type 0 where
+    pub first : D
+    pub opened : W
+    pub opens : world.opened Changing folder old (Ok first) opened
+    pub result : Result D (D × StoreToolFault)
+    pub gives_back : world.given_back (disk_handed_back result) opened new
+    pub ends : status ≡ status_at_end result
+    pub made : IfOk result (λ last. disk.honest → MakesStore disk.folder first last)
+    pub refused : IfErr result (λ refused. CannotMake disk first refused.0 refused.1)
+    pub survives : disk.honest → LeavesOnly disk first (disk_handed_back result)
+        (λ image. MeantAtEntry (disk.folder first) image.store)
+
+  -- the folder was not made, and that is the fault
+  pub record CannotMakeFolder (folder : List ℕ) (old new : W) (status : Status) : Type 0 where
+    pub fault : FolderFault
+    pub makes : world.made_folder folder old (Err fault) new
+    pub ends : status ≡ status_of_store (InFolder fault)
+
+  -- an empty store in a folder
+  abbrev pub MakesInFolder : List ℕ → W → W → Status → Type 0
+  MakesInFolder folder old new status = CannotUse Changing folder old new status ⊎ MakesIn folder old new status
+
+  -- the folder was made, or was there
+  pub record MakesFolder (folder : List ℕ) (old new : W) (status : Status) : Type 0 where
+    pub made : W
+    pub makes : world.made_folder folder old (Ok tt) made
+    pub then : MakesInFolder folder made new status
+
+  -- `init`
+  abbrev pub Inits : List ℕ → W → W → Status → Type 0
+  Inits folder old new status = CannotMakeFolder folder old new status ⊎ MakesFolder folder old new status
+
+  -- The change was made of the store on the disk of the folder, or why not; and the disk was given back.
+  pub record ChangesIn (folder : List ℕ) (change : Change) (old new : W) (status : Status) : Type 0 where
+    pub first : D
+    pub opened : W
+    pub opens : world.opened Changing folder old (Ok first) opened
+    pub result : Result D (D × StoreToolFault)
+    pub gives_back : world.given_back (disk_handed_back result) opened new
+    pub ends : status ≡ status_at_end result
+    pub made : IfOk result (ChangesOn disk first change)
+    pub refused : IfErr result (λ refused. CannotChange disk first change refused.0 refused.1)
+    pub survives : disk.honest → ChangeSurvives disk first change result
+
+  -- a change of the store in a folder
+  abbrev pub ChangesInFolder : List ℕ → Change → W → W → Status → Type 0
+  ChangesInFolder folder change old new status =
+      CannotUse Changing folder old new status ⊎ ChangesIn folder change old new status
+
+  -- the same; where there is no change to make, no folder is looked at
+  abbrev pub MakesChange : List ℕ → Result Change ToolFault → W → W → Status → Type 0
+  MakesChange folder (Ok change) old new status = ChangesInFolder folder change old new status
+  MakesChange folder (Err fault) old new status = (new ≡ old) × (status ≡ status_of fault)
+
+  -- A session ran on the disk of the folder, and the disk was given back.
+  pub record RunsIn (folder : List ℕ) (grouping : Grouping) (old new : Around W) (status : Status) : Type 0 where
+    pub first : D
+    pub opened : W
+    pub opens : world.opened Changing folder old.world (Ok first) opened
+    pub result : Result (D × Tally) (D × StoreToolFault)
+    pub gives_back : world.given_back (disk_back result) opened new.world
+    pub ends : status ≡ status_at_end result
+    pub runs : RunsOn disk old.input new.input old.output new.output grouping first result
+    pub survives : disk.honest
+        → SurvivesCrashes disk old.input new.input old.output new.output grouping first result
+
+  -- the disk was not handed out, and nothing was read or written
+  pub record CannotRun (folder : List ℕ) (old new : Around W) (status : Status) : Type 0 where
+    pub cannot : CannotUse Changing folder old.world new.world status
+    pub streams : LeavesStreams old new
+
+  -- `run`
+  abbrev pub RunsOnFolder : List ℕ → Grouping → Around W → Around W → Status → Type 0
+  RunsOnFolder folder grouping old new status =
+      CannotRun folder old new status ⊎ RunsIn folder grouping old new status
+
+  -- The text of the configuration was found on the disk of the folder, or why not; the disk was given back, and the text
+  -- was written.
+  pub record ExportsFrom (folder name : List ℕ) (old new : W) (held written : Option (List ℕ)) (status : Status)
+      : Type 0 where
+    pub first : D
+    pub opened : W
+    pub opens : world.opened Reading folder old (Ok first) opened
+    pub result : Result (D × String Global) (D × StoreToolFault)
+    pub gives_back : world.given_back (disk_back result) opened new
+    pub writes : WritesFound result held written status
+    pub found : IfOk result (λ found. HasText disk first found.0 (chars name) (string_bytes found.1))
+    pub refused : IfErr result (λ refused. LacksText disk first refused.0 (chars name) refused.1)
+    pub survives : disk.honest → LeavesOnly disk first (disk_back result)
+        (λ image. MeantAtEntry (disk.folder first) image.store)
+
+  -- the disk was not handed out, and nothing was written
+  pub record CannotExport (folder : List ℕ) (old new : W) (held written : Option (List ℕ)) (status : Status)
+      : Type 0 where
+    pub cannot : CannotUse Reading folder old new status
+    pub keeps : written ≡ held
+
+  -- `export`
+  abbrev pub ExportsFromFolder : List ℕ → List ℕ → W → W → Option (List ℕ) → Option (List ℕ) → Status → Type 0
+  ExportsFromFolder folder name old new held written status =
+      CannotExport folder old new held written status ⊎ ExportsFrom folder name old new held written status
+
+-- what stands in the file was written, where a store was made of it
+abbrev pub WritesFindings : {D : Type 0} → Result (D × Findings) (D × SalvageFault) → Option (List ℕ) → Option (List ℕ)
+    → Status → Type 0
+WritesFindings (Ok saved) held written status =
+    (ended : Result (Unit {0}) ReadingFault) × (status ≡ status_after_reading ended)
+    × OnOk ended (Appends held written (findings_text saved.1)) × IfErr ended (CannotWrite held written)
+WritesFindings (Err refused) held written status =
+    (written ≡ held) × (status ≡ status_of_reading (Salvage refused.1))
+
+-- ---- words that read the file of a store
+
+module _ {W D F P : Type 0} (world : WorldModel W D F P) where
+  -- the file of the store in a folder was opened, or why not
+  abbrev pub OpensFile : List ℕ → W → Result F ReadingFault → W → Type 0
+  OpensFile folder old (Ok file) new = world.opened_store folder old (Ok (Some file)) new
+  OpensFile folder old (Err (History NotAStore)) new = world.opened_store folder old (Ok None) new
+  OpensFile folder old (Err (ReadingFolder fault)) new = world.opened_store folder old (Err fault) new
+  OpensFile folder old (Err fault) new = ⊥
+
+module _ {F : Type 0} (remaining : F → Option (List ℕ)) where
+  -- What a word on the file writes is as `says` of what the file gives, where it was opened; else nothing is written.
+  abbrev pub SaysOfFile : (Option (List ℕ) → Option (List ℕ) → Option (List ℕ) → Status → Type 0)
+      → Result F ReadingFault → Option (List ℕ) → Option (List ℕ) → Status → Type 0
+  SaysOfFile says (Ok file) held written status = says (remaining file) held written status
+  SaysOfFile says (Err fault) held written status = (written ≡ held) × (status ≡ status_of_reading fault)
+
+module _ {W D F P : Type 0} (world : WorldModel W D F P) (remaining : F → Option (List ℕ)) where
+  -- A word on the file of the store in a folder.
+  pub record Reads (folder : List ℕ) (says : Option (List ℕ) → Option (List ℕ) → Option (List ℕ) → Status → Type 0)
+      (old new : W) (held written : Option (List ℕ)) (status : Status) : Type 0 where
+    pub file : Result F ReadingFault
+    pub opens : OpensFile world folder old file new
+    pub does : SaysOfFile remaining says file held written status
+
+-- the names that the file holds
+pub record SaysNames (at : Option ℕ) (given held written : Option (List ℕ)) (status : Status) : Type 0 where
+  pub result : Result (Unit {0}) ReadingFault
+  pub ends : status ≡ status_after_reading result
+  pub done : OnOk result (WritesNames given at held written)
+  pub refused : IfErr result (RefusesNames given at held written)
+
+-- a value that it holds
+pub record SaysValue (at : Option ℕ) (name pointer : List ℕ) (form : ValueForm)
+    (given held written : Option (List ℕ)) (status : Status) : Type 0 where
+  pub result : Result (Unit {0}) ReadingFault
+  pub ends : status ≡ status_after_reading result
+  pub done : OnOk result (WritesValue given at (chars name) (chars pointer) form held written)
+  pub refused : IfErr result (RefusesValue given at (chars name) (chars pointer) held written)
+
+-- its commands
+pub record SaysLog (at : Option ℕ) (form : LogForm) (given held written : Option (List ℕ)) (status : Status)
+    : Type 0 where
+  pub result : Result (Unit {0}) HistoryFault
+  pub ends : status ≡ status_after_log result
+  pub left : Option (List ℕ)
+  pub done : OnOk result (LogsAll at form given left held written)
+  pub refused : IfErr result (FailsToLog at form given held written)
+
+-- what an opening would find in it
+pub record SaysSurvey (given held written : Option (List ℕ)) (status : Status) : Type 0 where
+  pub result : Result Soundness ReadingFault
+  pub ends : status ≡ status_after_survey result
+  pub done : IfOk result (WritesSurvey given held written)
+  pub refused : IfErr result (RefusesWriting given held written)
+
+-- ---- a store of what stands before the damage
+
+module _ {W D F P : Type 0} (world : WorldModel W D F P) where
+  -- why a folder can't hold a new store
+  abbrev pub CannotHoldNew : List ℕ → W → FolderFault → W → Type 0
+  CannotHoldNew folder old fault new =
+      world.made_folder folder old (Err fault) new
+      ⊎ ((made : W) × world.made_folder folder old (Ok tt) made × world.opened_store folder made (Err fault) new)
+      ⊎ ((made : W) × (seen : W) × world.made_folder folder old (Ok tt) made
+      × world.opened_store folder made (Ok None) seen × world.opened Changing folder seen (Err fault) new)
+
+  -- The disk of a folder that is to hold a new store: it is made if it is missing, and has no store.
+  abbrev pub OpensNew : List ℕ → W → Result D ReadingFault → W → Type 0
+  OpensNew folder old (Ok first) new =
+      (made : W) × (seen : W) × world.made_folder folder old (Ok tt) made
+      × world.opened_store folder made (Ok None) seen × world.opened Changing folder seen (Ok first) new
+  OpensNew folder old (Err (Salvage NewStoreExists)) new =
+      (made : W) × (file : F) × world.made_folder folder old (Ok tt) made
+      × world.opened_store folder made (Ok (Some file)) new
+  OpensNew folder old (Err (ReadingFolder fault)) new = CannotHoldNew folder old fault new
+  OpensNew folder old (Err fault) new = ⊥
+
+module _ {W D F P : Type 0} (world : WorldModel W D F P) (disk : DiskModel D) where
+  -- A store was made on the disk of the new folder of what the file gives, or why not; and the disk was given back.
+  pub record SavesTo (folder : List ℕ) (given : Option (List ℕ)) (old new : W) (held written : Option (List ℕ))
+      (status : Status) : Type 0 where
+    pub first : D
+    pub opened : W
+    pub opens : OpensNew world folder old (Ok first) opened
+    pub result : Result (D × Findings) (D × SalvageFault)
+    pub gives_back : world.given_back (disk_back result) opened new
+    pub writes : WritesFindings result held written status
+    pub left : Option (List ℕ)
+    pub saved : disk.honest → IfOk result
+        (λ saved. Saves given left (disk.folder first) (disk.folder saved.0) saved.1)
+    pub refused : disk.honest → IfErr result
+        (λ refused. RefusesSalvage given left (disk.folder first) (disk.folder refused.0) refused.1)
+
+  -- the new folder can't hold a store
+  pub record CannotSaveTo (folder : List ℕ) (old new : W) (held written : Option (List ℕ)) (status : Status)
+      : Type 0 where
+    pub fault : ReadingFault
+    pub opens : OpensNew world folder old (Err fault) new
+    pub keeps : written ≡ held
+    pub ends : status ≡ status_of_reading fault
+
+  -- a store in a new folder, of what a store's file gives
+  abbrev pub SavesInFolder : List ℕ → Option (List ℕ) → W → W → Option (List ℕ) → Option (List ℕ) → Status → Type 0
+  SavesInFolder folder given old new held written status =
+      CannotSaveTo folder old new held written status ⊎ SavesTo folder given old new held written status
+
+module _ {W D F P : Type 0} (world : WorldModel W D F P) (disk : DiskModel D) (remaining : F → Option (List ℕ)) where
+  -- what is made of the file of a store, where it was opened
+  abbrev pub SavesFound : List ℕ → Result F ReadingFault → W → W → Option (List ℕ) → Option (List ℕ) → Status → Type 0
+  SavesFound folder (Ok file) old new held written status =
+      SavesInFolder world disk folder (remaining file) old new held written status
+  SavesFound folder (Err fault) old new held written status =
+      (new ≡ old) × (written ≡ held) × (status ≡ status_of_reading fault)
+
+  -- `salvage`
+  pub record Salvages (folder new_folder : List ℕ) (old new : W) (held written : Option (List ℕ)) (status : Status)
+      : Type 0 where
+    pub file : Result F ReadingFault
+    pub found : W
+    pub opens : OpensFile world folder old file found
+    pub saves : SavesFound new_folder file found new held written status

@@ -1,0 +1,238 @@
+-- What the words on texts do, and how a change is made ready of the text that it is given.
+use Rattle.std.specs.Prelude.{◌≡◌, ◌≢◌, ◌⊎◌, ℕ, Bool, true, false, ◌==◌, if◌then◌else◌, List, [], ◌∷◌, Option, Some, None, Result, Ok, Err, IfOk, IfErr, OnOk, codes, encode_utf8_all, string_bytes}
+use Rattle.std.specs.Str.{chars}
+use Rattle.conf_files.specs.declared.replace.ReplaceFault.{ReplaceFault}
+use Rattle.conf_files.specs.declared.replace.ReplaceFault.TheVariants as replacing
+use Rattle.conf_state.specs.Commands.{command_of, delete_at, set_at, single, text_of}
+use Rattle.conf_words.specs.Escapes.{escaped}
+use Rattle.conf_words.specs.declared.invocation.Value.{Value}
+use Rattle.conf_words.specs.declared.invocation.Value.TheVariants.{Text, Yaml}
+use Rattle.yaml_config.specs.Kept.{IsFirstFault, own_limits}
+use Rattle.yaml_config.specs.Limits.{config_limits}
+use Rattle.yaml_events.specs.declared.read_fault.ReadFault.TheVariants.{OutOfMemory}
+use Rattle.yaml_grammar.specs.Trees.{Tree, text}
+use Rattle.yaml_tree.specs.Reading.{IsRead, Refuses}
+use Rattle.conf_tools.specs.FileTexts.{ChecksFile, Lists, Restyles, StopsInFile, StopsInReading}
+use Rattle.conf_tools.specs.Statuses.{status_of, worst}
+use Rattle.conf_tools.specs.Tools.{Checks, Formats, HasRead, ReadsAtMost, Stops, most_input}
+use Rattle.conf_tools.specs.Worlds.{Around, WorldModel}
+use Rattle.conf_tools.specs.declared.changes.Change.{Change}
+use Rattle.conf_tools.specs.declared.changes.Change.TheVariants.{Import, Perform}
+use Rattle.conf_tools.specs.declared.file_texts.Restyled.{Restyled}
+use Rattle.conf_tools.specs.declared.file_texts.Restyled.TheVariants.{Same, Changed}
+use Rattle.conf_tools.specs.declared.file_words.Report.{Report}
+use Rattle.conf_tools.specs.declared.file_words.Report.TheVariants.{Findings, Name}
+use Rattle.conf_tools.specs.declared.program.Status.{Status}
+use Rattle.conf_tools.specs.declared.program.Status.TheVariants.{Done, Found, Device}
+use Rattle.conf_tools.specs.declared.texts.ToolFault.{ToolFault}
+use Rattle.conf_tools.specs.declared.texts.ToolFault.TheVariants.{Input, Output, Read}
+
+-- ---- statuses
+
+-- the status of what was done with a text
+abbrev pub status_after : {T : Type 0} → Result T ToolFault → Status
+status_after (Ok done) = Done
+status_after (Err fault) = status_of fault
+
+-- the status of a report that has so many findings
+abbrev pub status_of_count : ℕ → Status
+status_of_count count = if count == 0 then Done else Found
+
+-- the status of a report on whether a text would change
+abbrev pub status_of_change : Bool → Status
+status_of_change false = Done
+status_of_change true = Found
+
+-- the status of `check`
+abbrev pub status_after_check : Result ℕ ToolFault → Status
+status_after_check (Ok count) = status_of_count count
+status_after_check (Err fault) = status_of fault
+
+-- ---- the text of a file, or of the input
+
+module _ {W D F P : Type 0} (world : WorldModel W D F P) (remaining : F → Option (List ℕ)) where
+  -- what was read of a file that was opened, of which `says` holds; or the file was not opened
+  abbrev pub OfOpened : (Option (List ℕ) → Option (List ℕ) → Type 0) → Type 0 → Option F → Type 0
+  OfOpened says unread (Some file) = (left : Option (List ℕ)) × says (remaining file) left
+  OfOpened says unread None = unread
+
+  -- the same of the file at a path
+  pub record OfFile (path : List ℕ) (says : Option (List ℕ) → Option (List ℕ) → Type 0) (unread : Type 0) (old new : W)
+      : Type 0 where
+    pub file : Option F
+    pub opens : world.opened_file path old file new
+    pub does : OfOpened says unread file
+
+  -- What was read is the input for `-`, and else the file at the path. What it gave, and has left, is as `says`.
+  abbrev pub OfText : List ℕ → (Option (List ℕ) → Option (List ℕ) → Type 0) → Type 0 → W → W
+      → Option (List ℕ) → Option (List ℕ) → Type 0
+  OfText path says unread old new given left =
+      ((path ≡ codes "-") × (new ≡ old) × says given left)
+      ⊎ ((path ≢ codes "-") × (left ≡ given) × OfFile path says unread old new)
+
+-- ---- changes that are made ready
+
+-- the change imports the bytes that were read, under a name; or reading failed, or memory ran out
+abbrev pub IsImport : List ℕ → Result Change ToolFault → Option (List ℕ) → Option (List ℕ) → Type 0
+IsImport name (Ok (Import kept bytes)) given left =
+    (text_of kept ≡ chars name) × HasRead given left bytes.items most_input
+IsImport name (Ok change) given left = ⊥
+IsImport name (Err fault) given left =
+    ((fault ≡ Input) ⊎ (fault ≡ Read OutOfMemory)) × ReadsAtMost given left most_input
+
+-- the change sets a tree at a pointer of the configuration under a name
+abbrev pub SetsAt : List ℕ → List ℕ → Tree → Change → Type 0
+SetsAt name pointer tree (Perform command) =
+    command_of command ≡ single (set_at (chars name) (chars pointer) tree)
+SetsAt name pointer tree change = ⊥
+
+-- why a text can't be a value: it is too long in the one style, or memory ran out
+abbrev pub RefusesText : List ℕ → ToolFault → Type 0
+RefusesText cs (Read fault) = IsFirstFault own_limits (text cs) fault
+RefusesText cs fault = ⊥
+
+-- the change sets a text
+abbrev pub SetsText : List ℕ → List ℕ → List ℕ → Result Change ToolFault → Type 0
+SetsText name pointer cs (Ok change) = SetsAt name pointer (text cs) change
+SetsText name pointer cs (Err fault) = RefusesText cs fault
+
+-- why bytes give no value
+abbrev pub RefusesBytes : List ℕ → ToolFault → Type 0
+RefusesBytes bytes (Read fault) = Refuses bytes config_limits fault
+RefusesBytes bytes fault = ⊥
+
+-- the change sets what these bytes give
+abbrev pub SetsBytes : List ℕ → List ℕ → List ℕ → Result Change ToolFault → Type 0
+SetsBytes name pointer bytes (Ok change) =
+    (tree : Tree) × IsRead bytes config_limits tree × SetsAt name pointer tree change
+SetsBytes name pointer bytes (Err fault) = RefusesBytes bytes fault
+
+-- The change sets what the bytes that were read give; or they were not read.
+abbrev pub SetsInput : List ℕ → List ℕ → Option (List ℕ) → Option (List ℕ) → Result Change ToolFault → Type 0
+SetsInput name pointer given left change =
+    ((bytes : List ℕ) × HasRead given left bytes most_input × SetsBytes name pointer bytes change)
+    ⊎ (((change ≡ Err Input) ⊎ (change ≡ Err (Read OutOfMemory))) × ReadsAtMost given left most_input)
+
+-- The change sets the value that the words give, or the input for `-`.
+abbrev pub IsSet : List ℕ → List ℕ → Value → Result Change ToolFault → Option (List ℕ) → Option (List ℕ) → Type 0
+IsSet name pointer (Text word) change given left =
+    (left ≡ given) × SetsText name pointer (chars word.now) change
+IsSet name pointer (Yaml word) change given left =
+    ((word.now ≢ codes "-") × (left ≡ given) × SetsBytes name pointer word.now change)
+    ⊎ ((word.now ≡ codes "-") × SetsInput name pointer given left change)
+
+-- the change removes what is at a pointer; or memory ran out
+abbrev pub IsDelete : List ℕ → List ℕ → Result Change ToolFault → Type 0
+IsDelete name pointer (Ok (Perform command)) =
+    command_of command ≡ single (delete_at (chars name) (chars pointer))
+IsDelete name pointer (Ok change) = ⊥
+IsDelete name pointer (Err fault) = fault ≡ Read OutOfMemory
+
+-- ---- texts in the one style, and findings
+
+-- the text was written in the one style, or why not
+pub record SaysStyled (result : Result (Unit {0}) ToolFault) (given left held written : Option (List ℕ)) : Type 0 where
+  pub done : OnOk result (Formats given left held written)
+  pub stops : IfErr result (Stops given left held written)
+
+-- the findings of the input were written, or why not
+pub record SaysChecked (result : Result ℕ ToolFault) (given left held written : Option (List ℕ)) : Type 0 where
+  pub done : IfOk result (Checks given left held written)
+  pub stops : IfErr result (Stops given left held written)
+
+-- what a report on a file says, whose name is shown so
+abbrev pub SaysReport : Report → List ℕ → Result Status ToolFault → Option (List ℕ) → Option (List ℕ)
+    → Option (List ℕ) → Option (List ℕ) → Type 0
+SaysReport Findings name (Ok status) given left held written =
+    (count : ℕ) × ChecksFile name given left held written count × (status ≡ status_of_count count)
+SaysReport Findings name (Err fault) given left held written = StopsInFile given left held written fault
+SaysReport Name name (Ok status) given left held written =
+    (changes : Bool) × Lists name given left held written changes × (status ≡ status_of_change changes)
+SaysReport Name name (Err fault) given left held written = Stops given left held written fault
+
+-- the name of a file as it is shown
+abbrev pub shown_name : List ℕ → List ℕ
+shown_name path = encode_utf8_all (escaped (chars path))
+
+-- whether the writer failed, so that no other file is tried
+abbrev pub stops_all : Result Status ToolFault → Bool
+stops_all (Err Output) = true
+stops_all result = false
+
+-- the status of one report
+abbrev pub status_of_report : Result Status ToolFault → Status
+status_of_report (Ok status) = status
+status_of_report (Err fault) = status_of fault
+
+-- what holds if that is so, and what else
+abbrev pub IfSo : Bool → Type 0 → Type 0 → Type 0
+IfSo true first second = first
+IfSo false first second = second
+
+module _ {W D F P : Type 0} (world : WorldModel W D F P) (remaining : F → Option (List ℕ)) where
+  -- the text of the file, or the input for `-`, was written in the one style
+  pub record FormatsFile (path : List ℕ) (old new : Around W) (status : Status) : Type 0 where
+    pub result : Result (Unit {0}) ToolFault
+    pub ends : status ≡ status_after result
+    pub does : OfText world remaining path
+        (λ given left. SaysStyled result given left old.output new.output)
+        ((result ≡ Err Input) × (new.output ≡ old.output)) old.world new.world old.input new.input
+
+  -- a report on one file, or on the input for `-`
+  abbrev pub ReportsOn : Report → List ℕ → Around W → Around W → Result Status ToolFault → Type 0
+  ReportsOn report path old new result = OfText world remaining path
+      (λ given left. SaysReport report (shown_name path) result given left old.output new.output)
+      ((result ≡ Err Input) × (new.output ≡ old.output)) old.world new.world old.input new.input
+
+  -- A report on each file in turn, where this is the worst status before them. After one that the writer failed to take
+  -- there is none.
+  abbrev pub ReportsOnAll : Report → List (List ℕ) → Status → Around W → Around W → Status → Type 0
+  ReportsOnAll report [] so_far old new status = (new ≡ old) × (status ≡ so_far)
+  ReportsOnAll report (path ∷ paths) so_far old new status =
+      (now : Around W) × (result : Result Status ToolFault) × ReportsOn report path old now result
+      × IfSo (stops_all result) ((new ≡ now) × (status ≡ Device))
+      (ReportsOnAll report paths (worst so_far (status_of_report result)) now new status)
+
+-- ---- files that are replaced
+
+-- the fault of a file that was not opened to be replaced
+abbrev pub unopened : ReplaceFault → ToolFault
+unopened replacing.Device = Input
+unopened replacing.OutOfMemory = Read OutOfMemory
+
+-- what came of a replacement
+abbrev pub replaced_or_not : Result (Unit {0}) ReplaceFault → Result (Unit {0}) ToolFault
+replaced_or_not (Ok done) = Ok tt
+replaced_or_not (Err replacing.Device) = Err Output
+replaced_or_not (Err replacing.OutOfMemory) = Err (Read OutOfMemory)
+
+module _ {W D F P : Type 0} (world : WorldModel W D F P) where
+  -- a text that is another one in the one style is put in the place of its file
+  abbrev pub ReplacesAt : P → Result Restyled ToolFault → W → W → Result (Unit {0}) ToolFault → Type 0
+  ReplacesAt place (Ok Same) old new result = (new ≡ old) × (result ≡ Ok tt)
+  ReplacesAt place (Ok (Changed styled)) old new result =
+      (ended : Result (Unit {0}) ReplaceFault) × world.replaced place (string_bytes styled) old ended new
+      × (result ≡ replaced_or_not ended)
+  ReplacesAt place (Err fault) old new result = (new ≡ old) × (result ≡ Err fault)
+
+module _ {W D F P : Type 0} (world : WorldModel W D F P) (remaining : F → Option (List ℕ)) where
+  -- what was made of a file that was opened to be replaced
+  abbrev pub RestylesOpened : Result (F × P) ReplaceFault → W → W → Result (Unit {0}) ToolFault → Type 0
+  RestylesOpened (Err fault) old new result = (new ≡ old) × (result ≡ Err (unopened fault))
+  RestylesOpened (Ok (file, place)) old new result =
+      (restyled : Result Restyled ToolFault) × (left : Option (List ℕ)) × ReplacesAt world place restyled old new result
+      × IfOk restyled (Restyles (remaining file) left) × IfErr restyled (StopsInReading (remaining file) left)
+
+  -- one file, which is replaced if its text is another one in the one style
+  pub record RestylesFile (path : List ℕ) (old new : W) (result : Result (Unit {0}) ToolFault) : Type 0 where
+    pub found : Result (F × P) ReplaceFault
+    pub seen : W
+    pub opens : world.opened_to_replace path old found seen
+    pub does : RestylesOpened found seen new result
+
+  -- each file in turn, where this is the worst status before them
+  abbrev pub RestylesAll : List (List ℕ) → Status → W → W → Status → Type 0
+  RestylesAll [] so_far old new status = (new ≡ old) × (status ≡ so_far)
+  RestylesAll (path ∷ paths) so_far old new status =
+      (now : W) × (result : Result (Unit {0}) ToolFault) × RestylesFile path old now result
+      × RestylesAll paths (worst so_far (status_after result)) now new status

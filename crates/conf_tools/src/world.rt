@@ -1,0 +1,92 @@
+// What is around the program besides its three streams.
+ghost use Rattle.conf_tools.specs.Worlds.{WorldModel};
+
+use conf_disk::Disk;
+use conf_files::ReplaceFault;
+use conf_folder::FolderFault;
+use std::alloc::Global;
+use std::io::Read;
+
+/// For what a folder is opened.
+#[derive(Clone, Copy, Debug, PartialEq, Eq)]
+pub enum Access {
+    /// To change the store in it.
+    Changing,
+    /// To read the store in it, which is opened as for changes. Where nothing can be written, it is read as it stands.
+    Reading,
+}
+
+/// The folders of stores, and the files that the program's words name.
+///
+/// Each clause is of the world's own model, so whoever uses a world can't say what it didn't do: a fact of a folder is had
+/// by a call alone, and each call leads from one world to the next.
+pub trait World {
+    /// The disk of a folder.
+    type Disk: Disk + Drop;
+
+    /// A file that is open to be read.
+    type File: Read + Drop;
+
+    /// Where a file is that was opened to be replaced.
+    type Place: Drop;
+
+    /// What contracts see of it: how each call, its result, and the worlds before and after it go together.
+    ghost model: { WorldModel Self Self.Disk Self.File Self.Place };
+
+    /// Makes a folder. Whatever is at the path stays as it is.
+    ///
+    /// # Errors
+    /// `Device` if it can't be made.
+    fn make_folder(&mut self, folder: &str) -> Result<(), FolderFault>
+        ensures { model.made_folder folder.now self.old result self.new };
+
+    /// Hands out the disk of a folder.
+    ///
+    /// # Errors
+    /// `Device` if there is no folder or it can't be used, `Locked` if another run holds it, and `OutOfMemory`.
+    fn open(
+        &mut self,
+        alloc: Global,
+        access: Access,
+        folder: &str,
+    ) -> Result<Self::Disk, FolderFault>
+        ensures { model.opened access folder.now self.old result self.new };
+
+    /// Lets go of a disk that was handed out.
+    fn give_back(&mut self, disk: Self::Disk)
+        ensures { model.given_back disk self.old self.new };
+
+    /// Opens the file of the store in a folder, to be read beside whoever holds the store. `None` if there is none.
+    ///
+    /// # Errors
+    /// `Device` if there is no folder or the file can't be opened, and `OutOfMemory`.
+    fn open_store(&mut self, alloc: Global, folder: &str) -> Result<Option<Self::File>, FolderFault>
+        ensures { model.opened_store folder.now self.old result self.new };
+
+    /// Opens a file to be read. `None` if it can't be opened.
+    fn open_file(&mut self, path: &str) -> Option<Self::File>
+        ensures { model.opened_file path.now self.old result self.new };
+
+    /// Opens a file to be read and then replaced, with its place.
+    ///
+    /// # Errors
+    /// `Device` if it can't be opened, and `OutOfMemory`.
+    fn open_to_replace(
+        &mut self,
+        alloc: Global,
+        path: &str,
+    ) -> Result<(Self::File, Self::Place), ReplaceFault>
+        ensures { model.opened_to_replace path.now self.old result self.new };
+
+    /// Puts a file of these bytes in the place of the file that was opened, whole.
+    ///
+    /// # Errors
+    /// `Device` if it can't be replaced, and `OutOfMemory`.
+    fn replace(
+        &mut self,
+        alloc: Global,
+        place: Self::Place,
+        bytes: &[u8],
+    ) -> Result<(), ReplaceFault>
+        ensures { model.replaced place bytes.now self.old result self.new };
+}
