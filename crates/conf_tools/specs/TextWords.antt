@@ -113,13 +113,17 @@ SetsInput name pointer given left change =
     ((bytes : List ℕ) × HasRead given left bytes most_input × SetsBytes name pointer bytes change)
     ⊎ (((change ≡ Err Input) ⊎ (change ≡ Err (Read OutOfMemory))) × ReadsAtMost given left most_input)
 
+-- the change sets what a word gives as a text of YAML, or the input for `-`
+abbrev pub SetsWord : List ℕ → List ℕ → List ℕ → Result Change ToolFault → Option (List ℕ) → Option (List ℕ) → Type 0
+SetsWord name pointer word change given left =
+    ((word ≢ codes "-") × (left ≡ given) × SetsBytes name pointer word change)
+    ⊎ ((word ≡ codes "-") × SetsInput name pointer given left change)
+
 -- The change sets the value that the words give, or the input for `-`.
 abbrev pub IsSet : List ℕ → List ℕ → Value → Result Change ToolFault → Option (List ℕ) → Option (List ℕ) → Type 0
 IsSet name pointer (Text word) change given left =
     (left ≡ given) × SetsText name pointer (chars word.now) change
-IsSet name pointer (Yaml word) change given left =
-    ((word.now ≢ codes "-") × (left ≡ given) × SetsBytes name pointer word.now change)
-    ⊎ ((word.now ≡ codes "-") × SetsInput name pointer given left change)
+IsSet name pointer (Yaml word) change given left = SetsWord name pointer word.now change given left
 
 -- the change removes what is at a pointer; or memory ran out
 abbrev pub IsDelete : List ℕ → List ℕ → Result Change ToolFault → Type 0

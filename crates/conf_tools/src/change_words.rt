@@ -5,7 +5,7 @@ ghost use Rattle.yaml_grammar.specs.Trees.{text as one_text};
 ghost use Rattle.yaml_data.specs.Seen.{tree_of};
 ghost use Rattle.conf_tools.specs.Exports.{disk_handed_back};
 ghost use Rattle.conf_tools.specs.StoreWords.{ChangesInFolder, Inits, MakesChange, MakesInFolder, status_at_end};
-ghost use Rattle.conf_tools.specs.TextWords.{IsDelete, IsImport, IsSet, OfText, RefusesText, SetsAt, SetsBytes, SetsInput, SetsText};
+ghost use Rattle.conf_tools.specs.TextWords.{IsDelete, IsImport, IsSet, OfText, RefusesText, SetsAt, SetsBytes, SetsInput, SetsText, SetsWord};
 
 use crate::changes::{Change, change_store, make_store};
 use crate::input::read_up_to;
@@ -103,11 +103,25 @@ pub(crate) fn set_of<R: Read>(
 {
     match value {
         Value::Text(text) => set_text(alloc, name, pointer, text),
-        Value::Yaml(word) if word != STANDARD_INPUT => {
-            set_yaml(alloc, name, pointer, word.as_bytes())
-        }
-        Value::Yaml(_) => set_read(alloc, name, pointer, input),
+        Value::Yaml(word) => set_word(alloc, name, pointer, word, input),
     }
+}
+
+/// The change that sets what a word gives as a YAML text, or `input` if the word is `-`.
+fn set_word<R: Read>(
+    alloc: Global,
+    name: &str,
+    pointer: &str,
+    word: &str,
+    input: &mut R,
+) -> Result<Change, ToolFault>
+    ensures { SetsWord name.now pointer.now word.now result
+        (R.remaining input.old) (R.remaining input.new) }
+{
+    if word == STANDARD_INPUT {
+        return set_read(alloc, name, pointer, input);
+    }
+    set_yaml(alloc, name, pointer, word.as_bytes())
 }
 
 /// The change that sets a text at a place of a configuration.
