@@ -1,6 +1,6 @@
 -- What calls of the program keep, one call after the other.
 use Rattle.std.proofs.Common.{◌≡◌, ◌≤◌, ℕ, Bool, true, false, if◌then◌else◌, List, [], ◌∷◌, ◌++◌, length, take, Option, None, Some, Result, Ok, Err, refl, sym, ap, ◌∙◌, subst, ⊎_elim, arith}
-use Rattle.conf_disk.specs.Folder.{Folder, bytes_under}
+use Rattle.conf_disk.specs.Folder.{bytes_under}
 use Rattle.conf_disk.specs.Image.{Image, IsImage, image_now}
 use Rattle.conf_disk.specs.Laws.{ReadingIsAnImage}
 use Rattle.conf_disk.specs.Models.{DiskModel}

@@ -1,17 +1,16 @@
 -- What a single change leaves of a store.
-use Rattle.std.proofs.Common.{◌≡◌, ◌≢◌, ◌⊎◌, ◌≤◌, ℕ, Bool, true, false, List, [], ◌∷◌, inl, inr, refl, sym, ◌∙◌, ap, subst, arith, length, take, ⊎_elim}
-use Rattle.std.specs.Prelude.{Option, None, Some, Ok, Err}
+use Rattle.std.proofs.Common.{◌≡◌, ◌≢◌, ◌⊎◌, ◌≤◌, ℕ, Bool, true, false, List, [], ◌∷◌, inl, inr, refl, sym, ◌∙◌, ap, subst, arith, length, ⊎_elim}
+use Rattle.std.specs.Prelude.{Option, Ok}
 use Rattle.std.proofs.Math.Seq.{take-length}
 use Rattle.std.proofs.lemmas.Bool.{false≢true}
-use Rattle.yaml_grammar.specs.Trees.{Tree}
-use Rattle.conf_disk.specs.Folder.{Folder, bytes_under}
+use Rattle.conf_disk.specs.Folder.{Folder}
 use Rattle.conf_disk.specs.Image.{Image, IsImage}
 use Rattle.conf_disk.specs.Models.{DiskModel}
 use Rattle.conf_disk.specs.Moments.{LeavesOnly, TimeGoesOn}
 use Rattle.conf_disk.proofs.Moments.{LeavesOnly-joined, LeavesOnly-now, LeavesOnly-weaker}
 use Rattle.conf_state.specs.Commands.{Command as GivenCommand, command_of, import_as, single, text_of}
 use Rattle.conf_state.specs.States.{Contents}
-use Rattle.conf_state.specs.Steps.{after, step}
+use Rattle.conf_state.specs.Steps.{after}
 use Rattle.conf_state.specs.declared.fault.StoreFault.{StoreFault}
 use Rattle.conf_state.specs.declared.fault.StoreFault.TheVariants.{EmptyBatch, BadName, NoConfig, Path, Read, TooDeep, ConfigLarge, StoreFull, RecordLong, JournalLong, CountFull, Reopen, Device, OutOfMemory}
 use Rattle.conf_store.specs.Calls.{room_for, journal_length, outcome}
@@ -23,7 +22,6 @@ use Rattle.conf_store.proofs.FileLemmas.{read-stays}
 use Rattle.conf_store.proofs.MeaningLemmas.{after-done}
 use Rattle.conf_store.proofs.OpenLemmas.{image-meant}
 use Rattle.conf_store.proofs.StepLemmas.{StepsNeedRoom, accepted-anyway}
-use Rattle.conf_session.specs.Runs.{AfterAtLeast}
 use Rattle.conf_tools.specs.Changes.{KeepsChange, Makes, MeansOneOf, Performs, RefusesChange}
 use Rattle.conf_tools.specs.Stores.{OpensOn}
 use Rattle.conf_tools.specs.declared.changes.Change.{Change}

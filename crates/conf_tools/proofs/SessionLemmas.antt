@@ -2,8 +2,7 @@
 use Rattle.std.proofs.Common.{◌≡◌, ◌≢◌, ◌⊎◌, ◌↔◌, ℕ, Bool, true, false, List, [], ◌∷◌, ◌++◌, ap, inl, inr, length, refl, sym, ◌∙◌, subst}
 use Rattle.std.proofs.lemmas.Bool.{false≢true}
 use Rattle.std.specs.Prelude.{Option, None, Result, Err, IsErrOf}
-use Rattle.conf_disk.specs.Folder.{Folder, bytes_under}
-use Rattle.conf_disk.specs.Image.{Image}
+use Rattle.conf_disk.specs.Folder.{bytes_under}
 use Rattle.conf_disk.specs.Models.{DiskModel}
 use Rattle.conf_disk.specs.declared.disk.Name.TheVariants.{Store}
 use Rattle.conf_store.specs.Durable.{staged_text}

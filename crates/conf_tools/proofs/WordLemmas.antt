@@ -1,5 +1,5 @@
 -- Files that are tried or replaced one after the other.
-use Rattle.std.proofs.Common.{◌≡◌, ℕ, true, false, List, [], ◌∷◌, refl, sym, subst}
+use Rattle.std.proofs.Common.{◌≡◌, ℕ, true, false, List, ◌∷◌, refl, sym, subst}
 use Rattle.std.specs.Prelude.{Option, Result}
 use Rattle.conf_tools.specs.TextWords.{IfSo, ReportsOn, ReportsOnAll, RestylesAll, RestylesFile, status_after, status_of_report, stops_all}
 use Rattle.conf_tools.specs.Statuses.{worst}

@@ -1,5 +1,5 @@
 -- What the program does for an invocation, with the world around it, its input and its output, and how it ends.
-use Rattle.std.specs.Prelude.{◌≡◌, ℕ, List, [], ◌∷◌, map, Option, Some, None, Result, Ok, Err, codes, ◌⊎◌}
+use Rattle.std.specs.Prelude.{◌≡◌, ℕ, List, [], ◌∷◌, map, Option, Some, None, Result, Ok, Err, codes}
 use Rattle.conf_disk.specs.Models.{DiskModel}
 use Rattle.conf_history.specs.declared.log.LogForm.{LogForm as HistoryForm}
 use Rattle.conf_history.specs.declared.log.LogForm.TheVariants as history
@@ -15,7 +15,6 @@ use Rattle.conf_words.specs.declared.invocation.LogForm.TheVariants.{Lines, Reco
 use Rattle.conf_words.specs.declared.invocation.Value.{Value}
 use Rattle.conf_words.specs.declared.invocation.Formatting.{Formatting}
 use Rattle.conf_tools.specs.StoreWords.{ExportsFromFolder, Inits, MakesChange, Reads, RunsOnFolder, Salvages, SaysLog, SaysNames, SaysSurvey, SaysValue}
-use Rattle.conf_tools.specs.Statuses.{status_of}
 use Rattle.conf_tools.specs.TextWords.{FormatsFile, IsDelete, IsImport, IsSet, OfText, ReportsOnAll, RestylesAll, SaysChecked, SaysStyled, status_after, status_after_check}
 use Rattle.conf_tools.specs.Worlds.{Around, LeavesStreams, WorldModel}
 use Rattle.conf_tools.specs.declared.changes.Change.{Change}

@@ -1,6 +1,5 @@
 -- Calls of the program on the store of one folder, one after the other, and what the folder keeps of their commands.
 use Rattle.std.specs.Prelude.{◌≡◌, ◌≤◌, ℕ, List, [], ◌∷◌, length, take, Option, Result, Ok, Err}
-use Rattle.conf_disk.specs.Folder.{Folder}
 use Rattle.conf_disk.specs.Image.{Image, IsImage}
 use Rattle.conf_disk.specs.Models.{DiskModel}
 use Rattle.conf_disk.specs.Moments.{LeavesOnly}

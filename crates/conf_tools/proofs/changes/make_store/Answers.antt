@@ -1,7 +1,5 @@
 -- A crash while the file is looked for leaves no more than one before, and then what one of the opening leaves.
 use Rattle.std.proofs.Common.{sym, subst}
-use Rattle.conf_disk.specs.Folder.{Folder}
-use Rattle.conf_disk.specs.Image.{Image}
 use Rattle.conf_disk.specs.Moments.{LeavesOnly}
 use Rattle.conf_store.specs.Opens.{MeantAtEntry}
 use Rattle.conf_tools.proofs.ChangeLemmas.{looked-leaves}
