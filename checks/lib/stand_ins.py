@@ -1,5 +1,5 @@
-"""Programs in the place of confstore, between a session and who asks it. The paths of the Python and of the program that
-they run are filled in."""
+"""Programs in the place of confstore, between a session and who asks it. The paths of the Python and of the program
+that they run are filled in."""
 
 from __future__ import annotations
 
