@@ -19,7 +19,7 @@ def python_path():
 class StoreTest(unittest.TestCase):
     """A test with a folder of its own, which is removed after it."""
 
-    def setUp(self):
+    def setUp(self) -> None:
         holder = tempfile.TemporaryDirectory()
         self.addCleanup(holder.cleanup)
         self.top = holder.name

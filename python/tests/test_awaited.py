@@ -97,7 +97,7 @@ class Awaited(StoreTest):
         self.assertEqual({type(end) for end in ends}, {confstore.SessionEnded})
         self.assertEqual({end.status for end in ends}, {-9})
 
-    def test_opening(self):
+    def test_opening(self) -> None:
         with self.assertRaises(confstore.Closed):
             asyncio.run(AsyncStore(self.folder).names())
         with Store(self.folder), self.assertRaises(confstore.Locked):
@@ -105,7 +105,7 @@ class Awaited(StoreTest):
         with self.assertRaises(confstore.MissingFolder):
             asyncio.run(AsyncStore(os.path.join(self.top, "none")).open())
 
-    def test_an_answer_that_is_none(self):
+    def test_an_answer_that_is_none(self) -> None:
         async def task(store):
             with self.assertRaises(confstore.BadAnswer):
                 await store.set("a", "", "x")

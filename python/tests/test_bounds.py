@@ -22,7 +22,7 @@ PATIENCE = 20
 
 
 class Answers(StoreTest):
-    def test_the_longest_answer(self):
+    def test_the_longest_answer(self) -> None:
         for more in (0, 1):
             body = f"heard()\nsys.stdout.buffer.write(b'x' * {LONGEST_ANSWER - 5 + more} + b'\\n...\\n')\n"
             body += "sys.stdout.flush()\nheard()\n"
@@ -34,7 +34,7 @@ class Answers(StoreTest):
                 with self.assertRaises(confstore.AnswerLong):
                     session.ask(b"...\n", 60)
 
-    def test_answers_without_an_end(self):
+    def test_answers_without_an_end(self) -> None:
         """Each is ended in a process that has little memory."""
         for stream, text, kind in (
             (1, "x" * 65_536, "AnswerLong"),
@@ -68,7 +68,7 @@ class Answers(StoreTest):
         done = subprocess.run(words, capture_output=True, env=environment, check=False, text=True, timeout=300)
         return done.returncode, done.stdout, done.stderr
 
-    def test_an_answer_to_no_command(self):
+    def test_an_answer_to_no_command(self) -> None:
         """The next command must not get it."""
         store = self.store(program=self.program("say(b'---\\nok: \"7\"\\n...\\n')\nheard()\ntime.sleep(100)\n"))
         end = time.monotonic() + PATIENCE
@@ -77,7 +77,7 @@ class Answers(StoreTest):
         with self.assertRaises(confstore.BadAnswer):
             store.checkpoint()
 
-    def test_a_reader_has_bounds(self):
+    def test_a_reader_has_bounds(self) -> None:
         script = self.program("")
         for body, kind in (("exec yes", confstore.AnswerLong), ("exec yes >&2", confstore.TimedOut)):
             with open(script, "w", encoding="ascii") as target:
@@ -91,7 +91,7 @@ class Answers(StoreTest):
 
 
 class Sent(StoreTest):
-    def test_what_was_not_sent_is_never_performed(self):
+    def test_what_was_not_sent_is_never_performed(self) -> None:
         """A program that does not read for a while: what timed out unsent is not among what it reads then."""
         program, heard = self.program_that_waits()
         session, sent = self.store(program=program)._session, {}
@@ -124,28 +124,28 @@ class Made(StoreTest):
             os.fsync = real
         return synced
 
-    def test_parents_are_synced(self):
+    def test_parents_are_synced(self) -> None:
         top = os.path.realpath(self.top)
         levels = [top, f"{top}/new", f"{top}/new/and", f"{top}/new/and/deep"]
         synced = self.made(levels[-1])
         self.assertEqual([level for level in levels if level not in synced], [])
         self.assertEqual(self.made(levels[-1]), [])
 
-    def test_one_that_was_left_without_a_store(self):
+    def test_one_that_was_left_without_a_store(self) -> None:
         """It may be left by a call that was ended before it synced."""
         top = os.path.realpath(self.top)
         os.makedirs(f"{top}/left/here")
         synced = self.made(f"{top}/left/here")
         self.assertEqual([level for level in (top, f"{top}/left", f"{top}/left/here") if level not in synced], [])
 
-    def test_a_sync_that_fails(self):
+    def test_a_sync_that_fails(self) -> None:
         top = os.path.realpath(self.top)
         with self.assertRaises(confstore.Device):
             self.made(f"{top}/new/store", fail=top)
         with self.assertRaises(confstore.Device):
             self.made(f"{top}/other/store", fail=f"{top}/other")
 
-    def test_what_can_not_be_made(self):
+    def test_what_can_not_be_made(self) -> None:
         with open(os.path.join(self.top, "file"), "w", encoding="ascii"):
             pass
         for folder, kind in (
@@ -159,7 +159,7 @@ class Made(StoreTest):
 
 
 class Paths(StoreTest):
-    def test_folders(self):
+    def test_folders(self) -> None:
         os.symlink("loop", os.path.join(self.top, "loop"))
         for folder, number in (
             ("/" + "x" * 300, errno.ENAMETOOLONG),
@@ -172,7 +172,7 @@ class Paths(StoreTest):
                     call()
                 self.assertEqual(caught.exception.errno, number)
 
-    def test_programs(self):
+    def test_programs(self) -> None:
         loop, file = os.path.join(self.top, "loop"), os.path.join(self.top, "file")
         os.symlink("loop", loop)
         with open(file, "w", encoding="ascii") as target:
@@ -192,7 +192,7 @@ class Paths(StoreTest):
                     call(self.folder, program=program)
                 self.assertEqual(caught.exception.errno, number, program[:20])
 
-    def test_a_long_pointer(self):
+    def test_a_long_pointer(self) -> None:
         self.store()["a"] = "x"
         pointer = "/" + "a" * 200_000
         with self.assertRaises(confstore.TooLongToSend) as caught:
@@ -201,7 +201,7 @@ class Paths(StoreTest):
         with self.assertRaises(confstore.NoSuchPlace):
             Reader(self.folder).get("a", pointer[:100_000])
 
-    def test_a_long_environment(self):
+    def test_a_long_environment(self) -> None:
         os.environ["TOO_LONG"] = "x" * 200_000
         self.addCleanup(os.environ.pop, "TOO_LONG")
         for call in (lambda: Store(self.folder), lambda: Reader(self.folder).names()):
@@ -209,7 +209,7 @@ class Paths(StoreTest):
                 call()
             self.assertEqual(caught.exception.errno, errno.E2BIG)
 
-    def test_few_files(self):
+    def test_few_files(self) -> None:
         """With any number of files it is opened, or it is told, and nothing is left."""
         limits = resource.getrlimit(resource.RLIMIT_NOFILE)
         self.addCleanup(resource.setrlimit, resource.RLIMIT_NOFILE, limits)

@@ -40,7 +40,7 @@ class Words(unittest.TestCase):
         self.assertIsInstance(asked, Asked)
         return asked.word.name, asked.arguments, asked.options
 
-    def test_arguments_and_options(self):
+    def test_arguments_and_options(self) -> None:
         set_port = {"FOLDER": "s", "NAME": "web", "POINTER": "/port"}
         for line, wanted in (
             ("set s web /port 80", ("set", {**set_port, "VALUE": "80"}, {})),
@@ -58,7 +58,7 @@ class Words(unittest.TestCase):
             with self.subTest(line):
                 self.assertEqual(self.asked(line), wanted)
 
-    def test_wrong_words(self):
+    def test_wrong_words(self) -> None:
         for line in (
             "", "nothing s", "get", "get s", "get s web /a /b", "get s web --foo", "get s web -x", "get s -5",
             "set s web /port -x", "get s web --raw=x", "get s web --raw --raw", "get s web --at", "get s web --at x",
@@ -73,7 +73,7 @@ class Words(unittest.TestCase):
                 self.assertRegex(caught.exception.line, r"\Aconfstorectl: WrongWords: .*confstorectl")
                 self.assertNotIn("\n", caught.exception.line)
 
-    def test_help_and_version(self):
+    def test_help_and_version(self) -> None:
         for line, wanted in (
             ("--help", Help("")), ("-h", Help("")), ("help", Help("")), ("help get", Help("get")),
             ("get --help", Help("get")), ("get s web -h", Help("get")), ("--version", Version()), ("-V", Version()),
@@ -81,19 +81,19 @@ class Words(unittest.TestCase):
             with self.subTest(line):
                 self.assertEqual(asked_of(shlex.split(line)), wanted)
 
-    def test_words_that_are_not_utf8(self):
+    def test_words_that_are_not_utf8(self) -> None:
         with self.assertRaises(Fault) as caught:
             asked_of(["get", "s", b"\xff".decode("utf-8", "surrogateescape")])
         self.assertEqual((caught.exception.status, caught.exception.name), (2, "WrongWords"))
 
-    def test_the_examples_are_right(self):
+    def test_the_examples_are_right(self) -> None:
         for word in WORDS.values():
             for example in word.examples:
                 with self.subTest(example):
                     (_, _, line) = example.rpartition("| ")
                     self.assertEqual(self.asked(line.partition(" ")[2])[0], word.name)
 
-    def test_help_has_all(self):
+    def test_help_has_all(self) -> None:
         for word in WORDS.values():
             self.assertRegex(help_of_all(), rf"(?m)^  {word.name} +{re.escape(word.about)}$")
             for name in [*(option.name for option in (*word.options, *COMMON)), *(one.name for one in word.arguments)]:
@@ -103,7 +103,7 @@ class Words(unittest.TestCase):
 
 
 class Faults(unittest.TestCase):
-    def test_the_statuses_of_the_page(self):
+    def test_the_statuses_of_the_page(self) -> None:
         """docs/FAULTS.md has those of each name of the program."""
         with open(os.path.join(TOP, "docs", "FAULTS.md"), encoding="utf-8") as page:
             text = page.read()
@@ -120,7 +120,7 @@ class Faults(unittest.TestCase):
         for name, status in statuses:
             self.assertEqual((name, Fault(name).status), (name, status))
 
-    def test_what_a_line_shows(self):
+    def test_what_a_line_shows(self) -> None:
         self.assertEqual(shown("a\x1b[1m\n\\\u202e\x85ä"), "a\\u{1b}[1m\\n\\\\\\u{202e}\\u{85}ä")
         self.assertEqual(Fault("Syntax 3:7 Flow").line, "confstorectl: Syntax 3:7 Flow")
 
@@ -133,7 +133,7 @@ class Lines(unittest.TestCase):
         {"batch": [{"import": "a", "text": "--- \n...\n"}, {"delete": "a", "path": ""}]},
     )
 
-    def test_a_command_is_one_line_of_json_and_yaml(self):
+    def test_a_command_is_one_line_of_json_and_yaml(self) -> None:
         for command in self.COMMANDS:
             line = line_of(command)
             self.assertEqual(line.count(b"\n"), 1)
@@ -165,14 +165,14 @@ class Sessions(StoreTest):
         with Store(self.folder) as store:
             return SessionReply(store._ask(command))
 
-    def test_the_text_of_a_value(self):
+    def test_the_text_of_a_value(self) -> None:
         for tree in self.TREES:
             with Store(self.folder) as store:
                 store["web"] = tree
             reply = self.answer({"get": "web", "path": ""})
             self.assertEqual((reply.key, reply.tree(), reply.styled().decode()), ("value", tree, to_text(tree)))
 
-    def test_a_session_reads_a_line_as_json_does(self):
+    def test_a_session_reads_a_line_as_json_does(self) -> None:
         """Random trees, of signs that a reader of YAML or of JSON may take for something else."""
         seed = random.randrange(10**9)
         chance = random.Random(seed)
@@ -189,7 +189,7 @@ class Sessions(StoreTest):
         found = [SessionReply(answer).tree() for answer in rest[1::2]]
         self.assertEqual(found, trees, f"seed {seed}")
 
-    def test_what_is_no_answer(self):
+    def test_what_is_no_answer(self) -> None:
         for piece in (b"", b"x\n...\n", b"---\nvalue: x\n", b"---\n- a\n...\n", b"---\nVALUE: x\n...\n"):
             with self.assertRaises(Fault) as caught:
                 SessionReply(piece)
@@ -208,7 +208,7 @@ def command_in(stream):
 class SocketTest(StoreTest):
     """A test with a socket where somebody answers each client in a way of its own."""
 
-    def setUp(self):
+    def setUp(self) -> None:
         super().setUp()
         self.path = os.path.join(self.top, "socket")
         self.heard = []
@@ -220,7 +220,7 @@ class SocketTest(StoreTest):
         listener.bind(self.path)
         listener.listen()
 
-        def serve():
+        def serve() -> None:
             with contextlib.suppress(OSError), listener:
                 connection, _ = listener.accept()
                 with connection, connection.makefile("rb") as stream:
@@ -249,42 +249,42 @@ class SocketTest(StoreTest):
 
 
 class Sockets(SocketTest):
-    def test_a_session_answers(self):
+    def test_a_session_answers(self) -> None:
         self.listen(b'---\nvalue: "81"\n...\n')
         self.assertEqual(self.perform("get", self.folder, "web", "/port"), (0, b'"81"\n', ""))
         self.assertEqual(json.loads(self.heard[0]), {"get": "web", "path": "/port"})
 
-    def test_a_node_answers(self):
+    def test_a_node_answers(self) -> None:
         self.listen(b'{"value": {"a": ["b", "\xc3\xa4"]}}\n{"refused": "BadCommand"}\n')
         self.assertEqual(self.perform("get", self.folder, "web"), (0, 'a:\n  - b\n  - "ä"\n'.encode(), ""))
 
-    def test_a_node_refuses(self):
+    def test_a_node_refuses(self) -> None:
         self.listen(b'{"refused": "IdTaken"}\n')
         self.assertEqual(self.fault("set", self.folder, "web", "/a", "b"), (1, "IdTaken"))
 
-    def test_a_node_fails(self):
+    def test_a_node_fails(self) -> None:
         self.listen(b'{"failed": "OtherHistory"}\n')
         self.assertEqual(self.fault("set", self.folder, "web", "/a", "b"), (3, "Failed OtherHistory"))
 
-    def test_a_node_has_no_checkpoint(self):
+    def test_a_node_has_no_checkpoint(self) -> None:
         self.listen(b'{"refused": "BadCommand"}\n')
         self.assertEqual(self.fault("checkpoint", self.folder), (1, "Unsupported"))
 
-    def test_what_no_line_can_hold_is_sent_as_a_document(self):
+    def test_what_no_line_can_hold_is_sent_as_a_document(self) -> None:
         self.listen(b"---\nrefused: BadCommand\n...\n", b'---\nok: "2"\n...\n')
         command = {"set": "web", "path": "", "value": {"k" * 2_000: "v"}}
         with Connection(Place(self.path, True)) as connection:
             self.assertEqual(connection.ask(command).key, "ok")
         self.assertEqual(self.heard[1].decode(), f"---\n{to_text(command)}")
 
-    def test_a_server_that_goes(self):
+    def test_a_server_that_goes(self) -> None:
         for answer in (b"", b"---\nok: "):
             with self.subTest(answer):
                 self.listen(answer)
                 self.assertEqual(self.fault("set", self.folder, "web", "/a", "b"), (3, "Disconnected"))
                 os.remove(self.path)
 
-    def test_a_server_that_goes_and_comes_again(self):
+    def test_a_server_that_goes_and_comes_again(self) -> None:
         """A question is asked again, and a change isn't."""
         self.listen(b"")
         timer = threading.Timer(0.5, lambda: (os.remove(self.path), self.listen(b"---\nnames: []\n...\n")))
@@ -295,20 +295,20 @@ class Sockets(SocketTest):
         self.listen(b"")
         self.assertEqual(self.fault("--wait", str(PATIENCE), "delete", self.folder, "web"), (3, "Disconnected"))
 
-    def test_a_server_that_answers_something_else(self):
+    def test_a_server_that_answers_something_else(self) -> None:
         for answer in (b"HTTP/1.1 400\n...\n", b"{}\n", b"{]\n", b'{"a": 1, "b": 2}\n'):
             with self.subTest(answer):
                 self.listen(answer)
                 self.assertEqual(self.fault("names", self.folder), (3, "BadAnswer"))
                 os.remove(self.path)
 
-    def test_an_answer_before_all_was_sent(self):
+    def test_an_answer_before_all_was_sent(self) -> None:
         """As of a node to a line that is too long for it."""
         with socket.socket(socket.AF_UNIX) as listener:
             listener.bind(self.path)
             listener.listen()
 
-            def refuse():
+            def refuse() -> None:
                 with listener.accept()[0] as connection:
                     connection.sendall(b'{"refused": "TooLong"}\n')
 
@@ -318,21 +318,21 @@ class Sockets(SocketTest):
             thread.join(PATIENCE)
         self.assertEqual(found, (1, "TooLong"))
 
-    def test_an_answer_that_is_too_long(self):
+    def test_an_answer_that_is_too_long(self) -> None:
         for start in (b"---\nvalue: ", b'{"value": "'):
             self.listen(start + b"x" * 3_000_000)
             with mock.patch.object(ctl_sockets, "LONGEST_ANSWER", 2_000_000):
                 self.assertEqual(self.fault("get", self.folder, "web"), (3, "BadAnswer"))
             os.remove(self.path)
 
-    def test_a_node_that_answers_something_else(self):
+    def test_a_node_that_answers_something_else(self) -> None:
         for answer in (b'{"value": 5}\n', b'{"value": {"a": null}}\n', b'{"value": "\\ud800"}\n', b"[" * 9_999 + b"\n"):
             with self.subTest(answer[:30]):
                 self.listen(answer if answer[:1] == b"{" else b'{"value": ' + answer)
                 self.assertEqual(self.fault("get", self.folder, "web"), (3, "BadAnswer"))
                 os.remove(self.path)
 
-    def test_what_a_server_says_is_escaped(self):
+    def test_what_a_server_says_is_escaped(self) -> None:
         hostile = b'"\\u001b[1m\\n"'
         for answer in (b'{"refused": %s}\n', b'{"failed": %s}\n', b"---\nrefused: %s\n...\n"):
             with self.subTest(answer):
@@ -340,25 +340,25 @@ class Sockets(SocketTest):
                 self.assertTrue(self.fault("names", self.folder)[1].endswith("\\u{1b}[1m\\n"))
                 os.remove(self.path)
 
-    def test_a_server_that_says_nothing(self):
+    def test_a_server_that_says_nothing(self) -> None:
         self.listen()
         with mock.patch.object(ctl_sockets, "PATIENCE", 0.3):
             self.assertEqual(self.fault("names", self.folder), (3, "TimedOut"))
 
-    def test_no_server(self):
+    def test_no_server(self) -> None:
         self.assertEqual(self.fault("names", self.folder), (3, "Disconnected"))
         began = time.monotonic()
         self.assertEqual(self.fault("--wait", "0.4", "names", self.folder), (3, "Disconnected"))
         self.assertGreaterEqual(time.monotonic() - began, 0.4)
 
-    def test_a_command_that_is_too_long(self):
+    def test_a_command_that_is_too_long(self) -> None:
         self.listen(b"")
         with mock.patch.object(ctl_sockets, "LONGEST_COMMAND", 100):
             self.assertEqual(self.fault("set", self.folder, "web", "/a", "b" * 100), (1, "TooLong"))
 
 
 class Places(SocketTest):
-    def test_which_socket(self):
+    def test_which_socket(self) -> None:
         place_in_folder = os.path.join(self.folder, "confstore.sock")
         with mock.patch.dict(os.environ, {"CONFSTORE_SOCKET": ""}):
             self.assertIsNone(place_of("", self.folder))
@@ -370,7 +370,7 @@ class Places(SocketTest):
                 self.assertEqual(place_of("", self.folder), Place("/y", True))
                 self.assertEqual(place_of("/x", self.folder), Place("/x", True))
 
-    def test_that_of_the_unit(self):
+    def test_that_of_the_unit(self) -> None:
         """packaging/confstore@.service has stores and sockets there."""
         stores, sockets = os.path.join(self.top, "lib"), os.path.join(self.top, "run")
         os.makedirs(os.path.join(sockets, "app"))
@@ -394,7 +394,7 @@ class Programs(StoreTest):
         self.addCleanup(process.kill)
         return process
 
-    def test_it_is_interrupted_without_a_trace(self):
+    def test_it_is_interrupted_without_a_trace(self) -> None:
         self.store()["web"] = "x"
         process = self.process("watch", self.folder, "--from", "1", stdout=subprocess.PIPE, stderr=subprocess.PIPE)
         self.assertEqual(process.stdout.readline(), b"1 import web\n")
@@ -402,19 +402,19 @@ class Programs(StoreTest):
         self.assertEqual(process.communicate(timeout=PATIENCE), (b"", b""))
         self.assertEqual(process.returncode, -signal.SIGINT)
 
-    def test_what_can_not_be_watched(self):
+    def test_what_can_not_be_watched(self) -> None:
         for words, name in ((["No"], b"BadName"), (["web", "port"], b"BadPath"), (["web", "/~"], b"BadPath")):
             process = self.process("watch", self.folder, *words, stderr=subprocess.PIPE)
             self.assertRegex(process.communicate(timeout=PATIENCE)[1], rb"\Aconfstorectl: %s: .*\n\Z" % name)
             self.assertEqual(process.returncode, 1)
 
-    def test_no_program(self):
+    def test_no_program(self) -> None:
         with mock.patch.dict(os.environ, {"CONFSTORE": os.path.join(self.top, "none")}):
             process = self.process("names", self.folder, stderr=subprocess.PIPE)
         self.assertRegex(process.communicate(timeout=PATIENCE)[1], rb"\Aconfstorectl: MissingProgram: .*\n\Z")
         self.assertEqual(process.returncode, 3)
 
-    def test_a_text_is_read_up_to_its_limit(self):
+    def test_a_text_is_read_up_to_its_limit(self) -> None:
         path = os.path.join(self.top, "text")
         with open(path, "wb") as file:
             file.truncate(5_000_000)

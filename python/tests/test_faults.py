@@ -23,7 +23,7 @@ def write(path, content):
 
 
 class Opening(StoreTest):
-    def test_folders(self):
+    def test_folders(self) -> None:
         write(os.path.join(self.top, "file"), b"")
         for name in ("none", "file"):
             with self.assertRaises(confstore.MissingFolder):
@@ -31,7 +31,7 @@ class Opening(StoreTest):
         with self.assertRaises(confstore.MissingFolder):
             Reader(os.path.join(self.top, "none")).names()
 
-    def test_programs(self):
+    def test_programs(self) -> None:
         write(os.path.join(self.top, "plain"), b"not a program")
         for program in ("none", "plain"):
             with self.assertRaises(confstore.MissingProgram):
@@ -40,13 +40,13 @@ class Opening(StoreTest):
         with self.assertRaises(confstore.MissingProgram):
             Store(self.folder, program=os.path.join(self.top, "plain"))
 
-    def test_locked(self):
+    def test_locked(self) -> None:
         self.store()["a"] = "x"
         with self.assertRaises(confstore.Locked) as caught:
             Store(self.folder)
         self.assertEqual(caught.exception.status, 3)
 
-    def test_damaged(self):
+    def test_damaged(self) -> None:
         base = b'---\nstore: confstore-1\nat: "0"\nconfigs: {}\n...\n'
         for kind, content in (
             (confstore.NotAStore, b"x\n...\n"),
@@ -57,12 +57,12 @@ class Opening(StoreTest):
                 Store(self.folder)
             self.assertEqual(caught.exception.status, 1)
 
-    def test_device(self):
+    def test_device(self) -> None:
         os.mkdir(os.path.join(self.folder, "store.yaml"))
         with self.assertRaises(confstore.Device):
             Store(self.folder)
 
-    def test_a_program_that_says_nothing(self):
+    def test_a_program_that_says_nothing(self) -> None:
         program = self.program("")
         write(program, b"#!/bin/sh\nexec sleep 100\n")
         start = time.monotonic()
@@ -83,13 +83,13 @@ class ReadingAlone(StoreTest):
         except SessionEnded:
             pass
 
-    def test_no_store(self):
+    def test_no_store(self) -> None:
         for call in self.calls():
             with self.assertRaises(confstore.NotAStore) as caught:
                 call()
             self.assertEqual((caught.exception.status, os.listdir(self.folder)), (1, []))
 
-    def test_damaged(self):
+    def test_damaged(self) -> None:
         base = b'---\nstore: confstore-2\nat: "0"\nconfigs:\n  a: x\n...\n'
         for kind, content in (
             (confstore.NotAStore, b"x\n...\n"),
@@ -104,20 +104,20 @@ class ReadingAlone(StoreTest):
                 self.assertEqual(source.read(), content)
             self.assertEqual(os.listdir(self.folder), ["store.yaml"])
 
-    def test_a_torn_end(self):
+    def test_a_torn_end(self) -> None:
         """What a crash has cut is no damage: it is the state before it."""
         base = b'---\nstore: confstore-2\nat: "0"\nconfigs:\n  a: x\n...\n'
         write(os.path.join(self.folder, "store.yaml"), base + b'---\nat: "1"\nset: a\npath: ""\nval')
         names, log, get, at = self.calls()
         self.assertEqual((names(), log(), get(), at().names()), (["a"], [], "x", ["a"]))
 
-    def test_beside_a_session(self):
+    def test_beside_a_session(self) -> None:
         """Each read is the state after some prefix of the commands, and never an older one than the read before."""
         store, reader, stop, wrong = self.store(), Reader(self.folder), threading.Event(), []
         store["a"] = {"n": "0"}
         self.supported(reader.names)
 
-        def read():
+        def read() -> None:
             last = 0
             while not stop.is_set():
                 found = int(reader.get("a", "/n"))
@@ -138,7 +138,7 @@ class ReadingAlone(StoreTest):
 
 
 class Ending(StoreTest):
-    def test_killed(self):
+    def test_killed(self) -> None:
         store = self.store()
         store["a"] = "x"
         os.kill(store._session._other.process.pid, signal.SIGKILL)
@@ -149,7 +149,7 @@ class Ending(StoreTest):
         store.reopen()
         self.assertEqual((store["a"], store.checkpoint()), ("x", 1))
 
-    def test_killed_among_threads(self):
+    def test_killed_among_threads(self) -> None:
         store, answered, ends = self.store(), {}, []
 
         def append(number):
@@ -176,7 +176,7 @@ class Ending(StoreTest):
             self.assertEqual(numbers, [f"n{turn}" for turn in range(len(numbers))])
             self.assertIn(len(numbers), (last + 1, last + 2))
 
-    def test_the_disk_is_full(self):
+    def test_the_disk_is_full(self) -> None:
         """A limit of file sizes stands for a full device."""
         script = self.program("")
         write(script, f'#!/bin/sh\nulimit -f 1; exec "{os.environ["CONFSTORE"]}" "$@"\n'.encode())
@@ -208,21 +208,21 @@ class Ending(StoreTest):
             thread.join(60)
         self.assertEqual(sorted(store["a"]["n"]), [str(number) for number in range(8)])
 
-    def test_closed(self):
+    def test_closed(self) -> None:
         store = self.store()
         store.close()
         store.close()
         with self.assertRaises(confstore.Closed):
             store.names()
 
-    def test_dropped(self):
+    def test_dropped(self) -> None:
         store = Store(self.folder)
         process = store._session._other.process
         del store
         gc.collect()
         self.assertEqual(process.wait(10), 0)
 
-    def test_forked(self):
+    def test_forked(self) -> None:
         store = self.store()
         child = os.fork()
         if child == 0:
@@ -235,7 +235,7 @@ class Ending(StoreTest):
         self.assertEqual(os.waitstatus_to_exitcode(os.waitpid(child, 0)[1]), 7)
         self.assertEqual(store.names(), [])
 
-    def test_the_length_that_a_session_takes(self):
+    def test_the_length_that_a_session_takes(self) -> None:
         """The limit that is looked at here is the program's: one byte more ends a session."""
         session = self.store()._session
         fitting = b"#" * (LONGEST_COMMAND - 5) + b"\n...\n"
@@ -247,7 +247,7 @@ class Ending(StoreTest):
 
 
 class Limits(unittest.TestCase):
-    def test_one_length_of_a_command(self):
+    def test_one_length_of_a_command(self) -> None:
         """The clients, the server and docs/STORE.md say the same."""
         rows = (
             ("docs/STORE.md", r"(?m)^\| a piece of a session.* \| ([0-9,]+) bytes \| `TooLong` \|$"),
@@ -261,7 +261,7 @@ class Limits(unittest.TestCase):
 
 
 class Names(unittest.TestCase):
-    def test_each_refusal_is_an_exception(self):
+    def test_each_refusal_is_an_exception(self) -> None:
         """The names in the tables of docs/FAULTS.md on texts and commands, without the reasons of `Syntax`."""
         with open(os.path.join(TOP, "docs", "FAULTS.md"), encoding="utf-8") as source:
             parts = re.split(r"(?m)^## |^\| reason ", source.read())
@@ -275,32 +275,32 @@ class Names(unittest.TestCase):
 
 
 class WrongAnswers(StoreTest):
-    def test_a_cut_answer(self):
+    def test_a_cut_answer(self) -> None:
         self.set_fault(confstore.AnswerCut, "heard()\nsay(b'---\\nok: ')\n")
         self.set_fault(confstore.AnswerCut, "heard()\nsay(b'---\\nok: ')\nos.kill(os.getpid(), signal.SIGKILL)\n")
 
-    def test_no_yaml(self):
+    def test_no_yaml(self) -> None:
         for answer in (b"---\n[\n...\n", b"\xff\n...\n", b"...\n", b"---\na\n---\nb\n...\n", b"---\nvalue: x\n...\n",
                        b"---\nok: x\n...\n", b"---\n- ok\n...\n"):  # fmt: skip
             body = f"heard()\nsay({answer!r})\nheard()\ntime.sleep(100)\n"
             self.assertIn("answer", str(self.set_fault(confstore.BadAnswer, body, timeout=20)))
 
-    def test_the_session_is_over_after_a_wrong_answer(self):
+    def test_the_session_is_over_after_a_wrong_answer(self) -> None:
         store = self.store(program=self.program("heard()\nsay(b'---\\n[\\n...\\n')\ntime.sleep(100)\n"))
         with self.assertRaises(confstore.BadAnswer):
             store.set("a", "", "x")
         with self.assertRaises(confstore.BadAnswer):
             store.names()
 
-    def test_an_unknown_refusal(self):
+    def test_an_unknown_refusal(self) -> None:
         fault = self.set_fault(confstore.Refused, "heard()\nsay(b'---\\nrefused: Moonlight\\n...\\n')\nheard()\n")
         self.assertEqual(fault.word, "Moonlight")
 
-    def test_no_answer(self):
+    def test_no_answer(self) -> None:
         fault = self.set_fault(confstore.TimedOut, "heard()\ntime.sleep(100)\n", timeout=0.5)
         self.assertTrue(fault.sent)
 
-    def test_a_program_that_does_not_read(self):
+    def test_a_program_that_does_not_read(self) -> None:
         """A pipe that is full: every call ends in its time, and so does closing."""
         store = self.store(program=self.program("time.sleep(100)\n"))
         store._timeout = 0.3
@@ -313,18 +313,18 @@ class WrongAnswers(StoreTest):
         store.close()
         self.assertLess(time.monotonic() - start, 30)
 
-    def test_a_program_that_stays(self):
+    def test_a_program_that_stays(self) -> None:
         """It closes its output, and does not go: it is killed."""
         program = self.program("os.close(1)\ntime.sleep(100)\n")
         with self.assertRaises(SessionEnded):
             self.store(program=program).names()
 
-    def test_much_on_standard_error(self):
+    def test_much_on_standard_error(self) -> None:
         body = "heard()\nfor _ in range(1000): os.write(2, b'x' * 1000 + b'\\n')\n"
         body += "os.write(2, b'confstore: Device\\n')\nsys.exit(3)\n"
         self.set_fault(confstore.Device, body)
 
-    def test_old_programs(self):
+    def test_old_programs(self) -> None:
         body = "".join("heard()\nsay(b'---\\nrefused: BadCommand\\n...\\n')\n" for _ in range(2)) + "heard()\n"
         store = self.store(program=self.program(body))
         with self.assertRaises(confstore.Unsupported), store.batch() as batch:
@@ -386,7 +386,7 @@ class ChangedAnswers(unittest.TestCase):
 
 
 class Cutting(unittest.TestCase):
-    def test_pieces(self):
+    def test_pieces(self) -> None:
         stream = b"...\na\n...\n....\n ...\n...\n\n...\nb...\nrest"
         pieces = [b"...\n", b"a\n...\n", b"....\n ...\n...\n", b"\n...\n"]
         for step in (1, 2, 3, 5, 100):
@@ -397,7 +397,7 @@ class Cutting(unittest.TestCase):
 
 
 class Sockets(StoreTest):
-    def test_no_server(self):
+    def test_no_server(self) -> None:
         for path in (os.path.join(self.top, "none"), self.folder, "x" * 200):
             with self.assertRaises(confstore.Disconnected):
                 Session.connect(path, 1)

@@ -19,7 +19,7 @@ PATIENCE = 20
 class FollowTest(StoreTest):
     """A test with a store that has one configuration."""
 
-    def setUp(self):
+    def setUp(self) -> None:
         super().setUp()
         self.file = os.path.join(self.folder, "store.yaml")
         with Store(self.folder) as store:
@@ -39,7 +39,7 @@ class FollowTest(StoreTest):
             for number in numbers:
                 store.set("web", "/n", str(number))
 
-    def checkpoint(self):
+    def checkpoint(self) -> None:
         with Store(self.folder) as store:
             store.checkpoint()
 
@@ -48,14 +48,14 @@ class FollowTest(StoreTest):
 
 
 class Changes(FollowTest):
-    def test_those_after_the_call(self):
+    def test_those_after_the_call(self) -> None:
         changes = self.follow()
         self.assertIsNone(changes.within(0))
         self.set(1, 2)
         self.assertEqual(self.all_of(changes), [self.was_set(2, 1), self.was_set(3, 2)])
         self.assertIsNone(changes.within(0.1))
 
-    def test_those_from_a_number_on(self):
+    def test_those_from_a_number_on(self) -> None:
         self.set(1, 2)
         first = Record(1, (Edit("import", "web", "", {"n": "0", "tags": ["a"]}),))
         self.assertEqual(self.all_of(self.follow(1)), [first, self.was_set(2, 1), self.was_set(3, 2)])
@@ -64,7 +64,7 @@ class Changes(FollowTest):
         self.set(3, 4)
         self.assertEqual(self.all_of(later), [self.was_set(5, 4)])
 
-    def test_each_form_of_an_edit(self):
+    def test_each_form_of_an_edit(self) -> None:
         changes = self.follow()
         with Store(self.folder) as store:
             store.put("dns", ["x", {"a": "two\nlines"}])
@@ -77,7 +77,7 @@ class Changes(FollowTest):
         self.assertEqual(seen[1], Record(3, (Edit("delete", "dns", "", None), Edit("set", "web", "/a~1b", "ä"))))
         self.assertEqual(seen[2], Record(4, (Edit("delete", "web", "/tags/0", None),)))
 
-    def test_over_checkpoints_and_sessions(self):
+    def test_over_checkpoints_and_sessions(self) -> None:
         changes, seen = self.follow(), []
         for turn in range(5):
             self.set(2 * turn)
@@ -87,14 +87,14 @@ class Changes(FollowTest):
             seen += self.all_of(changes)
         self.assertEqual(seen, [self.was_set(number + 2, number) for number in range(10)])
 
-    def test_what_was_made_just_before_a_checkpoint(self):
+    def test_what_was_made_just_before_a_checkpoint(self) -> None:
         changes = self.follow()
         self.set(1, 2)
         self.checkpoint()
         self.set(3)
         self.assertEqual(self.all_of(changes), [self.was_set(2, 1), self.was_set(3, 2), self.was_set(4, 3)])
 
-    def test_beside_a_checkpoint_in_slices(self):
+    def test_beside_a_checkpoint_in_slices(self) -> None:
         changes, seen = self.follow(), []
         with Store(self.folder, checkpoint_after=1) as store:
             for number in range(300):
@@ -102,7 +102,7 @@ class Changes(FollowTest):
                 seen += self.all_of(changes)
         self.assertEqual(seen, [self.was_set(number + 2, number) for number in range(300)])
 
-    def test_a_torn_record(self):
+    def test_a_torn_record(self) -> None:
         changes = self.follow()
         with open(self.file, "ab") as file:
             file.write(b'---\nat: "2"\nset: web\npath: "/n"\n')
@@ -110,7 +110,7 @@ class Changes(FollowTest):
         self.set(7)
         self.assertEqual(self.all_of(changes), [self.was_set(2, 7)])
 
-    def test_a_loop_waits(self):
+    def test_a_loop_waits(self) -> None:
         changes = self.follow()
         timer = threading.Timer(0.3, self.set, (1,))
         timer.start()
@@ -120,14 +120,14 @@ class Changes(FollowTest):
         self.assertIsNone(changes.within(0.3))
         self.assertGreaterEqual(time.monotonic() - began, 0.3)
 
-    def test_close_twice(self):
+    def test_close_twice(self) -> None:
         with self.follow() as changes:
             pass
         changes.close()
 
 
 class Much(FollowTest):
-    def test_in_parts_over_checkpoints(self):
+    def test_in_parts_over_checkpoints(self) -> None:
         """Where a look tells one record at most, all are told all the same, and a file is left when it was read."""
         with mock.patch.object(following, "MUCH", 1):
             changes = self.follow()
@@ -136,7 +136,7 @@ class Much(FollowTest):
             self.set(*range(20, 30))
             self.assertEqual(self.all_of(changes), [self.was_set(number + 2, number) for number in range(30)])
 
-    def test_a_backup_in_parts(self):
+    def test_a_backup_in_parts(self) -> None:
         self.set(1)
         shutil.copy(self.file, self.file + ".old")
         self.set(2, 3)
@@ -148,7 +148,7 @@ class Much(FollowTest):
 
 
 class Cuts(FollowTest):
-    def test_dropped_before_it_began(self):
+    def test_dropped_before_it_began(self) -> None:
         self.set(1, 2)
         self.checkpoint()
         self.set(3)
@@ -156,7 +156,7 @@ class Cuts(FollowTest):
         self.assertEqual(self.all_of(self.follow(3)), [Cut(3, 3), self.was_set(4, 3)])
         self.assertEqual(self.all_of(self.follow(4)), [self.was_set(4, 3)])
 
-    def test_dropped_between_two_looks(self):
+    def test_dropped_between_two_looks(self) -> None:
         changes = self.follow()
         self.set(1)
         self.checkpoint()
@@ -165,7 +165,7 @@ class Cuts(FollowTest):
         self.set(3)
         self.assertEqual(self.all_of(changes), [self.was_set(2, 1), Cut(3, 3), self.was_set(4, 3)])
 
-    def test_a_backup_with_fewer_changes(self):
+    def test_a_backup_with_fewer_changes(self) -> None:
         self.set(1)
         shutil.copy(self.file, self.file + ".old")
         self.set(2, 3)
@@ -175,7 +175,7 @@ class Cuts(FollowTest):
         self.set(4)
         self.assertEqual(self.all_of(changes), [self.was_set(3, 4)])
 
-    def test_a_backup_that_went_on(self):
+    def test_a_backup_that_went_on(self) -> None:
         self.set(1)
         shutil.copy(self.file, self.file + ".old")
         changes = self.follow()
@@ -186,7 +186,7 @@ class Cuts(FollowTest):
         told = [Replaced(3), self.was_set(4, 6), self.was_set(5, 7)]
         self.assertEqual(self.all_of(changes), told)
 
-    def test_a_file_that_was_cut_by_hand(self):
+    def test_a_file_that_was_cut_by_hand(self) -> None:
         self.set(1)
         length = os.path.getsize(self.file)
         changes = self.follow()
@@ -197,7 +197,7 @@ class Cuts(FollowTest):
         self.set(4)
         self.assertEqual(self.all_of(changes), [self.was_set(3, 4)])
 
-    def test_the_same_file_again(self):
+    def test_the_same_file_again(self) -> None:
         self.set(1)
         changes = self.follow()
         shutil.copy(self.file, self.file + ".old")
@@ -207,7 +207,7 @@ class Cuts(FollowTest):
 
 
 class Faults(FollowTest):
-    def test_damage_comes_after_what_is_before_it(self):
+    def test_damage_comes_after_what_is_before_it(self) -> None:
         changes = self.follow()
         self.set(1, 2)
         with open(self.file, "rb+") as file:
@@ -219,7 +219,7 @@ class Faults(FollowTest):
             with self.assertRaises(Damaged):
                 changes.within(0)
 
-    def test_no_store(self):
+    def test_no_store(self) -> None:
         os.remove(self.file)
         with self.assertRaises(NotAStore):
             self.follow()
@@ -230,7 +230,7 @@ class Faults(FollowTest):
         with self.assertRaises(MissingFolder):
             Reader(os.path.join(self.top, "none")).follow()
 
-    def test_what_is_no_plain_file(self):
+    def test_what_is_no_plain_file(self) -> None:
         for make in (os.mkfifo, os.mkdir, lambda path: os.symlink("/dev/zero", path)):
             if os.path.isdir(self.file):
                 os.rmdir(self.file)
@@ -240,13 +240,13 @@ class Faults(FollowTest):
             with self.assertRaises(Device):
                 self.follow()
 
-    def test_a_store_that_goes(self):
+    def test_a_store_that_goes(self) -> None:
         changes = self.follow()
         os.remove(self.file)
         with self.assertRaises(NotAStore):
             changes.within(0)
 
-    def test_a_file_that_was_written_by_hand(self):
+    def test_a_file_that_was_written_by_hand(self) -> None:
         """Each spelling of YAML counts: so docs/STORE.md."""
         with open(self.file, "wb") as file:
             file.write(b"{store: confstore-2, at: 4, configs: {web: {n: 0}}}\n...\n")
@@ -261,7 +261,7 @@ class Faults(FollowTest):
 
 
 class Lines(FollowTest):
-    def test_as_the_log_has_them(self):
+    def test_as_the_log_has_them(self) -> None:
         with Store(self.folder) as store:
             store.set("web", "/n", {"/": "x"})
             for key in ("", "a b", 'q"\\', "ä\u2028\x85\x7f\x00\t", "\U0001f600", "~0~1"):
@@ -275,7 +275,7 @@ class Lines(FollowTest):
         log = subprocess.run(words, capture_output=True, check=True).stdout.decode()
         self.assertEqual("".join(f"{record.line}\n" for record in self.all_of(self.follow(1))), log)
 
-    def test_the_bytes_of_records(self):
+    def test_the_bytes_of_records(self) -> None:
         self.set(1, 2)
         read = following.Following(self.folder, os.environ["CONFSTORE"], PATIENCE, 1)
         self.addCleanup(read.close)
@@ -283,7 +283,7 @@ class Lines(FollowTest):
         log = subprocess.run(words, capture_output=True, check=True).stdout
         self.assertEqual(b"".join(told.text for told in read.look()), log)
 
-    def test_what_may_change_a_place(self):
+    def test_what_may_change_a_place(self) -> None:
         for kind, path, asked, wanted in (
             ("set", "/a", "/a", True), ("set", "/a", "/a/b", True), ("set", "/a/b", "/a", True),
             ("set", "/a", "/b", False), ("set", "/a", "/ab", False), ("set", "/a", "", True), ("set", "", "/a", True),
@@ -298,7 +298,7 @@ class Lines(FollowTest):
 
 
 class Waking(StoreTest):
-    def test_a_change_wakes(self):
+    def test_a_change_wakes(self) -> None:
         for begin in (waking._by_inotify, waking._by_watchdog):
             with self.subTest(begin.__name__):
                 try:
@@ -317,7 +317,7 @@ class Waking(StoreTest):
                     for _ in range(10):  # what the system says more of it
                         wait(0.02)
 
-    def test_without_anything_that_wakes(self):
+    def test_without_anything_that_wakes(self) -> None:
         waker = waking.Waker(os.path.join(self.top, "none"))
         self.addCleanup(waker.close)
         began = time.monotonic()

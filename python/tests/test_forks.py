@@ -75,7 +75,7 @@ class Forks(StoreTest):
         self.addCleanup(os.kill, child, signal.SIGKILL)
         return os.read(told, 10_000).decode()
 
-    def test_closing_beside_a_child(self):
+    def test_closing_beside_a_child(self) -> None:
         store = self.store()
         store["a"] = "x"
         process = store._session._other.process
@@ -88,7 +88,7 @@ class Forks(StoreTest):
         with self.store() as again:
             self.assertEqual(again["a"], "y")
 
-    def test_children_of_multiprocessing(self):
+    def test_children_of_multiprocessing(self) -> None:
         store = self.store()
         store["a"] = "x"
         fork = multiprocessing.get_context("fork")
@@ -100,7 +100,7 @@ class Forks(StoreTest):
             with self.store() as again:
                 self.assertEqual(again["a"], "x")
 
-    def test_a_parent_that_is_killed(self):
+    def test_a_parent_that_is_killed(self) -> None:
         for way in ("os", "multiprocessing"):
             words = [sys.executable, "-c", DYING, self.folder, way]
             environment = {**os.environ, "PYTHONPATH": python_path()}
@@ -121,7 +121,7 @@ class Forks(StoreTest):
                     raise
                 time.sleep(0.01)
 
-    def test_a_fork_that_python_does_not_see(self):
+    def test_a_fork_that_python_does_not_see(self) -> None:
         """The child has copies of the ends, and still closing ends the session."""
         store = self.store()
         process = store._session._other.process
@@ -136,7 +136,7 @@ class Forks(StoreTest):
         os.kill(child, signal.SIGKILL)
         os.waitpid(child, 0)
 
-    def test_a_fork_among_calls(self):
+    def test_a_fork_among_calls(self) -> None:
         """Threads go on while the process forks, and each child sees a store that is not its own."""
         store = self.store()
         store["l"] = []
@@ -144,11 +144,11 @@ class Forks(StoreTest):
         self.assertEqual(found, [repr(CLOSED)] * 3)
         self.assertEqual([store.set("l", "/-", str(number)) for number in range(3)], [2, 3, 4])
 
-    def test_forks_while_stores_are_opened(self):
+    def test_forks_while_stores_are_opened(self) -> None:
         """No fork has a socket, wherever the opening of a store in another thread was."""
         stop, opened, found = threading.Event(), [], []
 
-        def open_stores():
+        def open_stores() -> None:
             while not stop.is_set():
                 Store(self.folder).close()
                 opened.append(None)
@@ -183,7 +183,7 @@ def in_pool(_):
 
 
 class ForkedClients(ServerTest):
-    def test_a_client_of_a_server(self):
+    def test_a_client_of_a_server(self) -> None:
         self.serve()
         store = self.connect()
         store["a"] = "x"

@@ -24,7 +24,7 @@ def stop(*_):
 
 
 class Interrupts(StoreTest):
-    def setUp(self):
+    def setUp(self) -> None:
         super().setUp()
         self.addCleanup(signal.signal, signal.SIGALRM, signal.signal(signal.SIGALRM, stop))
         self.heard = os.path.join(self.top, "heard")
@@ -53,7 +53,7 @@ with open({self.heard!r}, "ab", 0) as target:
         with open(self.heard, encoding="ascii") as source:
             return [line.split()[1].strip('"') for line in source if line.startswith("value:")]
 
-    def test_a_call_that_waits(self):
+    def test_a_call_that_waits(self) -> None:
         """Its command is performed once, its answer is nobody's, and the next call gets its own."""
         store = self.store(program=self.slow_program(1))
         self.interrupted(lambda: store.set("a", "", "first"))
@@ -61,14 +61,14 @@ with open({self.heard!r}, "ab", 0) as target:
         self.interrupted(lambda: store.perform_batches([[{"delete": "a", "path": ""}]] * 2))
         self.assertEqual((store.set("a", "", "third"), self.heard_sets()), (5, ["first", "second", "third"]))
 
-    def test_a_handler_that_uses_the_store(self):
+    def test_a_handler_that_uses_the_store(self) -> None:
         """It may, in the middle of a call, and each gets its own answer."""
         store, found = self.store(program=self.slow_program(0.5)), []
         signal.signal(signal.SIGALRM, lambda *_: found.append(store.set("a", "", "handler")))
         signal.setitimer(signal.ITIMER_REAL, 0.2)
         self.assertEqual((store.set("a", "", "call"), found, self.heard_sets()), (1, [2], ["call", "handler"]))
 
-    def test_what_is_not_sent_yet(self):
+    def test_what_is_not_sent_yet(self) -> None:
         """It is withdrawn: a program that goes on later does not hear of it."""
         program, heard = self.program_that_waits()
         store = self.store(program=program)
@@ -78,7 +78,7 @@ with open({self.heard!r}, "ab", 0) as target:
         content = heard(store._session)
         self.assertEqual((b"import: long" in content, b"withdrawn" in content), (True, False))
 
-    def test_opening(self):
+    def test_opening(self) -> None:
         """The program that did not answer yet is gone when the exception is there."""
         noted = os.path.join(self.top, "process")
         program = self.program("")
@@ -88,7 +88,7 @@ with open({self.heard!r}, "ab", 0) as target:
         with open(noted, encoding="ascii") as source:
             self.assertFalse(os.path.exists(f"/proc/{int(source.read())}"))
 
-    def test_reopening_and_closing(self):
+    def test_reopening_and_closing(self) -> None:
         program = self.slow_program(1)
         store = self.store(program=program)
         self.interrupted(store.close, 1e-5)
@@ -102,7 +102,7 @@ with open({self.heard!r}, "ab", 0) as target:
         self.interrupted(store.reopen)
         self.assertEqual((store.set("a", "", "x"), store.reopen()), (1, None))
 
-    def test_a_thread_that_is_interrupted(self):
+    def test_a_thread_that_is_interrupted(self) -> None:
         """As where memory runs out: the session is given up, and says so."""
         store = self.store()
         store["a"] = "x"
@@ -120,7 +120,7 @@ with open({self.heard!r}, "ab", 0) as target:
         store.reopen()
         self.assertEqual((store["a"], store.checkpoint()), ("y", 2))
 
-    def test_no_thread(self):
+    def test_no_thread(self) -> None:
         def refuse(*_):
             raise RuntimeError("can't start new thread")
 
@@ -131,7 +131,7 @@ with open({self.heard!r}, "ab", 0) as target:
             with self.assertRaises(confstore.NotStarted):
                 call()
 
-    def test_a_thread_that_can_not_send(self):
+    def test_a_thread_that_can_not_send(self) -> None:
         """A session whose thread can't send is given up too."""
         store = self.store()
 

@@ -16,7 +16,7 @@ from .places import StoreTest
 
 
 class Mappings(StoreTest):
-    def test_it_is_a_mapping(self):
+    def test_it_is_a_mapping(self) -> None:
         store = self.store()
         store.update({"b": "x", "a": ["y"]}, c={"k": "z"})
         reader = Reader(self.folder)
@@ -32,7 +32,7 @@ class Mappings(StoreTest):
             self.assertNotIn(("B", "x"), mapping.items())
             self.assertEqual((len(mapping), mapping == dict(mapping), len({mapping})), (3, False, 1))
 
-    def test_get_with_a_default(self):
+    def test_get_with_a_default(self) -> None:
         store = self.store()
         store["a"] = {"k": ["x"]}
         reader = Reader(self.folder)
@@ -64,7 +64,7 @@ class Mappings(StoreTest):
         self.assertEqual({kind for kind, _ in asked}, {b"get:"})
         self.assertLess(max(length for _, length in asked), 40)
 
-    def test_update_and_clear_are_one_command(self):
+    def test_update_and_clear_are_one_command(self) -> None:
         store = self.store()
         store.update([("a", "x"), ("b", "y"), ("a", "z")], c=[])
         self.assertEqual((dict(store), store.checkpoint()), ({"a": "z", "b": "y", "c": []}, 1))
@@ -94,7 +94,7 @@ class Mappings(StoreTest):
         store.clear()
         self.assertEqual((names, names_of()), ([["a", "b"], ["a"]], []))
 
-    def test_pop(self):
+    def test_pop(self) -> None:
         store = self.store()
         store.update(a="x", b="y", c="z")
         self.assertEqual((store.pop("b"), store.pop("b", None), store.pop("B", 5)), ("y", None, 5))
@@ -106,7 +106,7 @@ class Mappings(StoreTest):
             with self.assertRaises(KeyError):
                 call()
 
-    def test_a_configuration_that_goes_while_items_are_read(self):
+    def test_a_configuration_that_goes_while_items_are_read(self) -> None:
         store = self.store()
         store.update(a="x", b="y", c="z")
         items = iter(store.items())
@@ -121,12 +121,12 @@ class Sentences(StoreTest):
             call()
         return caught.exception
 
-    def test_what_was_refused_of_what(self):
+    def test_what_was_refused_of_what(self) -> None:
         store = self.store()
         store["web"] = {"k": "x"}
         reader = Reader(self.folder)
 
-        def batch():
+        def batch() -> None:
             with store.batch() as batch:
                 batch.put("a", "x")
                 batch.delete("none")
@@ -148,7 +148,7 @@ class Sentences(StoreTest):
             again = pickle.loads(pickle.dumps(fault))
             self.assertEqual((type(again), str(again), again.name), (type(fault), str(fault), name))
 
-    def test_the_place_in_a_text(self):
+    def test_the_place_in_a_text(self) -> None:
         store = self.store()
         fault = self.fault(lambda: store.import_text("a", "k: v\nl: [\n"))
         self.assertEqual(fault.place, (2, 4, "Flow"))
@@ -158,7 +158,7 @@ class Sentences(StoreTest):
             batch.import_text("b", "k: *alias\n")
         self.assertEqual(caught.exception.place, (1, 4, "Alias"))
 
-    def test_no_program_runs_before_the_place_is_looked_at(self):
+    def test_no_program_runs_before_the_place_is_looked_at(self) -> None:
         store = self.store()
         fault = self.fault(lambda: store.import_text("a", "["))
         fault.program = os.path.join(self.top, "none")
@@ -167,7 +167,7 @@ class Sentences(StoreTest):
 
 
 class Shown(StoreTest):
-    def test_help(self):
+    def test_help(self) -> None:
         shown = pydoc.render_doc(confstore, renderer=pydoc.plaintext)
         self.assertIn("from confstore import Store", shown[:300])
         self.assertEqual(confstore.__all__[0], "Store")
@@ -175,12 +175,12 @@ class Shown(StoreTest):
             self.assertIs(getattr(confstore, name), getattr(confstore.faults, name))
         self.assertNotIn("class SessionLong", shown)
 
-    def test_doctests(self):
+    def test_doctests(self) -> None:
         failed, tried = doctest.testmod(module, extraglobs={"folder": self.folder})
         self.assertEqual(failed, 0)
         self.assertGreater(tried, 1)
 
-    def test_the_examples_of_the_readme(self):
+    def test_the_examples_of_the_readme(self) -> None:
         page = os.path.join(TOP, "python", "README.md")
         failed, tried = doctest.testfile(page, module_relative=False, globs={"folder": self.folder}, encoding="utf-8")
         self.assertEqual(failed, 0)

@@ -33,19 +33,19 @@ class Pages(StoreTest):
         with open(os.path.join(TOP, *names), encoding="utf-8") as source:
             return source.read()
 
-    def test_readme(self):
+    def test_readme(self) -> None:
         code = re.search(r"(?m)^    from confstore import Store\n(?:    .*\n|\n)*", self.page("README.md"))[0]
         self.run_example(textwrap.dedent(code))
         with Store(os.path.join(self.top, "app")) as store:
             self.assertEqual(store["web"], {"port": "81"})
 
-    def test_readme_of_the_package(self):
+    def test_readme_of_the_package(self) -> None:
         code = re.search(r"```python\n(.*?)```", self.page("python", "README.md"), re.DOTALL)[1]
         self.assertEqual(self.run_example(code), "a ['web', 'dns']\n")
         with Store(os.path.join(self.top, "app")) as store:
             self.assertEqual(store["web"], {"port": "81", "hosts": ["a", "b", "c"]})
 
-    def test_following(self):
+    def test_following(self) -> None:
         """The example of the package's page, for three changes."""
         code = re.search(r"```python\nfrom confstore import Cut.*?```", self.page("python", "README.md"), re.DOTALL)[0]
         code = code.strip("`").replace("python\n", "", 1).replace(".follow()", ".follow(2)")
@@ -60,7 +60,7 @@ class Pages(StoreTest):
         wanted = "a checkpoint dropped 2 to 2 before they were seen\n3 [('set', '/port', '82')]\n"
         self.assertEqual(self.run_example(code), wanted)
 
-    def test_docstring(self):
+    def test_docstring(self) -> None:
         page = self.page("python", "confstore", "__init__.py")
         code = re.search(r"(?m)^    from confstore import Store\n(?:    .*\n|\n)*", page)[0]
         self.assertEqual(self.run_example(textwrap.dedent(code)), "81\n")

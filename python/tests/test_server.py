@@ -24,7 +24,7 @@ PATIENCE = 30
 class ServerTest(StoreTest):
     """A test with a server of the store."""
 
-    def setUp(self):
+    def setUp(self) -> None:
         super().setUp()
         self.path = os.path.join(self.top, "socket")
 
@@ -74,7 +74,7 @@ def received(connection, count):
 
 
 class Clients(ServerTest):
-    def test_clients_share_a_session(self):
+    def test_clients_share_a_session(self) -> None:
         self.serve()
         stores, wrong = [self.connect() for _ in range(16)], []
 
@@ -95,7 +95,7 @@ class Clients(ServerTest):
         with self.assertRaises(confstore.Unsupported):
             stores[0].log()
 
-    def test_answers_come_in_order(self):
+    def test_answers_come_in_order(self) -> None:
         """Many commands at once, with answers that are short and long."""
         self.serve()
         connection = self.raw()
@@ -108,7 +108,7 @@ class Clients(ServerTest):
         connection.sendall(b"".join(commands))
         self.assertEqual(received(connection, len(wanted)), b"".join(wanted))
 
-    def test_a_client_that_leaves(self):
+    def test_a_client_that_leaves(self) -> None:
         self.serve()
         gone = self.raw()
         gone.sendall(b"import: a\ntext: x\n...\nset: a\npath: ''\nvalue: y\n...\nset: a")
@@ -119,14 +119,14 @@ class Clients(ServerTest):
             time.sleep(0.01)
         self.assertIn(store["a"], ("x", "y"))
 
-    def test_a_client_that_sends_all_and_then_reads(self):
+    def test_a_client_that_sends_all_and_then_reads(self) -> None:
         self.serve()
         connection = self.raw()
         connection.sendall(b"names:\n...\n" * 50)
         connection.shutdown(socket.SHUT_WR)
         self.assertEqual(received(connection, 51), b"---\nnames: []\n...\n" * 50)
 
-    def test_a_long_command(self):
+    def test_a_long_command(self) -> None:
         self.serve()
         connection = self.raw()
         with self.assertRaises(OSError):
@@ -134,7 +134,7 @@ class Clients(ServerTest):
                 connection.sendall(b"#" * 65_536)
         self.assertEqual(self.connect().names(), [])
 
-    def test_a_client_that_does_not_read(self):
+    def test_a_client_that_does_not_read(self) -> None:
         """What waits for it is little, and the others go on."""
         process = self.serve()
         self.connect()["large"] = ["x" * 900_000]
@@ -159,7 +159,7 @@ class Clients(ServerTest):
 
 
 class Cutting(unittest.TestCase):
-    def test_pieces(self):
+    def test_pieces(self) -> None:
         spec = importlib.util.spec_from_file_location("serve", SERVER)
         serve = importlib.util.module_from_spec(spec)
         spec.loader.exec_module(serve)
@@ -175,7 +175,7 @@ class Cutting(unittest.TestCase):
 
 
 class Ends(ServerTest):
-    def test_told_to_end(self):
+    def test_told_to_end(self) -> None:
         process = self.serve()
         connection = self.raw()
         connection.sendall(b"import: a\ntext: x\n...\n" * 10)
@@ -188,7 +188,7 @@ class Ends(ServerTest):
         with self.store() as store:
             self.assertEqual((store.checkpoint(), store["a"]), (answered, "x"))
 
-    def test_told_to_end_while_a_client_does_not_read(self):
+    def test_told_to_end_while_a_client_does_not_read(self) -> None:
         process = self.serve()
         self.connect()["large"] = ["x" * 900_000]
         slow = self.raw()
@@ -197,7 +197,7 @@ class Ends(ServerTest):
         process.terminate()
         self.assertEqual(process.wait(PATIENCE), 0)
 
-    def test_a_killed_session(self):
+    def test_a_killed_session(self) -> None:
         process = self.serve()
         store = self.connect()
         store["a"] = "x"
@@ -210,7 +210,7 @@ class Ends(ServerTest):
         store.reopen()
         self.assertIn(store["a"], ("x", "y"))
 
-    def test_sixteen_clients_of_sessions_that_are_killed(self):
+    def test_sixteen_clients_of_sessions_that_are_killed(self) -> None:
         """Each client appends numbers to a list of its own, and connects again when it is cut off."""
         served = [self.serve()]
         answered, wrong, stop = [0] * 16, [], threading.Event()
@@ -261,13 +261,13 @@ class Ends(ServerTest):
         wrong.append((number, "no server"))
         return False
 
-    def test_a_store_that_is_held(self):
+    def test_a_store_that_is_held(self) -> None:
         self.store()
         process = self.serve(errors=subprocess.PIPE)
         self.assertEqual((process.wait(PATIENCE), process.stderr.read()), (3, b"confstore: Locked\n"))
         self.assertFalse(os.path.exists(self.path))
 
-    def test_a_new_session_after_many_bytes(self):
+    def test_a_new_session_after_many_bytes(self) -> None:
         process = self.serve("--renew-after", "2000")
         stores = [self.connect() for _ in range(4)]
         before = session_of(process)
@@ -278,7 +278,7 @@ class Ends(ServerTest):
 
 
 class Sockets(ServerTest):
-    def test_modes(self):
+    def test_modes(self) -> None:
         for mode, wanted in ((0o700, 0o600), (0o755, 0o600), (0o770, 0o660), (0o775, 0o660), (0o777, 0o666)):
             os.chmod(self.folder, mode)
             process = self.serve()
@@ -287,14 +287,14 @@ class Sockets(ServerTest):
             process.wait(PATIENCE)
 
     @unittest.skipUnless(os.geteuid() == 0, "needs root")
-    def test_the_group(self):
+    def test_the_group(self) -> None:
         os.chown(self.folder, -1, 12345)
         os.chmod(self.folder, 0o770)
         self.serve()
         found = os.stat(self.path)
         self.assertEqual((found.st_gid, stat.S_IMODE(found.st_mode)), (12345, 0o660))
 
-    def test_an_old_socket_is_replaced(self):
+    def test_an_old_socket_is_replaced(self) -> None:
         process = self.serve()
         session = session_of(process)
         process.kill()
@@ -306,14 +306,14 @@ class Sockets(ServerTest):
         self.serve()
         self.assertEqual(self.connect().names(), [])
 
-    def test_what_is_no_old_socket_stays(self):
+    def test_what_is_no_old_socket_stays(self) -> None:
         with open(self.path, "w", encoding="ascii"):
             pass
         process = self.serve(errors=subprocess.PIPE)
         self.assertEqual(process.wait(PATIENCE), 3)
         self.assertTrue(os.path.exists(self.path))
 
-    def test_a_socket_that_is_used(self):
+    def test_a_socket_that_is_used(self) -> None:
         self.serve()
         other = os.path.join(self.top, "other")
         os.mkdir(other)
@@ -322,7 +322,7 @@ class Sockets(ServerTest):
         self.assertEqual(done.returncode, 3)
         self.assertEqual(self.connect().names(), [])
 
-    def test_the_manager_is_told(self):
+    def test_the_manager_is_told(self) -> None:
         with socket.socket(socket.AF_UNIX, socket.SOCK_DGRAM) as manager:
             manager.settimeout(PATIENCE)
             manager.bind(os.path.join(self.top, "manager"))

@@ -14,7 +14,7 @@ from .test_style import CHARACTERS
 
 
 class Calls(StoreTest):
-    def test_what_is_set_is_there_again(self):
+    def test_what_is_set_is_there_again(self) -> None:
         with self.store() as store:
             self.assertEqual(store.import_text("app", "port: 80\nhosts: [a, b]\n"), 1)
             self.assertEqual(store.set("app", "/port", "81"), 2)
@@ -29,14 +29,14 @@ class Calls(StoreTest):
             del store["app"]
             self.assertEqual(store.names(), [])
 
-    def test_as_a_mapping(self):
+    def test_as_a_mapping(self) -> None:
         store = self.store()
         store["b"] = "x"
         store["a"] = {"k": ["", {}, []]}
         self.assertEqual((list(store), len(store), "a" in store, "c" in store), (["b", "a"], 2, True, False))
         self.assertEqual(store["a"], {"k": ["", {}, []]})
 
-    def test_texts_of_all_kinds(self):
+    def test_texts_of_all_kinds(self) -> None:
         store = self.store()
         texts = [*CHARACTERS, CHARACTERS, "a\n...\nb\n", "---\n", "...\n", "x" * 100_000, "\U0010ffff"]
         store["texts"] = texts
@@ -45,7 +45,7 @@ class Calls(StoreTest):
             store.set("texts", "", {text: text})
             self.assertEqual(store["texts"], {text: text})
 
-    def test_classes_of_str(self):
+    def test_classes_of_str(self) -> None:
         class Word(str, enum.Enum):
             NAME = "app"
             KEY = "k"
@@ -68,12 +68,12 @@ class Calls(StoreTest):
         store.delete(Word.NAME)
         self.assertEqual(store.names(), ["other"])
 
-    def test_a_folder_is_made(self):
+    def test_a_folder_is_made(self) -> None:
         folder = os.path.join(self.top, "new", "store")
         with Store(folder, make=True) as store:
             self.assertEqual(store.names(), [])
 
-    def test_many_threads(self):
+    def test_many_threads(self) -> None:
         store, wrong = self.store(), []
         for number in range(16):
             store[f"list{number}"] = []
@@ -92,7 +92,7 @@ class Calls(StoreTest):
         self.assertEqual(wrong, [])
         self.assertEqual(store.checkpoint(), 16 * 26)
 
-    def test_large_commands_of_many_threads(self):
+    def test_large_commands_of_many_threads(self) -> None:
         store, tree = self.store(), ["x" * 900_000]
         threads = [threading.Thread(target=store.put, args=(f"c{number}", tree)) for number in range(8)]
         for thread in threads:
@@ -102,7 +102,7 @@ class Calls(StoreTest):
         self.assertEqual(sorted(store), [f"c{number}" for number in range(8)])
         self.assertTrue(all(store[name] == tree for name in store))
 
-    def test_checkpoints_beside_commands(self):
+    def test_checkpoints_beside_commands(self) -> None:
         with self.store(checkpoint_after=1_000) as store:
             store["a"] = {}
             for number in range(200):
@@ -111,7 +111,7 @@ class Calls(StoreTest):
 
 
 class Refusals(StoreTest):
-    def test_words(self):
+    def test_words(self) -> None:
         store = self.store()
         store["a"] = {"l": ["x"]}
         rows = [
@@ -137,7 +137,7 @@ class Refusals(StoreTest):
         self.assertEqual(store["a"], {"l": ["x"]})
         self.assertEqual(store.checkpoint(), 1)
 
-    def test_what_is_never_sent(self):
+    def test_what_is_never_sent(self) -> None:
         store = self.store()
         for kind, call in (
             (confstore.NotText, lambda: store.set("a", "", "\ud800")),
@@ -167,7 +167,7 @@ class Batches(StoreTest):
             batch.set("none", "", "x")
         self.assertEqual((store["a"], store.checkpoint()), ({"k": "y"}, 2))
 
-    def test_nothing_is_sent(self):
+    def test_nothing_is_sent(self) -> None:
         store = self.store()
         with self.assertRaises(ZeroDivisionError), store.batch() as batch:
             batch.put("a", "x")
@@ -178,7 +178,7 @@ class Batches(StoreTest):
 
 
 class Reading(StoreTest):
-    def test_log_and_at(self):
+    def test_log_and_at(self) -> None:
         store = self.store()
         self.assertEqual(self.supported(store.log), [])
         store["a"] = {"k": ["x"]}
@@ -214,11 +214,11 @@ class Reading(StoreTest):
         with self.assertRaises(confstore.NoSuchCommand):
             store.at(1)
 
-    def test_batches_in_the_log(self):
+    def test_batches_in_the_log(self) -> None:
         store = self.store()
         self.supported(store.log)
 
-        def perform():
+        def perform() -> None:
             with store.batch() as batch:
                 batch.put("a", "x")
                 batch.delete("a")

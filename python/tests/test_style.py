@@ -106,11 +106,11 @@ def random_tree(chance, depth):
 
 
 class Style(unittest.TestCase):
-    def test_scalars(self):
+    def test_scalars(self) -> None:
         for text, written in SCALARS:
             self.assertEqual(scalar(text), written, repr(text))
 
-    def test_classes_of_str(self):
+    def test_classes_of_str(self) -> None:
         """A text of a class of its own is written as the text that it is, wherever it stands."""
         for text in (*(color.value for color in Color), *(text for text, _ in SCALARS)):
             odd = Odd(text)
@@ -131,15 +131,15 @@ class Style(unittest.TestCase):
         with self.assertRaises(NotText):
             to_text(Odd("\ud800"))
 
-    def test_page(self):
+    def test_page(self) -> None:
         self.assertEqual(to_text(PAGE_TREE), PAGE)
         self.assertEqual(from_text(PAGE), PAGE_TREE)
 
-    def test_long_key(self):
+    def test_long_key(self) -> None:
         for length, written in ((998, f'"{"x" * 998}": ""\n'), (999, f'? "{"x" * 999}"\n: ""\n')):
             self.assertEqual(to_text({"x" * length: ""}), written)
 
-    def test_as_the_program(self):
+    def test_as_the_program(self) -> None:
         chance = random.Random(5)
         trees = [random_tree(chance, 4) for _ in range(60)]
         for tree in trees:
@@ -150,7 +150,7 @@ class Style(unittest.TestCase):
             self.assertEqual((done.stdout.decode(), done.stderr), (text, b""), repr(tree))
             self.assertEqual(from_text(text), tree)
 
-    def test_refused(self):
+    def test_refused(self) -> None:
         endless = []
         endless.append(endless)
         deep = "x"

@@ -16,7 +16,7 @@ BUILD = "import sys, wheel_of_confstore as w; w.build_wheel(sys.argv[1]); w.buil
 
 
 class Wheels(unittest.TestCase):
-    def setUp(self):
+    def setUp(self) -> None:
         holder = tempfile.TemporaryDirectory()
         self.addCleanup(holder.cleanup)
         self.top = holder.name
@@ -28,12 +28,12 @@ class Wheels(unittest.TestCase):
         subprocess.run([sys.executable, "-S", "-c", BUILD, folder], cwd=HERE, check=True, timeout=60)
         return {found: pathlib.Path(folder, found).read_bytes() for found in os.listdir(folder)}
 
-    def test_the_same_bytes_twice(self):
+    def test_the_same_bytes_twice(self) -> None:
         first = self.built("first")
         self.assertEqual(sorted(name[-7:] for name in first), [".tar.gz", "any.whl"])
         self.assertEqual(first, self.built("second"))
 
-    def test_it_has_all_sources(self):
+    def test_it_has_all_sources(self) -> None:
         (wheel,) = (name for name in self.built("one") if name.endswith(".whl"))
         with zipfile.ZipFile(os.path.join(self.top, "one", wheel)) as archive:
             self.assertIsNone(archive.testzip())
@@ -41,7 +41,7 @@ class Wheels(unittest.TestCase):
         sources = {f"confstore/{name}" for name in os.listdir(os.path.join(HERE, "confstore"))}
         self.assertEqual(packed, sources - {"confstore/__pycache__"})
 
-    def test_pip_in_a_fresh_venv(self):
+    def test_pip_in_a_fresh_venv(self) -> None:
         folder = os.path.join(self.top, "fresh")
         try:
             venv.create(folder, with_pip=True)
@@ -57,7 +57,7 @@ class Wheels(unittest.TestCase):
         self.assertIn("confstore/py.typed", shown.stdout)
         self.assertTrue(os.access(os.path.join(folder, "bin", "confstorectl"), os.X_OK))
 
-    def test_the_program_of_the_wheel(self):
+    def test_the_program_of_the_wheel(self) -> None:
         (wheel,) = (name for name in self.built("one") if name.endswith(".whl"))
         folder = os.path.join(self.top, "site")
         words = [sys.executable, "-m", "pip", "install", "--quiet", "--no-index", "--no-deps", "--target", folder]

@@ -24,7 +24,7 @@ def encoded(data):
 class Keys:
     """The keys, and all events since the beginning."""
 
-    def __init__(self):
+    def __init__(self) -> None:
         self.revision = 1
         self.keys = {}  # each with its value, and the revisions that made and changed it
         self.events = []
@@ -95,7 +95,7 @@ class FakeEtcd:
         class Handler(BaseHTTPRequestHandler):
             protocol_version = "HTTP/1.1"
 
-            def do_POST(self):
+            def do_POST(self) -> None:
                 member.answer(self, json.loads(self.rfile.read(int(self.headers["Content-Length"]))))
 
             def log_message(self, *_):
@@ -109,7 +109,7 @@ class FakeEtcd:
             self.server.socket = context.wrap_socket(self.server.socket, server_side=True)
         threading.Thread(target=self.server.serve_forever, args=(0.02,), daemon=True).start()
 
-    def close(self):
+    def close(self) -> None:
         self.restart()
         self.server.shutdown()
         self.server.server_close()
@@ -125,7 +125,7 @@ class FakeEtcd:
             self.cluster = cluster or self.cluster
         self.restart()
 
-    def restart(self):
+    def restart(self) -> None:
         """Ends all streams, as those of a process that was started anew."""
         with self.lock:
             self.incarnation += 1

@@ -40,7 +40,7 @@ def nested(depth, tree="x"):
 
 
 class Entries(unittest.TestCase):
-    def test_what_is_refused_before_the_log(self):
+    def test_what_is_refused_before_the_log(self) -> None:
         rows = [
             ("BadCommand", None),
             ("BadCommand", {}),
@@ -67,7 +67,7 @@ class Entries(unittest.TestCase):
                 command_of(edits_of(command))
             self.assertEqual(caught.exception.word, word, str(command)[:100])
 
-    def test_what_stands_in_the_log(self):
+    def test_what_stands_in_the_log(self) -> None:
         for command in (IMPORT, SET, {"batch": [IMPORT, SET]}, {"set": "a", "path": "", "value": nested(150)}):
             edits = edits_of(command)
             wanted = command_of(edits)
@@ -79,7 +79,7 @@ class Entries(unittest.TestCase):
             with self.assertRaises(Refused):
                 edits_in(entry)
 
-    def test_numbers(self):
+    def test_numbers(self) -> None:
         self.assertEqual(number_in({"00000000000000000012": NO_MARK}), (12, NO_MARK))
         wrong = ({}, "12", {"12": ""}, {"0000000000000000001x": ""}, {"00000000000000000012": "", "b": ""})
         for tree in (*wrong, {"00000000000000000012": ["x"]}):
@@ -88,7 +88,7 @@ class Entries(unittest.TestCase):
 
 
 class StoreTest(unittest.TestCase):
-    def setUp(self):
+    def setUp(self) -> None:
         holder = tempfile.TemporaryDirectory()
         self.addCleanup(holder.cleanup)
         self.folder = os.path.join(holder.name, "store")
@@ -109,7 +109,7 @@ class Batches(StoreTest):
             for answer in given
         ]
 
-    def test_each_once_and_in_order(self):
+    def test_each_once_and_in_order(self) -> None:
         store = self.store()
         first, second, third = marked([IMPORT], 5, 0), marked([SET], 7, 5), marked([SET], 9, 7)
         self.assertEqual(self.answers(store, first, second), [1, 2])
@@ -117,14 +117,14 @@ class Batches(StoreTest):
         self.assertEqual(self.answers(store, marked([SET], 11, 9), third), ["NoSuchPlace", 3])
         self.assertEqual(number_in(store[RESERVED]), (9, MARK))
 
-    def test_a_refused_one_keeps_those_behind_it_back(self):
+    def test_a_refused_one_keeps_those_behind_it_back(self) -> None:
         store = self.store()
         batches = [marked([IMPORT], 5, 0), marked([WRONG], 6, 5), marked([SET], 7, 6)]
         self.assertEqual(self.answers(store, *batches), [1, "NoConfig", "NoSuchPlace"])
         self.assertEqual(self.answers(store, refusal_of("NoConfig", 6, 5), batches[2]), [2, 3])
         self.assertEqual(store["a"], {"n": "y"})
 
-    def test_a_refused_one_is_the_first(self):
+    def test_a_refused_one_is_the_first(self) -> None:
         store = self.store()
         self.assertEqual(self.answers(store, marked([WRONG], 5, 0), marked([IMPORT], 6, 5)), ["NoConfig"] * 2)
         self.assertEqual(self.answers(store, refusal_of("NoConfig", 5, 0), marked([IMPORT], 6, 5)), [1, 2])
@@ -144,7 +144,7 @@ class Followers(StoreTest):
     def item(self, command, number):
         return Item(b"k", entry_of(command) if command.endswith(b"}") else command, number, number)
 
-    def test_answers(self):
+    def test_answers(self) -> None:
         follower, told = self.follower()
         entries = self.items(WRONG, IMPORT, WRONG, WRONG, SET, {"import": "a", "text": "["})
         follower._perform(entries)
@@ -163,12 +163,12 @@ class Followers(StoreTest):
             another = entry._replace(value=entry_of(edits_in(entry.value)[1]))
             self.assertFalse(performed.is_of(another), "the same command with another nonce is another entry")
 
-    def test_a_store_of_something_else(self):
+    def test_a_store_of_something_else(self) -> None:
         self.store()[RESERVED] = {"entry": "1"}
         with self.assertRaises(confstore.ConfstoreError):
             self.follower()
 
-    def test_a_store_that_had_commands_before(self):
+    def test_a_store_that_had_commands_before(self) -> None:
         with Store(self.folder) as store:
             store.put("a", "x")
         with self.assertRaises(NotReplicated):
@@ -180,7 +180,7 @@ class Followers(StoreTest):
             self.follower()
         self.assertIn(self.folder, str(caught.exception))
 
-    def test_the_file(self):
+    def test_the_file(self) -> None:
         """Records are found however the file lies in what is read at once."""
         follower, told = self.follower()
         long = {"import": "a", "text": "x" * 3_000}
@@ -196,7 +196,7 @@ class Followers(StoreTest):
             self.assertEqual((count_in(self.folder), base_length_in(self.folder)), (30, base_length))
         self.assertEqual(found, [[(number, performed.answer) for number, performed in told]] * 4)
 
-    def test_marks_are_as_long_as_those_of_the_version_before(self):
+    def test_marks_are_as_long_as_those_of_the_version_before(self) -> None:
         """So the size of a state doesn't tell which version performed its entries."""
         lengths = set()
         with Store(self.folder) as store:
@@ -233,14 +233,14 @@ class Followers(StoreTest):
             follower._perform(self.items(SET, SET, start=7))
         self.assertEqual(len(told), 6, "what is refused again after a checkpoint is not answered")
 
-    def test_a_word_that_is_not_known(self):
+    def test_a_word_that_is_not_known(self) -> None:
         follower, told = self.follower()
         follower.store.perform_batches = lambda batches: [confstore.Refused("NewWord")] * len(batches)
         with self.assertRaises(confstore.ConfstoreError):
             follower._perform(self.items(IMPORT))
         self.assertEqual(told, [])
 
-    def test_checkpoints_by_what_is_written(self):
+    def test_checkpoints_by_what_is_written(self) -> None:
         """A small entry whose record is long: the file is made short by the bytes of records."""
         import confstore_replicated.follower as module
 
@@ -255,7 +255,7 @@ class Followers(StoreTest):
             follower._perform([entry])
             self.assertLess(os.path.getsize(os.path.join(self.folder, "store.yaml")), 2_600_000)
 
-    def test_a_store_that_is_full(self):
+    def test_a_store_that_is_full(self) -> None:
         """A number is put also where the store is full to the last byte and its count gets a digit more."""
         follower, told = self.follower()
         follower._perform(self.items(IMPORT))

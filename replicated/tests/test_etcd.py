@@ -28,7 +28,7 @@ class EtcdTest(unittest.TestCase):
 
 
 class Users(EtcdTest):
-    def test_a_token_is_fetched_once_and_again_when_it_is_over(self):
+    def test_a_token_is_fetched_once_and_again_when_it_is_over(self) -> None:
         member, access = self.member(password="secret"), Access(user="app", password="secret")
         first, second = self.client(member, access), self.client(member, access)
         first.put(b"a", b"x")
@@ -38,7 +38,7 @@ class Users(EtcdTest):
         self.assertEqual((first.get(b"a"), second.get(b"a")), (b"x", b"x"))
         self.assertEqual(len(member.tokens), 2)
 
-    def test_streams(self):
+    def test_streams(self) -> None:
         member, access = self.member(password="secret"), Access(user="app", password="secret")
         etcd = self.client(member, access)
         stream = Stream(etcd, b"log/", 2)
@@ -54,14 +54,14 @@ class Users(EtcdTest):
         self.assertTrue(stream.has_begun(10), "after another call has fetched a token")
         stream.close()
 
-    def test_a_wrong_password(self):
+    def test_a_wrong_password(self) -> None:
         for access in (Access(user="app", password="wrong"), Access(user="other", password="secret")):
             began = time.monotonic()
             with self.assertRaises(Denied):
                 self.client(self.member(password="secret"), access, 30).get(b"a")
             self.assertLess(time.monotonic() - began, 5, "it is not tried again and again")
 
-    def test_no_user(self):
+    def test_no_user(self) -> None:
         with self.assertRaises(Unavailable) as caught:
             self.client(self.member(password="secret")).get(b"a")
         self.assertIn("token", str(caught.exception))
@@ -69,7 +69,7 @@ class Users(EtcdTest):
 
 @unittest.skipIf(shutil.which("openssl") is None, "needs openssl")
 class Tls(EtcdTest):
-    def setUp(self):
+    def setUp(self) -> None:
         holder = tempfile.TemporaryDirectory()
         self.addCleanup(holder.cleanup)
         self.top = holder.name
@@ -102,7 +102,7 @@ class Tls(EtcdTest):
             context.load_verify_locations(self.path("authority.crt"))
         return self.member(context=context)
 
-    def test_authorities(self):
+    def test_authorities(self) -> None:
         member = self.tls_member()
         etcd = self.client(member, Access(self.path("authority.crt")), 5)
         etcd.put(b"log/a", b"x")
@@ -114,7 +114,7 @@ class Tls(EtcdTest):
             with self.assertRaises(Unavailable):
                 self.client(member, access).get(b"a")
 
-    def test_certificates_of_clients(self):
+    def test_certificates_of_clients(self) -> None:
         member = self.tls_member(asks_for_certificate=True)
         mine = Access(self.path("authority.crt"), self.path("client.crt"), self.path("client.key"))
         self.assertIsNone(self.client(member, mine, 5).get(b"a"))
@@ -123,7 +123,7 @@ class Tls(EtcdTest):
 
 
 class Answers(EtcdTest):
-    def test_an_answer_that_is_too_long(self):
+    def test_an_answer_that_is_too_long(self) -> None:
         self.addCleanup(setattr, module, "LONGEST_ANSWER", module.LONGEST_ANSWER)
         module.LONGEST_ANSWER = 20_000
         member = self.member()
@@ -136,7 +136,7 @@ class Answers(EtcdTest):
         with self.assertRaises(Unavailable):
             etcd.look(b"log/", b"base", 0, None, most=8)
 
-    def test_a_base_needs_the_entry(self):
+    def test_a_base_needs_the_entry(self) -> None:
         member = self.member()
         etcd = self.client(member)
         etcd.put(b"log/a", b"x")
@@ -149,7 +149,7 @@ class Answers(EtcdTest):
         self.assertFalse(etcd.replace(b"base", b"newer", None, entry))
         self.assertEqual(etcd.get(b"base"), b"new")
 
-    def test_what_is_taken_out(self):
+    def test_what_is_taken_out(self) -> None:
         member = self.member()
         etcd = self.client(member)
         for key in (b"base", b"a", b"b", b"c"):
@@ -163,7 +163,7 @@ class Answers(EtcdTest):
         self.assertTrue(etcd.remove_between(b"c", b"d", good))
         self.assertEqual([etcd.get(key) for key in (b"a", b"b", b"c", b"base")], [None, None, None, b"x"])
 
-    def test_names_and_entries(self):
+    def test_names_and_entries(self) -> None:
         """A name that is there, or an entry alone, keeps another from being made."""
         member = self.member()
         etcd = self.client(member)

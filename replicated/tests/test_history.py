@@ -19,7 +19,7 @@ def base(floor, number=20, floor_mark=""):
 
 
 class Marks(unittest.TestCase):
-    def test_each_entry_has_its_own(self):
+    def test_each_entry_has_its_own(self) -> None:
         others = [
             ENTRY._replace(created=11), ENTRY._replace(key=b"/confstore/x/log/l"),
             ENTRY._replace(value=entry_of(COMMAND)), ENTRY._replace(value=COMMAND),
@@ -35,7 +35,7 @@ class Marks(unittest.TestCase):
         for mark in (NO_MARK, ""):
             self.assertTrue(is_tied(mark, ENTRY), "the version before has none")
 
-    def test_what_is_no_base(self):
+    def test_what_is_no_base(self) -> None:
         for text in (b"", b"junk", b"[]", b"1", b'{"number": "1"}', b'{"history": 1}', b'{"mark": 1}', b"\xff"):
             with self.assertRaises(ValueError):
                 base_in(text)
@@ -51,12 +51,12 @@ class Judgements(unittest.TestCase):
             return type(error)
         return None
 
-    def test_an_empty_store(self):
+    def test_an_empty_store(self) -> None:
         self.assertEqual(self.judged(Place(0, ""), revision=1), None)
         self.assertEqual(self.judged(Place(0, ""), base_text=base(0)), None)
         self.assertEqual(self.judged(Place(0, ""), base_text=base(5)), Behind)
 
-    def test_the_entry_is_there(self):
+    def test_the_entry_is_there(self) -> None:
         place = Place(10, MARK)
         again = ENTRY._replace(value=entry_of(COMMAND))
         self.assertEqual(self.judged(place, ENTRY), None)
@@ -69,7 +69,7 @@ class Judgements(unittest.TestCase):
         self.assertEqual(self.judged(Place(10, short_of(MARK)), ENTRY), None)
         self.assertEqual(self.judged(Place(10, short_of(MARK)), again), OtherHistory)
 
-    def test_the_entry_is_not_there(self):
+    def test_the_entry_is_not_there(self) -> None:
         place = Place(10, MARK)
         self.assertEqual(self.judged(place), OtherHistory)
         self.assertEqual(self.judged(place, base_text=base(9)), OtherHistory)
@@ -77,7 +77,7 @@ class Judgements(unittest.TestCase):
         self.assertEqual(self.judged(place, base_text=base(11), cluster=OTHER), OtherHistory)
         self.assertEqual(self.judged(place, base_text=base(11), revision=9), OtherHistory)
 
-    def test_the_base_before_is_of_the_entry(self):
+    def test_the_base_before_is_of_the_entry(self) -> None:
         another = mark_of(CLUSTER, ENTRY._replace(value=entry_of(COMMAND)))
         for place in (Place(10, MARK), Place(10, short_of(MARK))):
             for cluster in (CLUSTER, OTHER):
@@ -87,7 +87,7 @@ class Judgements(unittest.TestCase):
         self.assertEqual(self.judged(Place(10, MARK), base_text=base(10)), None, "a base of the version before")
         self.assertEqual(self.judged(Place(10, MARK), base_text=base(10), cluster=OTHER), OtherHistory)
 
-    def test_entries_and_stores_of_the_version_before(self):
+    def test_entries_and_stores_of_the_version_before(self) -> None:
         mark = mark_of(CLUSTER, OLD_ENTRY)
         self.assertEqual(self.judged(Place(10, mark), OLD_ENTRY), None)
         self.assertEqual(self.judged(Place(10, mark), OLD_ENTRY, cluster=OTHER), OtherHistory)

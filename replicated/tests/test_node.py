@@ -33,7 +33,7 @@ def until(holds, seconds=30):
 
 
 class NodeTest(unittest.TestCase):
-    def setUp(self):
+    def setUp(self) -> None:
         holder = tempfile.TemporaryDirectory()
         self.addCleanup(holder.cleanup)
         self.top = holder.name
@@ -77,7 +77,7 @@ class NodeTest(unittest.TestCase):
 
 
 class Questions(NodeTest):
-    def test_the_name_of_the_node(self):
+    def test_the_name_of_the_node(self) -> None:
         node = self.node()
         self.begin(node, 1)
         self.assertEqual(node.answer({"names": "", "fresh": "yes"}), {"names": ["a"]})
@@ -87,7 +87,7 @@ class Questions(NodeTest):
         ):  # fmt: skip
             self.assertEqual(node.answer(request), {"refused": "BadName"})
 
-    def test_two_nodes(self):
+    def test_two_nodes(self) -> None:
         one, two = self.node("a"), self.node("b")
         self.begin(one)
         self.assertEqual(self.get(two), {"value": "2"})
@@ -121,7 +121,7 @@ class OtherHistories(NodeTest):
         for request in ({"names": ""}, {"export": "a"}, {"names": "", "fresh": "yes"}, {"import": "b", "text": "x"}):
             self.assertEqual(node.answer(request), FAILED)
 
-    def test_an_older_snapshot(self):
+    def test_an_older_snapshot(self) -> None:
         node = self.node()
         self.begin(node)
         snapshot = self.etcd.snapshot()
@@ -140,7 +140,7 @@ class OtherHistories(NodeTest):
         for word in (os.path.join(self.top, "a"), "--bump-revision", "empty"):
             self.assertIn(word, line)
 
-    def test_no_ok_for_what_another_history_has_at_the_number(self):
+    def test_no_ok_for_what_another_history_has_at_the_number(self) -> None:
         """The same id and the same command, made again at the same revision, is another entry."""
         one, two = self.node("a"), self.node("b")
         self.begin(one)
@@ -158,7 +158,7 @@ class OtherHistories(NodeTest):
         self.refuses_all(self.node("b"))
         self.assertEqual(self.set(one, "later", id="i"), FAILED)
 
-    def test_the_snapshot_has_the_last_entry(self):
+    def test_the_snapshot_has_the_last_entry(self) -> None:
         """Nothing is lost, so the node goes on; also in a cluster with another id, which a restore makes."""
         node = self.node()
         self.begin(node)
@@ -168,7 +168,7 @@ class OtherHistories(NodeTest):
         self.assertEqual(self.set(node, "x"), {"ok": "5"})
         self.assertEqual(self.get(self.node("b")), {"value": "x"})
 
-    def test_the_right_log_comes_back(self):
+    def test_the_right_log_comes_back(self) -> None:
         node = self.node()
         self.begin(node)
         snapshot = self.etcd.snapshot()
@@ -178,7 +178,7 @@ class OtherHistories(NodeTest):
         until(lambda: self.get(node, "no") == {"value": "2"})
         self.assertEqual(self.set(node, "x"), {"ok": "5"})
 
-    def test_made_anew_while_the_node_is_away(self):
+    def test_made_anew_while_the_node_is_away(self) -> None:
         node = self.node()
         self.begin(node)
         self.end(node)
@@ -189,7 +189,7 @@ class OtherHistories(NodeTest):
             self.refuses_all(again)
             self.end(again)
 
-    def test_another_cluster_has_the_same_entry(self):
+    def test_another_cluster_has_the_same_entry(self) -> None:
         """Entries of an older version have no nonce, so only the id of the cluster tells them apart."""
         command = command_of(edits_of({"import": "a", "text": "n: 0"}))
         self.etcd.keys.put(LOG + b"old", command, 2)
@@ -199,7 +199,7 @@ class OtherHistories(NodeTest):
         self.etcd.restore(self.etcd.snapshot(), cluster=78)
         self.refuses_all(node)
 
-    def test_an_entry_that_somebody_changed(self):
+    def test_an_entry_that_somebody_changed(self) -> None:
         node = self.node()
         self.begin(node)
         with self.etcd.lock:
@@ -258,7 +258,7 @@ class StoresOfTheVersionBefore(NodeTest):
                 self.etcd.keys.put(IDS + b"k%d" % number, module.digest_of(command_of([command])), number)
                 self.etcd.keys.revision = number
 
-    def test_it_goes_on_and_is_tied_then(self):
+    def test_it_goes_on_and_is_tied_then(self) -> None:
         self.make([(2, {"import": "a", "text": "n: 0"}), (3, {"set": "a", "path": "/n", "value": "1"})])
         node = self.node()
         self.assertEqual(self.set(node, "1", id="k3"), {"ok": "2"})
@@ -268,7 +268,7 @@ class StoresOfTheVersionBefore(NodeTest):
         self.etcd.restore(snapshot)
         until(lambda: self.get(node, "no") == FAILED)
 
-    def test_it_is_refused_where_the_log_has_no_such_entry(self):
+    def test_it_is_refused_where_the_log_has_no_such_entry(self) -> None:
         self.make([(2, {"import": "a", "text": "n: 0"}), (3, {"set": "a", "path": "/n", "value": "1"})])
         self.etcd.restore(None)
         self.burn(9)
@@ -277,7 +277,7 @@ class StoresOfTheVersionBefore(NodeTest):
 
 
 class BasesAndNames(NodeTest):
-    def test_a_new_node_starts_from_a_base(self):
+    def test_a_new_node_starts_from_a_base(self) -> None:
         node = self.node(base_after=10)
         self.begin(node, 60)
         base = until(lambda: base_in(self.etcd.keys.keys.get(BASE, (None,))[0]))
@@ -291,7 +291,7 @@ class BasesAndNames(NodeTest):
         self.assertEqual(self.set(other, "x"), {"ok": "62"})
         self.assertEqual(self.get(node), {"value": "x"})
 
-    def test_what_a_base_replaces_is_kept(self):
+    def test_what_a_base_replaces_is_kept(self) -> None:
         behind = self.node("b")
         node = self.node(base_after=10)
         self.begin(node, 0)
@@ -306,7 +306,7 @@ class BasesAndNames(NodeTest):
         with open(os.path.join(self.top, "b", "before-base.yaml"), "rb") as file:
             self.assertEqual(file.read(), before)
 
-    def test_names_go_after_entries(self):
+    def test_names_go_after_entries(self) -> None:
         node = self.node(base_after=10, names_kept=30)
         self.begin(node, 0)
         self.assertEqual(self.set(node, "first", id="i"), {"ok": "2"})
@@ -324,7 +324,7 @@ class BasesAndNames(NodeTest):
         self.assertNotIn("refused", self.set(node, "second", id="i"))
         self.assertGreater(self.etcd.keys.keys[LOG + b"i"][1], number)
 
-    def test_an_id_whose_entry_is_gone(self):
+    def test_an_id_whose_entry_is_gone(self) -> None:
         node = self.node(base_after=10)
         self.begin(node, 0)
         self.assertEqual(self.set(node, "first", id="i"), {"ok": "2"})
@@ -338,7 +338,7 @@ class BasesAndNames(NodeTest):
         """Has etcd be restored before or after the parts of a base are put."""
         bases, held = node.follower._bases, threading.Event()
 
-        def restore():
+        def restore() -> None:
             self.etcd.restore(snapshot or held.snapshot)
             self.burn(10)
             held.set()
@@ -356,14 +356,14 @@ class BasesAndNames(NodeTest):
         self.set(node, "x")
         self.assertTrue(held.wait(20))
 
-    def test_a_base_of_another_history_is_not_put(self):
+    def test_a_base_of_another_history_is_not_put(self) -> None:
         node = self.node(base_after=4)
         self.begin(node, 2)
         self.restored_at_parts(node, self.etcd.snapshot(), "before")
         until(lambda: self.get(node, "no") == FAILED)
         self.assertNotIn(BASE, self.etcd.keys.keys)
 
-    def test_a_base_whose_parts_are_lost_is_not_put(self):
+    def test_a_base_whose_parts_are_lost_is_not_put(self) -> None:
         node = self.node(base_after=4)
         self.begin(node, 2)
         self.restored_at_parts(node, None, "after")

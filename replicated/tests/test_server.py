@@ -16,7 +16,7 @@ from confstore_replicated.server import Server
 
 
 class ServerTest(unittest.TestCase):
-    def setUp(self):
+    def setUp(self) -> None:
         holder = tempfile.TemporaryDirectory()
         self.addCleanup(holder.cleanup)
         self.top = holder.name
@@ -60,7 +60,7 @@ class ServerTest(unittest.TestCase):
 
 
 class Lines(ServerTest):
-    def test_lines(self):
+    def test_lines(self) -> None:
         self.serve()
         wrong = b'{"refused": "BadCommand"}\n'
         self.assertEqual(self.said(b'{"names": ""}\n'), b'{"asked": "{\\"names\\": \\"\\"}"}\n')
@@ -68,19 +68,19 @@ class Lines(ServerTest):
         self.assertEqual(self.said(b"no JSON\n[]\n" + b"[" * 100_000 + b"\n"), wrong * 3)
         self.assertEqual(self.said(b'{"names": ""}'), b"")
 
-    def test_a_line_that_is_too_long(self):
+    def test_a_line_that_is_too_long(self) -> None:
         self.bound(LONGEST_LINE=200_000)
         self.serve()
         self.assertEqual(self.said(b'"' + b" " * 199_000 + b'"\n'), b'{"refused": "BadCommand"}\n')
         self.assertEqual(self.said(b" " * 200_000), b'{"refused": "TooLong"}\n')
 
-    def test_no_node(self):
+    def test_no_node(self) -> None:
         with self.assertRaises(OSError):
             Client(self.path)
 
 
 class Bounds(ServerTest):
-    def test_clients_that_ask_nothing(self):
+    def test_clients_that_ask_nothing(self) -> None:
         """While others wait, who asked nothing for the longest time goes; who is asking stays."""
         self.bound(MOST_CLIENTS=3, IDLE=0.5)
         go_on = threading.Event()
@@ -101,12 +101,12 @@ class Bounds(ServerTest):
         go_on.set()
         self.assertEqual(asking.recv(99), b'{"ok": "True"}\n')
 
-    def test_a_byte_now_and_then_is_no_request(self):
+    def test_a_byte_now_and_then_is_no_request(self) -> None:
         self.bound(MOST_CLIENTS=1, IDLE=0.5)
         self.serve(lambda request: {})
         slow, ended = self.client(), threading.Event()
 
-        def trickle():
+        def trickle() -> None:
             while not ended.wait(0.05):
                 try:
                     slow.sendall(b" ")
@@ -119,7 +119,7 @@ class Bounds(ServerTest):
         self.addCleanup(ended.set)
         self.assertEqual(self.said(b"{}\n"), b"{}\n")
 
-    def test_nobody_goes_while_there_is_a_place(self):
+    def test_nobody_goes_while_there_is_a_place(self) -> None:
         self.bound(MOST_CLIENTS=2, IDLE=0.1)
         self.serve(lambda request: {})
         idle = self.client()
@@ -128,7 +128,7 @@ class Bounds(ServerTest):
         idle.sendall(b"{}\n")
         self.assertEqual(idle.recv(9), b"{}\n")
 
-    def test_lines_that_are_not_finished(self):
+    def test_lines_that_are_not_finished(self) -> None:
         """They have a bound for all together: the one that is unfinished for the longest time goes."""
         self.bound(ROOM=1_000_000, UNFINISHED=0.3)
         server = self.serve(lambda request: {})
@@ -147,7 +147,7 @@ class Bounds(ServerTest):
             time.sleep(0.02)
         self.assertEqual(server.room._free, 1_000_000)
 
-    def test_a_burst_of_clients(self):
+    def test_a_burst_of_clients(self) -> None:
         """More connections at once than places: all are answered in the end."""
         self.bound(MOST_CLIENTS=8)
         self.serve(lambda request: {})
@@ -164,20 +164,20 @@ class Access(ServerTest):
     def mode(self):
         return stat.S_IMODE(os.stat(self.path).st_mode)
 
-    def listen(self):
+    def listen(self) -> None:
         if os.path.lexists(self.path):
             os.unlink(self.path)
         listener = listening.listen(self.path, self.folder)
         self.addCleanup(listener.close)
 
-    def test_modes(self):
+    def test_modes(self) -> None:
         for mode, wanted in ((0o700, 0o600), (0o770, 0o660), (0o750, 0o600), (0o777, 0o666), (0o707, 0o606)):
             os.chmod(self.folder, mode)
             self.listen()
             self.assertEqual(self.mode(), wanted, oct(mode))
             self.assertEqual(sorted(os.listdir(self.top)), ["socket", "store"])
 
-    def test_what_is_at_the_path(self):
+    def test_what_is_at_the_path(self) -> None:
         self.listen()
         with self.assertRaises(OSError):
             listening.listen(self.path, self.folder)
@@ -189,14 +189,14 @@ class Access(ServerTest):
             os.unlink(self.path)
         self.assertEqual(os.listdir(self.top), ["store"])
 
-    def test_one_that_is_left(self):
+    def test_one_that_is_left(self) -> None:
         left = socket.socket(socket.AF_UNIX)
         left.bind(self.path)
         left.close()
         self.serve()
         self.assertIn(b"asked", self.said(b"{}\n"))
 
-    def test_no_mode_is_set_through_a_link(self):
+    def test_no_mode_is_set_through_a_link(self) -> None:
         """Nothing that others put at the path while the socket is made gets a mode, an owner or a list."""
         other = os.path.join(self.top, "other")
         with open(other, "wb"):
@@ -216,7 +216,7 @@ class Access(ServerTest):
         self.assertEqual(stat.S_IMODE(os.stat(other).st_mode), 0o600)
         os.unlink(self.path)
 
-    def test_the_end_leaves_what_is_another_one(self):
+    def test_the_end_leaves_what_is_another_one(self) -> None:
         server = self.serve()
         os.unlink(self.path)
         with open(self.path, "x", encoding="ascii"):
@@ -226,7 +226,7 @@ class Access(ServerTest):
         self.assertTrue(os.path.exists(self.path))
 
     @unittest.skipUnless(os.geteuid() == 0, "needs root")
-    def test_group_and_owner(self):
+    def test_group_and_owner(self) -> None:
         os.chown(self.folder, 12_345, 54_321)
         os.chmod(self.folder, 0o770)
         self.listen()
@@ -234,7 +234,7 @@ class Access(ServerTest):
         self.assertEqual((found.st_uid, found.st_gid, self.mode()), (12_345, 54_321, 0o660))
 
     @unittest.skipUnless(os.geteuid() == 0, "needs root")
-    def test_a_group_that_may_not_be_given(self):
+    def test_a_group_that_may_not_be_given(self) -> None:
         """Then nobody but the owner may connect."""
         os.chown(self.folder, 0, 54_321)
         os.chmod(self.folder, 0o777)
@@ -248,7 +248,7 @@ class Access(ServerTest):
             os._exit(0 if self.mode() == 0o600 and listener else 1)
 
     @unittest.skipIf(shutil.which("setfacl") is None, "needs setfacl")
-    def test_access_lists(self):
+    def test_access_lists(self) -> None:
         rows = [
             # the folder's list, and what getfacl has to say of the socket then
             ("u::rwx,u:12345:rwx,g::r-x,m::rwx,o::---", "user::rw- user:12345:rw- group::--- mask::rw- other::---"),
@@ -264,7 +264,7 @@ class Access(ServerTest):
             self.assertEqual(listed.split(), wanted.split(), given)
 
     @unittest.skipIf(shutil.which("setfacl") is None, "needs setfacl")
-    def test_an_access_list_that_can_not_be_set(self):
+    def test_an_access_list_that_can_not_be_set(self) -> None:
         subprocess.run(["setfacl", "-m", "u:12345:rwx", self.folder], check=True)
 
         def refuse(*_):
