@@ -1,8 +1,11 @@
 """The store whose calls are coroutines."""
 
+from __future__ import annotations
+
 import asyncio
 import os
 import unittest
+from typing import Any, Awaitable, Callable
 
 import confstore
 from confstore import AsyncStore, Store
@@ -11,17 +14,17 @@ from .places import StoreTest
 
 
 class Awaited(StoreTest):
-    def run_with(self, task, **more):
+    def run_with(self, task: Callable[[AsyncStore], Awaitable[Any]], **more: Any) -> Any:
         """What a coroutine of an open store returns."""
 
-        async def run():
+        async def run() -> Any:
             async with AsyncStore(self.folder, **more) as store:
                 return await task(store)
 
         return asyncio.run(asyncio.wait_for(run(), 60))
 
-    def test_calls(self):
-        async def task(store):
+    def test_calls(self) -> None:
+        async def task(store: AsyncStore) -> Any:
             self.assertEqual(await store.import_text("a", "k: [x]"), 1)
             self.assertEqual(await store.set("a", "/k/-", "y"), 2)
             self.assertEqual(await store.put("b", {}), 3)
@@ -45,17 +48,17 @@ class Awaited(StoreTest):
         with self.store() as store:
             self.assertEqual(store.names(), [])
 
-    def test_what_is_awaited_at_once_is_sent_at_once(self):
+    def test_what_is_awaited_at_once_is_sent_at_once(self) -> None:
         body = "for _ in range(100): heard()\n"
         body += "for number in range(100): say(b'---\\nok: \"%d\"\\n...\\n' % (number + 1))\nsys.stdin.buffer.read()\n"
 
-        async def task(store):
+        async def task(store: AsyncStore) -> Any:
             return await asyncio.gather(*(store.set("a", "", "x") for _ in range(100)))
 
         self.assertEqual(self.run_with(task, program=self.program(body)), list(range(1, 101)))
 
-    def test_cancelled_calls(self):
-        async def task(store):
+    def test_cancelled_calls(self) -> None:
+        async def task(store: AsyncStore) -> Any:
             await store.put("a", {})
             calls = [asyncio.ensure_future(store.set("a", f"/k{number}", f"v{number}")) for number in range(200)]
             await asyncio.sleep(0)
@@ -79,8 +82,8 @@ class Awaited(StoreTest):
 
         self.assertEqual(self.run_with(task), (True, True))
 
-    def test_no_answer_in_time(self):
-        async def task(store):
+    def test_no_answer_in_time(self) -> None:
+        async def task(store: AsyncStore) -> Any:
             store._timeout = 0.2
             with self.assertRaises(confstore.TimedOut) as caught:
                 await store.set("a", "", "x")
@@ -88,8 +91,8 @@ class Awaited(StoreTest):
 
         self.assertTrue(self.run_with(task, program=self.program("heard()\nsys.stdin.buffer.read()\n")))
 
-    def test_the_end_of_the_session(self):
-        async def task(store):
+    def test_the_end_of_the_session(self) -> None:
+        async def task(store: AsyncStore) -> Any:
             calls = [store.set("a", "", "x") for _ in range(10)]
             return await asyncio.gather(*calls, return_exceptions=True)
 
@@ -106,7 +109,7 @@ class Awaited(StoreTest):
             asyncio.run(AsyncStore(os.path.join(self.top, "none")).open())
 
     def test_an_answer_that_is_none(self) -> None:
-        async def task(store):
+        async def task(store: AsyncStore) -> Any:
             with self.assertRaises(confstore.BadAnswer):
                 await store.set("a", "", "x")
             with self.assertRaises(confstore.BadAnswer):

@@ -1,5 +1,7 @@
 """confstorectl: its words, its faults, and whom it asks. `checks/ctl.py` tries it beside the program."""
 
+from __future__ import annotations
+
 import contextlib
 import io
 import itertools
@@ -15,6 +17,7 @@ import sys
 import threading
 import time
 import unittest
+from typing import Any, BinaryIO
 from unittest import mock
 
 import yaml
@@ -27,6 +30,7 @@ from confstore.ctl_help import help_of, help_of_all
 from confstore.ctl_sockets import Connection, Place, SessionReply, line_of, place_of
 from confstore.ctl_words import COMMON, WORDS
 from confstore.other import Cutter
+from confstore.style import Tree
 
 from . import TOP
 from .places import StoreTest, python_path
@@ -35,7 +39,7 @@ PATIENCE = 20
 
 
 class Words(unittest.TestCase):
-    def asked(self, line):
+    def asked(self, line: str) -> tuple[str, dict[str, str], dict[str, str]]:
         asked = asked_of(shlex.split(line))
         self.assertIsInstance(asked, Asked)
         return asked.word.name, asked.arguments, asked.options
@@ -141,13 +145,13 @@ class Lines(unittest.TestCase):
             self.assertEqual(yaml.load(line.replace(b"\x7f", b"\\x7f"), yaml.BaseLoader), command)
 
 
-def random_text(chance):
+def random_text(chance: random.Random) -> str:
     signs = [*range(0x30), 0x3A, 0x5B, 0x5C, 0x7B, 0x7F, 0x80, 0x85, 0x9F, 0xA0, 0xE4, 0x2028, 0x2029, 0x202E]
     signs += [0xD7FF, 0xE000, 0xFEFF, 0xFFFD, 0xFFFE, 0xFFFF, 0x10000, 0x1F600, 0x10FFFF, 0x61, 0x6E, 0x7E]
     return "".join(chr(chance.choice(signs)) for _ in range(chance.randrange(8)))
 
 
-def random_tree(chance, depth):
+def random_tree(chance: random.Random, depth: int) -> Tree:
     kind = chance.randrange(3) if depth < 4 else 0
     if kind == 0:
         return random_text(chance)
@@ -161,7 +165,7 @@ class Sessions(StoreTest):
         {"no": "", "k" * 1_100: {"a": "b"}, "\x85": ["\u2028"]},
     )  # fmt: skip
 
-    def answer(self, command):
+    def answer(self, command: dict[str, Any]) -> SessionReply:
         with Store(self.folder) as store:
             return SessionReply(store._ask(command))
 
@@ -199,7 +203,7 @@ class Sessions(StoreTest):
                 SessionReply(piece).tree()
 
 
-def command_in(stream):
+def command_in(stream: BinaryIO) -> bytes:
     """The lines of the next command, up to the closing line or the end."""
     lines = itertools.takewhile(lambda line: line not in (b"...\n", b""), iter(stream.readline, None))
     return b"".join(lines)
@@ -213,7 +217,7 @@ class SocketTest(StoreTest):
         self.path = os.path.join(self.top, "socket")
         self.heard = []
 
-    def listen(self, *answers):
+    def listen(self, *answers: bytes) -> None:
         """Gives a client what it is to be answered, one line of `...` after the other, and then closes."""
         listener = socket.socket(socket.AF_UNIX)
         self.addCleanup(listener.close)
@@ -234,14 +238,14 @@ class SocketTest(StoreTest):
         thread.start()
         self.addCleanup(thread.join, PATIENCE)
 
-    def perform(self, *words):
+    def perform(self, *words: str) -> tuple[int, bytes, str]:
         """The status of words that go to the socket, and what they wrote."""
         output, errors = io.BytesIO(), io.StringIO()
         with mock.patch("confstore.ctl.write", output.write), mock.patch("confstore.ctl.write_error", errors.write):
             status = perform_words(["--socket", self.path, *words])
         return status, output.getvalue(), errors.getvalue()
 
-    def fault(self, *words):
+    def fault(self, *words: str) -> tuple[int, str]:
         status, output, errors = self.perform(*words)
         self.assertEqual(output, b"")
         self.assertRegex(errors, r"\Aconfstorectl: .*\n\Z")
@@ -387,7 +391,7 @@ class Places(SocketTest):
 class Programs(StoreTest):
     """confstorectl as a process."""
 
-    def process(self, *words, **more):
+    def process(self, *words: str, **more: Any) -> subprocess.Popen[bytes]:
         environment = {**os.environ, "PYTHONPATH": python_path()}
         process = subprocess.Popen([sys.executable, "-m", "confstore.ctl", *words], env=environment, **more)
         self.addCleanup(process.wait)

@@ -1,5 +1,7 @@
 """Following the changes of a store: each once, in order, over checkpoints and sessions."""
 
+from __future__ import annotations
+
 import os
 import shutil
 import subprocess
@@ -10,6 +12,7 @@ from unittest import mock
 
 from confstore import Cut, Damaged, Device, Edit, MissingFolder, NotAStore, Reader, Record, Replaced, Store
 from confstore import following, waking
+from confstore.following import Event
 
 from .places import StoreTest
 
@@ -25,16 +28,16 @@ class FollowTest(StoreTest):
         with Store(self.folder) as store:
             store["web"] = {"n": "0", "tags": ["a"]}
 
-    def follow(self, start=None):
+    def follow(self, start: int | None = None) -> following.Changes:
         changes = Reader(self.folder).follow(start)
         self.addCleanup(changes.close)
         return changes
 
-    def all_of(self, changes):
+    def all_of(self, changes: following.Changes) -> list[Event]:
         """The events that are there now."""
         return list(iter(lambda: changes.within(0), None))
 
-    def set(self, *numbers):
+    def set(self, *numbers: int) -> None:
         with Store(self.folder) as store:
             for number in numbers:
                 store.set("web", "/n", str(number))
@@ -43,7 +46,7 @@ class FollowTest(StoreTest):
         with Store(self.folder) as store:
             store.checkpoint()
 
-    def was_set(self, number, value):
+    def was_set(self, number: int, value: object) -> Record:
         return Record(number, (Edit("set", "web", "/n", str(value)),))
 
 

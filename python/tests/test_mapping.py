@@ -1,11 +1,14 @@
 """Stores as mappings, what refusals say, and what the package shows of itself."""
 
+from __future__ import annotations
+
 import collections.abc
 import doctest
 import os
 import pickle
 import pydoc
 import unittest
+from typing import Callable
 
 import confstore
 from confstore import Reader, Store
@@ -45,12 +48,12 @@ class Mappings(StoreTest):
             with self.assertRaises(KeyError):
                 mapping.get("b")
 
-    def test_in_asks_one_short_question(self):
+    def test_in_asks_one_short_question(self) -> None:
         store = self.store()
         store.update(text="x", list=["x"], empty={}, key={"": "x"}, other={"k": "x"})
         asked, ask = [], store._session.ask
 
-        def asking(document, timeout):
+        def asking(document: bytes, timeout: float | None) -> bytes:
             answer = ask(document, timeout)
             asked.append((document.split(b"\n")[1][:4], len(answer)))
             return answer
@@ -78,12 +81,12 @@ class Mappings(StoreTest):
         store.clear()
         self.assertEqual(store.checkpoint(), 2)
 
-    def test_clear_beside_one_who_deletes(self):
+    def test_clear_beside_one_who_deletes(self) -> None:
         store, names = self.store(), []
         store.update(a="x", b="y")
         names_of = store.names
 
-        def asking():
+        def asking() -> list[str]:
             found = names_of()
             if not names:
                 store.delete("b")
@@ -116,7 +119,7 @@ class Mappings(StoreTest):
 
 
 class Sentences(StoreTest):
-    def fault(self, call):
+    def fault(self, call: Callable[[], object]) -> confstore.Refused:
         with self.assertRaises(confstore.Refused) as caught:
             call()
         return caught.exception

@@ -14,7 +14,7 @@ from .places import StoreTest
 
 
 class Pages(StoreTest):
-    def run_example(self, code):
+    def run_example(self, code: str) -> str:
         """What an example prints, over a store of its own in place of the one in /var/lib/app."""
         with open(os.path.join(self.top, "dns.yaml"), "w", encoding="utf-8") as target:
             target.write("server: a\n")
@@ -29,7 +29,7 @@ class Pages(StoreTest):
         self.assertEqual((done.returncode, errors), (0, ""))
         return done.stdout.decode()
 
-    def page(self, *names):
+    def page(self, *names: str) -> str:
         with open(os.path.join(TOP, *names), encoding="utf-8") as source:
             return source.read()
 
@@ -56,7 +56,8 @@ class Pages(StoreTest):
             store.checkpoint()
             store.set("web", "/port", "82")
             store["dns"] = "x"
-        code = code.replace("    for change in changes:\n", "    for change in [changes.within(9) for _ in range(3)]:\n")
+        three = "    for change in [changes.within(9) for _ in range(3)]:\n"
+        code = code.replace("    for change in changes:\n", three)
         wanted = "a checkpoint dropped 2 to 2 before they were seen\n3 [('set', '/port', '82')]\n"
         self.assertEqual(self.run_example(code), wanted)
 

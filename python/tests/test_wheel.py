@@ -1,5 +1,7 @@
 """The package is built and installed with nothing but Python."""
 
+from __future__ import annotations
+
 import os
 import pathlib
 import subprocess
@@ -21,7 +23,7 @@ class Wheels(unittest.TestCase):
         self.addCleanup(holder.cleanup)
         self.top = holder.name
 
-    def built(self, name):
+    def built(self, name: str) -> dict[str, bytes]:
         """The bytes of the archives of a build, by name."""
         folder = os.path.join(self.top, name)
         os.mkdir(folder)

@@ -1,14 +1,17 @@
 """Entries, and the batches that perform them: once, in their order, and no others."""
 
+from __future__ import annotations
+
 import os
 import tempfile
 import unittest
+from typing import Any, List
 
 import confstore
 from confstore import Refused as StoreRefused, Store
 from confstore_replicated.answers import answers_in, base_length_in, count_in
 from confstore_replicated.entries import LONGEST, MARK_LENGTH, NO_MARK, RESERVED, Refused, command_of, edits_in
-from confstore_replicated.entries import edits_of, entry_of, has_nonce, number_in
+from confstore_replicated.entries import Edit, edits_of, entry_of, has_nonce, number_in
 from confstore_replicated.entries import marked as marked_with, refused as refusal_with
 from confstore_replicated.etcd import Item
 from confstore_replicated.follower import Follower, NotReplicated
@@ -21,11 +24,14 @@ WRONG = {"set": "b", "path": "/n", "value": "y"}
 MARK = "e" + "x" * (MARK_LENGTH - 1)
 
 
-def marked(edits, number, before):
+Edits = List[Edit]
+
+
+def marked(edits: Edits, number: int, before: int) -> Edits:
     return marked_with(edits, number, before, MARK)
 
 
-def refusal_of(word, number, before):
+def refusal_of(word: str, number: int, before: int) -> Edits:
     return refusal_with(word, number, before, MARK)
 
 
@@ -33,7 +39,7 @@ def refusal_of(word, number, before):
 LONGEST_BASE = 67_108_864
 
 
-def nested(depth, tree="x"):
+def nested(depth: int, tree: Any = "x") -> Any:
     for _ in range(depth):
         tree = [tree]
     return tree
@@ -95,19 +101,22 @@ class StoreTest(unittest.TestCase):
         self.top = holder.name
         os.mkdir(self.folder)
 
-    def store(self):
+    def store(self) -> Store:
         store = Store(self.folder)
         self.addCleanup(store.close)
         return store
 
 
+def answer_shown(answer: Any) -> Any:
+    """A refusal by its word, another fault by its sentence, and a count as it is."""
+    if isinstance(answer, StoreRefused):
+        return answer.word
+    return str(answer) if isinstance(answer, Exception) else answer
+
+
 class Batches(StoreTest):
-    def answers(self, store, *batches):
-        given = store.perform_batches(batches)
-        return [
-            answer.word if isinstance(answer, StoreRefused) else str(answer) if isinstance(answer, Exception) else answer
-            for answer in given
-        ]
+    def answers(self, store: Store, *batches: Edits) -> list[Any]:
+        return [answer_shown(answer) for answer in store.perform_batches(batches)]
 
     def test_each_once_and_in_order(self) -> None:
         store = self.store()
@@ -131,17 +140,17 @@ class Batches(StoreTest):
 
 
 class Followers(StoreTest):
-    def follower(self):
+    def follower(self) -> tuple[Follower, list[tuple[Any, ...]]]:
         told = []
         follower = Follower(self.folder, ["127.0.0.1:1"], "x", told=lambda *answer: told.append(answer))
         self.addCleanup(follower.close)
         follower.open()
         return follower, told
 
-    def items(self, *commands, start=1):
+    def items(self, *commands: dict[str, Any], start: int = 1) -> list[Item]:
         return [self.item(command_of(edits_of(command)), start + at) for at, command in enumerate(commands)]
 
-    def item(self, command, number):
+    def item(self, command: bytes, number: int) -> Item:
         return Item(b"k", entry_of(command) if command.endswith(b"}") else command, number, number)
 
     def test_answers(self) -> None:
@@ -208,14 +217,14 @@ class Followers(StoreTest):
             store.put(RESERVED, {f"{1:020}": NO_MARK})
             self.assertEqual(lengths, {len(store.export(RESERVED))})
 
-    def test_a_file_that_is_too_long(self):
+    def test_a_file_that_is_too_long(self) -> None:
         """`JournalLong` is no answer: the store makes its file short, and the command is sent again."""
         follower, told = self.follower()
         follower._perform(self.items(IMPORT))
         store, sent = follower.store, []
         perform = store.perform_batches
 
-        def too_long(batches):
+        def too_long(batches: list[Edits]) -> list[Any]:
             sent.append(len(batches))
             if len(sent) in wanted:
                 first = perform(batches[: wanted[len(sent)]])
@@ -273,7 +282,7 @@ class Followers(StoreTest):
         self.assertEqual([performed.is_of(entry) for entry in entries[-2:]], [False, True])
         self.assertEqual(follower.store.checkpoint(), 105)
 
-    def fill(self, store):
+    def fill(self, store: Store) -> None:
         """Has the base of a store be as long as it may be."""
         for number in range(15):
             store.put(f"c{number}", "1" * 4_194_000)
@@ -285,7 +294,7 @@ class Followers(StoreTest):
         with self.assertRaises(confstore.StoreFull):
             store.put("e", "1" * (length + 1))
 
-    def base_length(self, store):
+    def base_length(self, store: Store) -> int:
         store.checkpoint()
         return os.path.getsize(os.path.join(self.folder, "store.yaml"))
 
