@@ -1,10 +1,10 @@
 #!/usr/bin/env python3
 """Looks up each name that the pages and crates.txt give, and fails if one is wrong.
 
-- docs/RULES.md: `File.name` is a definition, `crate::file::name` a function in `src/file.rt`, `crate/name` a must-fail
-  edit, and a bare name with `_` a law (a public function) or a crate. A text with `;` begins a row of a probe, and one
-  that begins with `words ` is such a line of checks/data/program.txt.
-- docs/PROVED.md: what stands in parentheses at the end of a claim: crates, and names in their sources.
+- docs/PROVED.md, in the tables of rules: `File.name` is a definition, `crate::file::name` a function in `src/file.rt`,
+  `crate/name` a must-fail edit, and a bare name with `_` a law (a public function) or a crate. A text with `;` begins a
+  row of a probe, and one that begins with `words ` is such a line of checks/data/program.txt. A name in the column of
+  proofs is a law, or is in the sources of the crates of the row's code.
 - docs/FAULTS.md: the first cells of its tables have each variant of the faults that the program prints, and no other
   name, and the table of statuses has those of the code.
 - docs/STORE.md: each number of the table of limits is in the code, and each fault of it is one.
@@ -29,6 +29,7 @@ from collections.abc import Iterator
 
 TOP = os.path.dirname(os.path.dirname(os.path.abspath(__file__)))
 CODE = re.compile(r"`([^`]+)`")
+CELL_ENDS = re.compile(r"(?<!\\)\|")
 # The libraries that no file of a crate names, but whose types its contracts speak of.
 UNNAMED = {"example_edit": {"yaml_data"}, "conf_history": {"yaml_data"}}
 MOST_WAYS = 5500
@@ -91,16 +92,11 @@ def rows_of(path: str, heading: str = "") -> Iterator[list[str]]:
     text = page(path).partition(f"\n## {heading}\n")[2].partition("\n## ")[0] if heading else page(path)
     for line in text.splitlines():
         if line.startswith("|") and not line.startswith("|---"):
-            yield [cell.strip() for cell in line.strip().strip("|").split(" | ")]
-
-
-def items_of(path: str) -> list[str]:
-    """The items of the page's lists, each as one line."""
-    return [re.sub(r"\n +", " ", item) for item in re.findall(r"^- (.*(?:\n  .*)*)", page(path), re.M)]
+            yield [cell.strip() for cell in CELL_ENDS.split(line.strip())[1:-1]]
 
 
 def is_rule_name(token: str) -> bool:
-    """Whether a name of RULES.md is there; what is no name counts as one that is."""
+    """Whether a name of a rule is there; what is no name counts as one that is."""
     if ";" in token:
         return begins_row(token)
     if token.startswith("words "):
@@ -116,20 +112,24 @@ def is_rule_name(token: str) -> bool:
     return True
 
 
+def rules() -> list[list[str]]:
+    """The rows of the tables of rules: the rule, its definition, its code, its proof and its test."""
+    return [row for row in rows_of("docs/PROVED.md") if row[0] != "rule"]
+
+
 def missing_in_rules() -> Iterator[str]:
-    for item in items_of("docs/RULES.md"):
-        yield from (f"docs/RULES.md: `{token}`" for token in CODE.findall(item) if not is_rule_name(token))
+    for rule, definition, code, _, test in rules():
+        tokens = CODE.findall(" ".join((rule, definition, code, test)))
+        yield from (f"docs/PROVED.md: `{token}`" for token in tokens if not is_rule_name(token))
 
 
-def missing_in_claims() -> Iterator[str]:
-    for item in items_of("docs/PROVED.md"):
-        place = re.search(r"\(([^()]*)\)$", item)
-        tokens = CODE.findall(place[1]) if place else []
-        named = [token for token in tokens if token in crates()]
+def missing_in_proofs() -> Iterator[str]:
+    for _, _, code, proof, _ in rules():
+        named = [token.split("::")[0] for token in CODE.findall(code)]
         sources = "\n".join(text_of(f"{crate}/src/**/*.rt") for crate in named)
-        for name in (name for token in tokens if token not in named for name in token.split("::")):
-            if not has_word(name, sources):
-                yield f"docs/PROVED.md: `{name}` is not in {', '.join(named)}"
+        for name in CODE.findall(proof):
+            if not has_word(name, sources) and not is_law(name):
+                yield f"docs/PROVED.md: `{name}` is neither a law nor in {', '.join(named)}"
 
 
 def found_in(pattern: str, text: str, flags: re.RegexFlag) -> re.Match[str]:
@@ -250,7 +250,7 @@ def many_ways() -> Iterator[str]:
 
 
 def main() -> int:
-    looks = (missing_in_rules, missing_in_claims, wrong_in_faults, wrong_statuses, wrong_limits, wrong_in_architecture,
+    looks = (missing_in_rules, missing_in_proofs, wrong_in_faults, wrong_statuses, wrong_limits, wrong_in_architecture,
              wrong_in_drawing, missing_definitions, wrong_words, unused_libraries, many_ways)  # fmt: skip
     missing = [line for look in looks for line in look()]
     for line in missing:
