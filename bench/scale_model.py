@@ -1,5 +1,5 @@
 #!/usr/bin/env python3
-"""A model of many stores on many machines, for what can't be run on one: docs/SCALE.md has its figures.
+"""A model of many stores on many machines, for what can't be run on one: docs/SPEED.md has its figures.
 
 Stores lie on machines by their names' hash, some are busier than others (Zipf), and commands come at random. A
 machine's disk makes one sync after the other. A session that holds commands waits for its turn, and then one sync takes
