@@ -14,6 +14,7 @@
 - docs/GUIDE.md and README.md: each word behind `confstore` is one of the program's; the guide has all of them.
 - crates.txt: a library that a line names is in the files of the line's crate, and from no crate are there more than
   5,500 ways down through these lines: a toolchain may read the sources once for each.
+- docs/*.svg: the pictures that packaging/pictures draws are as it would draw them.
 
 It takes some seconds, and the status is 1 if a name is not there or if there are more ways.
 """
@@ -24,6 +25,7 @@ import functools
 import glob
 import os
 import re
+import subprocess
 import sys
 from collections.abc import Iterator
 
@@ -249,9 +251,15 @@ def many_ways() -> Iterator[str]:
             yield f"crates.txt: {ways(crate)} ways lead down from {crate}, more than {MOST_WAYS}"
 
 
+def wrong_pictures() -> Iterator[str]:
+    script = os.path.join(TOP, "packaging", "pictures", "draw.py")
+    checked = subprocess.run([sys.executable, script, "--check"], stdout=subprocess.PIPE, text=True, check=False)
+    yield from checked.stdout.splitlines()
+
+
 def main() -> int:
     looks = (missing_in_rules, missing_in_proofs, wrong_in_faults, wrong_statuses, wrong_limits, wrong_in_architecture,
-             wrong_in_drawing, missing_definitions, wrong_words, unused_libraries, many_ways)  # fmt: skip
+             wrong_in_drawing, missing_definitions, wrong_words, unused_libraries, many_ways, wrong_pictures)  # fmt: skip
     missing = [line for look in looks for line in look()]
     for line in missing:
         print(line)
