@@ -116,7 +116,7 @@ def is_rule_name(token: str) -> bool:
 
 def rules() -> list[list[str]]:
     """The rows of the tables of rules: the rule, its definition, its code, its proof and its test."""
-    return [row for row in rows_of("docs/PROVED.md") if row[0] != "rule"]
+    return [row for row in rows_of("docs/PROVED.md") if len(row) == 5 and row[0] != "rule"]
 
 
 def missing_in_rules() -> Iterator[str]:
