@@ -12,6 +12,7 @@
   functions of the drawing of a command's way are in their files.
 - docs/TRUSTED.md: each file of definitions is there.
 - docs/GUIDE.md and README.md: each word behind `confstore` is one of the program's; the guide has all of them.
+- every page: the pages that it names are there, beside it or from the top.
 - crates.txt: a library that a line names is in the files of the line's crate, and from no crate are there more than
   5,500 ways down through these lines: a toolchain may read the sources once for each.
 - docs/*.svg: the pictures that packaging/pictures draws are as it would draw them.
@@ -228,6 +229,14 @@ def wrong_words() -> Iterator[str]:
             yield from (f"{path}: the word `{word}` is missing" for word in sorted(words - named))
 
 
+def missing_pages() -> Iterator[str]:
+    for pattern in ("*.md", "docs/*.md", "*/README.md", "*/*/README.md"):
+        for path in sorted(glob.glob(os.path.join(TOP, pattern))):
+            named = set(re.findall(r"`([\w./-]+\.md)`", page(path)))
+            there = {name for name in named for top in (TOP, os.path.dirname(path)) if os.path.exists(f"{top}/{name}")}
+            yield from (f"{os.path.relpath(path, TOP)}: `{name}`" for name in sorted(named - there))
+
+
 def libraries_of_crates() -> dict[str, set[str]]:
     """The libraries that the line of each crate names."""
     lines = [line.partition("#")[0].partition(":") for line in page("crates.txt").splitlines()]
@@ -262,7 +271,8 @@ def wrong_pictures() -> Iterator[str]:
 
 def main() -> int:
     looks = (missing_in_rules, missing_in_proofs, wrong_in_faults, wrong_statuses, wrong_limits, wrong_in_architecture,
-             wrong_in_drawing, missing_definitions, wrong_words, unused_libraries, many_ways, wrong_pictures)  # fmt: skip
+             wrong_in_drawing, missing_definitions, wrong_words, missing_pages, unused_libraries, many_ways,
+             wrong_pictures)  # fmt: skip
     missing = [line for look in looks for line in look()]
     for line in missing:
         print(line)
