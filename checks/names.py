@@ -12,7 +12,7 @@
   functions of the drawing of a command's way are in their files.
 - docs/TRUSTED.md: each file of definitions is there.
 - docs/GUIDE.md and README.md: each word behind `confstore` is one of the program's; the guide has all of them.
-- every page: the pages that it names are there, beside it or from the top.
+- PAGES: each page, script and picture that they name is there: beside the page, from the top, in checks/ or bench/.
 - crates.txt: a library that a line names is in the files of the line's crate, and from no crate are there more than
   5,500 ways down through these lines: a toolchain may read the sources once for each.
 - docs/*.svg: the pictures that packaging/pictures draws are as it would draw them.
@@ -36,6 +36,8 @@ CELL_ENDS = re.compile(r"(?<!\\)\|")
 # The libraries that no file of a crate names, but whose types its contracts speak of.
 UNNAMED = {"example_edit": {"yaml_data"}, "conf_history": {"yaml_data"}}
 MOST_WAYS = 5500
+# The pages whose names of other files are looked up.
+PAGES = ("[!C]*.md", "CONTRIBUTING.md", "docs/*.md", "[!c]*/README.md", "checks/README.md", "replicated/model/README.md")
 # The enums of faults that the program prints, and the names that it prints for what isn't a variant of that name.
 FAULTS = ["Why", "ReadFault", "StoreFault", "PathFault", "OpenFault", "FolderFault", "SessionFault", "HistoryFault"]
 PRINTED = {"BadCommand", "Input", "Output", "StoreExists"}
@@ -229,11 +231,12 @@ def wrong_words() -> Iterator[str]:
             yield from (f"{path}: the word `{word}` is missing" for word in sorted(words - named))
 
 
-def missing_pages() -> Iterator[str]:
-    for pattern in ("*.md", "docs/*.md", "*/README.md", "*/*/README.md"):
+def missing_files() -> Iterator[str]:
+    for pattern in PAGES:
         for path in sorted(glob.glob(os.path.join(TOP, pattern))):
-            named = set(re.findall(r"`([\w./-]+\.md)`", page(path)))
-            there = {name for name in named for top in (TOP, os.path.dirname(path)) if os.path.exists(f"{top}/{name}")}
+            named = set(re.findall(r"`([\w./-]+\.(?:md|py|sh|svg))`", page(path)))
+            tops = (TOP, os.path.dirname(path), os.path.join(TOP, "checks"), os.path.join(TOP, "bench"))
+            there = {name for name in named for top in tops if os.path.exists(os.path.join(top, name))}
             yield from (f"{os.path.relpath(path, TOP)}: `{name}`" for name in sorted(named - there))
 
 
@@ -271,7 +274,7 @@ def wrong_pictures() -> Iterator[str]:
 
 def main() -> int:
     looks = (missing_in_rules, missing_in_proofs, wrong_in_faults, wrong_statuses, wrong_limits, wrong_in_architecture,
-             wrong_in_drawing, missing_definitions, wrong_words, missing_pages, unused_libraries, many_ways,
+             wrong_in_drawing, missing_definitions, wrong_words, missing_files, unused_libraries, many_ways,
              wrong_pictures)  # fmt: skip
     missing = [line for look in looks for line in look()]
     for line in missing:
