@@ -7,6 +7,7 @@ pub mod Steps
 pub mod TreeCode
 pub mod Commands
 pub mod Names
+pub mod FaultNames
 pub mod PathFaults
 pub mod Rooms
 pub mod Configs
