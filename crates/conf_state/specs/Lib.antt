@@ -14,3 +14,4 @@ pub mod Configs
 pub mod Places
 pub mod Lends
 pub mod Drafts
+pub mod Endings

@@ -1,25 +1,21 @@
 // What the edits of a batch make of a state, before the state is changed.
-ghost use Rattle.std.specs.Prelude.{◌≡◌, ◌⊎◌, ◌<◌, true, false, List, Some, Ok, Err, OnOk, IfOk, IfErr, IfSome, IfNone, IsTrue, length, is_some, option_map};
+ghost use Rattle.std.specs.Prelude.{◌≡◌, ◌⊎◌, ◌<◌, true, Ok, Err, OnOk, IfOk, IfErr, IfSome, length, option_map};
 ghost use Rattle.std.specs.Str.{chars};
 ghost use Rattle.yaml_grammar.specs.Reads.{Good};
 ghost use Rattle.yaml_data.specs.Seen.{tree_of};
 ghost use Rattle.yaml_config.specs.Limits.{config_limits};
 ghost use Rattle.conf_state.specs.Names.{good_name};
-ghost use Rattle.conf_state.specs.Commands.{edit_of, text_of, import_as, set_at, delete_at};
-ghost use Rattle.conf_state.specs.Drafts.{cut_all, drafted, texts_of, ChangesOne, IsCounted, IsDraft};
+ghost use Rattle.conf_state.specs.Commands.{text_of};
+ghost use Rattle.conf_state.specs.Drafts.{cut_all, drafted, texts_of, ChangesOne, IsDraft, IsDraftOf};
 ghost use Rattle.conf_state.specs.Edits.{configs_after_edit};
-ghost use Rattle.conf_state.specs.Limits.{IsState};
-ghost use Rattle.conf_state.specs.States.{Entry, config_named, cut_config, names_differ, names_of};
-ghost use Rattle.conf_state.specs.Steps.{configs_after, edited};
+ghost use Rattle.conf_state.specs.States.{config_named, put_config, cut_config};
 
-use crate::command::Edit;
 use crate::configs::Configs;
 use crate::draft_length::length_changed;
+use crate::editing::Editor;
 use crate::fault::StoreFault;
-use crate::name::good_name;
 use crate::planning::edit_config;
 use crate::state::State;
-use crate::steps::check_limits;
 use indexmap::IndexSet;
 use std::alloc::{AllocError, Global};
 use yaml_config::{Change, Config, Edit as PathEdit};
@@ -43,9 +39,8 @@ pub(crate) struct Draft {
 impl Draft {
     /// The draft before any edit. It takes no memory.
     pub fn new(alloc: Global, state: &State) -> Draft
-        ensures same { (es : List Entry) → drafted es result ≡ es }
-        ensures draft { IsDraft result }
-        ensures counted { IsCounted state.now.configs result }
+        ensures same { drafted state.now.configs result ≡ state.now.configs }
+        ensures draft { IsDraftOf state.now.configs result }
     {
         Draft {
             removed: IndexSet::new(alloc),
@@ -54,100 +49,18 @@ impl Draft {
         }
     }
 
-    /// Makes an edit on what the edits before it made of the state. After a refusal the draft has to be dropped.
-    pub fn perform(&mut self, alloc: Global, state: &State, edit: Edit) -> Result<(), StoreFault>
-        requires draft { IsDraft self.old }
-        requires counted { IsCounted state.now.configs self.old }
-        ensures ok { OnOk result (edited (drafted state.now.configs self.old) (edit_of edit)
-            ≡ Ok (drafted state.now.configs self.new)) }
-        ensures draft { OnOk result (IsDraft self.new) }
-        ensures counted { OnOk result (IsCounted state.now.configs self.new) }
-        ensures refused { IfErr result (λ fault. (fault ≡ StoreFault.OutOfMemory)
-            ⊎ (edited (drafted state.now.configs self.old) (edit_of edit) ≡ Err fault)) }
-    {
-        if !good_name(edit.name()) {
-            return Err(StoreFault::BadName);
-        }
-        match edit {
-            Edit::Import { name, tree } => self.import(state, name, tree),
-            Edit::Set { name, path, value } => self.set(alloc, state, name, &path, value),
-            Edit::Delete { name, path } => self.delete(alloc, state, name, &path),
-        }
-    }
-
-    fn import(&mut self, state: &State, name: String, config: Config) -> Result<(), StoreFault>
+    /// Puts a configuration under a name.
+    fn put(&mut self, state: &State, name: String, config: Config) -> Result<(), AllocError>
+        requires draft { IsDraftOf state.now.configs self.old }
         requires named { good_name (text_of name) ≡ true }
-        requires draft { IsDraft self.old }
-        requires counted { IsCounted state.now.configs self.old }
-        ensures ok { OnOk result ((es : List Entry) → configs_after (drafted es self.old)
-            (import_as (text_of name) (tree_of config)) ≡ Ok (drafted es self.new)) }
-        ensures draft { OnOk result (IsDraft self.new) }
-        ensures counted { OnOk result (IsCounted state.now.configs self.new) }
-        ensures refused { IfErr result (λ fault. (fault ≡ StoreFault.OutOfMemory)
-            ⊎ ((es : List Entry) → configs_after (drafted es self.old)
-            (import_as (text_of name) (tree_of config)) ≡ Err fault)) }
+        requires within { Good (tree_of config) config_limits }
+        ensures ok { OnOk result (drafted state.now.configs self.new
+            ≡ put_config (drafted state.now.configs self.old) (text_of name) (tree_of config)) }
+        ensures draft { OnOk result (IsDraftOf state.now.configs self.new) }
     {
-        check_limits(&config)?;
         let length = self.length_with(state, &name, &config)?;
         self.touched.put(name, config)?;
         self.length = length;
-        Ok(())
-    }
-
-    fn set(
-        &mut self,
-        alloc: Global,
-        state: &State,
-        name: String,
-        path: &str,
-        value: Config,
-    ) -> Result<(), StoreFault>
-        requires named { good_name (text_of name) ≡ true }
-        requires draft { IsDraft self.old }
-        requires counted { IsCounted state.now.configs self.old }
-        ensures ok { OnOk result (configs_after (drafted state.now.configs self.old)
-            (set_at (text_of name) (chars path.now) (tree_of value))
-            ≡ Ok (drafted state.now.configs self.new)) }
-        ensures draft { OnOk result (IsDraft self.new) }
-        ensures counted { OnOk result (IsCounted state.now.configs self.new) }
-        ensures refused { IfErr result (λ fault. (fault ≡ StoreFault.OutOfMemory)
-            ⊎ (configs_after (drafted state.now.configs self.old)
-            (set_at (text_of name) (chars path.now) (tree_of value)) ≡ Err fault)) }
-    {
-        if !path.is_empty() {
-            return self.edit(alloc, state, name, path, PathEdit::Set(value));
-        }
-        if !self.has(state, &name) {
-            return Err(StoreFault::NoConfig);
-        }
-        self.import(state, name, value)
-    }
-
-    fn delete(
-        &mut self,
-        alloc: Global,
-        state: &State,
-        name: String,
-        path: &str,
-    ) -> Result<(), StoreFault>
-        requires named { good_name (text_of name) ≡ true }
-        requires draft { IsDraft self.old }
-        requires counted { IsCounted state.now.configs self.old }
-        ensures ok { OnOk result (configs_after (drafted state.now.configs self.old)
-            (delete_at (text_of name) (chars path.now)) ≡ Ok (drafted state.now.configs self.new)) }
-        ensures draft { OnOk result (IsDraft self.new) }
-        ensures counted { OnOk result (IsCounted state.now.configs self.new) }
-        ensures refused { IfErr result (λ fault. (fault ≡ StoreFault.OutOfMemory)
-            ⊎ (configs_after (drafted state.now.configs self.old)
-            (delete_at (text_of name) (chars path.now)) ≡ Err fault)) }
-    {
-        if !path.is_empty() {
-            return self.edit(alloc, state, name, path, PathEdit::Delete);
-        }
-        if !self.has(state, &name) {
-            return Err(StoreFault::NoConfig);
-        }
-        self.remove(state, name)?;
         Ok(())
     }
 
@@ -160,14 +73,12 @@ impl Draft {
         pointer: &str,
         edit: PathEdit,
     ) -> Result<(), StoreFault>
+        requires draft { IsDraftOf state.now.configs self.old }
         requires named { good_name (text_of name) ≡ true }
-        requires draft { IsDraft self.old }
-        requires counted { IsCounted state.now.configs self.old }
         requires steps { 0 < length pointer.now }
         ensures ok { OnOk result (configs_after_edit (drafted state.now.configs self.old)
             (text_of name) edit (chars pointer.now) ≡ Ok (drafted state.now.configs self.new)) }
-        ensures draft { OnOk result (IsDraft self.new) }
-        ensures counted { OnOk result (IsCounted state.now.configs self.new) }
+        ensures draft { OnOk result (IsDraftOf state.now.configs self.new) }
         ensures refused { IfErr result (λ fault. (fault ≡ StoreFault.OutOfMemory)
             ⊎ (configs_after_edit (drafted state.now.configs self.old)
             (text_of name) edit (chars pointer.now) ≡ Err fault)) }
@@ -213,16 +124,6 @@ impl Draft {
         Ok(change)
     }
 
-    /// Whether there is a configuration under a name.
-    fn has(&self, state: &State, name: &str) -> bool
-        requires { IsDraft self.now }
-        ensures there { result
-            ≡ is_some (config_named (drafted state.now.configs self.now) (chars name.now)) }
-        ensures distinct { names_differ (names_of state.now.configs) ≡ true }
-    {
-        self.untouched(state, name).is_some() || self.touched.get(name).is_some()
-    }
-
     /// The configuration under a name.
     pub(crate) fn get<'d>(&'d self, state: &'d State, name: &str) -> Option<&'d Config>
         requires { IsDraft self.now }
@@ -241,7 +142,6 @@ impl Draft {
             ≡ config_named (cut_all state.now.configs (texts_of self.now.removed.keys))
             (chars name.now) }
         ensures within { IfSome result (λ config. Good (tree_of config.now) config_limits) }
-        ensures distinct { names_differ (names_of state.now.configs) ≡ true }
     {
         let found = state.get(name);
         if self.removed.contains(name) {
@@ -252,13 +152,10 @@ impl Draft {
 
     /// Removes the configuration under a name.
     fn remove(&mut self, state: &State, name: String) -> Result<(), AllocError>
-        requires draft { IsDraft self.old }
-        requires counted { IsCounted state.now.configs self.old }
-        requires distinct { names_differ (names_of state.now.configs) ≡ true }
+        requires { IsDraftOf state.now.configs self.old }
         ensures ok { OnOk result (drafted state.now.configs self.new
             ≡ cut_config (drafted state.now.configs self.old) (text_of name)) }
-        ensures draft { OnOk result (IsDraft self.new) }
-        ensures counted { OnOk result (IsCounted state.now.configs self.new) }
+        ensures draft { OnOk result (IsDraftOf state.now.configs self.new) }
     {
         let length = self.length_without(state, &name);
         self.touched.remove(&name);
@@ -266,4 +163,50 @@ impl Draft {
         self.length = length;
         Ok(())
     }
+}
+
+/// Makes edits on a draft of a state. After a refusal the draft has to be dropped.
+pub(crate) struct OnDraft<'s> {
+    /// The state that it is a draft of.
+    pub(crate) state: &'s State,
+}
+
+impl Editor for OnDraft<'_> {
+    ghost use Rattle.conf_state.specs.Drafts.{drafted, IsDraftOf};
+    ghost use Rattle.conf_state.specs.Endings.{EndsOnDraft, refused_on_draft};
+
+    type Target = Draft;
+
+    ghost configs = { λ editor draft. drafted editor.state.now.configs draft };
+
+    ghost IsReady = { λ editor draft. IsDraftOf editor.state.now.configs draft };
+
+    ghost Ends = { λ editor. EndsOnDraft editor.state.now.configs };
+
+    fn has(&self, target: &Draft, name: &str) -> bool {
+        target.get(self.state, name).is_some()
+    }
+
+    fn put(&self, target: &mut Draft, name: String, config: Config) -> Result<(), StoreFault> {
+        target.put(self.state, name, config)?;
+        Ok(())
+    }
+
+    fn edit(
+        &self,
+        alloc: Global,
+        target: &mut Draft,
+        name: String,
+        pointer: &str,
+        edit: PathEdit,
+    ) -> Result<(), StoreFault> {
+        target.edit(alloc, self.state, name, pointer, edit)
+    }
+
+    fn remove(&self, target: &mut Draft, name: String) -> Result<(), StoreFault> {
+        target.remove(self.state, name)?;
+        Ok(())
+    }
+
+    ghost refused = { λ editor draft fault. refused_on_draft editor.state.now.configs draft fault };
 }

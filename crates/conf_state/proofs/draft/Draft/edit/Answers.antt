@@ -9,12 +9,16 @@ length_changed-requires c =
       drafted es c.args.self.now,
       drafted es c.edit_uncounted.new.self,
       text_of c.args.name,
-      c.in_ok-change.ensures.length ∙ c.requires.counted,
+      c.in_ok-change.ensures.length ∙ c.requires.draft.counted,
       c.in_ok-change.ensures.changes,
     )
 
-pub returns-clause-counted : goal.returns-clause-counted
-returns-clause-counted c =
+pub returns-clause-draft : goal.returns-clause-draft
+returns-clause-draft c =
     let es = c.args.state.now.configs in
-    c.in_ok-self.ensures (drafted es c.args.self.now) (drafted es c.edit_uncounted.new.self) (text_of c.args.name)
-    (c.in_ok-change.ensures.length ∙ c.requires.counted) c.in_ok-change.ensures.changes
+    record {
+      good = c.in_ok-change.ensures.draft;
+      counted = c.in_ok-self.ensures (drafted es c.args.self.now) (drafted es c.edit_uncounted.new.self) (text_of c.args.name)
+          (c.in_ok-change.ensures.length ∙ c.requires.draft.counted) c.in_ok-change.ensures.changes;
+      distinct = c.requires.draft.distinct;
+    }

@@ -12,17 +12,19 @@ use Rattle.conf_state.proofs.draft.Draft.remove.Goals.{In_ok-insert}
 cut : (c : In_ok-insert) → IsCut c.args.self.now (record { removed = c.insert.new.self; touched = c.remove.new.self; length = c.length_without-length.result }) (text_of c.args.name)
 cut c =
     is_cut c.args.self.now (record { removed = c.insert.new.self; touched = c.remove.new.self; length = c.length_without-length.result }) c.args.name
-    c.requires.draft (c.remove.ensures ∙ ap (λ bs. cut_from bs c.args.self.now.touched) c.deref-2.ensures) c.in_ok-insert.ensures.keys
+    c.requires.good (c.remove.ensures ∙ ap (λ bs. cut_from bs c.args.self.now.touched) c.deref-2.ensures) c.in_ok-insert.ensures.keys
 
 pub returns-clause-ok : goal.returns-clause-ok
 returns-clause-ok c = (cut (goal.at.returns-clause-ok c).In_ok-insert).made c.args.state.now.configs c.requires.distinct
 
 pub returns-clause-draft : goal.returns-clause-draft
-returns-clause-draft c = (cut (goal.at.returns-clause-draft c).In_ok-insert).draft
-
-pub returns-clause-counted : goal.returns-clause-counted
-returns-clause-counted c =
+returns-clause-draft c =
     let es = c.args.state.now.configs in
-    c.length_without-length.ensures
-    ∙ ap (λ bs. entries_length (cut_config (drafted es c.args.self.now) (chars bs))) c.deref.ensures
-    ∙ ap entries_length (sym ((cut (goal.at.returns-clause-counted c).In_ok-insert).made es c.requires.distinct))
+    let is = cut (goal.at.returns-clause-draft c).In_ok-insert in
+    record {
+      good = is.draft;
+      counted = c.length_without-length.ensures
+          ∙ ap (λ bs. entries_length (cut_config (drafted es c.args.self.now) (chars bs))) c.deref.ensures
+          ∙ ap entries_length (sym (is.made es c.requires.distinct));
+      distinct = c.requires.distinct;
+    }
