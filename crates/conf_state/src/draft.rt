@@ -8,7 +8,7 @@ ghost use Rattle.conf_state.specs.Names.{good_name};
 ghost use Rattle.conf_state.specs.Commands.{text_of};
 ghost use Rattle.conf_state.specs.Drafts.{cut_all, drafted, texts_of, ChangesOne, IsDraft, IsDraftOf};
 ghost use Rattle.conf_state.specs.Edits.{configs_after_edit};
-ghost use Rattle.conf_state.specs.States.{config_named, put_config, cut_config};
+ghost use Rattle.conf_state.specs.States.{config_named};
 
 use crate::configs::Configs;
 use crate::draft_length::length_changed;
@@ -17,7 +17,7 @@ use crate::fault::StoreFault;
 use crate::planning::edit_config;
 use crate::state::State;
 use indexmap::IndexSet;
-use std::alloc::{AllocError, Global};
+use std::alloc::Global;
 use yaml_config::{Change, Config, Edit as PathEdit};
 
 /// What the edits of a batch so far make of a state: some configurations are removed from it, and then others are put
@@ -49,47 +49,9 @@ impl Draft {
         }
     }
 
-    /// Puts a configuration under a name.
-    fn put(&mut self, state: &State, name: String, config: Config) -> Result<(), AllocError>
-        requires draft { IsDraftOf state.now.configs self.old }
-        requires named { good_name (text_of name) ≡ true }
-        requires within { Good (tree_of config) config_limits }
-        ensures ok { OnOk result (drafted state.now.configs self.new
-            ≡ put_config (drafted state.now.configs self.old) (text_of name) (tree_of config)) }
-        ensures draft { OnOk result (IsDraftOf state.now.configs self.new) }
-    {
-        let length = self.length_with(state, &name, &config)?;
-        self.touched.put(name, config)?;
-        self.length = length;
-        Ok(())
-    }
-
-    /// Makes an edit inside the configuration under a name, at a pointer that is not empty.
-    fn edit(
-        &mut self,
-        alloc: Global,
-        state: &State,
-        name: String,
-        pointer: &str,
-        edit: PathEdit,
-    ) -> Result<(), StoreFault>
-        requires draft { IsDraftOf state.now.configs self.old }
-        requires named { good_name (text_of name) ≡ true }
-        requires steps { 0 < length pointer.now }
-        ensures ok { OnOk result (configs_after_edit (drafted state.now.configs self.old)
-            (text_of name) edit (chars pointer.now) ≡ Ok (drafted state.now.configs self.new)) }
-        ensures draft { OnOk result (IsDraftOf state.now.configs self.new) }
-        ensures refused { IfErr result (λ fault. (fault ≡ StoreFault.OutOfMemory)
-            ⊎ (configs_after_edit (drafted state.now.configs self.old)
-            (text_of name) edit (chars pointer.now) ≡ Err fault)) }
-    {
-        let change = self.edit_uncounted(alloc, state, name, pointer, edit)?;
-        self.length = length_changed(self.length, change)?;
-        Ok(())
-    }
-
-    /// Makes an edit as [`Draft::edit`] does, but leaves the draft's length as it was. Returns what the edit changes in
-    /// the length of the configuration. A configuration that is still the state's own is copied first.
+    /// Makes an edit inside the configuration under a name, at a pointer that is not empty, and leaves the draft's length
+    /// as it was. Returns what the edit changes in the length of the configuration. A configuration that is still the
+    /// state's own is copied first.
     fn edit_uncounted(
         &mut self,
         alloc: Global,
@@ -149,23 +111,10 @@ impl Draft {
         }
         found
     }
-
-    /// Removes the configuration under a name.
-    fn remove(&mut self, state: &State, name: String) -> Result<(), AllocError>
-        requires { IsDraftOf state.now.configs self.old }
-        ensures ok { OnOk result (drafted state.now.configs self.new
-            ≡ cut_config (drafted state.now.configs self.old) (text_of name)) }
-        ensures draft { OnOk result (IsDraftOf state.now.configs self.new) }
-    {
-        let length = self.length_without(state, &name);
-        self.touched.remove(&name);
-        self.removed.insert(name)?;
-        self.length = length;
-        Ok(())
-    }
 }
 
 /// Makes edits on a draft of a state. After a refusal the draft has to be dropped.
+#[derive(Drop)]
 pub(crate) struct OnDraft<'s> {
     /// The state that it is a draft of.
     pub(crate) state: &'s State,
@@ -188,7 +137,9 @@ impl Editor for OnDraft<'_> {
     }
 
     fn put(&self, target: &mut Draft, name: String, config: Config) -> Result<(), StoreFault> {
-        target.put(self.state, name, config)?;
+        let length = target.length_with(self.state, &name, &config)?;
+        target.touched.put(name, config)?;
+        target.length = length;
         Ok(())
     }
 
@@ -200,11 +151,16 @@ impl Editor for OnDraft<'_> {
         pointer: &str,
         edit: PathEdit,
     ) -> Result<(), StoreFault> {
-        target.edit(alloc, self.state, name, pointer, edit)
+        let change = target.edit_uncounted(alloc, self.state, name, pointer, edit)?;
+        target.length = length_changed(target.length, change)?;
+        Ok(())
     }
 
     fn remove(&self, target: &mut Draft, name: String) -> Result<(), StoreFault> {
-        target.remove(self.state, name)?;
+        let length = target.length_without(self.state, &name);
+        target.touched.remove(&name);
+        target.removed.insert(name)?;
+        target.length = length;
         Ok(())
     }
 

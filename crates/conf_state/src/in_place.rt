@@ -1,6 +1,4 @@
 // Edits of a state in place.
-ghost use Rattle.std.specs.Prelude.{◌≡◌};
-
 use crate::editing::Editor;
 use crate::fault::StoreFault;
 use crate::room::Room;
@@ -9,6 +7,7 @@ use std::alloc::Global;
 use yaml_config::{Config, Edit as PathEdit};
 
 /// Makes an edit in a state in place, as a command by itself. A refusal leaves the state unchanged.
+#[derive(Drop)]
 pub(crate) struct InPlace {
     /// Whether there is room for the command's record.
     pub(crate) room: Room,
