@@ -2,7 +2,7 @@
 ghost use Rattle.std.specs.Prelude.{◌≡◌};
 ghost use Rattle.conf_state.specs.FaultNames.{path_name, read_name};
 
-use std::alloc::AllocError;
+use std::alloc::{AllocError, AllocFailed};
 use std::error::Error;
 use std::fmt;
 use tree_path::PathFault;
@@ -114,6 +114,17 @@ impl From<AllocError> for StoreFault {
     ghost from_gives = { λ _ fault. fault ≡ OutOfMemory };
 
     fn from(_error: AllocError) -> StoreFault {
+        StoreFault::OutOfMemory
+    }
+}
+
+/// The value that comes back because there was no memory for it is dropped.
+impl<T: Drop> From<AllocFailed<T>> for StoreFault {
+    ghost use Rattle.conf_state.specs.declared.fault.StoreFault.TheVariants.{OutOfMemory};
+
+    ghost from_gives = { λ _ fault. fault ≡ OutOfMemory };
+
+    fn from(_failed: AllocFailed<T>) -> StoreFault {
         StoreFault::OutOfMemory
     }
 }

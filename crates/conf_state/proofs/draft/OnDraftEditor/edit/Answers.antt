@@ -16,10 +16,11 @@ length_changed-requires c =
 pub returns : goal.returns
 returns c =
     let es = c.args.self.now.state.now.configs in
+    let good = c.in_ok-change.ensures.draft in
     record {
       ok = c.in_ok-change.ensures.ok;
       draft = record {
-        good = c.in_ok-change.ensures.draft;
+        good = record { plain = good.plain; configs = good.configs; distinct = good.distinct; removed = good.removed };
         counted = c.in_ok-target.ensures (drafted es c.args.target.now) (drafted es c.edit_uncounted.new.self) (text_of c.args.name)
             (c.in_ok-change.ensures.length ∙ c.requires.ready.counted) c.in_ok-change.ensures.changes;
         distinct = c.requires.ready.distinct;

@@ -19,8 +19,8 @@ returns-in_err-path-clause-refused c =
     (or_so (ap (λ r. and_then r (checked_edit c.args.edit.now (tree_of c.args.config.now))))
     (path-refused (path_of (chars c.args.pointer.now)) c.in_err-path.field-0.0 (parsed-Err (chars c.args.pointer.now) c.in_err-path.field-0.0 c.in_err-path.ensures.met)))
 
-pub plan-plan-requires : goal.plan-plan-requires
-plan-plan-requires c =
+pub plan-requires : goal.plan-requires
+plan-requires c =
     pointer-steps c.args.pointer.now c.in_ok-path.path c.utf8.pointer c.requires.steps c.in_ok-path.ensures.ok
 
 pub returns-in_err-plan-clause-refused : goal.returns-in_err-plan-clause-refused
