@@ -275,23 +275,6 @@ named-put_all-some (p ∷ ts) es n t differ some = by (same_text n p.0) refl (na
         let others = rw same at some in
         rest others
 
--- a name is there after them if it was there before, or is among them
-pub there-put_all : (ts es : List Entry) (n : List ℕ) → names_differ (names_of ts) ≡ true
-    → is_some (config_named (put_all es ts) n) ≡ (is_some (config_named es n) || is_some (config_named ts n))
-there-put_all ts es n differ = by (config_named ts n) refl
-  where
-    or_false : (b : Bool) → b ≡ (b || false)
-    or_false true = refl
-    or_false false = refl
-
-    or_true : (b : Bool) → true ≡ (b || true)
-    or_true true = refl
-    or_true false = refl
-
-    by : (o : Option Tree) → config_named ts n ≡ o → is_some (config_named (put_all es ts) n) ≡ (is_some (config_named es n) || is_some o)
-    by None none = ap is_some (named-put_all-none ts es n none) ∙ or_false (is_some (config_named es n))
-    by (Some t) some = ap is_some (named-put_all-some ts es n t differ some) ∙ or_true (is_some (config_named es n))
-
 -- ---- several removals
 
 -- one more

@@ -110,15 +110,18 @@ parsed-Ok pointer path (inr read) = sym read
 -- or it is none, or there was no memory
 pub parsed-Err : (pointer : List ℕ) (fault : PathFault)
     → (◌≡◌ {A = Result (List (List ℕ)) PathFault} (Err fault) (Err path_faults.OutOfMemory)) ⊎ (Err fault ≡ path_of pointer)
-    → (store_fault_of fault ≡ OutOfMemory) ⊎ (by_path (path_of pointer) ≡ Err (store_fault_of fault))
-parsed-Err pointer fault (inl none) = let same : path_faults.OutOfMemory ≡ fault = cc in inl (ap store_fault_of (sym same))
-parsed-Err pointer fault (inr read) = by fault (sym read)
-  where
-    by : (fault : PathFault) → path_of pointer ≡ Err fault → (store_fault_of fault ≡ OutOfMemory) ⊎ (by_path (path_of pointer) ≡ Err (store_fault_of fault))
-    by (path_faults.BadPath at) e = inr (ap by_path e)
-    by (path_faults.NoSuchPlace step) e = inr (ap by_path e)
-    by (path_faults.NotIndex step) e = inr (ap by_path e)
-    by path_faults.OutOfMemory e = inl refl
+    → (fault ≡ path_faults.OutOfMemory) ⊎ (path_of pointer ≡ Err fault)
+parsed-Err pointer fault (inl none) = let same : fault ≡ path_faults.OutOfMemory = cc in inl same
+parsed-Err pointer fault (inr read) = inr (sym read)
+
+-- a fault of a path is one of the store
+pub path-refused : {A : Type 0} (r : Result A PathFault) (fault : PathFault) → (fault ≡ path_faults.OutOfMemory) ⊎ (r ≡ Err fault)
+    → (store_fault_of fault ≡ OutOfMemory) ⊎ (by_path r ≡ Err (store_fault_of fault))
+path-refused r fault (inl none) = inl (ap store_fault_of none)
+path-refused r (path_faults.BadPath at) (inr e) = inr (ap by_path e)
+path-refused r (path_faults.NoSuchPlace step) (inr e) = inr (ap by_path e)
+path-refused r (path_faults.NotIndex step) (inr e) = inr (ap by_path e)
+path-refused r path_faults.OutOfMemory (inr e) = inl refl
 
 -- a pointer with a character has a step
 pub pointer-steps : (pointer : List ℕ) (path : List (List ℕ)) → IsUtf8 pointer → 0 < length pointer → chars pointer ≡ pointer_text path → 0 < length path
@@ -161,38 +164,10 @@ delete-edits es name pointer utf8 some = by (chars pointer) refl
         there (Some t) = at_path t (c ∷ cs) (path_of (c ∷ cs)) refl (omega arith)
         there None = refl
 
-module _ (es : List Entry) (name : List ℕ) (edit : Edit) where
-  -- an edit under a name without a configuration is refused by `NoConfig`
-  pub tree_after_edit-nothing : (pointer : List ℕ) → config_named es name ≡ None → configs_after_edit es name edit pointer ≡ Err NoConfig
-  tree_after_edit-nothing pointer absent = rw absent refl
-
-  -- an edit at a pointer is one at its path
-  pub edited-at : (pointer : List ℕ) (old : grammar.Tree) (path : List (List ℕ)) → config_named es name ≡ Some old → path_of pointer ≡ Ok path
-      → configs_after_edit es name edit pointer ≡ configs_with_edit es name edit old path
-  edited-at pointer old path there parsed = rw (there, parsed) refl
-
-  -- the refusals of a pointer, and of an edit at its path
-  module _ (pointer : List ℕ) (next : List Entry → Result Contents StoreFault) (old : grammar.Tree) where
-    pub edited-unread : (fault : StoreFault) → config_named es name ≡ Some old → (fault ≡ OutOfMemory) ⊎ (by_path (path_of pointer) ≡ Err fault)
-        → (fault ≡ OutOfMemory) ⊎ (and_then (configs_after_edit es name edit pointer) next ≡ Err fault)
-    edited-unread fault there (inl none) = inl none
-    edited-unread fault there (inr refused) =
-        inr (ap (λ o. and_then (and_then (found o) (λ t. and_then (by_path (path_of pointer)) (configs_with_edit es name edit t))) next) there
-        ∙ ap (λ r. and_then (and_then r (configs_with_edit es name edit old)) next) refused)
-
-    pub edited-refused : (path : List (List ℕ)) (fault : StoreFault) → config_named es name ≡ Some old → path_of pointer ≡ Ok path
-        → (fault ≡ OutOfMemory) ⊎ ((n : List ℕ) → configs_with_edit es n edit old path ≡ Err fault)
-        → (fault ≡ OutOfMemory) ⊎ (and_then (configs_after_edit es name edit pointer) next ≡ Err fault)
-    edited-refused path fault there parsed (inl none) = inl none
-    edited-refused path fault there parsed (inr refused) =
-        inr (ap (λ r. and_then r next) (edited-at pointer old path there parsed ∙ refused name))
-
-  module _ (path : List (List ℕ)) (old new : grammar.Tree) (made : tree_after_edit edit old path ≡ Ok new) where
-    pub tree_after_edit-new : depth new ≤ config_limits.depth → byte_len (style_text new) ≤ config_limits.style → configs_with_edit es name edit old path ≡ Ok (put_config es name new)
-    tree_after_edit-new deep long =
-        let fits : nat_lt config_limits.depth (depth new) ≡ false = grind (arith, nat_tests) in
-        let short : nat_lt config_limits.style (byte_len (style_text new)) ≡ false = grind (arith, nat_tests) in
-        rw (made, fits, short) refl
+-- an edit under a name without a configuration is refused by `NoConfig`
+pub tree_after_edit-nothing : (es : List Entry) (name : List ℕ) (edit : Edit) (pointer : List ℕ) → config_named es name ≡ None
+    → configs_after_edit es name edit pointer ≡ Err NoConfig
+tree_after_edit-nothing es name edit pointer absent = rw absent refl
 
 -- a number that passes the test is at most the other
 pub at_most : (a b : ℕ) → nat_le a b ≡ true → a ≤ b

@@ -1,5 +1,5 @@
 -- An edit inside one configuration, as an edit of all configurations.
-use Rattle.std.proofs.Common.{◌≡◌, ◌⊎◌, inl, inr, ℕ, ◌<◌, ◌≤◌, nat_le, true, false, List, [], Option, Some, None, is_some, Result, Ok, Err, refl, ap, ◌∙◌, arith}
+use Rattle.std.proofs.Common.{◌≡◌, ◌⊎◌, inl, inr, ℕ, ◌<◌, ◌≤◌, nat_le, false, List, Some, Result, Ok, Err, refl, ap, ◌∙◌, arith}
 use Rattle.std.proofs.lemmas.Bool.Decides.{nat_tests}
 use Rattle.yaml_grammar.specs.Style.{style_text}
 use Rattle.yaml_grammar.specs.Texts.{byte_len}
@@ -9,13 +9,13 @@ use Rattle.yaml_config.specs.Limits.{config_limits}
 use Rattle.yaml_config.specs.declared.edit.Edit.{Edit as PathEdit}
 use Rattle.json_pointer.specs.Pointers.{path_of}
 use Rattle.json_pointer.specs.declared.fault.PathFault.{PathFault}
-use Rattle.conf_state.specs.Commands.{import_as, set_at, delete_at}
-use Rattle.conf_state.specs.Edits.{configs_with_edit, configs_after_edit, checked_edit, edited_at}
-use Rattle.conf_state.specs.States.{Entry, config_named, put_config, cut_config}
-use Rattle.conf_state.specs.Steps.{and_then, found, by_path, checked_tree, with_checked_config, configs_after}
+use Rattle.conf_state.specs.Edits.{configs_with_edit, configs_after_edit, checked_edit, edited_at, IsPlan}
+use Rattle.conf_state.specs.States.{Entry, config_named, put_config}
+use Rattle.conf_state.specs.Steps.{and_then, found, by_path, checked_tree, with_checked_config}
+use Rattle.conf_state.specs.declared.planning.EditPlan.{EditPlan}
 use Rattle.conf_state.specs.declared.fault.StoreFault.{StoreFault}
 use Rattle.conf_state.specs.declared.fault.StoreFault.TheVariants.{TooDeep, ConfigLarge}
-use Rattle.conf_state.proofs.StepLemmas.{checked_tree-deep, checked_tree-large}
+use Rattle.conf_state.proofs.StepLemmas.{checked_tree-deep, checked_tree-large, checked_tree-within}
 
 -- ---- the limits, in their order
 
@@ -29,6 +29,19 @@ module _ (edit : PathEdit) (path : List (List ℕ)) (old new : Tree) (made : tre
       → checked_edit edit old path ≡ Err ConfigLarge
   checked_edit-large deep long = ap (λ r. and_then (by_path r) checked_tree) made ∙ checked_tree-large new deep long
 
+-- ---- one configuration
+
+-- an edit at a pointer is one at its path
+pub at-path : (edit : PathEdit) (t : Tree) (pointer : List ℕ) (path : List (List ℕ)) → path_of pointer ≡ Ok path
+    → edited_at edit t pointer ≡ checked_edit edit t path
+at-path edit t pointer path parsed = ap (λ r. and_then (by_path r) (checked_edit edit t)) parsed
+
+-- a planned edit makes what was planned
+pub plan-made : (edit : PathEdit) (old : Tree) (pointer : List ℕ) (plan : EditPlan) (is : IsPlan edit old plan) → path_of pointer ≡ Ok plan.path
+    → edited_at edit old pointer ≡ Ok is.new
+plan-made edit old pointer plan is parsed =
+    at-path edit old pointer plan.path parsed ∙ ap (λ r. and_then (by_path r) checked_tree) is.made ∙ checked_tree-within is.new is.deep is.long
+
 -- ---- one configuration among others
 
 -- an edit at a path puts the edited configuration there
@@ -39,11 +52,6 @@ with-edit-put es name edit t path = by (tree_after_edit edit t path)
     by : (r : Result Tree PathFault) → and_then (by_path r) (with_checked_config es name) ≡ and_then (and_then (by_path r) checked_tree) (λ u. Ok (put_config es name u))
     by (Ok u) = refl
     by (Err fault) = refl
-
-pub with-edit-refused : (es : List Entry) (name : List ℕ) (edit : PathEdit) (t : Tree) (path : List (List ℕ)) (fault : StoreFault)
-    → checked_edit edit t path ≡ Err fault → configs_with_edit es name edit t path ≡ Err fault
-with-edit-refused es name edit t path fault refused =
-    with-edit-put es name edit t path ∙ ap (λ r. and_then r (λ u. Ok (put_config es name u))) refused
 
 -- so does one at a pointer
 pub edit-put : (es : List Entry) (name : List ℕ) (edit : PathEdit) (pointer : List ℕ) (t : Tree) → config_named es name ≡ Some t
@@ -62,25 +70,6 @@ module _ (es : List Entry) (name : List ℕ) (edit : PathEdit) (pointer : List �
 
   pub edit-refused : (fault : StoreFault) → edited_at edit t pointer ≡ Err fault → configs_after_edit es name edit pointer ≡ Err fault
   edit-refused fault refused = edit-put es name edit pointer t there ∙ ap (λ r. and_then r (λ u. Ok (put_config es name u))) refused
-
--- ---- at the empty path
-
-module _ (es : List Entry) (name path : List ℕ) (empty : path ≡ []) (there : is_some (config_named es name) ≡ true) where
-  -- a set is an import
-  pub set-import : (t : Tree) → configs_after es (set_at name path t) ≡ configs_after es (import_as name t)
-  set-import t = rw empty (by (config_named es name) there)
-    where
-      by : (o : Option Tree) → is_some o ≡ true → and_then (found o) (λ u. with_checked_config es name t) ≡ with_checked_config es name t
-      by (Some u) e = refl
-      by None e = cc
-
-  -- a delete removes the configuration
-  pub delete-cut : configs_after es (delete_at name path) ≡ Ok (cut_config es name)
-  delete-cut = rw empty (by (config_named es name) there)
-    where
-      by : (o : Option Tree) → is_some o ≡ true → and_then (found o) (λ u. Ok (cut_config es name)) ≡ Ok (cut_config es name)
-      by (Some u) e = refl
-      by None e = cc
 
 -- what follows from the second of two cases
 pub or_so : {A B C : Type 0} → (B → C) → A ⊎ B → A ⊎ C

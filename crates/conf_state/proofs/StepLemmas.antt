@@ -1,17 +1,19 @@
--- What a command makes of a state that puts in or takes out a whole configuration, or is refused before any edit.
+-- What edits make that put in or take out a whole configuration, or are refused before any change; and batches.
 use Rattle.std.proofs.Common.{◌≡◌, ℕ, ◌<◌, ◌≤◌, ◌==◌, Bool, true, false, not, List, [], ◌∷◌, ◌++◌, length, Option, Some, None, option_map, option_to_list, is_some, Result, Ok, Err, length-append, refl, ap, ◌∙◌, arith}
 use Rattle.std.proofs.lemmas.Bool.Decides.{nat_tests}
 use Rattle.yaml_grammar.specs.Style.{style_text}
 use Rattle.yaml_grammar.specs.Texts.{byte_len}
 use Rattle.yaml_grammar.specs.Trees.{Tree, depth}
 use Rattle.yaml_config.specs.Limits.{config_limits}
-use Rattle.conf_state.specs.Commands.{Edit, import_as, set_at, delete_at, single, batch}
+use Rattle.conf_state.specs.Commands.{Edit, import_as, set_at, delete_at, single, batch, name_of}
+use Rattle.conf_state.specs.Names.{good_name}
 use Rattle.conf_state.specs.States.{Entry, Contents, config_named, put_config, cut_config}
 use Rattle.conf_state.specs.Steps.{and_then, found, checked_tree, with_checked_config, configs_after, edited, all_edited, next_state, step}
 use Rattle.conf_state.specs.declared.fault.StoreFault.{StoreFault}
 use Rattle.conf_state.specs.declared.room.Room.{Room}
-use Rattle.conf_state.specs.declared.fault.StoreFault.TheVariants.{NoConfig, TooDeep, ConfigLarge}
+use Rattle.conf_state.specs.declared.fault.StoreFault.TheVariants.{BadName, NoConfig, TooDeep, ConfigLarge}
 use Rattle.conf_state.proofs.CountLemmas.{lt-true, lt-false}
+use Rattle.conf_state.proofs.PlaceLemmas.{is_none}
 
 -- ---- the limits of a configuration, in their order
 
@@ -34,51 +36,53 @@ some_bytes length empty is e = grind (arith, nat_tests)
 pub no_bytes : (length : ℕ) (empty : Bool) → empty ≡ (length == 0) → empty ≡ true → length ≡ 0
 no_bytes length empty is e = grind (arith, nat_tests)
 
-pub mapped_none : {A B : Type 0} (f : A → B) (o : Option A) (none : Bool) → is_some o ≡ not none → none ≡ true → option_map f o ≡ None
-mapped_none f None none is e = refl
-mapped_none f (Some x) none is e = let differ : true ≡ not true = is ∙ ap not e in cc
+-- an option that is mapped is there as before
+pub is_some-mapped : {A B : Type 0} (f : A → B) (o : Option A) → is_some (option_map f o) ≡ is_some o
+is_some-mapped f None = refl
+is_some-mapped f (Some x) = refl
 
-pub mapped_some : {A B : Type 0} (f : A → B) (o : Option A) (none : Bool) → is_some o ≡ not none → none ≡ false → is_some (option_map f o) ≡ true
-mapped_some f (Some x) none is e = refl
-mapped_some f None none is e = let differ : false ≡ not false = is ∙ ap not e in cc
+-- ---- edits
 
--- ---- edits whose names are good
+-- an edit needs a good name
+pub edited-named : (es : List Entry) (edit : Edit) → good_name (name_of edit) ≡ true → edited es edit ≡ configs_after es edit
+edited-named es edit named = rw named refl
 
-module _ (s : Contents) (room : Room) (name : List ℕ) where
+pub edited-unnamed : (es : List Entry) (edit : Edit) → good_name (name_of edit) ≡ false → edited es edit ≡ Err BadName
+edited-unnamed es edit bad = rw bad refl
+
+module _ (es : List Entry) (name : List ℕ) where
   -- an import of a tree that keeps to the limits puts it in
-  pub import-checked : (t : Tree) → checked_tree t ≡ Ok t → and_then (configs_after s.configs (import_as name t)) (next_state s room) ≡ next_state s room (put_config s.configs name t)
-  import-checked t is = ap (λ r. and_then (and_then r (λ u. Ok (put_config s.configs name u))) (next_state s room)) is
+  pub import-checked : (t : Tree) → checked_tree t ≡ Ok t → configs_after es (import_as name t) ≡ Ok (put_config es name t)
+  import-checked t is = ap (λ r. and_then r (λ u. Ok (put_config es name u))) is
 
   -- an import of another is refused
-  pub import-refused : (t : Tree) (fault : StoreFault) → checked_tree t ≡ Err fault → and_then (configs_after s.configs (import_as name t)) (next_state s room) ≡ Err fault
-  import-refused t fault is = ap (λ r. and_then (and_then r (λ u. Ok (put_config s.configs name u))) (next_state s room)) is
+  pub import-refused : (t : Tree) (fault : StoreFault) → checked_tree t ≡ Err fault → configs_after es (import_as name t) ≡ Err fault
+  import-refused t fault is = ap (λ r. and_then r (λ u. Ok (put_config es name u))) is
 
   -- a set and a delete need a configuration of the name
-  pub set-nothing : (path : List ℕ) (t : Tree) → config_named s.configs name ≡ None → and_then (configs_after s.configs (set_at name path t)) (next_state s room) ≡ Err NoConfig
-  set-nothing path t absent = rw absent refl
+  pub set-nothing : (path : List ℕ) (t : Tree) → is_some (config_named es name) ≡ false → configs_after es (set_at name path t) ≡ Err NoConfig
+  set-nothing path t none = rw (is_none (config_named es name) none) refl
 
-  pub delete-nothing : (path : List ℕ) → config_named s.configs name ≡ None → and_then (configs_after s.configs (delete_at name path)) (next_state s room) ≡ Err NoConfig
-  delete-nothing path absent = rw absent refl
+  pub delete-nothing : (path : List ℕ) → is_some (config_named es name) ≡ false → configs_after es (delete_at name path) ≡ Err NoConfig
+  delete-nothing path none = rw (is_none (config_named es name) none) refl
 
-  -- a set at the empty path is an import
-  pub set-whole : (path : List ℕ) (t : Tree) → path ≡ [] → is_some (config_named s.configs name) ≡ true
-      → and_then (configs_after s.configs (set_at name path t)) (next_state s room) ≡ and_then (configs_after s.configs (import_as name t)) (next_state s room)
-  set-whole path t empty there = rw empty (by (config_named s.configs name) there)
-    where
-      by : (o : Option Tree) → is_some o ≡ true
-          → and_then (and_then (found o) (λ u. with_checked_config s.configs name t)) (next_state s room) ≡ and_then (configs_after s.configs (import_as name t)) (next_state s room)
-      by (Some u) e = refl
-      by None e = cc
+  -- at the empty path, where there is one
+  module _ (path : List ℕ) (empty : path ≡ []) (there : is_some (config_named es name) ≡ true) where
+    -- a set is an import
+    pub set-whole : (t : Tree) → configs_after es (set_at name path t) ≡ configs_after es (import_as name t)
+    set-whole t = rw empty (by (config_named es name) there)
+      where
+        by : (o : Option Tree) → is_some o ≡ true → and_then (found o) (λ u. with_checked_config es name t) ≡ with_checked_config es name t
+        by (Some u) e = refl
+        by None e = cc
 
-  -- a delete at the empty path takes the configuration out
-  pub delete-whole : (path : List ℕ) → path ≡ [] → is_some (config_named s.configs name) ≡ true
-      → and_then (configs_after s.configs (delete_at name path)) (next_state s room) ≡ next_state s room (cut_config s.configs name)
-  delete-whole path empty there = rw empty (by (config_named s.configs name) there)
-    where
-      by : (o : Option Tree) → is_some o ≡ true
-          → and_then (and_then (found o) (λ u. Ok (cut_config s.configs name))) (next_state s room) ≡ next_state s room (cut_config s.configs name)
-      by (Some u) e = refl
-      by None e = cc
+    -- a delete takes the configuration out
+    pub delete-whole : configs_after es (delete_at name path) ≡ Ok (cut_config es name)
+    delete-whole = rw empty (by (config_named es name) there)
+      where
+        by : (o : Option Tree) → is_some o ≡ true → and_then (found o) (λ u. Ok (cut_config es name)) ≡ Ok (cut_config es name)
+        by (Some u) e = refl
+        by None e = cc
 
 -- ---- batches
 

@@ -41,6 +41,12 @@ pub record IsDraft (draft : Draft) : Type 0 where
 abbrev pub IsCounted : List Entry → Draft → Type 0
 IsCounted es draft = draft.length ≡ entries_length (drafted es draft)
 
+-- the draft is one of these configurations, in which no name comes twice
+pub record IsDraftOf (es : List Entry) (draft : Draft) : Type 0 where
+  pub good : IsDraft draft
+  pub counted : IsCounted es draft
+  pub distinct : names_differ (names_of es) ≡ true
+
 -- the change leads from the configurations `old` to the configurations `new`, of which it changes the one under a name
 pub record ChangesOne (change : Change) (old : List Entry) (name : List ℕ) (new : List Entry) : Type 0 where
   pub before : Tree

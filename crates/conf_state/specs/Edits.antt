@@ -1,5 +1,5 @@
 -- Edits inside a configuration.
-use Rattle.std.specs.Prelude.{◌≡◌, ℕ, ◌≤◌, List, Result, Ok}
+use Rattle.std.specs.Prelude.{◌≡◌, ℕ, ◌<◌, ◌≤◌, List, length, Result, Ok}
 use Rattle.yaml_grammar.specs.Texts.{byte_len}
 use Rattle.yaml_grammar.specs.Trees.{Tree, depth}
 use Rattle.yaml_grammar.specs.Style.{style_text}
@@ -35,13 +35,14 @@ checked_edit edit t path = and_then (by_path (tree_after_edit edit t path)) chec
 abbrev pub edited_at : PathEdit → Tree → List ℕ → Result Tree StoreFault
 edited_at edit t pointer = and_then (by_path (path_of pointer)) (checked_edit edit t)
 
--- The edit leaves the configuration within its limits. The plan has its length then, what changes in its length, and
--- the places of the path's steps.
-pub record IsPlan (edit : PathEdit) (old : Tree) (path : List (List ℕ)) (plan : EditPlan) : Type 0 where
+-- The plan is one of this edit. The edit leaves the configuration within its limits. The plan has its length then, what
+-- changes in its length, and the places of the path's steps.
+pub record IsPlan (edit : PathEdit) (old : Tree) (plan : EditPlan) : Type 0 where
   pub new : Tree
-  pub made : tree_after_edit edit old path ≡ Ok new
+  pub steps : 0 < length plan.path
+  pub made : tree_after_edit edit old plan.path ≡ Ok new
   pub deep : depth new ≤ config_limits.depth
   pub long : byte_len (style_text new) ≤ config_limits.style
   pub bytes : plan.bytes ≡ byte_len (style_text new)
   pub changes : Changes plan.change old new
-  pub places : ArePlaces plan.places old path
+  pub places : ArePlaces plan.places old plan.path

@@ -7,9 +7,11 @@ pub mod Steps
 pub mod TreeCode
 pub mod Commands
 pub mod Names
+pub mod FaultNames
 pub mod PathFaults
 pub mod Rooms
 pub mod Configs
 pub mod Places
 pub mod Lends
 pub mod Drafts
+pub mod Endings

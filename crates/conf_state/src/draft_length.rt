@@ -3,7 +3,7 @@ ghost use Rattle.std.specs.Prelude.{◌≡◌, ℕ, List, IfOk, option_map};
 ghost use Rattle.std.specs.Str.{chars};
 ghost use Rattle.yaml_data.specs.Seen.{tree_of};
 ghost use Rattle.conf_state.specs.BaseTexts.{entries_length};
-ghost use Rattle.conf_state.specs.Drafts.{drafted, ChangesOne, IsCounted, IsDraft};
+ghost use Rattle.conf_state.specs.Drafts.{drafted, ChangesOne, IsDraftOf};
 ghost use Rattle.conf_state.specs.States.{Entry, config_named, put_config, cut_config};
 
 use crate::base::{ENTRY_INDENT, entry_length};
@@ -23,8 +23,7 @@ impl Draft {
         name: &str,
         config: &Config,
     ) -> Result<u64, AllocError>
-        requires draft { IsDraft self.now }
-        requires counted { IsCounted state.now.configs self.now }
+        requires { IsDraftOf state.now.configs self.now }
         ensures { IfOk result (λ length. length
             ≡ entries_length (put_config (drafted state.now.configs self.now) (chars name.now)
             (tree_of config.now))) }
@@ -40,8 +39,7 @@ impl Draft {
 
     /// How many bytes the configurations would have without the one under a name.
     pub(crate) fn length_without(&self, state: &State, name: &str) -> u64
-        requires draft { IsDraft self.now }
-        requires counted { IsCounted state.now.configs self.now }
+        requires { IsDraftOf state.now.configs self.now }
         ensures { result
             ≡ entries_length (cut_config (drafted state.now.configs self.now) (chars name.now)) }
     {

@@ -1,7 +1,8 @@
 // Why a store refuses a command.
 ghost use Rattle.std.specs.Prelude.{◌≡◌};
+ghost use Rattle.conf_state.specs.FaultNames.{path_name, read_name};
 
-use std::alloc::AllocError;
+use std::alloc::{AllocError, AllocFailed};
 use std::error::Error;
 use std::fmt;
 use tree_path::PathFault;
@@ -9,7 +10,8 @@ use yaml_config::ReadFault;
 
 /// Why a command is refused. `Reopen` comes before all others; of the others the first in this list that holds is
 /// returned. Of the edits of a batch the first that is refused decides: its fault, of `BadName` to `ConfigLarge`, is
-/// that of the batch. `OutOfMemory` may come at any point. The message is the innermost fault's own name.
+/// that of the batch. `OutOfMemory` may come at any point. The message is [`StoreFault::name`], with the place and the
+/// reason of a text's syntax fault: `Syntax 3:7 Flow`.
 #[derive(Clone, Copy, Debug, PartialEq, Eq)]
 pub enum StoreFault {
     /// The batch has no edit.
@@ -42,14 +44,19 @@ pub enum StoreFault {
     OutOfMemory,
 }
 
-impl fmt::Display for StoreFault {
-    fn fmt<W: fmt::Write>(&self, f: &mut fmt::Formatter<W>) -> fmt::Result {
-        f.write_str(match *self {
+impl StoreFault {
+    ghost use Rattle.conf_state.specs.FaultNames.{fault_name};
+
+    /// Returns the name of the innermost fault: `NoConfig`, or `NotIndex` for a `Path` that has it.
+    pub fn name(self) -> &'static str
+        ensures { result.now ≡ fault_name self }
+    {
+        match self {
+            StoreFault::Path(fault) => path_name(fault),
+            StoreFault::Read(fault) => read_name(fault),
             StoreFault::EmptyBatch => "EmptyBatch",
             StoreFault::BadName => "BadName",
             StoreFault::NoConfig => "NoConfig",
-            StoreFault::Path(fault) => return fmt::Display::fmt(&fault, f),
-            StoreFault::Read(fault) => return fmt::Display::fmt(&fault.brief(), f),
             StoreFault::TooDeep => "TooDeep",
             StoreFault::ConfigLarge => "ConfigLarge",
             StoreFault::StoreFull => "StoreFull",
@@ -59,7 +66,43 @@ impl fmt::Display for StoreFault {
             StoreFault::Reopen => "Reopen",
             StoreFault::Device => "Device",
             StoreFault::OutOfMemory => "OutOfMemory",
-        })
+        }
+    }
+}
+
+fn path_name(fault: PathFault) -> &'static str
+    ensures { result.now ≡ path_name fault }
+{
+    match fault {
+        PathFault::BadPath { .. } => "BadPath",
+        PathFault::NoSuchPlace { .. } => "NoSuchPlace",
+        PathFault::NotIndex { .. } => "NotIndex",
+        PathFault::OutOfMemory => "OutOfMemory",
+    }
+}
+
+fn read_name(fault: ReadFault) -> &'static str
+    ensures { result.now ≡ read_name fault }
+{
+    match fault {
+        ReadFault::TooLong => "TooLong",
+        ReadFault::NotUtf8 { .. } => "NotUtf8",
+        ReadFault::Syntax { .. } => "Syntax",
+        ReadFault::Documents { .. } => "Documents",
+        ReadFault::KeyNotText => "KeyNotText",
+        ReadFault::KeyTwice => "KeyTwice",
+        ReadFault::TooDeep => "TooDeep",
+        ReadFault::LargeInStyle => "LargeInStyle",
+        ReadFault::OutOfMemory => "OutOfMemory",
+    }
+}
+
+impl fmt::Display for StoreFault {
+    fn fmt<W: fmt::Write>(&self, f: &mut fmt::Formatter<W>) -> fmt::Result {
+        match *self {
+            StoreFault::Read(fault) => fmt::Display::fmt(&fault.brief(), f),
+            fault => f.write_str(fault.name()),
+        }
     }
 }
 
@@ -71,6 +114,17 @@ impl From<AllocError> for StoreFault {
     ghost from_gives = { λ _ fault. fault ≡ OutOfMemory };
 
     fn from(_error: AllocError) -> StoreFault {
+        StoreFault::OutOfMemory
+    }
+}
+
+/// The value that comes back because there was no memory for it is dropped.
+impl<T: Drop> From<AllocFailed<T>> for StoreFault {
+    ghost use Rattle.conf_state.specs.declared.fault.StoreFault.TheVariants.{OutOfMemory};
+
+    ghost from_gives = { λ _ fault. fault ≡ OutOfMemory };
+
+    fn from(_failed: AllocFailed<T>) -> StoreFault {
         StoreFault::OutOfMemory
     }
 }

@@ -1,28 +1,86 @@
 // Edits inside one configuration, within its limits.
-ghost use Rattle.std.specs.Prelude.{◌≡◌, ◌⊎◌, ◌<◌, Ok, Err, OnOk, IfOk, IfErr, length};
+ghost use Rattle.std.specs.Prelude.{◌≡◌, ◌⊎◌, ◌<◌, Ok, Err, OnOk, OnErr, IfOk, IfErr, length};
 ghost use Rattle.std.specs.Str.{chars};
+ghost use Rattle.json_pointer.specs.Pointers.{path_of};
 ghost use Rattle.yaml_grammar.specs.Reads.{Good};
 ghost use Rattle.yaml_data.specs.Seen.{tree_of};
 ghost use Rattle.yaml_config.specs.Changes.{Changes};
+ghost use Rattle.yaml_config.specs.Edits.{tree_after_edit};
 ghost use Rattle.yaml_config.specs.Limits.{config_limits};
-ghost use Rattle.conf_state.specs.Edits.{checked_edit, edited_at, IsPlan};
+ghost use Rattle.conf_state.specs.Edits.{edited_at, IsPlan};
 
 use crate::fault::StoreFault;
 use std::alloc::Global;
 use tree_path::{Path, StepPlaces};
 use yaml_config::{Change, Config, Edit as PathEdit, Limits};
 
-/// How many bytes a configuration has in the one style after an edit, what changes in its length, and the places of the
-/// steps of the edit's path.
+/// How an edit inside a configuration will be made: at which path, with the places of the path's steps, how many bytes
+/// the configuration then has in the one style, and what changes in its length.
 #[derive(Drop)]
-pub(crate) struct EditPlan {
+pub(crate) struct EditPlan<'p> {
+    pub(crate) path: Path<'p>,
+    pub(crate) places: StepPlaces,
     pub(crate) bytes: u64,
     pub(crate) change: Change,
-    pub(crate) places: StepPlaces,
 }
 
-/// Makes an edit inside a configuration, in place, at a pointer that is not empty. Returns what it changes in the
-/// configuration's length. The fault is that of the pointer or the path, `TooDeep` or `ConfigLarge`.
+impl<'p> EditPlan<'p> {
+    /// Plans an edit at a pointer that is not empty. The configuration then keeps its limits.
+    ///
+    /// # Errors
+    /// The fault of the pointer or the path, `TooDeep` or `ConfigLarge`.
+    pub fn new(
+        alloc: Global,
+        config: &Config,
+        pointer: &'p str,
+        edit: &PathEdit,
+    ) -> Result<EditPlan<'p>, StoreFault>
+        requires within { Good (tree_of config.now) config_limits }
+        requires steps { 0 < length pointer.now }
+        ensures ok { IfOk result (IsPlan edit.now (tree_of config.now)) }
+        ensures path { IfOk result (λ plan. path_of (chars pointer.now) ≡ Ok plan.path) }
+        ensures refused { IfErr result (λ fault. (fault ≡ StoreFault.OutOfMemory)
+            ⊎ (edited_at edit.now (tree_of config.now) (chars pointer.now) ≡ Err fault)) }
+    {
+        let path = Path::parse(alloc, pointer)?;
+        let plan = edit.plan(alloc, config, &path)?;
+        if !edit.keeps_depth(&path) {
+            return Err(StoreFault::TooDeep);
+        }
+        let bytes = plan.change.length_after(config.style_length(), 0);
+        if bytes > u128::from(Limits::CONFIGURATION.style) {
+            return Err(StoreFault::ConfigLarge);
+        }
+        Ok(EditPlan {
+            path,
+            places: plan.places,
+            bytes: bytes as u64,
+            change: plan.change,
+        })
+    }
+
+    /// Makes the edit that was planned, in place, in the configuration that it was planned for. It fails only if memory
+    /// runs out, and then changes nothing.
+    pub fn perform(
+        &self,
+        alloc: Global,
+        config: &mut Config,
+        edit: PathEdit,
+    ) -> Result<(), StoreFault>
+        requires { IsPlan edit (tree_of config.old) self.now }
+        ensures ok { OnOk result (tree_after_edit edit (tree_of config.old) self.now.path
+            ≡ Ok (tree_of config.new)) }
+        ensures within { OnOk result (Good (tree_of config.new) config_limits) }
+        ensures refused { IfErr result (λ fault. fault ≡ StoreFault.OutOfMemory) }
+        ensures unchanged { OnErr result (tree_of config.new ≡ tree_of config.old) }
+    {
+        edit.perform(alloc, config, &self.path, &self.places, self.bytes)?;
+        Ok(())
+    }
+}
+
+/// Plans an edit inside a configuration, and makes it, as [`EditPlan::new`] and [`EditPlan::perform`] do. Returns what
+/// it changes in the configuration's length.
 pub(crate) fn edit_config(
     alloc: Global,
     config: &mut Config,
@@ -39,36 +97,7 @@ pub(crate) fn edit_config(
     ensures refused { IfErr result (λ fault. (fault ≡ StoreFault.OutOfMemory)
         ⊎ (edited_at edit (tree_of config.old) (chars pointer.now) ≡ Err fault)) }
 {
-    let path = Path::parse(alloc, pointer)?;
-    let plan = plan_edit(alloc, config, &path, &edit)?;
-    edit.perform(alloc, config, &path, &plan.places, plan.bytes)?;
+    let plan = EditPlan::new(alloc, config, pointer, &edit)?;
+    plan.perform(alloc, config, edit)?;
     Ok(plan.change)
-}
-
-/// The plan of an edit of a configuration, if it then keeps its limits.
-pub(crate) fn plan_edit(
-    alloc: Global,
-    config: &Config,
-    path: &Path,
-    edit: &PathEdit,
-) -> Result<EditPlan, StoreFault>
-    requires within { Good (tree_of config.now) config_limits }
-    requires steps { 0 < length path.now }
-    ensures ok { IfOk result (IsPlan edit.now (tree_of config.now) path.now) }
-    ensures refused { IfErr result (λ fault. (fault ≡ StoreFault.OutOfMemory)
-        ⊎ (checked_edit edit.now (tree_of config.now) path.now ≡ Err fault)) }
-{
-    let plan = edit.plan(alloc, config, path)?;
-    if !edit.keeps_depth(path) {
-        return Err(StoreFault::TooDeep);
-    }
-    let bytes = plan.change.length_after(config.style_length(), 0);
-    if bytes > u128::from(Limits::CONFIGURATION.style) {
-        return Err(StoreFault::ConfigLarge);
-    }
-    Ok(EditPlan {
-        bytes: bytes as u64,
-        change: plan.change,
-        places: plan.places,
-    })
 }

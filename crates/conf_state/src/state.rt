@@ -16,22 +16,21 @@ ghost use Rattle.yaml_grammar.specs.Trees.{Tree as Meant, mapping};
 ghost use Rattle.yaml_grammar.specs.Style.{style_text, value_at};
 ghost use Rattle.conf_state.specs.BaseTexts.{members, base_length, entry_length, entries_length};
 ghost use Rattle.conf_state.specs.Steps.{and_then, next_state};
-ghost use Rattle.conf_state.specs.Drafts.{drafted, IsCounted, IsDraft};
+ghost use Rattle.conf_state.specs.Drafts.{drafted, IsDraftOf};
 ghost use Rattle.conf_state.specs.Edits.{configs_after_edit};
 
 use crate::base::{BASE_LIMIT, ENTRY_INDENT, base_length, entry_length, write_entry};
 use crate::configs::{Configs, Entries};
 use crate::draft::Draft;
+use crate::editing::check_limits;
 use crate::fault::StoreFault;
 use crate::name::good_name;
-use crate::planning::plan_edit;
+use crate::planning::EditPlan;
 use crate::room::Room;
-use crate::steps::check_limits;
 use indexmap::IndexSet;
 use std::alloc::{AllocError, Global};
 use std::marker::Model;
 use std::mem;
-use tree_path::Path;
 use yaml_config::{Change, Config, Edit as PathEdit};
 use yaml_writer::Sink;
 
@@ -188,12 +187,11 @@ impl State {
         let Some(config) = self.configs.get(name) else {
             return Err(StoreFault::NoConfig);
         };
-        let path = Path::parse(alloc, pointer)?;
-        let plan = plan_edit(alloc, config, &path, &edit)?;
+        let plan = EditPlan::new(alloc, config, pointer, &edit)?;
         let entries = self.length_changed(plan.change);
         self.check_room(entries, room)?;
         let config = self.configs.get_mut(name).unwrap();
-        edit.perform(alloc, config, &path, &plan.places, plan.bytes)?;
+        plan.perform(alloc, config, edit)?;
         self.entries = entries;
         self.count += 1;
         Ok(())
@@ -233,8 +231,7 @@ impl State {
 
     /// Replaces the configurations by those that a draft makes of them. A refusal changes nothing.
     pub(crate) fn take(&mut self, draft: Draft, room: Room) -> Result<(), StoreFault>
-        requires draft { IsDraft draft }
-        requires counted { IsCounted self.old.configs draft }
+        requires { IsDraftOf self.old.configs draft }
         ensures ok { OnOk result (next_state self.old room (drafted self.old.configs draft)
             ≡ Ok self.new) }
         ensures refused { IfErr result (λ fault. (fault ≡ StoreFault.OutOfMemory)
@@ -257,8 +254,7 @@ impl State {
     pub(crate) fn take_configs(&mut self, alloc: Global) -> Draft
         ensures nothing { self.new.configs ≡ [] }
         ensures count { self.new.count ≡ self.old.count }
-        ensures draft { IsDraft result }
-        ensures counted { IsCounted self.new.configs result }
+        ensures draft { IsDraftOf self.new.configs result }
         ensures same { drafted self.new.configs result ≡ self.old.configs }
     {
         let touched = mem::replace(&mut self.configs, Configs::new(alloc));
@@ -273,8 +269,7 @@ impl State {
     /// Puts the configurations that a draft makes into a state that has none. A refusal changes nothing.
     pub(crate) fn fill(&mut self, draft: Draft, room: Room) -> Result<(), StoreFault>
         requires nothing { self.old.configs ≡ [] }
-        requires draft { IsDraft draft }
-        requires counted { IsCounted self.old.configs draft }
+        requires draft { IsDraftOf self.old.configs draft }
         ensures ok { OnOk result (next_state self.old room (drafted self.old.configs draft)
             ≡ Ok self.new) }
         ensures refused { IfErr result (λ fault.

@@ -1,22 +1,17 @@
 // One command on a state.
-ghost use Rattle.std.specs.Prelude.{◌≡◌, ◌⊎◌, Ok, Err, IfOk, OnOk, OnErr, IfErr, true, map};
-ghost use Rattle.std.specs.Str.{chars};
-ghost use Rattle.yaml_grammar.specs.Reads.{Good};
-ghost use Rattle.yaml_data.specs.Seen.{tree_of};
-ghost use Rattle.conf_state.specs.Drafts.{drafted, IsCounted, IsDraft};
-ghost use Rattle.conf_state.specs.Names.{good_name};
-ghost use Rattle.conf_state.specs.Commands.{command_of, edit_of, single, batch, text_of, import_as, set_at, delete_at};
-ghost use Rattle.yaml_config.specs.Limits.{config_limits};
-ghost use Rattle.conf_state.specs.Steps.{and_then, all_edited, checked_tree, configs_after, next_state, step};
+ghost use Rattle.std.specs.Prelude.{◌≡◌, ◌⊎◌, Ok, Err, IfOk, OnOk, OnErr, IfErr, map};
+ghost use Rattle.conf_state.specs.Drafts.{drafted, IsDraftOf};
+ghost use Rattle.conf_state.specs.Commands.{command_of, edit_of, single, batch};
+ghost use Rattle.conf_state.specs.Steps.{all_edited, step};
 
 use crate::command::{Command, Edit};
-use crate::draft::Draft;
+use crate::draft::{Draft, OnDraft};
+use crate::editing::make_edit;
 use crate::fault::StoreFault;
-use crate::name::good_name;
+use crate::in_place::InPlace;
 use crate::room::Room;
 use crate::state::State;
 use std::alloc::Global;
-use yaml_config::{Config, Edit as PathEdit, Limits};
 
 /// Performs a command. A refused command leaves the state unchanged, and is dropped. `room` says whether there is room
 /// for the command's record. If there isn't, the command is refused with [`StoreFault::RecordLong`] or
@@ -82,10 +77,8 @@ pub(crate) fn draft_edits(
     mut draft: Draft,
     edits: Vec<Edit>,
 ) -> Result<Draft, StoreFault>
-    requires draft { IsDraft draft }
-    requires counted { IsCounted state.now.configs draft }
-    ensures draft { IfOk result IsDraft }
-    ensures counted { IfOk result (λ new. IsCounted state.now.configs new) }
+    requires { IsDraftOf state.now.configs draft }
+    ensures draft { IfOk result (IsDraftOf state.now.configs) }
     ensures ok { IfOk result (λ new.
         all_edited (drafted state.now.configs draft) (map edit_of edits.items)
         ≡ Ok (drafted state.now.configs new)) }
@@ -94,7 +87,7 @@ pub(crate) fn draft_edits(
         ≡ Err fault)) }
 {
     for edit in edits {
-        draft.perform(alloc, state, edit)?;
+        make_edit(alloc, &OnDraft { state }, &mut draft, edit)?;
     }
     Ok(draft)
 }
@@ -106,95 +99,5 @@ fn step_edit(alloc: Global, state: &mut State, edit: Edit, room: Room) -> Result
         ⊎ (step state.old (single (edit_of edit)) room ≡ Err fault)) }
     ensures unchanged { OnErr result (state.new ≡ state.old) }
 {
-    if !good_name(edit.name()) {
-        return Err(StoreFault::BadName);
-    }
-    match edit {
-        Edit::Import { name, tree } => import(state, name, tree, room),
-        Edit::Set { name, path, value } => set(alloc, state, name, &path, value, room),
-        Edit::Delete { name, path } => delete(alloc, state, &name, &path, room),
-    }
-}
-
-fn import(state: &mut State, name: String, config: Config, room: Room) -> Result<(), StoreFault>
-    requires { good_name (text_of name) ≡ true }
-    ensures ok { OnOk result (and_then
-        (configs_after state.old.configs (import_as (text_of name) (tree_of config)))
-        (next_state state.old room) ≡ Ok state.new) }
-    ensures refused { IfErr result (λ fault. (fault ≡ StoreFault.OutOfMemory)
-        ⊎ (and_then (configs_after state.old.configs
-        (import_as (text_of name) (tree_of config))) (next_state state.old room) ≡ Err fault)) }
-    ensures unchanged { OnErr result (state.new ≡ state.old) }
-{
-    check_limits(&config)?;
-    state.put(name, config, room)
-}
-
-fn set(
-    alloc: Global,
-    state: &mut State,
-    name: String,
-    path: &str,
-    value: Config,
-    room: Room,
-) -> Result<(), StoreFault>
-    requires { good_name (text_of name) ≡ true }
-    ensures ok { OnOk result (and_then (configs_after state.old.configs
-        (set_at (text_of name) (chars path.now) (tree_of value))) (next_state state.old room)
-        ≡ Ok state.new) }
-    ensures refused { IfErr result (λ fault. (fault ≡ StoreFault.OutOfMemory)
-        ⊎ (and_then (configs_after state.old.configs
-        (set_at (text_of name) (chars path.now) (tree_of value))) (next_state state.old room)
-        ≡ Err fault)) }
-    ensures unchanged { OnErr result (state.new ≡ state.old) }
-{
-    if !path.is_empty() {
-        return state.edit(alloc, &name, path, PathEdit::Set(value), room);
-    }
-    if state.get(&name).is_none() {
-        return Err(StoreFault::NoConfig);
-    }
-    import(state, name, value, room)
-}
-
-fn delete(
-    alloc: Global,
-    state: &mut State,
-    name: &str,
-    path: &str,
-    room: Room,
-) -> Result<(), StoreFault>
-    requires { good_name (chars name.now) ≡ true }
-    ensures ok { OnOk result (and_then
-        (configs_after state.old.configs (delete_at (chars name.now) (chars path.now)))
-        (next_state state.old room) ≡ Ok state.new) }
-    ensures refused { IfErr result (λ fault. (fault ≡ StoreFault.OutOfMemory)
-        ⊎ (and_then
-        (configs_after state.old.configs (delete_at (chars name.now) (chars path.now)))
-        (next_state state.old room) ≡ Err fault)) }
-    ensures unchanged { OnErr result (state.new ≡ state.old) }
-{
-    if !path.is_empty() {
-        return state.edit(alloc, name, path, PathEdit::Delete, room);
-    }
-    if state.get(name).is_none() {
-        return Err(StoreFault::NoConfig);
-    }
-    state.take_out(name, room)
-}
-
-/// Checks that a configuration is within the limits of a store's configurations. Returns `TooDeep` or `ConfigLarge` if
-/// it isn't.
-pub(crate) fn check_limits(config: &Config) -> Result<(), StoreFault>
-    ensures ok { OnOk result (checked_tree (tree_of config.now) ≡ Ok (tree_of config.now)) }
-    ensures within { OnOk result (Good (tree_of config.now) config_limits) }
-    ensures refused { IfErr result (λ fault. checked_tree (tree_of config.now) ≡ Err fault) }
-{
-    if config.depth() > Limits::CONFIGURATION.depth {
-        return Err(StoreFault::TooDeep);
-    }
-    if config.style_length() > Limits::CONFIGURATION.style {
-        return Err(StoreFault::ConfigLarge);
-    }
-    Ok(())
+    make_edit(alloc, &InPlace { room }, state, edit)
 }

@@ -1,14 +1,13 @@
 use Rattle.std.proofs.Common.{◌≡◌, map}
 use Rattle.std.specs.Vec.Iter.{into_iter_items}
 use Rattle.conf_state.specs.Commands.{edit_of}
-use Rattle.conf_state.specs.Drafts.{drafted, IsCounted, IsDraft}
+use Rattle.conf_state.specs.Drafts.{drafted, IsDraftOf}
 use Rattle.conf_state.specs.Steps.{all_edited}
 use Rattle.conf_state.proofs.steps.draft_edits.Given as goal
 
 -- the edits that are left make of the draft what all make of the one at first
 abbrev pub invariant-loop-edit : goal.invariant-loop-edit
 invariant-loop-edit l =
-    IsDraft l.draft
-    × IsCounted l.state.configs l.draft
+    IsDraftOf l.state.configs l.draft
     × (all_edited (drafted l.state.configs l.draft) (map edit_of (into_iter_items l.edit-iterator))
     ≡ all_edited (drafted l.state.configs l.fn.draft) (map edit_of l.fn.edits.items))

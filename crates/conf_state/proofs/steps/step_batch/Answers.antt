@@ -25,14 +25,14 @@ returns-in_err-draft-in_default-clause-refused c =
     let p = err_from_is_err_and c.from_residual.result c.from_residual.ensures.1 in
     rw (p.1, p.2)
     (or_so (λ is. batch-all s edits c.args.room some ∙ ap (λ r. and_then r (next_state s c.args.room))
-    (ap (λ es. all_edited es edits) (sym (c.new.ensures.same s.configs)) ∙ is)) c.in_err-draft-in_default.ensures.refused)
+    (ap (λ es. all_edited es edits) (sym c.new.ensures.same) ∙ is)) c.in_err-draft-in_default.ensures.refused)
 
 pub returns-in_ok-draft-in_default-clause-ok : goal.returns-in_ok-draft-in_default-clause-ok
 returns-in_ok-draft-in_default-clause-ok c =
     let s = c.args.state.now in
     let edits = map edit_of c.args.edits.items in
     let some : 0 < length edits = omega (arith, length-map c.args.edits.items edit_of, c.args.edits.ok) in
-    let drafted_all = ap (λ es. all_edited es edits) (sym (c.new.ensures.same s.configs)) ∙ c.in_ok-draft-in_default.ensures.ok in
+    let drafted_all = ap (λ es. all_edited es edits) (sym c.new.ensures.same) ∙ c.in_ok-draft-in_default.ensures.ok in
     let same = batch-all s edits c.args.room some ∙ ap (λ r. and_then r (next_state s c.args.room)) drafted_all in
     subst (λ r. OnOk c.take.result (r ≡ Ok c.take.new.self)) (sym same) c.take.ensures.ok
 
@@ -42,6 +42,6 @@ returns-in_ok-draft-in_default-clause-refused c =
     let s = c.args.state.now in
     let edits = map edit_of c.args.edits.items in
     let some : 0 < length edits = omega (arith, length-map c.args.edits.items edit_of, c.args.edits.ok) in
-    let drafted_all = ap (λ es. all_edited es edits) (sym (c.new.ensures.same s.configs)) ∙ c.in_ok-draft-in_default.ensures.ok in
+    let drafted_all = ap (λ es. all_edited es edits) (sym c.new.ensures.same) ∙ c.in_ok-draft-in_default.ensures.ok in
     let same = batch-all s edits c.args.room some ∙ ap (λ r. and_then r (next_state s c.args.room)) drafted_all in
     subst (λ r. IfErr c.take.result (λ fault. (fault ≡ OutOfMemory) ⊎ (r ≡ Err fault))) (sym same) c.take.ensures.refused

@@ -4,18 +4,17 @@ use Rattle.std.specs.Map.{lookup, set_value}
 use Rattle.std.specs.Option.{option_copied_mut}
 use Rattle.std.specs.Str.{chars}
 use Rattle.yaml_data.specs.Seen.{tree_of}
-use Rattle.tree_path.specs.Steps.{ArePlaces}
 use Rattle.yaml_config.specs.Edits.{tree_after_edit}
 use Rattle.conf_state.specs.BaseTexts.{entries_length}
 use Rattle.conf_state.specs.Configs.{is_name}
-use Rattle.conf_state.specs.Edits.{configs_with_edit}
+use Rattle.conf_state.specs.Edits.{configs_after_edit, IsPlan}
 use Rattle.conf_state.specs.Kept.{entries_of, ArePlain}
 use Rattle.conf_state.specs.States.{Entry, config_named, put_config}
 use Rattle.conf_state.specs.Steps.{and_then, next_state}
-use Rattle.conf_state.proofs.EditLemmas.{named-good, found-named, same_value, same_edit, parsed-Ok, parsed-Err, pointer-steps, edited-unread, edited-refused, tree_after_edit-nothing, edited-at, tree_after_edit-new}
+use Rattle.conf_state.proofs.EditLemmas.{named-good, found-named, same_value, same_edit, tree_after_edit-nothing}
 use Rattle.conf_state.proofs.EntryLemmas.{lookup-named, set_value-named, plain_set_value, put_config-same}
 use Rattle.conf_state.proofs.PlaceLemmas.{is_some-copied}
-use Rattle.conf_state.proofs.PlanningLemmas.{with-edit-refused, or_so}
+use Rattle.conf_state.proofs.PlanningLemmas.{edit-made, edit-refused, plan-made, or_so}
 use Rattle.conf_state.proofs.StateLemmas.{kept_put, kept_same}
 use Rattle.conf_state.proofs.state.State.edit.Goals as goal
 use Rattle.conf_state.proofs.state.State.edit.Goals.{In-Some, After-unwrap-config, After-perform, In_ok-perform}
@@ -35,25 +34,13 @@ there c = found-named c.args.name.now c.utf8.name c.self.inside.configs c.self.i
 seen : (c : In-Some) → config_named c.args.self.now.configs (chars c.args.name.now) ≡ Some (tree_of c.in-Some.config.now)
 seen c = ap (λ s. config_named s.configs (chars c.args.name.now)) (sym c.self.view_is) ∙ there c
 
-pub returns-in_err-path-clause-refused : goal.returns-in_err-path-clause-refused
-returns-in_err-path-clause-refused c =
-    let p = err_from_is_err_and c.from_residual.result c.from_residual.ensures.1 in
-    rw (p.1, p.2)
-    (edited-unread c.args.self.now.configs (chars c.args.name.now) c.args.edit (chars c.args.pointer.now) (next_state c.args.self.now c.args.room) (tree_of c.in-Some.config.now) _
-    (seen (goal.at.returns-in_err-path-clause-refused c).In-Some)
-    (parsed-Err (chars c.args.pointer.now) c.in_err-path.field-0.0 c.in_err-path.ensures.met))
-
 pub unwrap-config-requires : goal.unwrap-config-requires
 unwrap-config-requires c = is_some-copied c.get_mut.result ∙ ap is_some (c.get_mut.ensures.value ∙ sym c.in-Some.ensures)
 
-pub plan_edit-requires-clause-steps : goal.plan_edit-requires-clause-steps
-plan_edit-requires-clause-steps c =
-    pointer-steps c.args.pointer.now c.in_ok-path.path c.utf8.pointer c.requires.steps c.in_ok-path.ensures.ok
-
-pub plan_edit-requires-clause-within : goal.plan_edit-requires-clause-within
-plan_edit-requires-clause-within c =
+pub new-requires-clause-within : goal.new-requires-clause-within
+new-requires-clause-within c =
     named-good (entries_of c.self.inside.configs) (chars c.args.name.now) (tree_of c.in-Some.config.now) c.self.invariant.state.configs
-    (there (goal.at.plan_edit-requires-clause-within c).In-Some)
+    (there (goal.at.new-requires-clause-within c).In-Some)
 
 pub length_changed-entries-requires : goal.length_changed-entries-requires
 length_changed-entries-requires c =
@@ -62,28 +49,28 @@ length_changed-entries-requires c =
 
 pub returns-in_err-plan-clause-refused : goal.returns-in_err-plan-clause-refused
 returns-in_err-plan-clause-refused c =
-    let parsed = parsed-Ok (chars c.args.pointer.now) c.in_ok-path.path c.in_ok-path.ensures.met in
-    let p = err_from_is_err_and c.from_residual-in_err-plan.result c.from_residual-in_err-plan.ensures.1 in
+    let s = c.args.self.now in
+    let found = seen (goal.at.returns-in_err-plan-clause-refused c).In-Some in
+    let p = err_from_is_err_and c.from_residual.result c.from_residual.ensures.1 in
     rw (p.1, p.2)
-    (edited-refused c.args.self.now.configs (chars c.args.name.now) c.args.edit (chars c.args.pointer.now) (next_state c.args.self.now c.args.room) (tree_of c.in-Some.config.now)
-    c.in_ok-path.path c.in_err-plan.field-0.0 (seen (goal.at.returns-in_err-plan-clause-refused c).In-Some) parsed
-    (or_so (λ is n. with-edit-refused c.args.self.now.configs n c.args.edit (tree_of c.in-Some.config.now) c.in_ok-path.path c.in_err-plan.field-0.0 is)
-    c.in_err-plan.ensures.refused))
+    (or_so (λ is. ap (λ r. and_then r (next_state s c.args.room))
+    (edit-refused s.configs (chars c.args.name.now) c.args.edit (chars c.args.pointer.now) (tree_of c.in-Some.config.now) found c.in_err-plan.field-0.0 is))
+    c.in_err-plan.ensures.refused)
 
 pub returns-in_err-check_room-clause-refused : goal.returns-in_err-check_room-clause-refused
 returns-in_err-check_room-clause-refused c =
+    let s = c.args.self.now in
     let name = chars c.args.name.now in
+    let pointer = chars c.args.pointer.now in
     let old = tree_of c.in-Some.config.now in
     let found = seen (goal.at.returns-in_err-check_room-clause-refused c).In-Some in
-    let parsed = parsed-Ok (chars c.args.pointer.now) c.in_ok-path.path c.in_ok-path.ensures.met in
     let l = c.in_ok-plan.ensures.ok in
     let entries = c.length_changed-entries.ensures name old l.new found l.changes in
-    let made = edited-at c.args.self.now.configs name c.args.edit (chars c.args.pointer.now) old c.in_ok-path.path found parsed
-    ∙ tree_after_edit-new c.args.self.now.configs name c.args.edit c.in_ok-path.path old l.new l.made l.deep l.long in
+    let made = edit-made s.configs name c.args.edit pointer old found l.new (plan-made c.args.edit old pointer c.in_ok-plan.plan l c.in_ok-plan.ensures.path) in
     let p = err_from_is_err_and c.from_residual-in_err-check_room.result c.from_residual-in_err-check_room.ensures.1 in
     rw (p.1, p.2)
-    (inr (ap (λ r. and_then r (next_state c.args.self.now c.args.room)) made
-    ∙ c.in_err-check_room.ensures.refused (put_config c.args.self.now.configs name l.new) (omega (arith, entries))))
+    (inr (ap (λ r. and_then r (next_state s c.args.room)) made
+    ∙ c.in_err-check_room.ensures.refused (put_config s.configs name l.new) (omega (arith, entries))))
 
 -- the configuration that is changed in its place, which is the one that the edit was planned for
 held : (c : After-unwrap-config) → lookup (is_name c.args.name.now) c.self.inside.configs ≡ Some c.unwrap-config.result.now
@@ -92,20 +79,9 @@ held c = sym c.get_mut.ensures.value ∙ ap option_copied_mut c.unwrap-config.en
 same : (c : After-unwrap-config) → c.in-Some.config.now ≡ c.unwrap-config.result.now
 same c = same_value (lookup (is_name c.args.name.now) c.self.inside.configs) c.in-Some.config.now c.unwrap-config.result.now (sym c.in-Some.ensures) (held c)
 
-pub perform-requires-clause-steps : goal.perform-requires-clause-steps
-perform-requires-clause-steps c =
-    pointer-steps c.args.pointer.now c.in_ok-path.path c.utf8.pointer c.requires.steps c.in_ok-path.ensures.ok
-
-pub perform-requires-clause-places : goal.perform-requires-clause-places
-perform-requires-clause-places c =
-    let at = goal.at.perform-requires-clause-places c in
-    subst (λ t. ArePlaces c.in_ok-plan.plan.places (tree_of t) c.in_ok-path.path) (same at.After-unwrap-config) c.in_ok-plan.ensures.ok.places
-
-pub perform-requires-clause-leaves : goal.perform-requires-clause-leaves
-perform-requires-clause-leaves c =
-    let at = goal.at.perform-requires-clause-leaves c in
-    let l = c.in_ok-plan.ensures.ok in
-    (l.new, subst (λ t. tree_after_edit c.args.edit (tree_of t) c.in_ok-path.path ≡ Ok l.new) (same at.After-unwrap-config) l.made, l.deep, l.long, l.bytes)
+pub perform-requires : goal.perform-requires
+perform-requires c =
+    subst (λ t. IsPlan c.args.edit (tree_of t) c.in_ok-plan.plan) (same (goal.at.perform-requires c).After-unwrap-config) c.in_ok-plan.ensures.ok
 
 -- the configurations once the changed one is back in its place
 record IsPlaced (c : After-perform) : Type 0 where
@@ -152,23 +128,26 @@ edited c = put_config c.args.self.now.configs (chars c.args.name.now) (tree_of c
 
 -- what holds once the edit is made: it makes what was planned, and the store has room for it
 record IsMade (c : In_ok-perform) : Type 0 where
-  made : configs_with_edit c.args.self.now.configs (chars c.args.name.now) c.args.edit (tree_of c.in-Some.config.now) c.in_ok-path.path ≡ Ok (edited c)
+  made : configs_after_edit c.args.self.now.configs (chars c.args.name.now) c.args.edit (chars c.args.pointer.now) ≡ Ok (edited c)
   counts : c.length_changed-entries.result ≡ entries_length (edited c)
   room : next_state c.args.self.now c.args.room (edited c) ≡ Ok (record { configs = edited c; count = c.args.self.now.count + 1 })
 
 is_made : (c : In_ok-perform) → config_named c.args.self.now.configs (chars c.args.name.now) ≡ Some (tree_of c.in-Some.config.now)
     → c.in-Some.config.now ≡ c.unwrap-config.result.now → IsMade c
 is_made c found one =
+    let es = c.args.self.now.configs in
     let name = chars c.args.name.now in
+    let pointer = chars c.args.pointer.now in
     let old = tree_of c.in-Some.config.now in
+    let plan = c.in_ok-plan.plan in
     let l = c.in_ok-plan.ensures.ok in
     let entries = c.length_changed-entries.ensures name old l.new found l.changes in
-    let made = subst (λ t. tree_after_edit c.args.edit (tree_of t) c.in_ok-path.path ≡ Ok (tree_of c.perform.new.config)) (sym one) c.in_ok-perform.ensures.ok in
-    let new = same_edit (tree_after_edit c.args.edit old c.in_ok-path.path) l.new (tree_of c.perform.new.config) l.made made in
-    let counts = entries ∙ ap (λ u. entries_length (put_config c.args.self.now.configs name u)) new in
+    let made = subst (λ t. tree_after_edit c.args.edit (tree_of t) plan.path ≡ Ok (tree_of c.perform.new.config)) (sym one) c.in_ok-perform.ensures.ok in
+    let new = same_edit (tree_after_edit c.args.edit old plan.path) l.new (tree_of c.perform.new.config) l.made made in
+    let counts = entries ∙ ap (λ u. entries_length (put_config es name u)) new in
     record {
-      made = tree_after_edit-new c.args.self.now.configs name c.args.edit c.in_ok-path.path old l.new l.made l.deep l.long
-          ∙ ap (λ u. Ok (put_config c.args.self.now.configs name u)) new;
+      made = edit-made es name c.args.edit pointer old found l.new (plan-made c.args.edit old pointer plan l c.in_ok-plan.ensures.path)
+          ∙ ap (λ u. Ok (put_config es name u)) new;
       counts = counts;
       room = c.in_ok-check_room.ensures.ok (edited c) (omega (arith, counts, c.in_ok-check_room.ensures.short));
     }
@@ -195,8 +174,6 @@ returns-clause-ok c =
     let edit = is_made at.In_ok-perform (seen at.In-Some) (same at.After-unwrap-config) in
     let name = chars c.args.name.now in
     let t = tree_of c.perform.new.config in
-    let parsed = parsed-Ok (chars c.args.pointer.now) c.in_ok-path.path c.in_ok-path.ensures.met in
-    ap (λ r. and_then r (next_state c.args.self.now c.args.room))
-    (edited-at c.args.self.now.configs name c.args.edit (chars c.args.pointer.now) (tree_of c.in-Some.config.now) c.in_ok-path.path (seen at.In-Some) parsed ∙ edit.made)
+    ap (λ r. and_then r (next_state c.args.self.now c.args.room)) edit.made
     ∙ edit.room ∙ ap (λ s. Ok (record { configs = put_config s.configs name t; count = s.count + 1 })) (sym c.self.view_is)
     ∙ ap (λ cs. Ok (record { configs = cs; count = c.self.inside.count + 1 })) (sym placed.entries)

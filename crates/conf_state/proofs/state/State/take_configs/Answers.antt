@@ -1,5 +1,5 @@
-use Rattle.std.proofs.Common.{◌≡◌, [], sym, ap, subst, ◌∙◌}
-use Rattle.conf_state.specs.Drafts.{drafted, IsCounted}
+use Rattle.std.proofs.Common.{◌≡◌, [], refl, sym, ap, subst, ◌∙◌}
+use Rattle.conf_state.specs.Drafts.{drafted, IsDraftOf}
 use Rattle.conf_state.specs.Kept.{entries_of, IsKept}
 use Rattle.conf_state.specs.declared.draft.Draft.{Draft}
 use Rattle.conf_state.proofs.StateLemmas.{kept_nothing}
@@ -20,13 +20,13 @@ invariant_of-self c =
 
 pub returns-clause-draft : goal.returns-clause-draft
 returns-clause-draft c =
-    whole-draft c.self.inside.configs c.self.inside.count c.self.inside.entries c.self.invariant (taken c) c.new-2.ensures.empty c.replace-touched.ensures.value
-
-pub returns-clause-counted : goal.returns-clause-counted
-returns-clause-counted c =
-    subst (λ es. IsCounted (entries_of es) (taken c)) (sym (nothing c))
-    (whole-counted c.self.inside.configs c.self.inside.count c.self.inside.entries c.self.invariant (taken c) c.new-2.ensures.empty c.replace-touched.ensures.value
-    c.replace-length.ensures.value)
+    subst (λ es. IsDraftOf (entries_of es) (taken c)) (sym (nothing c))
+    (record {
+      good = whole-draft c.self.inside.configs c.self.inside.count c.self.inside.entries c.self.invariant (taken c) c.new-2.ensures.empty c.replace-touched.ensures.value;
+      counted = whole-counted c.self.inside.configs c.self.inside.count c.self.inside.entries c.self.invariant (taken c) c.new-2.ensures.empty c.replace-touched.ensures.value
+          c.replace-length.ensures.value;
+      distinct = refl;
+    })
 
 pub returns-clause-same : goal.returns-clause-same
 returns-clause-same c =

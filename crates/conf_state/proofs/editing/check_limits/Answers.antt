@@ -1,7 +1,7 @@
 use Rattle.std.proofs.Common.{arith}
 use Rattle.yaml_data.specs.Seen.{tree_of}
 use Rattle.conf_state.proofs.StepLemmas.{checked_tree-deep, checked_tree-large, checked_tree-within}
-use Rattle.conf_state.proofs.steps.check_limits.Goals as goal
+use Rattle.conf_state.proofs.editing.check_limits.Goals as goal
 
 pub returns-then-depth-clause-refused : goal.returns-then-depth-clause-refused
 returns-then-depth-clause-refused c = checked_tree-deep (tree_of c.args.config.now) (omega arith)

@@ -1,0 +1,27 @@
+use Rattle.std.proofs.Common.{Ok, sym, ap, ◌∙◌}
+use Rattle.std.specs.Str.{chars}
+use Rattle.conf_state.specs.BaseTexts.{entries_length}
+use Rattle.conf_state.specs.Configs.{cut_from}
+use Rattle.conf_state.specs.Drafts.{drafted}
+use Rattle.conf_state.specs.States.{cut_config}
+use Rattle.conf_state.proofs.DraftSteps.{is_cut}
+use Rattle.conf_state.proofs.draft.OnDraftEditor.remove.Goals as goal
+
+pub returns : goal.returns
+returns c =
+    let old = c.args.target.now in
+    let es = c.args.self.now.state.now.configs in
+    let cut = is_cut old (record { removed = c.insert.new.self; touched = c.remove.new.self; length = c.length_without-length.result }) c.args.name
+    c.requires.good (c.remove.ensures ∙ ap (λ bs. cut_from bs old.touched) c.deref-2.ensures) c.in_ok-insert.ensures.keys in
+    let made = cut.made es c.requires.distinct in
+    record {
+      ok = ap Ok (sym made);
+      draft = record {
+        good = cut.draft;
+        counted = c.length_without-length.ensures
+            ∙ ap (λ bs. entries_length (cut_config (drafted es old) (chars bs))) c.deref.ensures
+            ∙ ap entries_length (sym made);
+        distinct = c.requires.distinct;
+      };
+      refused = tt;
+    }
