@@ -1,10 +1,11 @@
 -- The log: what is written so far, and how writing it ends.
 use Rattle.std.proofs.Common.{◌≡◌, inl, inr, refl, sym, ◌∙◌, ap, subst, arith, ◌<◌, append_assoc}
-use Rattle.std.specs.Prelude.{ℕ, ◌+◌, false, List, [], ◌∷◌, ◌++◌, length, take, Option, Some, None, Ok, IfSome}
+use Rattle.std.specs.Prelude.{ℕ, ◌+◌, false, List, [], ◌∷◌, ◌++◌, length, take, Option, Some, None, Result, Ok, OnOk, OnErr, IfErr, IfSome}
 use Rattle.std.specs.List.{All, concat}
 use Rattle.std.specs.Io.KnownBytes.{Appends}
 use Rattle.std.proofs.KnownBytes.{Appends-nil, Appends-trans, Consumes-whole}
 use Rattle.std.proofs.lemmas.List.{append-nil}
+use Rattle.std.proofs.lemmas.Result.{on_ok_weaker}
 use Rattle.yaml_grammar.specs.Closings.{ClosesOnce}
 use Rattle.yaml_recognizers.specs.Closings.{SomePieces}
 use Rattle.yaml_docs.specs.PieceReading.{ahead, piece_or_rest}
@@ -14,12 +15,13 @@ use Rattle.conf_state.proofs.RunLaws.{after-count}
 use Rattle.conf_store.specs.Meaning.{AreRecords}
 use Rattle.conf_history.specs.Histories.{RefusesReading, RefusesSurvey}
 use Rattle.conf_history.specs.Logs.{entry_bytes, log_bytes, log_of_pieces, BeginsLog, IsUpTo, IsWholeLog, LogsAll, LogsBefore, CutsLog, FailsToLog, FailsToLogPiece}
-use Rattle.conf_history.specs.Walks.{HasRead, ArePerformed, IsBetween, IsAtPiece, IsAtEndOf, AfterGoing}
+use Rattle.conf_history.specs.Walks.{HasRead, ArePerformed, IsBetween, IsAtPiece, IsAtEndOf, Performs, AfterGoing}
 use Rattle.conf_history.specs.declared.log.LogForm.{LogForm}
 use Rattle.conf_history.specs.declared.walk.Walk.{Walk}
 use Rattle.conf_history.specs.declared.fault.HistoryFault.{HistoryFault}
 use Rattle.conf_history.specs.declared.fault.HistoryFault.TheVariants.{Input, Output, NotAStore, Damaged, NoSuchCommand, OutOfMemory}
 use Rattle.conf_history.proofs.WalkLemmas.{known, some-map, begins-with, performs-on, end-read, between-read}
+use Rattle.conf_history.proofs.OutputLemmas.{put-refused}
 use Rattle.conf_history.proofs.ReadingLemmas.{refuses-piece}
 
 some-both : (given : Option (List ℕ)) (P Q R : List ℕ → Type 0) → ((bytes : List ℕ) → P bytes → Q bytes → R bytes) → IfSome given P → IfSome given Q → IfSome given R
@@ -138,6 +140,25 @@ module _ (form : LogForm) (given left : Option (List ℕ)) (walk : Walk) (pieces
         };
         up_to = up-to-end at is;
       })
+
+-- ---- the text of one command
+
+module _ (form : LogForm) (old new : Walk) (command : Command) (done : Performs old new command) (held written : Option (List ℕ)) (bytes : List ℕ)
+    (is : bytes ≡ entry_bytes form (old.state.count + 1) (piece_or_rest old.pieces) command) where
+  -- it was written whole
+  pub entry-whole : (r : Result (Unit {0}) HistoryFault) → OnOk r (Appends held written bytes)
+      → OnOk r ((c : Command) × Performs old new c × Appends held written (entry_bytes form (old.state.count + 1) (piece_or_rest old.pieces) c))
+  entry-whole r = on_ok_weaker r (λ all. (command, done, subst (Appends held written) is all))
+
+  -- or in part
+  pub entry-cut : (r : Result (Unit {0}) HistoryFault) → IfErr r (λ fault. fault ≡ Output) → OnErr r ((kept : ℕ) × (kept < length bytes) × Appends held written (take kept bytes))
+      → IfErr r (FailsToLogPiece form old held written)
+  entry-cut r fault part =
+      put-refused r _ (FailsToLogPiece form old held written) fault part
+      (λ some.
+      (let Part : List ℕ → Type 0 = λ bs. (kept : ℕ) × (kept < length bs) × Appends held written (take kept bs) in
+      let cut = subst Part is some in
+      record { new = new; command = command; done = done; kept = cut.0; out = cut.2; short = cut.1 }))
 
 -- ---- how writing ends
 

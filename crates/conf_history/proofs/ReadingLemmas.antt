@@ -13,7 +13,7 @@ use Rattle.conf_history.specs.declared.fault.HistoryFault.TheVariants.{Input, Ou
 use Rattle.conf_history.proofs.WalkLemmas.{any-bytes, some-map, bad-at, end-means, end-up-to, up-to, starts-after, end-read, between-read}
 
 -- a number that is not passed and not reached
-pub below : (a n : ℕ) → a ≤ n → (a ≡ n → ⊥) → a + 1 ≤ n
+below : (a n : ℕ) → a ≤ n → (a ≡ n → ⊥) → a + 1 ≤ n
 below a n le ne = grind (arith, le, ne)
 
 less : (a n : ℕ) → a ≤ n → (a ≡ n → ⊥) → a < n
@@ -23,6 +23,10 @@ less a n le ne = grind (arith, le, ne)
 pub before-number : (at : Option ℕ) (count : ℕ) → (at ≢ Some count) → ((number : ℕ) → at ≡ Some number → count ≤ number) → IfSome at (λ number. count < number)
 before-number None count ne up_to = tt
 before-number (Some number) count ne up_to = less count number (up_to number refl) (λ e. ne (ap Some (sym e)))
+
+-- nor is it passed by the next count
+pub next-number : (at : Option ℕ) (count next : ℕ) → (at ≢ Some count) → next ≡ count + 1 → ((number : ℕ) → at ≡ Some number → count ≤ number) → (number : ℕ) → at ≡ Some number → next ≤ number
+next-number at count next ne one up_to number is = subst (λ n. n ≤ number) (sym one) (below count number (up_to number is) (λ e. ne (is ∙ ap Some (sym e))))
 
 -- what cannot be surveyed cannot be read
 pub survey-reading : (bytes : List ℕ) (at : Option ℕ) (f : HistoryFault) → RefusesSurvey bytes f → RefusesReading bytes at f

@@ -1,6 +1,6 @@
 -- The walk over a store's file: what each call makes of what was read, and what the bytes of the file are then.
 use Rattle.std.proofs.Common.{◌≡◌, inl, inr, refl, sym, ◌∙◌, ap, subst, arith, ◌<◌, append_assoc, length-append}
-use Rattle.std.specs.Prelude.{ℕ, ◌+◌, Bool, true, false, List, [], ◌∷◌, ◌++◌, length, ◌==◌, cond, Option, Some, None, Result, Ok, Err, IfSome}
+use Rattle.std.specs.Prelude.{ℕ, ◌+◌, ◌-◌, Bool, true, false, List, [], ◌∷◌, ◌++◌, length, ◌==◌, cond, Option, Some, None, Result, Ok, Err, IfSome}
 use Rattle.std.specs.List.{All, concat}
 use Rattle.std.specs.Io.KnownBytes.{Consumes}
 use Rattle.std.proofs.KnownBytes.{Consumes-nil, Consumes-trans, Consumes-whole}
@@ -21,12 +21,15 @@ use Rattle.conf_state.specs.States.{Contents}
 use Rattle.conf_state.proofs.RunLaws.{after-count}
 use Rattle.conf_record.specs.Documents.{IsBase, IsNoBase}
 use Rattle.conf_store.specs.Meaning.{AreRecords, Means}
+use Rattle.conf_store.specs.NextRecords.{RefusesRecord}
+use Rattle.conf_store.specs.declared.records.RecordFault.{RecordFault}
+use Rattle.conf_store.specs.declared.records.RecordFault.TheVariants as record_fault
 use Rattle.conf_store.proofs.PieceLemmas.{pieces-joined, no_closing}
 use Rattle.conf_store.proofs.MeaningLemmas.{records-joined, after-joined, after-done}
 use Rattle.conf_history.specs.BadPieces.{line_feeds}
-use Rattle.conf_history.specs.Faults.{fault_of_pieces}
+use Rattle.conf_history.specs.Faults.{fault_here, fault_of_pieces}
 use Rattle.conf_history.specs.Histories.{MeansUpTo, IsBadAt, StartsAfter, IsNoStore, RefusesSurvey, ReadsAtMost}
-use Rattle.conf_history.specs.Walks.{IsBetween, IsAtPiece, IsAtEndOf, Performs, IsBadHere, HasRoom, AfterAdvance}
+use Rattle.conf_history.specs.Walks.{IsBetween, IsAtPiece, IsAtEndOf, Performs, IsBadHere, RefusesPiece, HasRoom, AfterAdvance}
 use Rattle.conf_history.specs.declared.place.BadPiece.{BadPiece}
 use Rattle.conf_history.specs.declared.place.Place.{Place}
 use Rattle.conf_history.specs.declared.walk.Walk.{Walk}
@@ -291,6 +294,10 @@ module _ (given left : Option (List ℕ)) (old : Walk) (pieces : List (List ℕ)
         };
       }
 
+  -- and fewer bytes are left
+  pub passes : (new : Walk) (command : Command) → Performs old new command → store_limit - new.place.byte < store_limit - old.place.byte
+  passes new command done = omega (arith, done.byte, has-room.short, closed-some (piece_or_rest old.pieces) at.piece)
+
   -- a piece that is none is the first bad one
   pub bad-at : SomePieces → (bad : BadPiece) → IsBadHere old bad → IfSome given (λ bytes. (following : ℕ) × IsBadAt bytes old.state bad following)
   bad-at some bad here =
@@ -315,6 +322,11 @@ module _ (given left : Option (List ℕ)) (old : Walk) (pieces : List (List ℕ)
           counted = refl;
         },
       )))
+
+-- the fault of a piece that is not performed
+pub refuses-here : (walk : Walk) (f : RecordFault) → RefusesRecord (piece_or_rest walk.pieces) walk.state f → RefusesPiece walk (fault_here walk.place f)
+refuses-here walk (record_fault.Bad why) refused = record { number = refl; byte = refl; line = refl; why = refused }
+refuses-here walk record_fault.OutOfMemory refused = tt
 
 -- ---- the end
 

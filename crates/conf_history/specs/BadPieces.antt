@@ -1,26 +1,14 @@
 -- Where the first bad piece of a store's file begins, and why it is no next record.
-use Rattle.std.specs.Prelude.{◌≡◌, ◌≢◌, ℕ, ◌+◌, List, length, count_by, ◌==◌, Err}
+use Rattle.std.specs.Prelude.{◌≡◌, ℕ, ◌+◌, List, length, count_by, ◌==◌}
 use Rattle.std.specs.List.{concat}
 use Rattle.yaml_chars.specs.Signs.{line_feed}
-use Rattle.conf_state.specs.Commands.{Command}
 use Rattle.conf_state.specs.States.{Contents}
-use Rattle.conf_state.specs.Steps.{step}
-use Rattle.conf_state.specs.declared.room.Room.TheVariants.{Enough}
-use Rattle.conf_record.specs.Documents.{IsRecord, IsNoRecord}
+use Rattle.conf_store.specs.NextRecords.{IsWhy}
 use Rattle.conf_history.specs.declared.place.BadPiece.{BadPiece}
-use Rattle.conf_history.specs.declared.place.NoRecord.{NoRecord}
-use Rattle.conf_history.specs.declared.place.NoRecord.TheVariants.{NotARecord, WrongNumber, Refused}
 
 -- how many line feeds the bytes have
 abbrev pub line_feeds : List ℕ → ℕ
 line_feeds bytes = count_by (λ b. b == line_feed) bytes
-
--- why a piece is not the next record after a state
-abbrev pub IsWhy : List ℕ → Contents → NoRecord → Type 0
-IsWhy piece s NotARecord = IsNoRecord piece
-IsWhy piece s (WrongNumber found) = (command : Command) × IsRecord piece command found × (found ≢ s.count + 1)
-IsWhy piece s (Refused fault) =
-    (command : Command) × IsRecord piece command (s.count + 1) × (step s command Enough ≡ Err fault)
 
 -- The piece after these is not the next record, for this reason. Pieces are counted from 1 after the base, bytes from
 -- 0, and lines from 1.

@@ -4,6 +4,5 @@ pub mod Counting
 pub mod Faults
 pub mod Histories
 pub mod Logs
-pub mod Records
 pub mod Salvages
 pub mod Walks

@@ -12,7 +12,8 @@ use Rattle.conf_state.specs.Steps.{step}
 use Rattle.conf_state.specs.declared.room.Room.TheVariants.{Enough}
 use Rattle.conf_record.specs.Documents.{IsRecord}
 use Rattle.conf_store.specs.Meaning.{PiecesMean}
-use Rattle.conf_history.specs.BadPieces.{line_feeds, IsWhy}
+use Rattle.conf_store.specs.NextRecords.{IsWhy}
+use Rattle.conf_history.specs.BadPieces.{line_feeds}
 use Rattle.conf_history.specs.Histories.{RefusesSurvey}
 use Rattle.conf_history.specs.declared.place.BadPiece.{BadPiece}
 use Rattle.conf_history.specs.declared.fault.HistoryFault.{HistoryFault}

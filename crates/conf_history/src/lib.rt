@@ -17,15 +17,15 @@ mod log;
 mod output;
 mod place;
 mod reading;
-mod records;
 mod saving;
 mod survey;
 mod walk;
 
+pub use conf_store::NoRecord;
 pub use fault::{HistoryFault, SalvageFault};
 pub use laws::reading_beside_a_writer;
 pub use log::{LogForm, write_log};
-pub use place::{BadPiece, NoRecord};
+pub use place::BadPiece;
 pub use reading::state_at;
 pub use saving::salvage;
 pub use survey::{Bad, Findings, Survey, survey_store};

@@ -10,6 +10,7 @@ use crate::fault::HistoryFault;
 use crate::line::record_line;
 use crate::output::put_bytes;
 use crate::walk::Walk;
+use conf_store::OnRefusal;
 use std::alloc::Global;
 use std::io::{Read, Write};
 use yaml_recognizers::closings::one_list_of_pieces;
@@ -93,7 +94,7 @@ fn log_line<W: Write>(alloc: Global, walk: &mut Walk, writer: &mut W) -> Result<
 {
     let command = walk.command(alloc)?;
     let line = record_line(alloc, walk.state.count() + 1, &command)?;
-    walk.perform(alloc, command)?;
+    walk.perform(alloc, command, OnRefusal::DropState)?;
     put_bytes(writer, &line)
 }
 
@@ -106,6 +107,6 @@ fn log_record<W: Write>(alloc: Global, walk: &mut Walk, writer: &mut W) -> Resul
     ensures refused { IfErr result (FailsToLogPiece LogForm.Records walk.old
         (W.contents writer.old) (W.contents writer.new)) }
 {
-    walk.perform_piece(alloc)?;
+    walk.perform_piece(alloc, OnRefusal::DropState)?;
     put_bytes(writer, walk.pieces.piece())
 }

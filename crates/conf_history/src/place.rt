@@ -1,20 +1,11 @@
-// Where a piece begins, and why it is no next record.
+// Where a piece begins.
 ghost use Rattle.std.specs.Prelude.{◌≡◌, ◌+◌, ◌≤◌, ◌<◌, ◌^◌, length};
 ghost use Rattle.conf_history.specs.BadPieces.{line_feeds};
+ghost use Rattle.conf_history.specs.Faults.{fault_here};
 
-use conf_state::StoreFault;
+use crate::fault::HistoryFault;
+use conf_store::{NoRecord, RecordFault};
 use memchr::memchr_iter;
-
-/// Why a piece after the base is not the next record of a store.
-#[derive(Clone, Copy, Debug, PartialEq, Eq)]
-pub enum NoRecord {
-    /// It is no record.
-    NotARecord,
-    /// It is a record under another number than the count after the commands before it and one more.
-    WrongNumber { found: u64 },
-    /// It is the record with the next number, and the state refuses its command with this fault.
-    Refused(StoreFault),
-}
 
 /// The first piece of a file that is not the next record.
 #[derive(Clone, Copy, Debug, PartialEq, Eq)]
@@ -70,21 +61,19 @@ impl Place {
         }
     }
 
-    /// The piece that begins here as a bad one.
-    pub fn bad_piece(self, why: NoRecord) -> BadPiece
+    /// The fault of a file whose piece that begins here was not performed.
+    pub fn fault_here(self, fault: RecordFault) -> HistoryFault
         requires { self.feeds < 2 ^ 63 }
-        ensures { result ≡ record {
-          number = self.number;
-          byte = self.byte;
-          line = self.feeds + 1;
-          why = why;
-        } }
+        ensures { result ≡ fault_here self fault }
     {
-        BadPiece {
-            number: self.number,
-            byte: self.byte,
-            line: self.feeds + 1,
-            why,
+        match fault {
+            RecordFault::Bad(why) => HistoryFault::Damaged(BadPiece {
+                number: self.number,
+                byte: self.byte,
+                line: self.feeds + 1,
+                why,
+            }),
+            RecordFault::OutOfMemory => HistoryFault::OutOfMemory,
         }
     }
 }

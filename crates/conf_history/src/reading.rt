@@ -9,6 +9,7 @@ ghost use Rattle.conf_history.specs.Walks.{AfterGoing, HasLimits, IsBetween};
 use crate::fault::HistoryFault;
 use crate::walk::Walk;
 use conf_state::State;
+use conf_store::OnRefusal;
 use std::alloc::Global;
 use std::io::Read;
 use yaml_recognizers::closings::one_list_of_pieces;
@@ -42,7 +43,7 @@ pub fn state_at<R: Read>(
     let mut walk = Walk::begin(alloc, reader)?;
     walk.check_start(at)?;
     'records: while walk.goes_on(reader, at)? {
-        walk.perform_piece(alloc)?;
+        walk.perform_piece(alloc, OnRefusal::DropState)?;
     }
     walk.check_end(at)?;
     Ok(walk.state)

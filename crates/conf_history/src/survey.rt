@@ -13,6 +13,7 @@ use crate::fault::{HistoryFault, fault_of_pieces};
 use crate::place::BadPiece;
 use crate::walk::Walk;
 use conf_state::State;
+use conf_store::OnRefusal;
 use std::alloc::Global;
 use std::io::Read;
 use yaml_docs::Pieces;
@@ -65,7 +66,7 @@ pub fn survey_store<R: Read>(alloc: Global, reader: &mut R) -> Result<Survey, Hi
     let mut walk = Walk::begin(alloc, reader)?;
     let base = walk.state.count();
     'records: while walk.advance(reader)? {
-        match walk.perform_piece(alloc) {
+        match walk.perform_piece(alloc, OnRefusal::KeepState) {
             Ok(()) => {}
             Err(HistoryFault::Damaged(bad)) => return finish_survey(walk, reader, base, bad),
             Err(fault) => return Err(fault),

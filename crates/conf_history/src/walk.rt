@@ -5,15 +5,14 @@ ghost use Rattle.conf_state.specs.States.{Contents};
 ghost use Rattle.conf_record.specs.Documents.{IsRecord};
 ghost use Rattle.yaml_docs.specs.PieceReading.{piece_or_rest};
 ghost use Rattle.conf_history.specs.Histories.{RefusesSurvey};
-ghost use Rattle.conf_history.specs.Records.{RefusesRecord};
 ghost use Rattle.conf_history.specs.Walks.{AfterAdvance, HasLimits, HasRoom, IsBetween, Performs, RefusesPiece};
 
 use crate::fault::{HistoryFault, fault_of_pieces};
 use crate::place::Place;
-use crate::records::{RecordFault, perform_next, read_next};
 use conf_journal::STORE_LIMIT;
 use conf_record::read_base;
 use conf_state::{Command, State};
+use conf_store::{OnRefusal, next_command, replay_command};
 use std::alloc::Global;
 use std::io::Read;
 use yaml_docs::Pieces;
@@ -86,56 +85,53 @@ impl Walk {
         ensures room { OnOk result (self.now.state.count < u64.MAX) }
         ensures refused { IfErr result (RefusesPiece self.now) }
     {
-        match read_next(alloc, &self.state, self.pieces.piece()) {
+        match next_command(alloc, &self.state, self.pieces.piece()) {
             Ok(command) => Ok(command),
-            Err(fault) => Err(self.fault_of_record(fault)),
+            Err(fault) => Err(self.place.fault_here(fault)),
         }
     }
 
     /// Performs the command of the piece, and goes past the piece.
     ///
     /// # Errors
-    /// `Damaged` if the state refuses the command. `OutOfMemory`. The state is as it was.
-    pub fn perform(&mut self, alloc: Global, command: Command) -> Result<(), HistoryFault>
+    /// `Damaged` if the state refuses the command. `OutOfMemory`. What becomes of the state says `on_refusal`.
+    pub fn perform(
+        &mut self,
+        alloc: Global,
+        command: Command,
+        on_refusal: OnRefusal,
+    ) -> Result<(), HistoryFault>
         requires room { HasRoom self.old }
         requires is_record { IsRecord (piece_or_rest self.old.pieces) (command_of command)
             (self.old.state.count + 1) }
         ensures ok { OnOk result (Performs self.old self.new (command_of command)) }
         ensures refused { IfErr result (RefusesPiece self.old) }
-        ensures unchanged { OnErr result (self.new ≡ self.old) }
+        ensures unchanged { on_refusal ≡ OnRefusal.KeepState → OnErr result (self.new ≡ self.old) }
     {
-        match perform_next(alloc, &mut self.state, command) {
-            Ok(()) => {
+        match replay_command(alloc, &mut self.state, command, on_refusal) {
+            Ok(_) => {
                 self.place = self.place.after(self.pieces.piece());
                 Ok(())
             }
-            Err(fault) => Err(self.fault_of_record(fault)),
+            Err(fault) => Err(self.place.fault_here(fault)),
         }
     }
 
     /// Reads the piece as the next record, and performs it.
     ///
     /// # Errors
-    /// `Damaged` if it is not the next record. `OutOfMemory`. The state is as it was.
-    pub fn perform_piece(&mut self, alloc: Global) -> Result<(), HistoryFault>
+    /// `Damaged` if it is not the next record. `OutOfMemory`. What becomes of the state says `on_refusal`.
+    pub fn perform_piece(
+        &mut self,
+        alloc: Global,
+        on_refusal: OnRefusal,
+    ) -> Result<(), HistoryFault>
         requires { HasRoom self.old }
         ensures ok { OnOk result ((command : Meant) × Performs self.old self.new command) }
         ensures refused { IfErr result (RefusesPiece self.old) }
-        ensures unchanged { OnErr result (self.new ≡ self.old) }
+        ensures unchanged { on_refusal ≡ OnRefusal.KeepState → OnErr result (self.new ≡ self.old) }
     {
         let command = self.command(alloc)?;
-        self.perform(alloc, command)
-    }
-
-    /// What is wrong with the piece, as a fault of the file.
-    fn fault_of_record(&self, fault: RecordFault) -> HistoryFault
-        requires { HasRoom self.now }
-        ensures { RefusesRecord (piece_or_rest self.now.pieces) self.now.state fault
-            → RefusesPiece self.now result }
-    {
-        match fault {
-            RecordFault::Bad(why) => HistoryFault::Damaged(self.place.bad_piece(why)),
-            RecordFault::OutOfMemory => HistoryFault::OutOfMemory,
-        }
+        self.perform(alloc, command, on_refusal)
     }
 }

@@ -10,6 +10,7 @@ pub mod Changing
 pub mod Slices
 pub mod Faults
 pub mod Accepting
+pub mod NextRecords
 pub mod Opens
 pub mod Files
 pub mod Lives

@@ -1,17 +1,18 @@
 -- Each turn performs and writes one piece.
-use Rattle.std.proofs.Common.{◌≡◌, ◌≢◌, ◌≤◌, ◌+◌, refl, sym, ◌∙◌, ap, subst, arith, [], ◌∷◌, ◌++◌}
+use Rattle.std.proofs.Common.{◌≡◌, ◌≢◌, ◌≤◌, ◌<◌, ◌+◌, ◌-◌, refl, sym, ap, subst, [], ◌∷◌, ◌++◌}
 use Rattle.std.specs.Prelude.{false, Some, Ok}
 use Rattle.std.specs.Io.KnownBytes.{Appends}
 use Rattle.std.proofs.KnownBytes.{Appends-nil}
 use Rattle.std.proofs.lemmas.Result.{err_from_is_err_and}
 use Rattle.yaml_docs.specs.PieceReading.{piece_or_rest}
+use Rattle.conf_journal.specs.Store.{store_limit}
 use Rattle.conf_state.specs.States.{Contents}
 use Rattle.conf_state.specs.declared.room.Room.TheVariants.{Enough}
 use Rattle.conf_state.proofs.RunLaws.{step-one}
 use Rattle.conf_history.specs.Walks.{IsAtPiece, AfterGoing}
 use Rattle.conf_history.specs.declared.place.Place.{Place}
-use Rattle.conf_history.proofs.WalkLemmas.{closed-some, has-room, performs-on}
-use Rattle.conf_history.proofs.ReadingLemmas.{below, before-number, refuses-before, refuses-after}
+use Rattle.conf_history.proofs.WalkLemmas.{has-room, performs-on, passes}
+use Rattle.conf_history.proofs.ReadingLemmas.{before-number, next-number, refuses-before, refuses-after}
 use Rattle.conf_history.proofs.LogLemmas.{begins-empty, begin-fails, start-fails, next-fails, piece-fails, number-fails, logs-all, logged-more}
 use Rattle.conf_history.proofs.log.write_log.Goals as goal
 
@@ -85,10 +86,8 @@ records-smaller g c =
     let some = c.one_list_of_pieces.ensures.some in
     let going : (c.args.at ≢ Some walk.state.count) × IsAtPiece given left walk walked.0 walked.1 walked.2 =
     subst (λ b. AfterGoing c.args.at given left walk walked.0 walked.1 walked.2 (Ok b)) c.if-branch.true (c.in_ok-goes_on.ensures.walks given walked.0 walked.1 walked.2 walked.3) in
-    let room = has-room given left walk walked.0 walked.1 walked.2 going.1 in
-    let done = c.in_ok-log_piece.ensures.ok.1 in
-    let byte : walk.place.byte ≡ c.records.walk.place.byte = ap (λ (p : Place). p.byte) c.in_ok-goes_on.ensures.place in
-    omega (arith, done.byte, room.short, byte, closed-some (piece_or_rest walk.pieces) going.1.piece)
+    let done = c.in_ok-log_piece.ensures.ok in
+    subst (λ (p : Place). store_limit - c.log_piece.new.walk.place.byte < store_limit - p.byte) c.in_ok-goes_on.ensures.place (passes given left walk walked.0 walked.1 walked.2 going.1 c.log_piece.new.walk done.0 done.1)
 
 pub records-preserved : goal.records-preserved
 records-preserved g c =
@@ -116,10 +115,7 @@ records-preserved g c =
         logged-more c.args.form given left walk walked.0 walked.1 walked.2 some held mid walked.4 (g.W.Write.contents c.log_piece.new.writer) done.0 going.1.read.performed done.2,
       );
       limits = next.limits;
-      up_to = λ number is.
-          (let le : walk.state.count ≤ number = subst (λ n. n ≤ number) (sym count) (inv.up_to number is) in
-          let more = below walk.state.count number le (λ e. going.0 (is ∙ ap Some (sym e))) in
-          subst (λ n. n ≤ number) (sym one) more);
+      up_to = next-number c.args.at walk.state.count new.state.count going.0 one (λ number is. subst (λ n. n ≤ number) (sym count) (inv.up_to number is));
     }
 
 pub returns-in_err-log_piece-clause-refused : goal.returns-in_err-log_piece-clause-refused

@@ -1,15 +1,16 @@
 -- Each turn performs one piece.
-use Rattle.std.proofs.Common.{◌≡◌, ◌≢◌, ◌≤◌, ◌+◌, refl, sym, ◌∙◌, ap, subst, arith, [], ◌∷◌, ◌++◌}
+use Rattle.std.proofs.Common.{◌≡◌, ◌≢◌, ◌≤◌, ◌<◌, ◌+◌, ◌-◌, refl, sym, ap, subst, [], ◌∷◌, ◌++◌}
 use Rattle.std.specs.Prelude.{false, Some, Ok}
 use Rattle.std.proofs.lemmas.Result.{err_from_is_err_and}
 use Rattle.yaml_docs.specs.PieceReading.{piece_or_rest}
+use Rattle.conf_journal.specs.Store.{store_limit}
 use Rattle.conf_state.specs.States.{Contents}
 use Rattle.conf_state.specs.declared.room.Room.TheVariants.{Enough}
 use Rattle.conf_state.proofs.RunLaws.{step-one}
 use Rattle.conf_history.specs.Walks.{IsAtPiece, AfterGoing}
 use Rattle.conf_history.specs.declared.place.Place.{Place}
-use Rattle.conf_history.proofs.WalkLemmas.{closed-some, has-room, performs-on}
-use Rattle.conf_history.proofs.ReadingLemmas.{below, before-number, refuses-all, refuses-before, refuses-piece, refuses-after, reads-state}
+use Rattle.conf_history.proofs.WalkLemmas.{has-room, performs-on, passes}
+use Rattle.conf_history.proofs.ReadingLemmas.{before-number, next-number, refuses-all, refuses-before, refuses-piece, refuses-after, reads-state}
 use Rattle.conf_history.proofs.reading.state_at.Goals as goal
 
 pub returns-in_err-check_start-clause-refused : goal.returns-in_err-check_start-clause-refused
@@ -50,10 +51,8 @@ records-smaller g c =
     let left = g.R.Read.remaining c.goes_on.new.reader in
     let going : (c.args.at ≢ Some walk.state.count) × IsAtPiece given left walk walked.0 walked.1 walked.2 =
     subst (λ b. AfterGoing c.args.at given left walk walked.0 walked.1 walked.2 (Ok b)) c.if-branch.true (c.in_ok-goes_on.ensures.walks given walked.0 walked.1 walked.2 walked.3) in
-    let room = has-room given left walk walked.0 walked.1 walked.2 going.1 in
-    let done = c.in_ok-perform_piece.ensures.ok.1 in
-    let byte : walk.place.byte ≡ c.records.walk.place.byte = ap (λ (p : Place). p.byte) c.in_ok-goes_on.ensures.place in
-    omega (arith, done.byte, room.short, byte, closed-some (piece_or_rest walk.pieces) going.1.piece)
+    let done = c.in_ok-perform_piece.ensures.ok in
+    subst (λ (p : Place). store_limit - c.perform_piece.new.self.place.byte < store_limit - p.byte) c.in_ok-goes_on.ensures.place (passes given left walk walked.0 walked.1 walked.2 going.1 c.perform_piece.new.self done.0 done.1)
 
 pub records-preserved : goal.records-preserved
 records-preserved g c =
@@ -72,10 +71,7 @@ records-preserved g c =
     record {
       walked = (walked.0 ++ piece_or_rest walk.pieces ∷ [], walked.1, walked.2 ++ done.0 ∷ [], next);
       limits = next.limits;
-      up_to = λ number is.
-          (let le : walk.state.count ≤ number = subst (λ n. n ≤ number) (sym count) (inv.up_to number is) in
-          let more = below walk.state.count number le (λ e. going.0 (is ∙ ap Some (sym e))) in
-          subst (λ n. n ≤ number) (sym one) more);
+      up_to = next-number c.args.at walk.state.count new.state.count going.0 one (λ number is. subst (λ n. n ≤ number) (sym count) (inv.up_to number is));
     }
 
 pub returns-in_err-perform_piece-clause-refused : goal.returns-in_err-perform_piece-clause-refused

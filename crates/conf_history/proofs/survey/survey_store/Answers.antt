@@ -1,13 +1,14 @@
 -- Each turn performs one piece, up to the first bad one.
-use Rattle.std.proofs.Common.{◌≡◌, sym, ap, subst, arith, [], ◌∷◌, ◌++◌}
+use Rattle.std.proofs.Common.{◌≡◌, ◌<◌, ◌-◌, refl, sym, subst, [], ◌∷◌, ◌++◌}
 use Rattle.std.specs.Prelude.{Ok}
 use Rattle.std.proofs.lemmas.Result.{err_from_is_err_and}
 use Rattle.yaml_docs.specs.PieceReading.{piece_or_rest}
+use Rattle.conf_journal.specs.Store.{store_limit}
 use Rattle.conf_history.specs.Histories.{ReadsSurvey}
 use Rattle.conf_history.specs.Walks.{IsAtPiece, IsAtEndOf, IsBadHere, RefusesPiece, AfterAdvance}
 use Rattle.conf_history.specs.declared.place.Place.{Place}
 use Rattle.conf_history.specs.declared.walk.Walk.{Walk}
-use Rattle.conf_history.proofs.WalkLemmas.{closed-some, has-room, performs-on}
+use Rattle.conf_history.proofs.WalkLemmas.{has-room, performs-on, passes}
 use Rattle.conf_history.proofs.SurveyLemmas.{counted-from, surveyed-whole}
 use Rattle.conf_history.proofs.survey.survey_store.Goals as goal
 
@@ -39,10 +40,8 @@ records-smaller g c =
     let left = g.R.Read.remaining c.advance.new.reader in
     let going : IsAtPiece given left walk walked.0 walked.1 walked.2 =
     subst (λ b. AfterAdvance given left walk walked.0 walked.1 walked.2 (Ok b)) c.if-branch.true (c.in_ok-advance.ensures.walks given walked.0 walked.1 walked.2 walked.3) in
-    let room = has-room given left walk walked.0 walked.1 walked.2 going in
-    let done = c.in-Ok.ensures.ok.1 in
-    let byte : walk.place.byte ≡ c.records.walk.place.byte = ap (λ (p : Place). p.byte) c.in_ok-advance.ensures.place in
-    omega (arith, done.byte, room.short, byte, closed-some (piece_or_rest walk.pieces) going.piece)
+    let done = c.in-Ok.ensures.ok in
+    subst (λ (p : Place). store_limit - c.perform_piece.new.self.place.byte < store_limit - p.byte) c.in_ok-advance.ensures.place (passes given left walk walked.0 walked.1 walked.2 going c.perform_piece.new.self done.0 done.1)
 
 pub records-preserved : goal.records-preserved
 records-preserved g c =
@@ -69,7 +68,7 @@ finish_survey-requires-clause-limits g c =
     let left = g.R.Read.remaining c.advance.new.reader in
     let going : IsAtPiece given left walk walked.0 walked.1 walked.2 =
     subst (λ b. AfterAdvance given left walk walked.0 walked.1 walked.2 (Ok b)) c.if-branch.true (c.in_ok-advance.ensures.walks given walked.0 walked.1 walked.2 walked.3) in
-    let same = c.in-Err-Damaged.ensures.unchanged in
+    let same = c.in-Err-Damaged.ensures.unchanged refl in
     let kept : IsAtPiece given left c.perform_piece.new.self walked.0 walked.1 walked.2 = subst (λ (w : Walk). IsAtPiece given left w walked.0 walked.1 walked.2) (sym same) going in
     kept.read.limits
 
@@ -82,7 +81,7 @@ finish_survey-requires-clause-base g c =
     let left = g.R.Read.remaining c.advance.new.reader in
     let going : IsAtPiece given left walk walked.0 walked.1 walked.2 =
     subst (λ b. AfterAdvance given left walk walked.0 walked.1 walked.2 (Ok b)) c.if-branch.true (c.in_ok-advance.ensures.walks given walked.0 walked.1 walked.2 walked.3) in
-    let same = c.in-Err-Damaged.ensures.unchanged in
+    let same = c.in-Err-Damaged.ensures.unchanged refl in
     let kept : IsAtPiece given left c.perform_piece.new.self walked.0 walked.1 walked.2 = subst (λ (w : Walk). IsAtPiece given left w walked.0 walked.1 walked.2) (sym same) going in
     counted-from walked.0 walked.1 walked.2 c.perform_piece.new.self.state kept.read.performed c.count-base.result walked.4
 
@@ -95,7 +94,7 @@ returns-in-Err-Damaged-clause-ok g c =
     let left = g.R.Read.remaining c.advance.new.reader in
     let going : IsAtPiece given left walk walked.0 walked.1 walked.2 =
     subst (λ b. AfterAdvance given left walk walked.0 walked.1 walked.2 (Ok b)) c.if-branch.true (c.in_ok-advance.ensures.walks given walked.0 walked.1 walked.2 walked.3) in
-    let same = c.in-Err-Damaged.ensures.unchanged in
+    let same = c.in-Err-Damaged.ensures.unchanged refl in
     let kept : IsAtPiece given left c.perform_piece.new.self walked.0 walked.1 walked.2 = subst (λ (w : Walk). IsAtPiece given left w walked.0 walked.1 walked.2) (sym same) going in
     let here : IsBadHere walk c.in-Err-Damaged.bad =
     subst (RefusesPiece walk) c.in-Err-Damaged.field-0-is c.in-Err-Damaged.ensures.refused in
@@ -110,7 +109,7 @@ returns-in-Err-Damaged-clause-refused g c =
     let left = g.R.Read.remaining c.advance.new.reader in
     let going : IsAtPiece given left walk walked.0 walked.1 walked.2 =
     subst (λ b. AfterAdvance given left walk walked.0 walked.1 walked.2 (Ok b)) c.if-branch.true (c.in_ok-advance.ensures.walks given walked.0 walked.1 walked.2 walked.3) in
-    let same = c.in-Err-Damaged.ensures.unchanged in
+    let same = c.in-Err-Damaged.ensures.unchanged refl in
     let kept : IsAtPiece given left c.perform_piece.new.self walked.0 walked.1 walked.2 = subst (λ (w : Walk). IsAtPiece given left w walked.0 walked.1 walked.2) (sym same) going in
     c.finish_survey.ensures.refused given walked.0 walked.1 walked.2 kept
 
