@@ -23,17 +23,9 @@ use Rattle.conf_state.proofs.RunLaws.{and_then-Ok}
 use Rattle.conf_store.specs.Calls.{tree_named, tree_at}
 use Rattle.conf_session.specs.Answers.{one, text_elements}
 use Rattle.conf_session.proofs.LengthLemmas.{by_path-Ok, tree_named-good}
+use Rattle.conf_session.proofs.WordLemmas.{framed-one}
 
 -- ---- the text of an answer
-
-regroup : (a b c d : List ℕ) → ((a ++ b) ++ c) ++ d ≡ a ++ (((b ++ c) ++ []) ++ d)
-regroup a b c d =
-    append_assoc (a ++ b) c d ∙ append_assoc a b (c ++ d)
-    ∙ ap (λ l. a ++ l) (sym (append_assoc b c d) ∙ ap (λ l. l ++ d) (sym (append-nil (b ++ c))))
-
--- the text of a mapping with one pair between `---` and `...`, by its parts
-pub framed-one : (key : List ℕ) (t : Tree) → ((codes "---\n" ++ key_lines 0 key) ++ value_at t 0) ++ codes "...\n" ≡ framed_text (one key t)
-framed-one key t = regroup (codes "---\n") (key_lines 0 key) (value_at t 0) (codes "...\n")
 
 count_end : (ds : List ℕ) → ds ++ codes "\"\n...\n" ≡ ds ++ codes "\"" ++ codes "\n" ++ codes "...\n"
 count_end ds = sym (append_assoc (ds ++ codes "\"") (codes "\n") (codes "...\n") ∙ append_assoc ds (codes "\"") (codes "\n...\n"))

@@ -7,17 +7,15 @@ use Rattle.yaml_data.specs.declared.tree.Tree as code_tree
 use Rattle.conf_state.specs.Commands.{Edit, edit_of}
 use Rattle.conf_state.specs.declared.command.Edit as code_edit
 use Rattle.conf_record.specs.Reading.{AreKeptElements}
+use Rattle.conf_record.proofs.PieceLemmas.{edits-one}
 use Rattle.conf_session.specs.Said.{Part, part_of, parts_of, first_and_rest, part_seen, parts_seen}
 use Rattle.conf_session.specs.declared.parts.Part as code_part
 use Rattle.conf_session.specs.Requests.{IsReadAs, AreReadAs, RefusesPart, IsFirstRefused}
 
-parts_seen-one : (ps : List code_part.Part) (p : code_part.Part) → parts_seen (ps ++ p ∷ []) ≡ parts_seen ps ++ part_seen p ∷ []
+-- one part more, seen
+pub parts_seen-one : (ps : List code_part.Part) (p : code_part.Part) → parts_seen (ps ++ p ∷ []) ≡ parts_seen ps ++ part_seen p ∷ []
 parts_seen-one [] p = refl
 parts_seen-one (q ∷ ps) p = ap (λ l. part_seen q ∷ l) (parts_seen-one ps p)
-
-edits_of-one : (es : List code_edit.Edit) (e : code_edit.Edit) → map edit_of (es ++ e ∷ []) ≡ map edit_of es ++ edit_of e ∷ []
-edits_of-one [] e = refl
-edits_of-one (f ∷ es) e = ap (λ l. edit_of f ∷ l) (edits_of-one es e)
 
 -- ---- the parts that elements are
 
@@ -89,7 +87,7 @@ pub one-read : (all : List code_part.Part) (done : List code_edit.Edit) (p : cod
 one-read all done p left e is so new more = record {
   before = so.before ++ part_seen p ∷ [];
   whole = so.whole ∙ sym (append_assoc so.before (part_seen p ∷ []) (parts_seen left));
-  read = subst (AreReadAs (so.before ++ part_seen p ∷ [])) (sym (ap (map edit_of) more ∙ edits_of-one done e)) (read-one so.before (map edit_of done) (part_seen p) (edit_of e) so.read is);
+  read = subst (AreReadAs (so.before ++ part_seen p ∷ [])) (sym (ap (map edit_of) more ∙ edits-one done e)) (read-one so.before (map edit_of done) (part_seen p) (edit_of e) so.read is);
 }
 
 -- the next text is refused
