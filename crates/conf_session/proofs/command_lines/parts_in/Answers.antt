@@ -1,8 +1,8 @@
-use Rattle.std.proofs.Common.{rules, IfSome, codes, ap, sym, subst, ◌∙◌}
+use Rattle.std.proofs.Common.{rules, IfSome, [], ◌∷◌, codes, ap, sym, subst, ◌∙◌}
+use Rattle.std.proofs.lemmas.List.{map-append}
 use Rattle.conf_record.specs.EditLines.{lines_of}
 use Rattle.conf_session.specs.Said.{part_seen, parts_seen}
 use Rattle.conf_session.specs.CommandLines.{ArePartLines, SpellsPart}
-use Rattle.conf_session.proofs.PartLemmas.{parts_seen-one}
 use Rattle.conf_session.proofs.CommandLineLemmas.{no_part_lines, one_part_line}
 use Rattle.conf_session.proofs.command_lines.parts_in.Goals as goal
 
@@ -20,7 +20,7 @@ loop-left-preserved c =
     let part = c.in-Some-2.part in
     let own = lines_of c.in-Some.members (codes "text: ") in
     let spells : SpellsPart own (part_seen part) = subst (λ found. IfSome found (λ part. SpellsPart own (part_seen part))) c.in-Some-2.is c.in_ok-part.ensures in
-    let seen = ap parts_seen c.in_ok-push.ensures.items ∙ parts_seen-one l.parts.items part in (
+    let seen = ap parts_seen c.in_ok-push.ensures.items ∙ map-append part_seen l.parts.items (part ∷ []) in (
       subst (λ ps. ArePartLines elements ps c.in-Some.after.now) (sym seen)
           (one_part_line elements l.left.now c.in-Some.after.now own (parts_seen l.parts.items) (part_seen part) l.invariant.0 c.in-Some.ensures spells),
       search rules,
