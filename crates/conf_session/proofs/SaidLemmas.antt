@@ -57,9 +57,9 @@ said-part ms e0 e1 e2 e3 e4 = rw (e0, e1, e2, e3, e4) refl
 -- ---- parts
 
 -- a mapping is the part that its edit is
-pub part_read : (ms : Members) (read : Option Edit) → read ≡ edit_under (codes "text") ms → option_and_then read as_part ≡ part_from ms
+pub part_read : (ms : Members) (read : Option Edit) → read ≡ edit_under (codes "text") ms → option_and_then as_part read ≡ part_from ms
 unfolding part_from
-part_read ms read is = ap (λ o. option_and_then o as_part) is
+part_read ms read is = ap (option_and_then as_part) is
 
 -- the keys that the code asks for are those of the definitions
 

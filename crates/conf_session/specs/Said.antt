@@ -39,7 +39,7 @@ as_part edit = Some (plain edit)
 
 -- a part is a mapping with exactly the keys of an edit in their order; the text of an import is under `text`
 unfoldable pub part_from : Members → Option Part
-part_from ms = option_and_then (edit_under (codes "text") ms) as_part
+part_from ms = option_and_then as_part (edit_under (codes "text") ms)
 
 abbrev pub part_of : Tree → Option Part
 part_of (text value) = None

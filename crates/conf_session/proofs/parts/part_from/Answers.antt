@@ -7,6 +7,9 @@ use Rattle.conf_record.specs.Reading.{edit_seen}
 use Rattle.conf_session.proofs.SaidLemmas.{part_read}
 use Rattle.conf_session.proofs.parts.part_from.Goals as goal
 
+pub members_from-requires : goal.members_from-requires
+members_from-requires c = record { kept = c.requires }
+
 pub returns-in-Some : goal.returns-in-Some
 returns-in-Some c =
     let ms = members_of c.args.pairs.items in
