@@ -3,9 +3,7 @@ use Rattle.std.proofs.Common.{◌≡◌, refl, sym, ◌∙◌, ap, arith, ◌≤
 use Rattle.std.specs.Prelude.{ℕ, suc, List, [], ◌∷◌, ◌++◌, codes, Result, Ok, Err}
 use Rattle.std.specs.Str.{chars}
 use Rattle.std.specs.Str.Parse.{AllDigits}
-use Rattle.std.proofs.lemmas.List.{append-nil}
 use Rattle.yaml_grammar.specs.Trees.{Tree, text, sequence, Elements, no_element, element, depth, elements_depth}
-use Rattle.yaml_grammar.specs.Style.{key_lines, value_at}
 use Rattle.yaml_recognizers.specs.Closings.{framed_text}
 use Rattle.yaml_data.specs.Seen.{tree_of, elements_of}
 use Rattle.yaml_data.specs.TextBytes.{text_bytes}

@@ -34,7 +34,7 @@ use Rattle.conf_record.proofs.SizeLemmas.{size, scalar_most, value_size}
 use Rattle.yaml_writer.proofs.ByteLemmas.{byte_len-encoded}
 use Rattle.conf_store.specs.Calls.{outcome, room_for, tree_named}
 use Rattle.conf_session.specs.Requests.{Request, changing, unread, getting, exporting, naming, checkpointing, bad}
-use Rattle.conf_session.specs.Answers.{Stored, longest, one, text_elements, answered, word, refusal, refused_answer, answer_or_refusal, value_at_path, change_answer, document_bytes, answer_bytes, answer_limit}
+use Rattle.conf_session.specs.Answers.{Stored, longest, one, text_elements, answered, refused_answer, answer_or_refusal, value_at_path, change_answer, document_bytes, answer_bytes, answer_limit}
 use Rattle.conf_session.specs.declared.fault.SessionFault.{SessionFault}
 use Rattle.conf_session.specs.declared.words.Refusal.{Refusal}
 use Rattle.conf_session.specs.declared.words.Refusal.TheVariants as why

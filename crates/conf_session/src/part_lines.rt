@@ -34,9 +34,7 @@ pub(crate) fn part_on_lines(
 }
 
 /// The members with their texts, each of which [`line_value`] takes.
-fn texts_on_lines<'t>(
-    lines: EditMembers<&'t str, &'t str>,
-) -> Option<EditMembers<&'t str, &'t str>>
+fn texts_on_lines<'t>(lines: EditMembers<&'t str, &'t str>) -> Option<EditMembers<&'t str, &'t str>>
     ensures { IfSome result (λ texts.
         SpellsPart (lines_of lines.entry (codes "text: ")) (part_cut texts)) }
 {

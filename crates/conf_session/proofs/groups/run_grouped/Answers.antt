@@ -1,10 +1,8 @@
 -- Each turn performs and answers one group, and then makes a part of a checkpoint.
-use Rattle.std.proofs.Common.{◌≡◌, ◌++◌, [], ℕ, refl, sym, ◌∙◌, ap, subst, arith, length}
-use Rattle.std.specs.Prelude.{Ok}
+use Rattle.std.proofs.Common.{ℕ, refl, sym, ◌∙◌, ap, subst, arith, length}
 use Rattle.std.proofs.lemmas.Bool.{false≢true}
 use Rattle.std.proofs.lemmas.Result.{err_from_is_err_and}
-use Rattle.conf_session.specs.Input.{Advances, AdvancesToPiece, AdvancesToEnd, ahead, bytes_read}
-use Rattle.conf_session.specs.Gathering.{last_bytes, unwritten_bytes}
+use Rattle.conf_session.specs.Input.{ahead, bytes_read}
 use Rattle.conf_session.proofs.ReadLemmas.{longer-piece, none-unwritten, room-none, room-read, at-piece, at-end}
 use Rattle.conf_session.proofs.RequestLemmas.{synced-leaves}
 use Rattle.conf_session.proofs.GroupLemmas.{GroupsSoFar, reopens, groups-none, groups-more, groups-tended, ends-well, ends-in_input, ends-failing, ends-tending, starts-failing, starts-without-memory}

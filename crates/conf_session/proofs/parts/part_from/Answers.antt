@@ -1,4 +1,4 @@
-use Rattle.std.proofs.Common.{◌≡◌, codes, refl, ap, Some, None, ◌∙◌}
+use Rattle.std.proofs.Common.{codes, refl, ap, Some, None, ◌∙◌}
 use Rattle.std.proofs.lemmas.Result.{IfOk-weaker}
 use Rattle.yaml_data.specs.Seen.{members_of}
 use Rattle.conf_state.proofs.LineLemmas.{ascii}

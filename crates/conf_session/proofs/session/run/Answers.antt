@@ -1,9 +1,7 @@
 -- Each turn performs and answers one piece.
-use Rattle.std.proofs.Common.{◌≡◌, ◌++◌, [], false, refl, sym, ◌∙◌, ap, subst, arith, length}
-use Rattle.std.specs.Prelude.{Ok}
+use Rattle.std.proofs.Common.{◌≡◌, false, refl, sym, ◌∙◌, ap, arith, length}
 use Rattle.std.proofs.lemmas.Result.{err_from_is_err_and}
-use Rattle.conf_session.specs.Input.{Advances, AdvancesToPiece, AdvancesToEnd, ahead, bytes_read}
-use Rattle.conf_session.specs.Gathering.{last_bytes, unwritten_bytes}
+use Rattle.conf_session.specs.Input.{ahead, bytes_read}
 use Rattle.conf_session.proofs.ReadLemmas.{longer-piece, none-unwritten, room-none, room-read, at-piece, at-end}
 use Rattle.conf_session.proofs.SessionLemmas.{so_far-none, so_far-more, ends-well, ends-in_input, ends-failing, starts-without-memory}
 use Rattle.conf_session.proofs.session.run.Goals as goal
