@@ -3,9 +3,7 @@ use Rattle.std.proofs.Common.{◌≡◌, refl, sym, ◌∙◌, ap, arith, ◌≤
 use Rattle.std.specs.Prelude.{ℕ, suc, List, [], ◌∷◌, ◌++◌, codes, Result, Ok, Err}
 use Rattle.std.specs.Str.{chars}
 use Rattle.std.specs.Str.Parse.{AllDigits}
-use Rattle.std.proofs.lemmas.List.{append-nil}
 use Rattle.yaml_grammar.specs.Trees.{Tree, text, sequence, Elements, no_element, element, depth, elements_depth}
-use Rattle.yaml_grammar.specs.Style.{key_lines, value_at}
 use Rattle.yaml_recognizers.specs.Closings.{framed_text}
 use Rattle.yaml_data.specs.Seen.{tree_of, elements_of}
 use Rattle.yaml_data.specs.TextBytes.{text_bytes}
@@ -23,17 +21,9 @@ use Rattle.conf_state.proofs.RunLaws.{and_then-Ok}
 use Rattle.conf_store.specs.Calls.{tree_named, tree_at}
 use Rattle.conf_session.specs.Answers.{one, text_elements}
 use Rattle.conf_session.proofs.LengthLemmas.{by_path-Ok, tree_named-good}
+use Rattle.conf_session.proofs.WordLemmas.{framed-one}
 
 -- ---- the text of an answer
-
-regroup : (a b c d : List ℕ) → ((a ++ b) ++ c) ++ d ≡ a ++ (((b ++ c) ++ []) ++ d)
-regroup a b c d =
-    append_assoc (a ++ b) c d ∙ append_assoc a b (c ++ d)
-    ∙ ap (λ l. a ++ l) (sym (append_assoc b c d) ∙ ap (λ l. l ++ d) (sym (append-nil (b ++ c))))
-
--- the text of a mapping with one pair between `---` and `...`, by its parts
-pub framed-one : (key : List ℕ) (t : Tree) → ((codes "---\n" ++ key_lines 0 key) ++ value_at t 0) ++ codes "...\n" ≡ framed_text (one key t)
-framed-one key t = regroup (codes "---\n") (key_lines 0 key) (value_at t 0) (codes "...\n")
 
 count_end : (ds : List ℕ) → ds ++ codes "\"\n...\n" ≡ ds ++ codes "\"" ++ codes "\n" ++ codes "...\n"
 count_end ds = sym (append_assoc (ds ++ codes "\"") (codes "\n") (codes "...\n") ∙ append_assoc ds (codes "\"") (codes "\n...\n"))

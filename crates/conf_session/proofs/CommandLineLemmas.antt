@@ -19,14 +19,18 @@ use Rattle.yaml_writer.proofs.ByteLemmas.{byte_len-chars}
 use Rattle.yaml_config.specs.Kept.{IsKept}
 use Rattle.yaml_config.proofs.TextTreeLemmas.{chars-IsText}
 use Rattle.conf_state.specs.Commands.{set_at, delete_at}
+use Rattle.std.specs.Borrow.{Bor}
+use Rattle.conf_record.specs.EditLines.{member_line, lines_of}
+use Rattle.conf_record.specs.declared.edit_members.EditMembers.TheVariants as cut
 use Rattle.conf_record.proofs.SizeLemmas.{scalar_most}
 use Rattle.conf_session.specs.Said.{Part, Said, Says, command_limits, piece_limit, import_text, plain, single_part, batch_of_parts, get_at, said_by, part_from, parts_of, parts_said, first_and_rest}
-use Rattle.conf_session.specs.CommandLines.{Spelling, bare, quoted, Line, spelled, bare_char, begins_bare, stands, IsField, line_text, lines_text, members_of_lines, IsLine, AreLines, Entry, entry_text, entry_members, elements_text, elements_of_entries, AreEntries, SaysPart, SayParts, BeginsWithPart, IsElement, ArePartLines, Layout, single, batch_of, layout_text, layout_members, IsLayout, IsCommandLines}
+use Rattle.conf_session.specs.CommandLines.{Spelling, bare, quoted, Line, spelled, bare_char, begins_bare, stands, IsField, line_text, lines_text, members_of_lines, IsSpelled, IsLine, AreLines, Entry, entry_text, entry_members, elements_text, elements_of_entries, AreEntries, SaysPart, SayParts, SpellsPart, ArePartLines, Layout, single, batch_of, layout_text, layout_members, IsLayout, IsCommandLines}
 use Rattle.conf_session.proofs.LinesPresented.{Unambiguous, KeysAreText, AllKeysAreText, LayoutIsText, marker_text, document_of, lines_give}
 
 -- ---- all is ASCII
 
-abbrev low : ℕ → Bool
+-- it is an ASCII character
+abbrev pub low : ℕ → Bool
 low c = nat_lt c 128
 
 all_weaker : (p q : ℕ → Bool) → ((c : ℕ) → p c ≡ true → q c ≡ true) → (cs : List ℕ) → list_all p cs ≡ true → list_all q cs ≡ true
@@ -55,7 +59,8 @@ value_low : (spelling : Spelling) (value : List ℕ) → stands spelling value �
 value_low bare value h = all_weaker bare_char low bare_low value (and_parts (begins_bare value) (list_all bare_char value) h).1
 value_low quoted value h = all_weaker stands_alone low alone_low value h
 
-key_low : (key : List ℕ) → plain_in_style key ≡ true → list_all low key ≡ true
+-- a text that is written plain is ASCII
+pub key_low : (key : List ℕ) → plain_in_style key ≡ true → list_all low key ≡ true
 key_low key h = all_weaker word_char low word_low key (and_parts _ _ (and_parts _ _ (and_parts _ _ h).0).0).1
 
 spelled_low : (spelling : Spelling) (value : List ℕ) → list_all low value ≡ true → list_all low (spelled spelling value) ≡ true
@@ -265,14 +270,6 @@ field_line key value lines rest spelling is =
     is ∙ ap (λ t. key ++ (codes ": " ++ t)) (sym (append_assoc (spelled spelling value) (codes "\n") rest))
     ∙ sym (append_assoc key (codes ": " ++ (spelled spelling value ++ codes "\n")) rest)
 
--- the same after spaces; the key has its `: `
-spaced_line : (indent : ℕ) (key opening value lines rest : List ℕ) (spelling : Spelling) → key ++ codes ": " ≡ opening → lines ≡ (spaces indent ++ opening) ++ (spelled spelling value ++ 10 ∷ rest)
-    → lines ≡ spaces indent ++ (line_text (record { key = key; spelling = spelling; value = value }) ++ rest)
-spaced_line indent key opening value lines rest spelling opens is =
-    let after = spelled spelling value ++ 10 ∷ rest in
-    is ∙ append_assoc (spaces indent) opening after
-    ∙ ap (λ t. spaces indent ++ t) (field_line key value (opening ++ after) rest spelling (ap (λ t. t ++ after) (sym opens) ∙ append_assoc key (codes ": ") after))
-
 -- a line before others of its mapping
 next_line : (indent : ℕ) (l m : Line) (ms : List Line) (lines between rest : List ℕ) → lines ≡ line_text l ++ between → between ≡ spaces indent ++ (lines_text indent m ms ++ rest)
     → lines ≡ lines_text indent l (m ∷ ms) ++ rest
@@ -282,16 +279,35 @@ next_line indent l m ms lines between rest is follows =
 
 -- ---- parts
 
--- the lines of a set
-pub set_part_lines : (indent : ℕ) (name path value lines after_name after_path rest : List ℕ) → IsField lines (codes "set: ") name after_name
-    → IsField after_name (spaces indent ++ codes "path: ") path after_path → IsField after_path (spaces indent ++ codes "value: ") value rest
-    → BeginsWithPart lines indent (plain (set_at (chars name) (chars path) (text (chars value)))) rest
+-- the lines of an import
+pub import_spelled : (n v : Bor (List ℕ)) (name source : List ℕ) → IsSpelled n.now name → IsSpelled v.now source
+    → SpellsPart (lines_of (cut.Import n v) (codes "text: ")) (import_text (chars name) (chars source))
 unfolding said_by part_from
-set_part_lines indent name path value lines after_name after_path rest one two three =
+import_spelled n v name source one two =
+    let a : Line = record { key = codes "import"; spelling = one.spelling; value = name } in
+    let b : Line = record { key = codes "text"; spelling = two.spelling; value = source } in
+    let entry : Entry = record { first = a; more = b ∷ [] } in
+    let said : SaysPart entry (import_text name source) = record {
+      is = record { are = (record { word = refl; short = refl; stands = one.stands }, (record { word = refl; short = refl; stands = two.stands }, tt)); differ = refl };
+      within = refl;
+      alone = refl;
+    } in
+    let name_is = sym (spelled_chars one.spelling name one.stands) in
+    let source_is = sym (spelled_chars two.spelling source two.stands) in
+    record {
+      entry = entry;
+      says = subst (SaysPart entry) (λ i. import_text (name_is i) (source_is i)) said;
+      is = λ indent. λ i. member_line (codes "import: ") (one.is i) ++ (spaces indent ++ member_line (codes "text: ") (two.is i));
+    }
+
+-- the lines of a set
+pub set_spelled : (n p v : Bor (List ℕ)) (name path value : List ℕ) → IsSpelled n.now name → IsSpelled p.now path → IsSpelled v.now value
+    → SpellsPart (lines_of (cut.Set n p v) (codes "text: ")) (plain (set_at (chars name) (chars path) (text (chars value))))
+unfolding said_by part_from
+set_spelled n p v name path value one two three =
     let a : Line = record { key = codes "set"; spelling = one.spelling; value = name } in
     let b : Line = record { key = codes "path"; spelling = two.spelling; value = path } in
     let d : Line = record { key = codes "value"; spelling = three.spelling; value = value } in
-    let last = spaced_line indent (codes "value") (codes "value: ") value after_path rest three.spelling refl three.is in
     let entry : Entry = record { first = a; more = b ∷ d ∷ [] } in
     let said : SaysPart entry (plain (set_at name path (text value))) = record {
       is = record {
@@ -310,16 +326,16 @@ set_part_lines indent name path value lines after_name after_path rest one two t
     record {
       entry = entry;
       says = subst (SaysPart entry) (λ i. plain (set_at (name_is i) (path_is i) (text (value_is i)))) said;
-      is = next_line indent a b (d ∷ []) lines after_name rest (field_line (codes "set") name lines after_name one.spelling one.is)
-          (spaced_line indent (codes "path") (codes "path: ") path after_name after_path two.spelling refl two.is
-          ∙ ap (λ t. spaces indent ++ t) (next_line indent b d [] (line_text b ++ after_path) after_path rest refl last));
+      is = λ indent. λ i.
+          member_line (codes "set: ") (one.is i)
+          ++ (spaces indent ++ (member_line (codes "path: ") (two.is i) ++ (spaces indent ++ member_line (codes "value: ") (three.is i))));
     }
 
 -- the lines of a delete
-pub delete_part_lines : (indent : ℕ) (name path lines after_name rest : List ℕ) → IsField lines (codes "delete: ") name after_name
-    → IsField after_name (spaces indent ++ codes "path: ") path rest → BeginsWithPart lines indent (plain (delete_at (chars name) (chars path))) rest
+pub delete_spelled : (n p : Bor (List ℕ)) (name path : List ℕ) → IsSpelled n.now name → IsSpelled p.now path
+    → SpellsPart (lines_of (cut.Delete n p) (codes "text: ")) (plain (delete_at (chars name) (chars path)))
 unfolding said_by part_from
-delete_part_lines indent name path lines after_name rest one two =
+delete_spelled n p name path one two =
     let a : Line = record { key = codes "delete"; spelling = one.spelling; value = name } in
     let b : Line = record { key = codes "path"; spelling = two.spelling; value = path } in
     let entry : Entry = record { first = a; more = b ∷ [] } in
@@ -333,30 +349,7 @@ delete_part_lines indent name path lines after_name rest one two =
     record {
       entry = entry;
       says = subst (SaysPart entry) (λ i. plain (delete_at (name_is i) (path_is i))) said;
-      is = next_line indent a b [] lines after_name rest (field_line (codes "delete") name lines after_name one.spelling one.is)
-          (spaced_line indent (codes "path") (codes "path: ") path after_name rest two.spelling refl two.is);
-    }
-
--- the lines of an import
-pub import_part_lines : (indent : ℕ) (name source lines after_name rest : List ℕ) → IsField lines (codes "import: ") name after_name
-    → IsField after_name (spaces indent ++ codes "text: ") source rest → BeginsWithPart lines indent (import_text (chars name) (chars source)) rest
-unfolding said_by part_from
-import_part_lines indent name source lines after_name rest one two =
-    let a : Line = record { key = codes "import"; spelling = one.spelling; value = name } in
-    let b : Line = record { key = codes "text"; spelling = two.spelling; value = source } in
-    let entry : Entry = record { first = a; more = b ∷ [] } in
-    let said : SaysPart entry (import_text name source) = record {
-      is = record { are = (record { word = refl; short = refl; stands = one.stands }, (record { word = refl; short = refl; stands = two.stands }, tt)); differ = refl };
-      within = refl;
-      alone = refl;
-    } in
-    let name_is = sym (spelled_chars one.spelling name one.stands) in
-    let source_is = sym (spelled_chars two.spelling source two.stands) in
-    record {
-      entry = entry;
-      says = subst (SaysPart entry) (λ i. import_text (name_is i) (source_is i)) said;
-      is = next_line indent a b [] lines after_name rest (field_line (codes "import") name lines after_name one.spelling one.is)
-          (spaced_line indent (codes "text") (codes "text: ") source after_name rest two.spelling refl two.is);
+      is = λ indent. λ i. member_line (codes "delete: ") (one.is i) ++ (spaces indent ++ member_line (codes "path: ") (two.is i));
     }
 
 -- ---- commands
@@ -377,12 +370,13 @@ get_lines name path lines after_name one two =
     }
 
 -- a part alone
-pub single_lines : (lines end : List ℕ) (part : Part) → BeginsWithPart lines 0 part end → end ≡ codes "...\n" → IsCommandLines lines (single_part part)
-single_lines lines end part begins ends = record {
-  layout = single begins.entry;
-  are = begins.says.is;
-  is = begins.is ∙ ap (λ t. entry_text 0 begins.entry ++ t) ends;
-  says = sym begins.says.alone;
+pub single_lines : (lines end : List ℕ) (own : ℕ → List ℕ) (part : Part) → lines ≡ own 0 ++ end → end ≡ codes "...\n" → SpellsPart own part
+    → IsCommandLines lines (single_part part)
+single_lines lines end own part is ends spells = record {
+  layout = single spells.entry;
+  are = spells.says.is;
+  is = is ∙ ap (λ t. own 0 ++ t) ends ∙ ap (λ t. t ++ codes "...\n") (spells.is 0);
+  says = sym spells.says.alone;
 }
 
 -- ---- batches
@@ -404,15 +398,16 @@ say_one (d ∷ ds) [] e part say one = absurd say
 say_one (d ∷ ds) (p ∷ ps) e part say one = (say.0, say_one ds ps e part say.1 one)
 
 -- one more element
-pub one_part_line : (lines left after : List ℕ) (parts : List Part) (part : Part) → ArePartLines lines parts left → IsElement left part after → ArePartLines lines (parts ++ part ∷ []) after
-one_part_line lines left after parts part so new =
-    let e = new.begins.entry in
+pub one_part_line : (lines left after : List ℕ) (own : ℕ → List ℕ) (parts : List Part) (part : Part) → ArePartLines lines parts left
+    → left ≡ codes "  - " ++ (own 4 ++ after) → SpellsPart own part → ArePartLines lines (parts ++ part ∷ []) after
+one_part_line lines left after own parts part so is spells =
+    let e = spells.entry in
     let first = codes "  - " ++ entry_text 4 e in
     record {
       entries = so.entries ++ e ∷ [];
-      say = say_one so.entries parts e part so.say new.begins.says;
+      say = say_one so.entries parts e part so.say spells.says;
       is =
-          so.is ∙ ap (λ t. elements_text so.entries ++ t) (new.is ∙ ap (λ t. codes "  - " ++ t) new.begins.is)
+          so.is ∙ ap (λ t. elements_text so.entries ++ t) (is ∙ ap (λ t. codes "  - " ++ (t ++ after)) (spells.is 4))
           ∙ sym (append_assoc (elements_text so.entries) first after) ∙ ap (λ t. t ++ after) (sym (elements_one so.entries e));
     }
 

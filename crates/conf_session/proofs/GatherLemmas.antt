@@ -27,7 +27,7 @@ use Rattle.conf_session.specs.Said.{piece_limit}
 use Rattle.conf_session.specs.Input.{ahead, piece_or_rest, AdvancesAhead, AdvancesWithin}
 use Rattle.conf_session.specs.Requests.{Request, Asks}
 use Rattle.conf_session.specs.Answers.{Stored, answer_bytes, output, stored_after_all, accepted_command, accepted_commands, refused_of, flushed_after, waiting_after}
-use Rattle.conf_session.specs.Runs.{stored_of}
+use Rattle.conf_session.specs.Runs.{TakesUp, stored_of}
 use Rattle.conf_session.specs.Groups.{all_asked}
 use Rattle.conf_session.specs.Replies.{DidAsked, MeansPrefixes, Performs, PerformsAll, reply_bytes}
 use Rattle.conf_session.specs.declared.input.Input.{Input}
@@ -35,7 +35,7 @@ use Rattle.conf_session.specs.declared.reply.Reply.{Reply}
 use Rattle.conf_session.specs.declared.unwritten.Unwritten.{Unwritten}
 use Rattle.conf_session.specs.declared.fault.SessionFault.{SessionFault}
 use Rattle.conf_session.specs.declared.fault.SessionFault.TheVariants as fault
-use Rattle.conf_session.specs.Gathering.{answers_limit, last_bytes, unwritten_bytes, HasRoomFor, KeepsAnswer, KeepsAnswers, GathersPiece, LeavesPiece, IsAtPiece, TakesUp, Submits, PerformsTurns, AnswersGroup, BreaksOff, StopsShort, FlushesAll, SubmitsGroup, EndsGroup, WritesAnswers, CutsAnswers, CutsSending, FailsToWrite, SendsAnswers, PassesGroup, CutsGroup, PerformsGroup, PerformsPiece}
+use Rattle.conf_session.specs.Gathering.{answers_limit, last_bytes, unwritten_bytes, HasRoomFor, KeepsAnswer, KeepsAnswers, GathersPiece, LeavesPiece, IsAtPiece, GathersPieces, PerformsTurns, PerformsFlushed, BreaksOff, StopsShort, FlushesAll, SubmitsGroup, EndsGroup, WritesAnswers, CutsAnswers, CutsSending, FailsToWrite, SendsAnswers, PassesGroup, CutsGroup, PerformsGroup, PerformsPiece}
 use Rattle.conf_session.proofs.PassedLemmas.{few-accepted, few-refused, continues, prefix-whole, pieces-last, performs-none, performs-more, state-more, moments-more, accepted_commands-last, output-last, refusals-last}
 use Rattle.conf_session.proofs.TurnLemmas.{asked-stored, asked-accepted, files-asked}
 
@@ -171,7 +171,7 @@ module _ {D : Type 0} (model : DiskModel D) where
   pub submits-none : (store : StoreView D) (bytes : List ℕ) (answers : Unwritten) → store.reopen ≡ false → length answers.text.items ≤ answers_limit
       → ((image : Image) → model.honest → model.left store.disk (model.moment store.disk) image → IsImage (model.folder store.disk) image)
       → MeansPrefixes model store
-      → Submits model bytes bytes store store answers answers
+      → GathersPieces (PerformsAll false model) bytes bytes store store answers answers
   submits-none store bytes answers off within only means = record {
     requests = [];
     takes = takes-none bytes;
@@ -179,10 +179,10 @@ module _ {D : Type 0} (model : DiskModel D) where
     keeps = keeps-none (stored_of store) answers within;
   }
 
-  module _ (bytes piece rest : List ℕ) (old now : StoreView D) (before mid : Unwritten) (s : Submits model bytes (piece ++ rest) old now before mid)
+  module _ (bytes piece rest : List ℕ) (old now : StoreView D) (before mid : Unwritten) (s : GathersPieces (PerformsAll false model) bytes (piece ++ rest) old now before mid)
       (closes : ClosesOnce piece) (short : length piece ≤ piece_limit) (new : StoreView D) where
     -- the next piece is performed
-    pub submits-more : (after : Unwritten) → GathersPiece false model now new piece mid after → Submits model bytes rest old new before after
+    pub submits-more : (after : Unwritten) → GathersPiece false model now new piece mid after → GathersPieces (PerformsAll false model) bytes rest old new before after
     submits-more after one = record {
       requests = s.requests ++ one.request ∷ [];
       takes = takes-more bytes piece rest s.requests one.request s.takes closes short one.asks;
@@ -202,13 +202,13 @@ module _ {D : Type 0} (model : DiskModel D) where
     }
 
   -- the next piece has no answer
-  pub submits-failing : (bytes piece rest : List ℕ) (old now new : StoreView D) (before mid after : Unwritten) → Submits model bytes (piece ++ rest) old now before mid
+  pub submits-failing : (bytes piece rest : List ℕ) (old now new : StoreView D) (before mid after : Unwritten) → GathersPieces (PerformsAll false model) bytes (piece ++ rest) old now before mid
       → ClosesOnce piece → length piece ≤ piece_limit → after ≡ mid → (f : SessionFault) → LeavesPiece false model now new piece f
       → (input : Input) → SubmitsGroup model bytes input old new before after (Err f)
   submits-failing bytes piece rest old now new before mid after s closes short same fault.OutOfMemory fails input = (
     piece ++ rest,
-    subst (λ (a : Unwritten). Submits model bytes (piece ++ rest) old new before a) (sym same)
-        (subst (λ (t : StoreView D). Submits model bytes (piece ++ rest) old t before mid) (sym fails) s),
+    subst (λ (a : Unwritten). GathersPieces (PerformsAll false model) bytes (piece ++ rest) old new before a) (sym same)
+        (subst (λ (t : StoreView D). GathersPieces (PerformsAll false model) bytes (piece ++ rest) old t before mid) (sym fails) s),
   )
   submits-failing bytes piece rest old now new before mid after s closes short same fault.Device fails input =
       breaks-at bytes piece rest old now before mid s closes short new fails.0 fails.1 fails.2.0 fails.2.1
@@ -234,7 +234,7 @@ module _ {D : Type 0} (model : DiskModel D) where
       }
 
   -- there is no memory for a further piece
-  pub submits-starved : (bytes further : List ℕ) (old new : StoreView D) (before after : Unwritten) → Submits model bytes further old new before after
+  pub submits-starved : (bytes further : List ℕ) (old new : StoreView D) (before after : Unwritten) → GathersPieces (PerformsAll false model) bytes further old new before after
       → (was then : Input) (f : SessionFault) → AdvancesAhead was then (Err f) → (input : Input) → SubmitsGroup model bytes input old new before after (Err f)
   submits-starved bytes further old new before after s was then fault.OutOfMemory fails input = (further, s)
   submits-starved bytes further old new before after s was then fault.Device fails input = absurd fails
@@ -303,9 +303,9 @@ module _ {D : Type 0} (model : DiskModel D) where
     pub flush-state : StopsShort model mid new → new.state ≡ (stored_after_all (stored_of old) rs).state
     flush-state stops = stops.state ∙ ap (λ (t : Stored). t.state) before.stored
 
-  module _ (bytes further : List ℕ) (old mid : StoreView D) (before after : Unwritten) (s : Submits model bytes further old mid before after) (new : StoreView D) where
+  module _ (bytes further : List ℕ) (old mid : StoreView D) (before after : Unwritten) (s : GathersPieces (PerformsAll false model) bytes further old mid before after) (new : StoreView D) where
     -- the pieces that were submitted are flushed
-    pub answers-flushed : PerformsTurns model mid new [] → AnswersGroup model bytes further old new before after
+    pub answers-flushed : PerformsTurns model mid new [] → GathersPieces (PerformsFlushed model) bytes further old new before after
     answers-flushed flush = record { requests = s.requests; takes = s.takes; performs = all-flushed old mid new s.requests s.performs flush; keeps = s.keeps }
 
     -- the flush fails
@@ -361,7 +361,7 @@ module _ {D : Type 0} (model : DiskModel D) where
   -- ---- the write
 
   module _ (held written : Option (List ℕ)) (bytes further : List ℕ) (old new : StoreView D) (before mid : Unwritten) (none : unwritten_bytes before ≡ [])
-      (s : AnswersGroup model bytes further old new before mid) where
+      (s : GathersPieces (PerformsFlushed model) bytes further old new before mid) where
     pub passes : (after : Unwritten) → WritesAnswers held written mid after → PassesGroup model held written bytes further old new before after
     passes after writes = record {
       requests = s.requests;

@@ -22,7 +22,7 @@ use Rattle.conf_session.specs.declared.groups.Checkpoints.TheVariants.{Asked, Af
 use Rattle.conf_session.specs.declared.session.Tally.{Tally}
 use Rattle.conf_session.specs.Requests.{Request}
 use Rattle.conf_session.specs.Answers.{Stored, answer_bytes, answer_limit, output, stored_after, stored_after_all, accepted_commands, refusals}
-use Rattle.conf_session.specs.Runs.{stored_of, AfterAtLeast, ArePieces, EndsAnswered}
+use Rattle.conf_session.specs.Runs.{stored_of, AfterAtLeast, BeginsWith, EndsAnswered}
 use Rattle.conf_session.specs.Groups.{AreDue, Files, Turn, asked, all_asked, requests_of, files_of, stored_after_turns, files_after_turns, turns_output, turns_accepted, turns_refused, acknowledged_turns, GroupedEnds, RunsGrouped}
 use Rattle.conf_session.specs.Gathering.{PerformsTurns, BreaksOff, StopsShort, FlushesAll, Tends, PassesGroup, CutsGroup, PerformsGroup}
 use Rattle.conf_session.proofs.PassedLemmas.{take-beyond}
@@ -366,7 +366,7 @@ module _ {D : Type 0} (model : DiskModel D) (checkpoints : Checkpoints) where
           (record {
             bytes = early.bytes;
             taken = early.taken;
-            begins = record { pieces = early.begins.pieces; further = early.begins.further; is = early.begins.is; are = subst (ArePieces early.begins.pieces) (sym requests) early.begins.are };
+            begins = subst (BeginsWith early.bytes) (sym requests) early.begins;
             last = at.last;
             further = at.further;
             is = refl;

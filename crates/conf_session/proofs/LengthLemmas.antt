@@ -34,11 +34,11 @@ use Rattle.conf_record.proofs.SizeLemmas.{size, scalar_most, value_size}
 use Rattle.yaml_writer.proofs.ByteLemmas.{byte_len-encoded}
 use Rattle.conf_store.specs.Calls.{outcome, room_for, tree_named}
 use Rattle.conf_session.specs.Requests.{Request, changing, unread, getting, exporting, naming, checkpointing, bad}
-use Rattle.conf_session.specs.Answers.{Stored, longest, one, text_elements, answered, word, refusal, refused_answer, answer_or_refusal, value_at_path, change_answer, document_bytes, answer_bytes, answer_limit}
+use Rattle.conf_session.specs.Answers.{Stored, longest, one, text_elements, answered, refused_answer, answer_or_refusal, value_at_path, change_answer, document_bytes, answer_bytes, answer_limit}
 use Rattle.conf_session.specs.declared.fault.SessionFault.{SessionFault}
 use Rattle.conf_session.specs.declared.words.Refusal.{Refusal}
 use Rattle.conf_session.specs.declared.words.Refusal.TheVariants as why
-use Rattle.conf_session.proofs.WordLemmas.{spelled-BadName, spelled-BadPath, spelled-ConfigLarge, spelled-CountFull, spelled-Documents, spelled-EmptyBatch, spelled-JournalLong, spelled-KeyNotText, spelled-KeyTwice, spelled-LargeInStyle, spelled-NoConfig, spelled-NoSuchPlace, spelled-NotIndex, spelled-NotUtf8, spelled-RecordLong, spelled-StoreFull, spelled-Syntax, spelled-TooDeep, spelled-TooLong, spelled-BadCommand}
+use Rattle.conf_session.proofs.WordLemmas.{refusal-short}
 
 -- ---- a document of one key
 
@@ -210,39 +210,10 @@ step-few s new command room e = let done = and_then-Ok (performed s.configs comm
 
 -- ---- refusals
 
-refused : (word spelled : List ℕ) → framed_text_bytes (refusal word) ≡ spelled → length spelled ≤ answer_limit → length (framed_text_bytes (refusal word)) ≤ answer_limit
-refused word spelled is few = let bytes = ap length is in omega (arith, bytes, few)
-
--- a refusal keeps the limit of an answer
-pub refusal-short : (reason : Refusal) → length (framed_text_bytes (refusal (word reason))) ≤ answer_limit
-refusal-short why.EmptyBatch = refused (codes "EmptyBatch") _ spelled-EmptyBatch (omega arith)
-refusal-short why.BadName = refused (codes "BadName") _ spelled-BadName (omega arith)
-refusal-short why.NoConfig = refused (codes "NoConfig") _ spelled-NoConfig (omega arith)
-refusal-short why.BadPath = refused (codes "BadPath") _ spelled-BadPath (omega arith)
-refusal-short why.NoSuchPlace = refused (codes "NoSuchPlace") _ spelled-NoSuchPlace (omega arith)
-refusal-short why.NotIndex = refused (codes "NotIndex") _ spelled-NotIndex (omega arith)
-refusal-short why.TooLong = refused (codes "TooLong") _ spelled-TooLong (omega arith)
-refusal-short why.NotUtf8 = refused (codes "NotUtf8") _ spelled-NotUtf8 (omega arith)
-refusal-short why.Syntax = refused (codes "Syntax") _ spelled-Syntax (omega arith)
-refusal-short why.Documents = refused (codes "Documents") _ spelled-Documents (omega arith)
-refusal-short why.KeyNotText = refused (codes "KeyNotText") _ spelled-KeyNotText (omega arith)
-refusal-short why.KeyTwice = refused (codes "KeyTwice") _ spelled-KeyTwice (omega arith)
-refusal-short why.TooDeep = refused (codes "TooDeep") _ spelled-TooDeep (omega arith)
-refusal-short why.LargeInStyle = refused (codes "LargeInStyle") _ spelled-LargeInStyle (omega arith)
-refusal-short why.ConfigLarge = refused (codes "ConfigLarge") _ spelled-ConfigLarge (omega arith)
-refusal-short why.StoreFull = refused (codes "StoreFull") _ spelled-StoreFull (omega arith)
-refusal-short why.RecordLong = refused (codes "RecordLong") _ spelled-RecordLong (omega arith)
-refusal-short why.JournalLong = refused (codes "JournalLong") _ spelled-JournalLong (omega arith)
-refusal-short why.CountFull = refused (codes "CountFull") _ spelled-CountFull (omega arith)
-
--- so does the answer by one, where there is one
+-- the answer by a refusal, where there is one, keeps the limit of an answer
 pub refused-short : (r : Result Refusal SessionFault) → length (document_bytes (refused_answer r)) ≤ answer_limit
 refused-short (Ok reason) = refusal-short reason
 refused-short (Err end) = omega arith
-
--- the refusal `BadCommand` keeps the limit of an answer
-pub bad-short : length (framed_text_bytes (refusal (codes "BadCommand"))) ≤ answer_limit
-bad-short = refused (codes "BadCommand") _ spelled-BadCommand (omega arith)
 
 -- ---- answers
 
@@ -304,4 +275,4 @@ answer-short now naming kept =
     let names = sequence (text_elements (names_of now.state.configs)) in
     omega (arith, document-length (codes "names") names, names-value-length now.state.configs kept.configs, entries-short now.state kept)
 answer-short now checkpointing kept = count-answer-short now.state.count kept.numbered
-answer-short now bad kept = bad-short
+answer-short now bad kept = refusal-short why.BadCommand

@@ -1,5 +1,6 @@
 -- The parts of a batch: how they are found in a sequence, and how their texts are read, in order.
 use Rattle.std.proofs.Common.{◌≡◌, refl, sym, ap, subst, ◌∙◌, append_assoc, append-nil, arith}
+use Rattle.std.proofs.lemmas.List.{map-append}
 use Rattle.std.specs.Prelude.{List, [], ◌∷◌, ◌++◌, length, map, Option, Some, None, option_map}
 use Rattle.yaml_events.specs.declared.read_fault.ReadFault.{ReadFault}
 use Rattle.yaml_data.specs.Seen.{tree_of, elements_of}
@@ -10,14 +11,6 @@ use Rattle.conf_record.specs.Reading.{AreKeptElements}
 use Rattle.conf_session.specs.Said.{Part, part_of, parts_of, first_and_rest, part_seen, parts_seen}
 use Rattle.conf_session.specs.declared.parts.Part as code_part
 use Rattle.conf_session.specs.Requests.{IsReadAs, AreReadAs, RefusesPart, IsFirstRefused}
-
-parts_seen-one : (ps : List code_part.Part) (p : code_part.Part) → parts_seen (ps ++ p ∷ []) ≡ parts_seen ps ++ part_seen p ∷ []
-parts_seen-one [] p = refl
-parts_seen-one (q ∷ ps) p = ap (λ l. part_seen q ∷ l) (parts_seen-one ps p)
-
-edits_of-one : (es : List code_edit.Edit) (e : code_edit.Edit) → map edit_of (es ++ e ∷ []) ≡ map edit_of es ++ edit_of e ∷ []
-edits_of-one [] e = refl
-edits_of-one (f ∷ es) e = ap (λ l. edit_of f ∷ l) (edits_of-one es e)
 
 -- ---- the parts that elements are
 
@@ -49,7 +42,7 @@ one-found all done t left p is so new more =
     record {
       whole =
           ap (λ ps. behind (parts_seen ps) rest) more
-          ∙ ap (λ ps. behind ps rest) (parts_seen-one done p)
+          ∙ ap (λ ps. behind ps rest) (map-append part_seen done (p ∷ []))
           ∙ behind-one (parts_seen done) (part_seen p) rest
           ∙ ap (λ o. behind (parts_seen done) (first_and_rest o rest)) is
           ∙ so.whole;
@@ -89,7 +82,7 @@ pub one-read : (all : List code_part.Part) (done : List code_edit.Edit) (p : cod
 one-read all done p left e is so new more = record {
   before = so.before ++ part_seen p ∷ [];
   whole = so.whole ∙ sym (append_assoc so.before (part_seen p ∷ []) (parts_seen left));
-  read = subst (AreReadAs (so.before ++ part_seen p ∷ [])) (sym (ap (map edit_of) more ∙ edits_of-one done e)) (read-one so.before (map edit_of done) (part_seen p) (edit_of e) so.read is);
+  read = subst (AreReadAs (so.before ++ part_seen p ∷ [])) (sym (ap (map edit_of) more ∙ map-append edit_of done (e ∷ []))) (read-one so.before (map edit_of done) (part_seen p) (edit_of e) so.read is);
 }
 
 -- the next text is refused

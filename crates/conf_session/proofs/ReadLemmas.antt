@@ -1,6 +1,6 @@
 -- What was read so far of an input, and how a session ends at it.
 use Rattle.std.proofs.Common.{◌≡◌, refl, sym, ◌∙◌, ap, subst, arith, ◌≤◌, append_assoc, length-append}
-use Rattle.std.specs.Prelude.{ℕ, ◌+◌, List, [], ◌∷◌, ◌++◌, length, take, Option, Ok, Err}
+use Rattle.std.specs.Prelude.{ℕ, ◌+◌, Bool, true, false, List, [], ◌∷◌, ◌++◌, length, take, Option, None, Ok, Err}
 use Rattle.std.specs.List.{concat}
 use Rattle.std.specs.Io.KnownBytes.{Appends, Consumes}
 use Rattle.std.proofs.KnownBytes.{Appends-nil, Appends-trans, Consumes-nil, Consumes-trans}
@@ -9,7 +9,7 @@ use Rattle.std.proofs.lemmas.List.Folds.{concat-append}
 use Rattle.std.proofs.lemmas.List.Elements.{All-nil, All-append}
 use Rattle.yaml_grammar.specs.Closings.{ClosesOnce}
 use Rattle.conf_session.specs.Said.{piece_limit}
-use Rattle.conf_session.specs.Input.{session_limit, ahead, bytes_read, piece_or_rest as piece_of, AdvancesToPiece, AdvancesToEnd, FailsToRead, FindsTooLong, FindsSessionLong, RunsOutOfMemory, Advances}
+use Rattle.conf_session.specs.Input.{session_limit, IsSound, ahead, bytes_read, piece_or_rest as piece_of, AdvancesToPiece, AdvancesToEnd, FailsToRead, FindsTooLong, FindsSessionLong, RunsOutOfMemory, Advances}
 use Rattle.conf_session.specs.declared.fault.SessionFault.{SessionFault}
 use Rattle.conf_session.specs.declared.fault.SessionFault.TheVariants as fault
 use Rattle.conf_session.specs.declared.input.Input.{Input}
@@ -17,8 +17,8 @@ use Rattle.conf_session.specs.declared.unwritten.Unwritten.{Unwritten}
 use Rattle.conf_session.specs.declared.session.Tally.{Tally}
 use Rattle.conf_session.specs.Requests.{Request, AllAsk}
 use Rattle.conf_session.specs.Answers.{Stored, output, accepted_commands, refusals}
-use Rattle.conf_session.specs.Runs.{ArePieces, BeginsWith, EndsAnswered, EndsEarly}
-use Rattle.conf_session.specs.Gathering.{HasRoomFor, SendsAnswers, TakesUp}
+use Rattle.conf_session.specs.Runs.{ArePieces, TakesUp, BeginsWith, EndsAnswered, EndsEarly}
+use Rattle.conf_session.specs.Gathering.{HasRoomFor, SendsAnswers, last_bytes, unwritten_bytes}
 
 -- ---- pieces
 
@@ -45,7 +45,7 @@ taken-more given mid left prefix further more one two =
 
 -- nothing was read and answered
 pub nothing-read : (given held : Option (List ℕ)) → EndsEarly given given held held [] [] []
-nothing-read given held = record { bytes = []; taken = Consumes-nil given; begins = record { pieces = []; further = []; is = refl; are = none-are }; out = Appends-nil held }
+nothing-read given held = record { bytes = []; taken = Consumes-nil given; begins = record { further = []; takes = record { pieces = []; joined = refl; are = none-are } }; out = Appends-nil held }
 
 -- ---- so far
 
@@ -100,7 +100,7 @@ pub ends-here : (given left held written : Option (List ℕ)) (requests : List R
 ends-here given left held written requests answers accepted refused further kept total s = record {
   bytes = concat s.pieces ++ further;
   taken = s.taken;
-  begins = record { pieces = s.pieces; further = further; is = refl; are = subst (ArePieces s.pieces) (sym (append-nil requests)) s.are };
+  begins = record { further = further; takes = record { pieces = s.pieces; joined = refl; are = subst (ArePieces s.pieces) (sym (append-nil requests)) s.are } };
   out = s.out;
 }
 
@@ -147,7 +147,7 @@ module _ (given mid left held between : Option (List ℕ)) (requests : List Requ
   ends-too_long finds = record {
     bytes = concat s.pieces ++ (ahead was ++ finds.more);
     taken = taken-more given mid left (concat s.pieces) (ahead was) finds.more s.taken finds.taken;
-    shows = record { pieces = s.pieces; further = ahead was ++ finds.more; is = refl; are = s.are; overlong = finds.overlong };
+    shows = record { begins = record { further = ahead was ++ finds.more; takes = record { pieces = s.pieces; joined = refl; are = s.are } }; overlong = finds.overlong };
     out = s.out;
   }
 
@@ -176,7 +176,7 @@ module _ (given mid left held between : Option (List ℕ)) (requests : List Requ
 
   -- the bytes that were read begin with the pieces that are answered
   answered-begins : (further : List ℕ) → BeginsWith (concat s.pieces ++ further) (requests ++ [])
-  answered-begins further = record { pieces = s.pieces; further = further; is = refl; are = subst (ArePieces s.pieces) (sym (append-nil requests)) s.are }
+  answered-begins further = record { further = further; takes = record { pieces = s.pieces; joined = refl; are = subst (ArePieces s.pieces) (sym (append-nil requests)) s.are } }
 
   ends-starved : RunsOutOfMemory mid left → EndsAnswered given left held between requests answers accepted refused (Err fault.OutOfMemory)
   ends-starved out = record {
@@ -231,7 +231,7 @@ module _ (given mid left held between : Option (List ℕ)) (requests : List Requ
       ends-unanswered written out = record {
         bytes = concat (s.pieces ++ takes.pieces) ++ further;
         taken = all-taken;
-        begins = record { pieces = s.pieces ++ takes.pieces; further = further; is = refl; are = all-are };
+        begins = record { further = further; takes = record { pieces = s.pieces ++ takes.pieces; joined = refl; are = all-are } };
         out = out;
       }
 
@@ -260,6 +260,36 @@ longer-piece given left was next advances =
     let piece = advances.piece.closes.ends in
     let grown = advances.total in
     omega (arith, joined, one, two, piece, grown)
+
+-- where no answer was made, none is kept
+pub none-unwritten : (answers : Unwritten) → answers.text.items ≡ [] → answers.last ≡ None → unwritten_bytes answers ≡ []
+none-unwritten answers text last = ap (λ l. l ++ last_bytes answers.last) text ∙ ap last_bytes last
+
+-- there is room before anything is read
+pub room-none : (input : Input) (answers : Unwritten) → IsSound input → ahead input ≡ [] → bytes_read input ≡ 0 → answers.text.items ≡ [] → answers.last ≡ None
+    → answers.tally.documents ≡ 0 → answers.tally.accepted ≡ 0 → answers.tally.refused ≡ 0 → answers.written ≡ 0 → HasRoomFor answers (length (ahead input)) (bytes_read input)
+room-none input answers sound start read text last documents accepted refused written =
+    let none = ap length start in
+    let empty = ap length text in
+    let unwritten = ap length (none-unwritten answers text last) in
+    record {
+      within = omega (arith, empty);
+      few = omega (arith, documents, none, read);
+      limit = sound.total;
+      accepted = omega (arith, documents, accepted);
+      refused = omega (arith, documents, refused);
+      out = omega (arith, documents, written, unwritten);
+    }
+
+-- an advance that tells of a piece is at one
+pub at-piece : (given left : Option (List ℕ)) (was next : Input) (more : Bool) → Advances given left was next (Ok more) → more ≡ true → AdvancesToPiece given left was next
+at-piece given left was next true advances is = advances
+at-piece given left was next false advances is = cc
+
+-- one that tells of none is at the end
+pub at-end : (given left : Option (List ℕ)) (was next : Input) (more : Bool) → Advances given left was next (Ok more) → more ≡ false → AdvancesToEnd given left was next
+at-end given left was next true advances is = cc
+at-end given left was next false advances is = advances
 
 -- there is room for the answers to what was read now
 pub room-read : (given left : Option (List ℕ)) (was next : Input) (kept : Unwritten) → HasRoomFor kept (length (ahead was)) (bytes_read was) → AdvancesToPiece given left was next

@@ -1,6 +1,6 @@
 -- What is answered to requests that change nothing.
 use Rattle.std.proofs.Common.{◌≡◌, refl, sym, ◌∙◌, ap, subst, ◌≤◌}
-use Rattle.std.specs.Prelude.{ℕ, List, codes, length, String, string_bytes, Ok, Err, IfOk}
+use Rattle.std.specs.Prelude.{ℕ, List, [], codes, length, String, string_bytes, Result, Ok, Err, IfOk}
 use Rattle.std.specs.declared.alloc.Global.{Global}
 use Rattle.yaml_grammar.specs.Trees.{Tree, text, sequence}
 use Rattle.yaml_grammar.specs.Style.{style_text}
@@ -14,31 +14,41 @@ use Rattle.conf_state.specs.Steps.{and_then, by_path}
 use Rattle.conf_state.specs.declared.fault.StoreFault.{StoreFault}
 use Rattle.conf_state.specs.declared.fault.StoreFault.TheVariants.{Path}
 use Rattle.conf_store.specs.Calls.{tree_named, tree_at}
-use Rattle.conf_session.specs.Requests.{getting, exporting, naming}
-use Rattle.conf_session.specs.Answers.{Stored, one, text_elements, answered, path_answered, refused_answer, answer_or_refusal, document_bytes, answer_limit, value_at_path, is_refused}
+use Rattle.conf_session.specs.Requests.{Request, getting, exporting, naming}
+use Rattle.conf_session.specs.Answers.{Stored, answer, accepted_command, refused_of, one, text_elements, answered, path_answered, refused_answer, answer_or_refusal, document_bytes, answer_limit, value_at_path, is_refused}
 use Rattle.conf_session.specs.Replies.{Replies, refused_as}
 use Rattle.conf_session.specs.declared.words.Refusal.{Refusal}
 use Rattle.conf_session.proofs.LengthLemmas.{refused-short, answer-short}
 use Rattle.conf_session.proofs.RefusalLemmas.{refused-ok}
 use Rattle.conf_session.specs.declared.reply.Reply.TheVariants.{Done, Refused}
 
-module _ (now : Stored) (name : List ℕ) where
-  value-reply : (p : List ℕ) (v : Tree) (written : String Global) → value_at_path now.state name p ≡ Ok v → string_bytes written ≡ framed_text_bytes (one (codes "value") v)
-      → IsState now.state → Replies now (getting name p) (Done written)
-  value-reply p v written e bytes kept = record {
-    bytes = bytes ∙ ap (λ r. document_bytes (answer_or_refusal (one (codes "value")) r)) (sym e);
-    accepted = refl;
-    refused = ap is_refused (sym e);
-    short = answer-short now (getting name p) kept;
+-- ---- a request that changes nothing, and is answered by a result
+
+module _ (now : Stored) (request : Request) {A : Type 0} (f : A → Tree) (r : Result A StoreFault) (answers : answer now request ≡ answer_or_refusal f r)
+    (quiet : accepted_command now request ≡ []) (counts : refused_of now request ≡ is_refused r) where
+  -- it has the answer
+  answers-so : (x : A) (written : String Global) → r ≡ Ok x → string_bytes written ≡ framed_text_bytes (f x) → IsState now.state → Replies now request (Done written)
+  answers-so x written e bytes kept = record {
+    bytes = bytes ∙ sym (ap document_bytes (answers ∙ ap (answer_or_refusal f) e));
+    accepted = ap length (sym quiet);
+    refused = sym (counts ∙ ap is_refused e);
+    short = answer-short now request kept;
   }
 
-  value-refused : (p : List ℕ) (f : StoreFault) (reason : Refusal) → value_at_path now.state name p ≡ Err f → answered f ≡ Ok reason → Replies now (getting name p) (Refused reason)
-  value-refused p f reason e is = record {
-    bytes = ap (λ a. document_bytes (refused_answer a)) (sym is) ∙ ap (λ r. document_bytes (answer_or_refusal (one (codes "value")) r)) (sym e);
-    accepted = refl;
-    refused = ap is_refused (sym e);
-    short = subst (λ r. length (document_bytes (answer_or_refusal (one (codes "value")) r)) ≤ answer_limit) (sym e) (refused-short (answered f));
+  -- or a refusal
+  refuses-so : (why : StoreFault) (reason : Refusal) → r ≡ Err why → answered why ≡ Ok reason → Replies now request (Refused reason)
+  refuses-so why reason e is = record {
+    bytes = ap (λ a. document_bytes (refused_answer a)) (sym is) ∙ sym (ap document_bytes (answers ∙ ap (answer_or_refusal f) e));
+    accepted = ap length (sym quiet);
+    refused = sym (counts ∙ ap is_refused e);
+    short = subst (λ a. length (document_bytes a) ≤ answer_limit) (sym (answers ∙ ap (answer_or_refusal f) e)) (refused-short (answered why));
   }
+
+-- ---- gets and exports
+
+module _ (now : Stored) (name : List ℕ) where
+  value-refused : (p : List ℕ) (f : StoreFault) (reason : Refusal) → value_at_path now.state name p ≡ Err f → answered f ≡ Ok reason → Replies now (getting name p) (Refused reason)
+  value-refused p f reason e is = refuses-so now (getting name p) (one (codes "value")) (value_at_path now.state name p) refl refl refl f reason e is
 
   -- a `get` of a name without a configuration is refused so
   pub get-no_config : (p : List ℕ) (f : StoreFault) → tree_named now.state name ≡ Err f → IfOk (refused_as (answered f)) (Replies now (getting name p))
@@ -56,7 +66,8 @@ module _ (now : Stored) (name : List ℕ) where
 
     pub get-value : (v : Tree) (written : String Global) → tree_at now.state name tokens ≡ Ok v → string_bytes written ≡ framed_text_bytes (one (codes "value") v)
         → IsState now.state → Replies now (getting name p) (Done written)
-    get-value v written there = value-reply p v written (leads ∙ there)
+    get-value v written there bytes kept =
+        answers-so now (getting name p) (one (codes "value")) (value_at_path now.state name p) refl refl refl v written (leads ∙ there) bytes kept
 
     pub get-refused : (f : StoreFault) → tree_at now.state name tokens ≡ Err f → IfOk (refused_as (answered f)) (Replies now (getting name p))
     get-refused f there = refused-ok _ (answered f) (λ reason. value-refused p f reason (leads ∙ there))
@@ -64,24 +75,12 @@ module _ (now : Stored) (name : List ℕ) where
   -- the answer to an `export` is the text of the configuration
   pub export-text : (t : Tree) (written : String Global) → tree_named now.state name ≡ Ok t → string_bytes written ≡ framed_text_bytes (one (codes "text") (text (style_text t)))
       → IsState now.state → Replies now (exporting name) (Done written)
-  export-text t written e bytes kept = record {
-    bytes = bytes ∙ ap (λ r. document_bytes (answer_or_refusal (λ u. one (codes "text") (text (style_text u))) r)) (sym e);
-    accepted = refl;
-    refused = ap is_refused (sym e);
-    short = answer-short now (exporting name) kept;
-  }
-
-  export-no_config : (f : StoreFault) (reason : Refusal) → tree_named now.state name ≡ Err f → answered f ≡ Ok reason → Replies now (exporting name) (Refused reason)
-  export-no_config f reason e is = record {
-    bytes = ap (λ a. document_bytes (refused_answer a)) (sym is) ∙ ap (λ r. document_bytes (answer_or_refusal (λ u. one (codes "text") (text (style_text u))) r)) (sym e);
-    accepted = refl;
-    refused = ap is_refused (sym e);
-    short = subst (λ r. length (document_bytes (answer_or_refusal (λ t. one (codes "text") (text (style_text t))) r)) ≤ answer_limit) (sym e) (refused-short (answered f));
-  }
+  export-text t written e bytes kept =
+      answers-so now (exporting name) (λ u. one (codes "text") (text (style_text u))) (tree_named now.state name) refl refl refl t written e bytes kept
 
   -- an `export` of a name without a configuration is refused so
   pub export-refused : (f : StoreFault) → tree_named now.state name ≡ Err f → IfOk (refused_as (answered f)) (Replies now (exporting name))
-  export-refused f e = refused-ok _ (answered f) (λ reason. export-no_config f reason e)
+  export-refused f e = refused-ok _ (answered f) (λ reason. refuses-so now (exporting name) (λ u. one (codes "text") (text (style_text u))) (tree_named now.state name) refl refl refl f reason e)
 
 -- the answer to `names` is the list of all names
 pub names-listed : (now : Stored) → IsState now.state → (written : String Global) → string_bytes written ≡ framed_text_bytes (one (codes "names") (sequence (text_elements (names_of now.state.configs))))

@@ -1,11 +1,12 @@
 -- What a command document says, case by case.
-use Rattle.std.proofs.Common.{◌≡◌, false, true, refl}
-use Rattle.std.specs.Prelude.{ℕ, List, [], ◌∷◌, codes, None}
+use Rattle.std.proofs.Common.{◌≡◌, false, true, refl, ap}
+use Rattle.std.specs.Prelude.{ℕ, List, [], ◌∷◌, codes, Option, option_and_then}
 use Rattle.yaml_grammar.specs.Trees.{Elements, Members, text, sequence, mapping}
-use Rattle.conf_record.specs.RecordsRead.{keys_are, values}
+use Rattle.conf_state.specs.Commands.{Edit}
+use Rattle.conf_record.specs.RecordsRead.{keys_are, values, edit_under}
 use Rattle.conf_state.proofs.LineLemmas.{ascii}
 use Rattle.conf_record.specs.Reading.{texts}
-use Rattle.conf_session.specs.Said.{nothing, said_by, part_from, part_said, import_part, set_part, delete_part, import_keys, set_keys, delete_keys, batch_keys, get_keys, export_keys, names_keys, checkpoint_keys, batch_said, get_said, export_said, names_said, checkpoint_said}
+use Rattle.conf_session.specs.Said.{as_part, nothing, said_by, part_from, part_said, batch_keys, get_keys, export_keys, names_keys, checkpoint_keys, batch_said, get_said, export_said, names_said, checkpoint_said}
 
 -- a text says nothing
 pub said-text : (value : List ℕ) → said_by (text value) ≡ nothing
@@ -55,43 +56,12 @@ said-part ms e0 e1 e2 e3 e4 = rw (e0, e1, e2, e3, e4) refl
 
 -- ---- parts
 
--- a mapping with the keys of an `import` is one, with values for it
-pub part-import : (ms : Members) → keys_are import_keys ms ≡ true
-    → part_from ms ≡ import_part (values ms)
+-- a mapping is the part that its edit is
+pub part_read : (ms : Members) (read : Option Edit) → read ≡ edit_under (codes "text") ms → option_and_then as_part read ≡ part_from ms
 unfolding part_from
-part-import ms e0 = rw (e0) refl
-
--- a mapping with the keys of a `set` is one, with values for it
-pub part-set : (ms : Members) → keys_are import_keys ms ≡ false → keys_are set_keys ms ≡ true
-    → part_from ms ≡ set_part (values ms)
-unfolding part_from
-part-set ms e0 e1 = rw (e0, e1) refl
-
--- a mapping with the keys of a `delete` is one, with values for it
-pub part-delete : (ms : Members) → keys_are import_keys ms ≡ false → keys_are set_keys ms ≡ false → keys_are delete_keys ms ≡ true
-    → part_from ms ≡ delete_part (values ms)
-unfolding part_from
-part-delete ms e0 e1 e2 = rw (e0, e1, e2) refl
-
--- a mapping with other keys is no part
-pub part-none : (ms : Members) → keys_are import_keys ms ≡ false → keys_are set_keys ms ≡ false → keys_are delete_keys ms ≡ false
-    → part_from ms ≡ None
-unfolding part_from
-part-none ms e0 e1 e2 = rw (e0, e1, e2) refl
+part_read ms read is = ap (option_and_then as_part) is
 
 -- the keys that the code asks for are those of the definitions
-
--- the keys of an `import` as texts
-pub import_texts : texts import_keys ≡ import_keys
-import_texts = λ i. ascii (codes "import") refl i ∷ ascii (codes "text") refl i ∷ []
-
--- the keys of a `set` as texts
-pub set_texts : texts set_keys ≡ set_keys
-set_texts = λ i. ascii (codes "set") refl i ∷ ascii (codes "path") refl i ∷ ascii (codes "value") refl i ∷ []
-
--- the keys of a `delete` as texts
-pub delete_texts : texts delete_keys ≡ delete_keys
-delete_texts = λ i. ascii (codes "delete") refl i ∷ ascii (codes "path") refl i ∷ []
 
 -- the key of a `batch` as a text
 pub batch_texts : texts batch_keys ≡ batch_keys

@@ -15,9 +15,9 @@ use Rattle.conf_session.specs.declared.unwritten.Unwritten.{Unwritten}
 use Rattle.conf_session.specs.declared.session.Tally.{Tally}
 use Rattle.conf_session.specs.Requests.{Request}
 use Rattle.conf_session.specs.Answers.{Stored, acknowledged, answer_bytes, answer_limit, output, stored_after_all, accepted_commands, accepted_command, refusals, refused_of}
-use Rattle.conf_session.specs.Runs.{stored_of, Ends, EndsAnswered, Runs}
+use Rattle.conf_session.specs.Runs.{TakesUp, stored_of, Ends, EndsAnswered, Runs}
 use Rattle.conf_session.specs.Replies.{MeansPrefixes, Performs, PerformsAll}
-use Rattle.conf_session.specs.Gathering.{CutsSending, PerformsPiece, SendsAnswers, TakesUp}
+use Rattle.conf_session.specs.Gathering.{CutsSending, PerformsPiece, SendsAnswers}
 use Rattle.conf_session.proofs.PassedLemmas.{performs-none, performs-more, moments-more, waits-more, state-more, stored-more, reads-more, stages-more, kept-all, kept-most, acknowledged-more, accepted_commands-last, output-last, refusals-last, take-beyond}
 use Rattle.conf_session.proofs.ReadLemmas.{ReadSoFar, read-none, read-as, read-more, ends-before, ends-unanswered, nothing-read}
 use Rattle.conf_session.proofs.ReadLemmas as reading

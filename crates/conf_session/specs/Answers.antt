@@ -25,7 +25,7 @@ use Rattle.conf_session.specs.declared.words.Refusal.{Refusal}
 use Rattle.conf_session.specs.declared.words.Refusal.TheVariants as refused
 use Rattle.conf_session.specs.Requests.{Request, changing, unread, getting, exporting, naming, checkpointing, bad, Asks}
 
--- ---- refusals: which one answers a fault, and its word, which is the innermost fault's own name
+-- ---- refusals: which one answers a fault, and its word, which is the innermost fault's own name, or `BadCommand`
 
 -- an import whose text is refused; OutOfMemory ends a session
 abbrev pub read_answered : ReadFault → Result Refusal SessionFault
@@ -64,6 +64,7 @@ answered store.Device = Err fault.Device
 answered store.OutOfMemory = Err fault.OutOfMemory
 
 abbrev pub word : Refusal → List ℕ
+word refused.BadCommand = codes "BadCommand"
 word refused.EmptyBatch = codes "EmptyBatch"
 word refused.BadName = codes "BadName"
 word refused.NoConfig = codes "NoConfig"
@@ -92,6 +93,10 @@ one key value = mapping (member key value no_member)
 -- the answer to a refused request
 abbrev pub refusal : List ℕ → Tree
 refusal word = one (codes "refused") (text word)
+
+-- the lines of its document, where the word needs no quotes
+abbrev pub refusal_lines : List ℕ → List ℕ
+refusal_lines word = codes "---\nrefused: " ++ (word ++ codes "\n...\n")
 
 abbrev pub text_elements : List (List ℕ) → Elements
 text_elements [] = no_element
@@ -133,7 +138,7 @@ answer now (exporting name) =
     answer_or_refusal (λ t. one (codes "text") (text (style_text t))) (tree_named now.state name)
 answer now naming = Some (one (codes "names") (sequence (text_elements (names_of now.state.configs))))
 answer now checkpointing = Some (one (codes "ok") (text (decimal now.state.count)))
-answer now bad = Some (refusal (codes "BadCommand"))
+answer now bad = Some (refusal (word refused.BadCommand))
 
 -- the document of an answer, in bytes
 abbrev pub document_bytes : Option Tree → List ℕ

@@ -121,17 +121,11 @@ SayParts [] (part ∷ parts) = ⊥
 SayParts (e ∷ es) [] = ⊥
 SayParts (e ∷ es) (part ∷ parts) = SaysPart e part × SayParts es parts
 
--- the lines begin with those of the part, at an indentation, and the rest follows
-pub record BeginsWithPart (lines : List ℕ) (indent : ℕ) (part : Part) (rest : List ℕ) : Type 0 where
+-- the lines, at whatever indentation, are those of a mapping that says the part
+pub record SpellsPart (lines : ℕ → List ℕ) (part : Part) : Type 0 where
   pub entry : Entry
   pub says : SaysPart entry part
-  pub is : lines ≡ entry_text indent entry ++ rest
-
--- the lines begin with the part as an element of a batch
-pub record IsElement (lines : List ℕ) (part : Part) (rest : List ℕ) : Type 0 where
-  pub members : List ℕ
-  pub begins : BeginsWithPart members 4 part rest
-  pub is : lines ≡ codes "  - " ++ members
+  pub is : (indent : ℕ) → lines indent ≡ entry_text indent entry
 
 -- the lines begin with the parts as elements of a batch, in order
 pub record ArePartLines (lines : List ℕ) (parts : List Part) (rest : List ℕ) : Type 0 where

@@ -1,6 +1,5 @@
 -- One group of a grouped session: the pieces that one read brought are performed, flushed and then answered.
 use Rattle.std.specs.Prelude.{◌≡◌, ℕ, ◌+◌, ◌*◌, ◌<◌, ◌≤◌, true, false, Bool, List, [], ◌∷◌, ◌++◌, length, take, Option, Some, None, Result, Ok, Err}
-use Rattle.std.specs.List.{concat}
 use Rattle.std.specs.Io.KnownBytes.{Appends, Keeps}
 use Rattle.yaml_grammar.specs.Closings.{ClosesOnce}
 use Rattle.conf_disk.specs.Models.{DiskModel}
@@ -15,7 +14,7 @@ use Rattle.conf_session.specs.Input.{IsSound, ahead, bytes_read, piece_or_rest, 
 use Rattle.conf_session.specs.declared.input.Input.{Input}
 use Rattle.conf_session.specs.Requests.{Request, Asks}
 use Rattle.conf_session.specs.Answers.{Stored, answer_limit, output, stored_after_all, accepted_commands, refusals}
-use Rattle.conf_session.specs.Runs.{ArePieces, stored_of}
+use Rattle.conf_session.specs.Runs.{TakesUp, stored_of}
 use Rattle.conf_session.specs.Replies.{DidAsked, MeansPrefixes, Performs, PerformsAll, Replies, accepts, refuses, reply_bytes}
 use Rattle.conf_session.specs.Groups.{AreDue, Turn, all_asked, files_after_turns, files_of, requests_of, stored_after_turns, turns_accepted}
 use Rattle.conf_session.specs.declared.groups.Checkpoints.{Checkpoints}
@@ -94,6 +93,10 @@ pub record PerformsTurns {D : Type 0} (model : DiskModel D) (old new : StoreView
   pub flushed : model.honest → HasFlushed (model.folder new.disk) new.state [] new.state
   pub now : model.honest → AllImagesMean (model.folder new.disk) new.state
 
+-- the requests are performed, one after the other, and all is flushed
+abbrev pub PerformsFlushed : {D : Type 0} → DiskModel D → StoreView D → StoreView D → List Request → Type 0
+PerformsFlushed model old new requests = PerformsTurns model old new (all_asked requests)
+
 -- The device failed in a turn that no request asked for. A crash leaves what was flushed before.
 pub record StopsShort {D : Type 0} (model : DiskModel D) (old new : StoreView D) : Type 0 where
   pub broken : new.reopen ≡ true
@@ -168,12 +171,6 @@ pub record IsAtPiece (input : Input) : Type 0 where
   pub piece : ClosesOnce (piece_or_rest input)
   pub short : length (piece_or_rest input) ≤ piece_limit
 
--- The bytes begin with pieces that ask for these requests. What is left after them are the further bytes.
-pub record TakesUp (bytes further : List ℕ) (requests : List Request) : Type 0 where
-  pub pieces : List (List ℕ)
-  pub joined : bytes ≡ concat pieces ++ further
-  pub are : ArePieces pieces requests
-
 -- the answers to these requests are kept, and counted
 pub record KeepsAnswers (start : Stored) (requests : List Request) (before after : Unwritten) : Type 0 where
   pub bytes : unwritten_bytes after ≡ unwritten_bytes before ++ output start requests
@@ -184,20 +181,12 @@ pub record KeepsAnswers (start : Stored) (requests : List Request) (before after
   pub refused : after.tally.refused ≡ before.tally.refused + refusals start requests
   pub written : after.written ≡ before.written
 
--- pieces are performed, and their answers are kept; nothing was flushed but by a checkpoint
-pub record Submits {D : Type 0} (model : DiskModel D) (bytes further : List ℕ) (old new : StoreView D)
-    (before after : Unwritten) : Type 0 where
+-- pieces are performed, as `Performed` says, and their answers are kept
+pub record GathersPieces {D : Type 0} (Performed : StoreView D → StoreView D → List Request → Type 0)
+    (bytes further : List ℕ) (old new : StoreView D) (before after : Unwritten) : Type 0 where
   pub requests : List Request
   pub takes : TakesUp bytes further requests
-  pub performs : PerformsAll false model old new requests
-  pub keeps : KeepsAnswers (stored_of old) requests before after
-
--- the same, and all is flushed
-pub record AnswersGroup {D : Type 0} (model : DiskModel D) (bytes further : List ℕ) (old new : StoreView D)
-    (before after : Unwritten) : Type 0 where
-  pub requests : List Request
-  pub takes : TakesUp bytes further requests
-  pub performs : PerformsTurns model old new (all_asked requests)
+  pub performs : Performed old new requests
   pub keeps : KeepsAnswers (stored_of old) requests before after
 
 -- The device failed. The pieces are performed, maybe but for the last, and none is answered.
@@ -214,26 +203,26 @@ pub record BreaksOff {D : Type 0} (model : DiskModel D) (bytes : List ℕ) (old 
 
 -- What became of a group whose bytes are the piece in hand and those after it. If memory ran out, the pieces before are
 -- performed.
+abbrev pub EndsGathering : {D : Type 0} → DiskModel D → (StoreView D → StoreView D → List Request → Type 0)
+    → List ℕ → Input → StoreView D → StoreView D → Unwritten → Unwritten → Result (Unit {0}) SessionFault → Type 0
+EndsGathering model Performed bytes input old new before after (Ok done) =
+    IsSound input × GathersPieces Performed bytes (ahead input) old new before after
+EndsGathering model Performed bytes input old new before after (Err fault.OutOfMemory) =
+    (further : List ℕ) × GathersPieces Performed bytes further old new before after
+EndsGathering model Performed bytes input old new before after (Err fault.Device) = BreaksOff model bytes old new
+EndsGathering model Performed bytes input old new before after (Err fault) = ⊥
+
+-- nothing was flushed but by a checkpoint
 abbrev pub SubmitsGroup : {D : Type 0} → DiskModel D → List ℕ → Input
     → StoreView D → StoreView D → Unwritten → Unwritten → Result (Unit {0}) SessionFault → Type 0
-SubmitsGroup model bytes input old new before after (Ok done) =
-    IsSound input × Submits model bytes (ahead input) old new before after
-SubmitsGroup model bytes input old new before after (Err fault.OutOfMemory) =
-    (further : List ℕ) × Submits model bytes further old new before after
-SubmitsGroup model bytes input old new before after (Err fault.Device) =
-    BreaksOff model bytes old new
-SubmitsGroup model bytes input old new before after (Err fault) = ⊥
+SubmitsGroup model bytes input old new before after result =
+    EndsGathering model (PerformsAll false model) bytes input old new before after result
 
--- the same once it is flushed
+-- all is flushed
 abbrev pub EndsGroup : {D : Type 0} → DiskModel D → List ℕ → Input
     → StoreView D → StoreView D → Unwritten → Unwritten → Result (Unit {0}) SessionFault → Type 0
-EndsGroup model bytes input old new before after (Ok done) =
-    IsSound input × AnswersGroup model bytes (ahead input) old new before after
-EndsGroup model bytes input old new before after (Err fault.OutOfMemory) =
-    (further : List ℕ) × AnswersGroup model bytes further old new before after
-EndsGroup model bytes input old new before after (Err fault.Device) =
-    BreaksOff model bytes old new
-EndsGroup model bytes input old new before after (Err fault) = ⊥
+EndsGroup model bytes input old new before after result =
+    EndsGathering model (PerformsFlushed model) bytes input old new before after result
 
 -- ---- what holds before a group, and after it
 
@@ -299,14 +288,14 @@ PerformsPiece model held written input old new before after (Err fault) = ⊥
 pub record PassesGroup {D : Type 0} (model : DiskModel D) (held written : Option (List ℕ)) (bytes further : List ℕ)
     (old new : StoreView D) (before after : Unwritten) : Type 0 where
   pub requests : List Request
-  pub performs : PerformsTurns model old new (all_asked requests)
+  pub performs : PerformsFlushed model old new requests
   pub sends : SendsAnswers held written bytes further (stored_of old) requests before after
 
 -- the pieces are performed and flushed, and so many bytes were written, with those of the answers before
 pub record CutsGroup {D : Type 0} (model : DiskModel D) (held written : Option (List ℕ)) (bytes : List ℕ)
     (old new : StoreView D) (sent total : ℕ) : Type 0 where
   pub requests : List Request
-  pub performs : PerformsTurns model old new (all_asked requests)
+  pub performs : PerformsFlushed model old new requests
   pub cuts : CutsSending held written bytes (stored_of old) requests sent total
 
 abbrev pub PerformsGroup : {D : Type 0} → DiskModel D → Option (List ℕ)

@@ -1,5 +1,5 @@
 -- What the code's requests and replies are, and what one request does.
-use Rattle.std.specs.Prelude.{◌≡◌, ◌≤◌, ℕ, Bool, true, false, List, [], ◌∷◌, ◌++◌, codes, length, string_bytes, Result, Ok, Err, IsErrOf}
+use Rattle.std.specs.Prelude.{◌≡◌, ◌≤◌, ℕ, Bool, true, false, List, [], ◌∷◌, ◌++◌, length, string_bytes, Result, Ok, Err, IsErrOf}
 use Rattle.yaml_recognizers.specs.Closings.{framed_text_bytes}
 use Rattle.conf_disk.specs.Folder.{Folder, bytes_under}
 use Rattle.conf_disk.specs.Models.{DiskModel}
@@ -19,7 +19,7 @@ use Rattle.conf_session.specs.declared.reply.Way.{Way}
 use Rattle.conf_session.specs.declared.reply.Way.TheVariants.{AtOnce, Submitted}
 use Rattle.conf_session.specs.declared.words.Refusal.{Refusal}
 use Rattle.conf_session.specs.declared.reply.Reply.{Reply}
-use Rattle.conf_session.specs.declared.reply.Reply.TheVariants.{Accepted, Done, Refused, NoCommand}
+use Rattle.conf_session.specs.declared.reply.Reply.TheVariants.{Accepted, Done, Refused}
 
 -- a request that changes nothing
 abbrev pub OnlyReads : Request → Type 0
@@ -32,7 +32,6 @@ abbrev pub reply_bytes : Reply → List ℕ
 reply_bytes (Accepted text) = string_bytes text
 reply_bytes (Done text) = string_bytes text
 reply_bytes (Refused reason) = framed_text_bytes (refusal (word reason))
-reply_bytes NoCommand = framed_text_bytes (refusal (codes "BadCommand"))
 
 -- the reply to a request that is refused, or the fault that ends the session
 abbrev pub refused_as : Result Refusal SessionFault → Result Reply SessionFault
@@ -47,7 +46,6 @@ accepts reply = 0
 -- how many requests a reply refuses: 1 or 0
 abbrev pub refuses : Reply → ℕ
 refuses (Refused reason) = 1
-refuses NoCommand = 1
 refuses reply = 0
 
 -- whether an accepted command is flushed before it is answered

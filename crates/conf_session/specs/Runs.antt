@@ -44,20 +44,21 @@ pub record IsInput (bytes : List ℕ) (requests : List Request) (rest : List ℕ
   pub are : ArePieces pieces requests
   pub short : length rest ≤ piece_limit
 
--- the bytes begin with pieces that ask for these requests
-pub record BeginsWith (bytes : List ℕ) (requests : List Request) : Type 0 where
+-- the bytes begin with pieces that ask for these requests; what is left after them are the further bytes
+pub record TakesUp (bytes further : List ℕ) (requests : List Request) : Type 0 where
   pub pieces : List (List ℕ)
-  pub further : List ℕ
-  pub is : bytes ≡ concat pieces ++ further
+  pub joined : bytes ≡ concat pieces ++ further
   pub are : ArePieces pieces requests
+
+-- the same, whatever is left
+pub record BeginsWith (bytes : List ℕ) (requests : List Request) : Type 0 where
+  pub further : List ℕ
+  pub takes : TakesUp bytes further requests
 
 -- after pieces that ask for these requests comes a piece, or a rest, that is too long
 pub record ShowsTooLong (bytes : List ℕ) (requests : List Request) : Type 0 where
-  pub pieces : List (List ℕ)
-  pub further : List ℕ
-  pub is : bytes ≡ concat pieces ++ further
-  pub are : ArePieces pieces requests
-  pub overlong : IsOverlong further
+  pub begins : BeginsWith bytes requests
+  pub overlong : IsOverlong begins.further
 
 -- all closed pieces of the bytes ask for these requests
 pub record AsksAll (bytes : List ℕ) (requests : List Request) : Type 0 where

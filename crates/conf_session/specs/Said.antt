@@ -1,5 +1,5 @@
 -- What the pieces of a session say. Each piece is one command document; a piece that is none says nothing.
-use Rattle.std.specs.Prelude.{◌≡◌, ◌≢◌, ◌⊎◌, ℕ, Bool, true, false, List, [], ◌∷◌, codes, map, Option, Some, None, if◌then◌else◌}
+use Rattle.std.specs.Prelude.{◌≡◌, ◌≢◌, ◌⊎◌, ℕ, Bool, true, false, List, [], ◌∷◌, codes, map, Option, Some, None, option_and_then, if◌then◌else◌}
 use Rattle.std.specs.Str.{chars}
 use Rattle.yaml_grammar.specs.Texts.{same_text}
 use Rattle.yaml_grammar.specs.Trees.{Tree, text, sequence, mapping, Elements, no_element, element, Members}
@@ -9,8 +9,8 @@ use Rattle.yaml_config.specs.Kept.{own_limits}
 use Rattle.yaml_tree.specs.Reading.{IsRead, Refuses}
 use Rattle.yaml_events.specs.declared.read_fault.ReadFault.{ReadFault}
 use Rattle.yaml_events.specs.declared.read_fault.ReadFault.TheVariants.{OutOfMemory}
-use Rattle.conf_state.specs.Commands.{Edit, set_at, delete_at, edit_of}
-use Rattle.conf_record.specs.RecordsRead.{keys_are, values}
+use Rattle.conf_state.specs.Commands.{Edit, import_as, edit_of}
+use Rattle.conf_record.specs.RecordsRead.{keys_are, values, edit_under}
 use Rattle.conf_session.specs.declared.parts.Part as code_part
 use Rattle.conf_session.specs.declared.parts.Part.TheVariants as code_parts
 use Rattle.conf_session.specs.declared.said.Said as code
@@ -31,34 +31,15 @@ pub data Part : Type 0 where
   import_text : (name source : List ℕ) → Part
   plain : (edit : Edit) → Part
 
-abbrev pub import_part : List Tree → Option Part
-import_part (text name ∷ text source ∷ []) = Some (import_text name source)
-import_part ts = None
+-- the part that an edit is, where the value of an import is its text
+abbrev pub as_part : Edit → Option Part
+as_part (import_as name (text source)) = Some (import_text name source)
+as_part (import_as name tree) = None
+as_part edit = Some (plain edit)
 
-abbrev pub set_part : List Tree → Option Part
-set_part (text name ∷ text path ∷ value ∷ []) = Some (plain (set_at name path value))
-set_part ts = None
-
-abbrev pub delete_part : List Tree → Option Part
-delete_part (text name ∷ text path ∷ []) = Some (plain (delete_at name path))
-delete_part ts = None
-
-abbrev pub import_keys : List (List ℕ)
-import_keys = codes "import" ∷ codes "text" ∷ []
-
-abbrev pub set_keys : List (List ℕ)
-set_keys = codes "set" ∷ codes "path" ∷ codes "value" ∷ []
-
-abbrev pub delete_keys : List (List ℕ)
-delete_keys = codes "delete" ∷ codes "path" ∷ []
-
--- a part is a mapping with exactly the keys of one of these in this order
+-- a part is a mapping with exactly the keys of an edit in their order; the text of an import is under `text`
 unfoldable pub part_from : Members → Option Part
-part_from ms =
-    if keys_are import_keys ms then import_part (values ms)
-    else if keys_are set_keys ms then set_part (values ms)
-    else if keys_are delete_keys ms then delete_part (values ms)
-    else None
+part_from ms = option_and_then as_part (edit_under (codes "text") ms)
 
 abbrev pub part_of : Tree → Option Part
 part_of (text value) = None
@@ -97,16 +78,6 @@ parts_said None = nothing
 abbrev pub batch_said : List Tree → Said
 batch_said (sequence ts ∷ []) = parts_said (parts_of ts)
 batch_said ts = nothing
-
--- there is one value
-abbrev pub is_one : List Tree → Bool
-is_one (t ∷ []) = true
-is_one ts = false
-
--- the one value is a text
-abbrev pub is_one_text : List Tree → Bool
-is_one_text (text value ∷ []) = true
-is_one_text ts = false
 
 -- the values are two texts
 abbrev pub are_two_texts : List Tree → Bool

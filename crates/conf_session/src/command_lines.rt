@@ -1,13 +1,13 @@
 // Commands that are spelled one key a line, read without the general reader.
-ghost use Rattle.std.specs.Prelude.{◌≡◌, ◌++◌, codes, IfOk, IfSome};
-ghost use Rattle.conf_session.specs.CommandLines.{ArePartLines, IsCommandLines, IsElement};
-ghost use Rattle.conf_session.specs.PartLines.{part_cut};
+ghost use Rattle.std.specs.Prelude.{◌++◌, codes, IfOk, IfSome};
+ghost use Rattle.conf_session.specs.CommandLines.{ArePartLines, IsCommandLines};
 ghost use Rattle.conf_session.specs.Said.{Says, parts_seen, said_of};
 
 use crate::field_lines::{cut_field, is_end};
-use crate::part_lines::{PartLines, Place, cut_part, made_part};
+use crate::part_lines::{TEXT_KEY, part_on_lines};
 use crate::parts::Part;
 use crate::said::{PIECE_LIMIT, Said};
+use conf_record::{Place, cut_edit, cut_element};
 use std::alloc::{AllocError, Global};
 use std::str;
 use yaml_recognizers::texts::unambiguous;
@@ -68,13 +68,13 @@ fn get_in(alloc: Global, lines: &str) -> Result<Option<Said>, AllocError>
 fn single_in(alloc: Global, lines: &str) -> Result<Option<Said>, AllocError>
     ensures { IfOk result (λ found. IfSome found (λ said. IsCommandLines lines.now (said_of said))) }
 {
-    let Some((part, end)) = cut_part(lines, Place::Alone) else {
+    let Some((members, end)) = cut_edit(lines, Place::Alone, TEXT_KEY) else {
         return Ok(None);
     };
     if !is_end(end) {
         return Ok(None);
     }
-    let Some(part) = made_part(alloc, part)? else {
+    let Some(part) = part_on_lines(alloc, members)? else {
         return Ok(None);
     };
     Ok(Some(Said::Single(part)))
@@ -102,24 +102,14 @@ fn parts_in(alloc: Global, elements: &str) -> Result<Option<Vec<Part>>, AllocErr
     let mut parts = Vec::new(alloc);
     let mut left = elements;
     while !is_end(left) {
-        let Some((part, after)) = cut_element(left) else {
+        let Some((members, after)) = cut_element(left, TEXT_KEY) else {
             return Ok(None);
         };
-        let Some(part) = made_part(alloc, part)? else {
+        let Some(part) = part_on_lines(alloc, members)? else {
             return Ok(None);
         };
         parts.push(part)?;
         left = after;
     }
     Ok(Some(parts))
-}
-
-/// The part of the element that the lines begin with, and the lines after it.
-fn cut_element(lines: &str) -> Option<(PartLines<'_>, &str)>
-    ensures { IfSome result (λ cut. IsElement lines.now (part_cut cut.0) cut.1.now) }
-{
-    let Some(entry) = lines.strip_prefix("  - ") else {
-        return None;
-    };
-    cut_part(entry, Place::InBatch)
 }

@@ -19,7 +19,7 @@ pub fn cut_field<'t>(lines: &'t str, key: &str) -> Option<(&'t str, &'t str)>
 
 /// The text that is spelled so after a key: between double quotes, without an escape, or as it is, plain. A plain text
 /// has only ASCII characters that are not whitespace, `:` or `#`, and begins with no indicator (YAML 1.2.2, 5.3).
-fn line_value(line: &str) -> Option<&str>
+pub fn line_value(line: &str) -> Option<&str>
     ensures { IfSome result (λ value. IsSpelled line.now value.now) }
 {
     match line.strip_prefix('"') {

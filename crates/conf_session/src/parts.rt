@@ -1,22 +1,18 @@
 // The parts of commands that change configurations: single edits, and the elements of a batch.
-ghost use Rattle.std.specs.Prelude.{◌≡◌, ◌≢◌, [], ◌∷◌, false, IfOk, IfErr, MatchOption, None, string_bytes, map, option_map};
+ghost use Rattle.std.specs.Prelude.{◌≡◌, ◌≢◌, IfOk, IfErr, map, option_map};
 ghost use Rattle.std.specs.Str.{chars};
-ghost use Rattle.std.specs.Vec.Iter.{into_iter_items};
-ghost use Rattle.yaml_grammar.specs.Trees.{text};
 ghost use Rattle.yaml_config.specs.Kept.{IsKept};
 ghost use Rattle.yaml_data.specs.Seen.{tree_of, members_of, elements_of};
 ghost use Rattle.yaml_data.specs.TextBytes.{text_bytes};
-ghost use Rattle.conf_state.specs.Commands.{edit_of};
+ghost use Rattle.conf_state.specs.Commands.{import_as, edit_of};
 ghost use Rattle.conf_record.specs.RecordsRead.{values};
-ghost use Rattle.conf_record.specs.Reading.{AreKept, AreKeptElements};
-ghost use Rattle.conf_session.specs.Said.{part_from, part_of, parts_of, import_part, set_part, delete_part};
-ghost use Rattle.conf_session.specs.Said.{is_one, is_one_text, are_two_texts, import_text, part_seen, parts_seen};
+ghost use Rattle.conf_record.specs.Reading.{AreKept, AreKeptElements, KeepsTree, edit_seen};
+ghost use Rattle.conf_session.specs.Said.{as_part, part_from, part_of, parts_of, import_text, part_seen, parts_seen};
 ghost use Rattle.conf_session.specs.Requests.{IsReadAs, AreReadAs, RefusesPart, IsFirstRefused};
 
-use conf_record::{keys_are, next_text, next_value, part};
+use conf_record::{EditMembers, members_from, part};
 use conf_state::Edit;
 use std::alloc::{AllocError, Global};
-use std::vec::IntoIter;
 use yaml_tree::{Limits, ReadFault, Text, Tree, read_one};
 
 /// A part of a command that changes configurations. Names and paths may be any texts: they are judged when the command
@@ -35,109 +31,43 @@ pub(crate) fn part_from(alloc: Global, pairs: Vec<(Text, Tree)>) -> Result<Optio
     requires { AreKept (values (members_of pairs.items)) }
     ensures { IfOk result (λ part. option_map part_seen part ≡ part_from (members_of pairs.items)) }
 {
-    if keys_are(&["import", "text"], &pairs) {
-        Ok(import_part(pairs))
-    } else if keys_are(&["set", "path", "value"], &pairs) {
-        set_part(alloc, pairs)
-    } else if keys_are(&["delete", "path"], &pairs) {
-        delete_part(alloc, pairs)
-    } else {
-        Ok(None)
+    match members_from(pairs, "text") {
+        Some(members) => part_with(alloc, members),
+        None => Ok(None),
     }
 }
 
-fn import_part(pairs: Vec<(Text, Tree)>) -> Option<Part>
-    ensures { option_map part_seen result ≡ import_part (values (members_of pairs.items)) }
+/// The part with these members; `None` if it is an import whose value is no text. It fails only if memory runs out.
+fn part_with(alloc: Global, members: EditMembers<Text, Tree>) -> Result<Option<Part>, AllocError>
+    requires { KeepsTree (edit_seen members) }
+    ensures { IfOk result (λ made. option_map part_seen made ≡ as_part (edit_seen members)) }
 {
-    match two_texts(pairs) {
-        Some((name, text)) => Some(Part::Import { name, text }),
-        None => None,
+    match members {
+        EditMembers::Import { name, value } => Ok(import_with(name, value)),
+        EditMembers::Set { name, path, value } => {
+            let name = name.into_string(alloc)?;
+            let path = path.into_string(alloc)?;
+            let value = part(value);
+            Ok(Some(Part::Plain(Edit::Set { name, path, value })))
+        }
+        EditMembers::Delete { name, path } => {
+            let name = name.into_string(alloc)?;
+            let path = path.into_string(alloc)?;
+            Ok(Some(Part::Plain(Edit::Delete { name, path })))
+        }
     }
 }
 
-fn set_part(alloc: Global, pairs: Vec<(Text, Tree)>) -> Result<Option<Part>, AllocError>
-    requires { AreKept (values (members_of pairs.items)) }
-    ensures { IfOk result (λ part. option_map part_seen part
-        ≡ set_part (values (members_of pairs.items))) }
+/// The import of a text under a name; `None` if the value is no text.
+fn import_with(name: Text, value: Tree) -> Option<Part>
+    ensures { option_map part_seen result
+        ≡ as_part (import_as (chars (text_bytes name)) (tree_of value)) }
 {
-    let Some((name, path, value)) = set_values(pairs) else {
-        return Ok(None);
-    };
-    let (name, path) = as_strings(alloc, name, path)?;
-    let value = part(value);
-    Ok(Some(Part::Plain(Edit::Set { name, path, value })))
-}
-
-fn delete_part(alloc: Global, pairs: Vec<(Text, Tree)>) -> Result<Option<Part>, AllocError>
-    ensures { IfOk result (λ part. option_map part_seen part
-        ≡ delete_part (values (members_of pairs.items))) }
-{
-    let Some((name, path)) = two_texts(pairs) else {
-        return Ok(None);
-    };
-    let (name, path) = as_strings(alloc, name, path)?;
-    Ok(Some(Part::Plain(Edit::Delete { name, path })))
-}
-
-/// The two values, if they are two texts.
-pub(crate) fn two_texts(pairs: Vec<(Text, Tree)>) -> Option<(Text, Text)>
-    ensures { MatchOption result (are_two_texts (values (members_of pairs.items)) ≡ false)
-        (λ v. values (members_of pairs.items)
-        ≡ text (chars (text_bytes v.0)) ∷ text (chars (text_bytes v.1)) ∷ []) }
-{
-    let mut values = pairs.into_iter();
-    let one = next_text(&mut values)?;
-    let other = last_text(values)?;
-    Some((one, other))
-}
-
-/// The values of a `set`, if they are two texts and one more value.
-fn set_values(pairs: Vec<(Text, Tree)>) -> Option<(Text, Text, Tree)>
-    ensures { MatchOption result (set_part (values (members_of pairs.items)) ≡ None)
-        (λ v. values (members_of pairs.items)
-        ≡ text (chars (text_bytes v.0)) ∷ text (chars (text_bytes v.1)) ∷ tree_of v.2 ∷ []) }
-{
-    let mut values = pairs.into_iter();
-    let name = next_text(&mut values)?;
-    let path = next_text(&mut values)?;
-    let value = last_value(values)?;
-    Some((name, path, value))
-}
-
-/// The one value that is left, if there is exactly one and it is a text.
-pub(crate) fn last_text(pairs: IntoIter<(Text, Tree)>) -> Option<Text>
-    ensures { MatchOption result
-        (is_one_text (values (members_of (into_iter_items pairs))) ≡ false)
-        (λ t. values (members_of (into_iter_items pairs)) ≡ text (chars (text_bytes t)) ∷ []) }
-{
-    match last_value(pairs)? {
-        Tree::Text(text) => Some(text),
+    match value {
+        Tree::Text(text) => Some(Part::Import { name, text }),
         Tree::Seq(_) => None,
         Tree::Map(_) => None,
     }
-}
-
-/// The one value that is left, if there is exactly one.
-pub(crate) fn last_value(mut pairs: IntoIter<(Text, Tree)>) -> Option<Tree>
-    ensures { MatchOption result
-        (is_one (values (members_of (into_iter_items pairs))) ≡ false)
-        (λ t. values (members_of (into_iter_items pairs)) ≡ tree_of t ∷ []) }
-{
-    let value = next_value(&mut pairs)?;
-    match next_value(&mut pairs) {
-        Some(_) => None,
-        None => Some(value),
-    }
-}
-
-/// Two texts as strings.
-fn as_strings(alloc: Global, one: Text, other: Text) -> Result<(String, String), AllocError>
-    ensures { IfOk result (λ v. (string_bytes v.0 ≡ text_bytes one)
-        × (string_bytes v.1 ≡ text_bytes other)) }
-{
-    let one = one.into_string(alloc)?;
-    let other = other.into_string(alloc)?;
-    Ok((one, other))
 }
 
 /// The parts that the elements of a sequence are, if each of them is one. It fails only if memory runs out.

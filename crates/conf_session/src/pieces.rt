@@ -8,7 +8,6 @@ use crate::fault::SessionFault;
 use crate::input::Input;
 use crate::reply::{Reply, Way, answer_piece};
 use crate::unwritten::Unwritten;
-use crate::words::refusal_bytes;
 use conf_disk::Disk;
 use conf_store::Store;
 use std::alloc::Global;
@@ -32,7 +31,6 @@ pub fn count_refused(reply: &Reply) -> u64
         Reply::Accepted(_) => 0,
         Reply::Done(_) => 0,
         Reply::Refused(_) => 1,
-        Reply::NoCommand => 1,
     }
 }
 
@@ -43,8 +41,7 @@ pub fn bytes_of(reply: &Reply) -> &[u8]
     match reply {
         Reply::Accepted(text) => text.as_bytes(),
         Reply::Done(text) => text.as_bytes(),
-        Reply::Refused(reason) => refusal_bytes(*reason),
-        Reply::NoCommand => b"---\nrefused: BadCommand\n...\n",
+        Reply::Refused(reason) => reason.answer(),
     }
 }
 

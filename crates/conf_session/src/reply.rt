@@ -34,8 +34,6 @@ pub enum Reply {
     Done(String),
     /// The request is refused.
     Refused(Refusal),
-    /// The piece is no command.
-    NoCommand,
 }
 
 /// When a command that is accepted is flushed.
@@ -205,7 +203,7 @@ fn answer_said<D: Disk>(
         Said::Get { name, path } => get_answer(alloc, store, &name, &path),
         Said::Export(name) => export_answer(alloc, store, &name),
         Said::Names => Ok(names_answer(alloc, store)?),
-        Said::Nothing => Ok(Reply::NoCommand),
+        Said::Nothing => Ok(Reply::Refused(Refusal::BadCommand)),
     }
 }
 

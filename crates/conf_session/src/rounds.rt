@@ -9,6 +9,7 @@ use crate::fault::SessionFault;
 use crate::groups::flush_all;
 use crate::pieces::bytes_of;
 use crate::reply::{Reply, Way, answer_piece};
+use crate::words::Refusal;
 use conf_disk::Disk;
 use conf_store::Store;
 use std::alloc::{AllocError, Global};
@@ -71,7 +72,7 @@ fn submit_piece<D: Disk>(
         (RoundAsks piece.now.bytes.items) result }
 {
     if !closes_once(&piece.bytes) {
-        return Ok(Reply::NoCommand);
+        return Ok(Reply::Refused(Refusal::BadCommand));
     }
     answer_piece(alloc, store, &piece.bytes, Way::Submitted)
 }

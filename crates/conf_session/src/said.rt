@@ -1,17 +1,19 @@
 // What command documents say.
-ghost use Rattle.std.specs.Prelude.{◌≡◌, [], ◌∷◌, IfOk, MatchOption};
-ghost use Rattle.yaml_grammar.specs.Trees.{sequence};
+ghost use Rattle.std.specs.Prelude.{◌≡◌, [], ◌∷◌, false, IfOk, MatchOption};
+ghost use Rattle.std.specs.Str.{chars};
+ghost use Rattle.yaml_grammar.specs.Trees.{sequence, text};
 ghost use Rattle.yaml_config.specs.Kept.{IsKept};
 ghost use Rattle.yaml_data.specs.Seen.{tree_of, elements_of, members_of};
+ghost use Rattle.yaml_data.specs.TextBytes.{text_bytes};
 ghost use Rattle.conf_record.specs.RecordsRead.{values};
 ghost use Rattle.conf_record.specs.Reading.{AreKept, AreKeptElements};
 ghost use Rattle.conf_session.specs.Said.{Says, said_by, part_from, part_said, parts_of, parts_said, batch_said};
-ghost use Rattle.conf_session.specs.Said.{get_said, export_said, names_said, checkpoint_said, is_empty_text, nothing};
+ghost use Rattle.conf_session.specs.Said.{are_two_texts, get_said, export_said, names_said, checkpoint_said, is_empty_text, nothing};
 ghost use Rattle.conf_session.specs.Said.{said_of};
 
 use crate::command_lines::said_in_lines;
-use crate::parts::{Part, last_text, last_value, part_from, parts_of, two_texts};
-use conf_record::{is_same, keys_are};
+use crate::parts::{Part, part_from, parts_of};
+use conf_record::{is_same, keys_are, last_text, last_value, next_text};
 use std::alloc::{AllocError, Global};
 use yaml_tree::{Limits, ReadFault, Text, Tree, read_one};
 
@@ -148,6 +150,18 @@ fn get_said(pairs: Vec<(Text, Tree)>) -> Said
         Some((name, path)) => Said::Get { name, path },
         None => Said::Nothing,
     }
+}
+
+/// The two values, if they are two texts.
+fn two_texts(pairs: Vec<(Text, Tree)>) -> Option<(Text, Text)>
+    ensures { MatchOption result (are_two_texts (values (members_of pairs.items)) ≡ false)
+        (λ v. values (members_of pairs.items)
+        ≡ text (chars (text_bytes v.0)) ∷ text (chars (text_bytes v.1)) ∷ []) }
+{
+    let mut values = pairs.into_iter();
+    let one = next_text(&mut values)?;
+    let other = last_text(values)?;
+    Some((one, other))
 }
 
 fn export_said(pairs: Vec<(Text, Tree)>) -> Said

@@ -1,16 +1,19 @@
 // The answers to refused requests. They are constants, and take no memory.
 ghost use Rattle.std.specs.Prelude.{◌≡◌};
 ghost use Rattle.yaml_recognizers.specs.Closings.{framed_text_bytes};
-ghost use Rattle.conf_session.specs.Answers.{answered, path_answered, read_answered, refusal, word};
+ghost use Rattle.conf_session.specs.Answers.{answered, path_answered, read_answered, refusal, refusal_lines, word};
 
 use crate::fault::SessionFault;
 use conf_state::StoreFault;
 use tree_path::PathFault;
 use yaml_tree::ReadFault;
 
-/// Why a request is refused: the innermost fault's own name. It is one of the faults that a session answers.
+/// Why a request is refused. But for `BadCommand` it is one of the faults that a session answers, by the innermost
+/// fault's own name.
 #[derive(Clone, Copy)]
 pub enum Refusal {
+    /// The piece is no command.
+    BadCommand,
     EmptyBatch,
     BadName,
     NoConfig,
@@ -92,29 +95,46 @@ pub fn answered(fault: StoreFault) -> Result<Refusal, SessionFault>
     }
 }
 
-/// The answer to a refused request: `refused` with the fault's name.
-pub fn refusal_bytes(reason: Refusal) -> &'static [u8]
-    ensures { result.now ≡ framed_text_bytes (refusal (word reason)) }
-{
-    match reason {
-        Refusal::EmptyBatch => b"---\nrefused: EmptyBatch\n...\n",
-        Refusal::BadName => b"---\nrefused: BadName\n...\n",
-        Refusal::NoConfig => b"---\nrefused: NoConfig\n...\n",
-        Refusal::BadPath => b"---\nrefused: BadPath\n...\n",
-        Refusal::NoSuchPlace => b"---\nrefused: NoSuchPlace\n...\n",
-        Refusal::NotIndex => b"---\nrefused: NotIndex\n...\n",
-        Refusal::TooLong => b"---\nrefused: TooLong\n...\n",
-        Refusal::NotUtf8 => b"---\nrefused: NotUtf8\n...\n",
-        Refusal::Syntax => b"---\nrefused: Syntax\n...\n",
-        Refusal::Documents => b"---\nrefused: Documents\n...\n",
-        Refusal::KeyNotText => b"---\nrefused: KeyNotText\n...\n",
-        Refusal::KeyTwice => b"---\nrefused: KeyTwice\n...\n",
-        Refusal::TooDeep => b"---\nrefused: TooDeep\n...\n",
-        Refusal::LargeInStyle => b"---\nrefused: LargeInStyle\n...\n",
-        Refusal::ConfigLarge => b"---\nrefused: ConfigLarge\n...\n",
-        Refusal::StoreFull => b"---\nrefused: StoreFull\n...\n",
-        Refusal::RecordLong => b"---\nrefused: RecordLong\n...\n",
-        Refusal::JournalLong => b"---\nrefused: JournalLong\n...\n",
-        Refusal::CountFull => b"---\nrefused: CountFull\n...\n",
+/// The document that has a name under `refused`.
+macro_rules! refused {
+    ($name:literal) => {
+        concat!("---\nrefused: ", $name, "\n...\n")
+    };
+}
+
+impl Refusal {
+    /// The answer to a refused request: a document with the refusal's name under `refused`.
+    pub fn answer(self) -> &'static [u8]
+        ensures { result.now ≡ framed_text_bytes (refusal (word self)) }
+    {
+        self.text().as_bytes()
+    }
+
+    /// The text of that document.
+    fn text(self) -> &'static str
+        ensures { result.now ≡ refusal_lines (word self) }
+    {
+        match self {
+            Refusal::BadCommand => refused!("BadCommand"),
+            Refusal::EmptyBatch => refused!("EmptyBatch"),
+            Refusal::BadName => refused!("BadName"),
+            Refusal::NoConfig => refused!("NoConfig"),
+            Refusal::BadPath => refused!("BadPath"),
+            Refusal::NoSuchPlace => refused!("NoSuchPlace"),
+            Refusal::NotIndex => refused!("NotIndex"),
+            Refusal::TooLong => refused!("TooLong"),
+            Refusal::NotUtf8 => refused!("NotUtf8"),
+            Refusal::Syntax => refused!("Syntax"),
+            Refusal::Documents => refused!("Documents"),
+            Refusal::KeyNotText => refused!("KeyNotText"),
+            Refusal::KeyTwice => refused!("KeyTwice"),
+            Refusal::TooDeep => refused!("TooDeep"),
+            Refusal::LargeInStyle => refused!("LargeInStyle"),
+            Refusal::ConfigLarge => refused!("ConfigLarge"),
+            Refusal::StoreFull => refused!("StoreFull"),
+            Refusal::RecordLong => refused!("RecordLong"),
+            Refusal::JournalLong => refused!("JournalLong"),
+            Refusal::CountFull => refused!("CountFull"),
+        }
     }
 }

@@ -3,7 +3,7 @@ use Rattle.std.proofs.lemmas.Result.{on_ok_weaker}
 use Rattle.std.specs.Str.{chars}
 use Rattle.yaml_data.specs.Seen.{tree_of}
 use Rattle.conf_state.proofs.LineLemmas.{ascii}
-use Rattle.conf_session.proofs.AnswerLemmas.{framed-one}
+use Rattle.conf_session.proofs.WordLemmas.{framed-one}
 use Rattle.conf_session.proofs.answer.write_answer.Goals as goal
 
 pub returns : goal.returns

@@ -1,11 +1,9 @@
 -- Each turn performs and answers one group, and then makes a part of a checkpoint.
-use Rattle.std.proofs.Common.{◌≡◌, ◌++◌, [], ℕ, refl, sym, ◌∙◌, ap, subst, arith, length}
-use Rattle.std.specs.Prelude.{Ok}
+use Rattle.std.proofs.Common.{ℕ, refl, sym, ◌∙◌, ap, subst, arith, length}
 use Rattle.std.proofs.lemmas.Bool.{false≢true}
 use Rattle.std.proofs.lemmas.Result.{err_from_is_err_and}
-use Rattle.conf_session.specs.Input.{Advances, AdvancesToPiece, AdvancesToEnd, ahead, bytes_read}
-use Rattle.conf_session.specs.Gathering.{last_bytes, unwritten_bytes}
-use Rattle.conf_session.proofs.ReadLemmas.{longer-piece, room-read}
+use Rattle.conf_session.specs.Input.{ahead, bytes_read}
+use Rattle.conf_session.proofs.ReadLemmas.{longer-piece, none-unwritten, room-none, room-read, at-piece, at-end}
 use Rattle.conf_session.proofs.RequestLemmas.{synced-leaves}
 use Rattle.conf_session.proofs.GroupLemmas.{GroupsSoFar, reopens, groups-none, groups-more, groups-tended, ends-well, ends-in_input, ends-failing, ends-tending, starts-failing, starts-without-memory}
 use Rattle.conf_session.proofs.groups.run_grouped.Goals as goal
@@ -39,11 +37,6 @@ groups-init g c =
     let zero = c.new-answers.ensures in
     let flush = c.in_ok-flush_all.ensures.flushes in
     let answers = c.new-answers.result in
-    let nothing : unwritten_bytes answers ≡ [] = ap (λ l. l ++ last_bytes answers.last) zero.text ∙ ap last_bytes zero.last in
-    let none = ap length start.1 in
-    let empty = ap length zero.text in
-    let unwritten = ap length nothing in
-    let limit = start.0.total in
     record {
       off = sym c.needs_reopen.ensures.reopen ∙ c.if-needs_reopen.false;
       sound = flush.sound;
@@ -51,15 +44,8 @@ groups-init g c =
       so_far = groups-none d.model c.args.checkpoints (g.R.Read.remaining c.args.reader.now) (g.W.Write.contents c.args.writer.now) c.args.store.now c.flush_all.new.store
           (ahead c.in_ok-input.input) answers (bytes_read c.in_ok-input.input) flush start.1 zero.documents zero.accepted zero.refused zero.written start.2;
       no_last = zero.last;
-      none = nothing;
-      room = record {
-        within = omega (arith, empty);
-        few = omega (arith, zero.documents, none, start.2);
-        limit = limit;
-        accepted = omega (arith, zero.documents, zero.accepted);
-        refused = omega (arith, zero.documents, zero.refused);
-        out = omega (arith, zero.documents, zero.written, unwritten);
-      };
+      none = none-unwritten answers zero.text zero.last;
+      room = room-none c.in_ok-input.input answers start.0 start.1 start.2 zero.text zero.last zero.documents zero.accepted zero.refused zero.written;
       risen = c.flush_all.ensures.failures.risen;
     }
 
@@ -78,8 +64,7 @@ pub perform_group-requires-clause-can : goal.perform_group-requires-clause-can
 perform_group-requires-clause-can g c =
     let given = g.R.Read.remaining in
     let inv = c.groups.invariant in
-    let advances : AdvancesToPiece (given c.groups.reader) (given c.advance.new.reader) c.groups.input c.advance.new.self =
-    subst (λ b. Advances (given c.groups.reader) (given c.advance.new.reader) c.groups.input c.advance.new.self (Ok b)) c.if-branch.true c.in_ok-advance.ensures in
+    let advances = at-piece (given c.groups.reader) (given c.advance.new.reader) c.groups.input c.advance.new.self _ c.in_ok-advance.ensures c.if-branch.true in
     record {
       sound = inv.sound;
       means = λ h off. synced-leaves (g.D.Disk.model.folder c.groups.store.disk) c.groups.store.state (inv.so_far.performs.now h);
@@ -94,8 +79,7 @@ returns-in_err-perform_group-clause-runs g c =
     let given = g.R.Read.remaining in
     let held = g.W.Write.contents in
     let inv = c.groups.invariant in
-    let advances : AdvancesToPiece (given c.groups.reader) (given c.advance.new.reader) c.groups.input c.advance.new.self =
-    subst (λ b. Advances (given c.groups.reader) (given c.advance.new.reader) c.groups.input c.advance.new.self (Ok b)) c.if-branch.true c.in_ok-advance.ensures in
+    let advances = at-piece (given c.groups.reader) (given c.advance.new.reader) c.groups.input c.advance.new.self _ c.in_ok-advance.ensures c.if-branch.true in
     let out = inv.room.out in
     let ends = ends-failing d.model c.args.checkpoints (given c.args.reader.now) (given c.groups.reader) (given c.advance.new.reader)
     (held c.args.writer.now) (held c.groups.writer) c.args.store.now c.groups.store c.groups.input c.advance.new.self c.groups.answers inv.so_far advances
@@ -107,8 +91,7 @@ returns-in_err-perform_group-clause-runs g c =
 pub groups-smaller : goal.groups-smaller
 groups-smaller g c =
     let given = g.R.Read.remaining in
-    let advances : AdvancesToPiece (given c.groups.reader) (given c.advance.new.reader) c.groups.input c.advance.new.self =
-    subst (λ b. Advances (given c.groups.reader) (given c.advance.new.reader) c.groups.input c.advance.new.self (Ok b)) c.if-branch.true c.in_ok-advance.ensures in
+    let advances = at-piece (given c.groups.reader) (given c.advance.new.reader) c.groups.input c.advance.new.self _ c.in_ok-advance.ensures c.if-branch.true in
     let longer = longer-piece (given c.groups.reader) (given c.advance.new.reader) c.groups.input c.advance.new.self advances in
     let within = advances.sound.total in
     let less = c.in_ok-perform_group.ensures.goes_on.less in
@@ -121,8 +104,7 @@ groups-preserved g c =
     let given = g.R.Read.remaining in
     let held = g.W.Write.contents in
     let inv = c.groups.invariant in
-    let advances : AdvancesToPiece (given c.groups.reader) (given c.advance.new.reader) c.groups.input c.advance.new.self =
-    subst (λ b. Advances (given c.groups.reader) (given c.advance.new.reader) c.groups.input c.advance.new.self (Ok b)) c.if-branch.true c.in_ok-advance.ensures in
+    let advances = at-piece (given c.groups.reader) (given c.advance.new.reader) c.groups.input c.advance.new.self _ c.in_ok-advance.ensures c.if-branch.true in
     let new = c.perform_group.new in
     let performs = c.in_ok-perform_group.ensures.performs in
     let so_far : GroupsSoFar d.model (given c.args.reader.now) (given c.advance.new.reader) (held c.args.writer.now) (held new.writer) c.args.checkpoints c.args.store.now new.store
@@ -151,8 +133,7 @@ returns-in_err-tend_checkpoint-clause-runs g c =
     let given = g.R.Read.remaining in
     let held = g.W.Write.contents in
     let inv = c.groups.invariant in
-    let advances : AdvancesToPiece (given c.groups.reader) (given c.advance.new.reader) c.groups.input c.advance.new.self =
-    subst (λ b. Advances (given c.groups.reader) (given c.advance.new.reader) c.groups.input c.advance.new.self (Ok b)) c.if-branch.true c.in_ok-advance.ensures in
+    let advances = at-piece (given c.groups.reader) (given c.advance.new.reader) c.groups.input c.advance.new.self _ c.in_ok-advance.ensures c.if-branch.true in
     let new = c.perform_group.new in
     let performs = c.in_ok-perform_group.ensures.performs in
     let so_far : GroupsSoFar d.model (given c.args.reader.now) (given c.advance.new.reader) (held c.args.writer.now) (held new.writer) c.args.checkpoints c.args.store.now new.store
@@ -172,8 +153,7 @@ pub returns-clause-runs : goal.returns-clause-runs
 returns-clause-runs g c =
     let d = g.D.Disk in
     let given = g.R.Read.remaining in
-    let end : AdvancesToEnd (given c.groups.reader) (given c.advance.new.reader) c.groups.input c.advance.new.self =
-    subst (λ b. Advances (given c.groups.reader) (given c.advance.new.reader) c.groups.input c.advance.new.self (Ok b)) c.if-branch.false c.in_ok-advance.ensures in
+    let end = at-end (given c.groups.reader) (given c.advance.new.reader) c.groups.input c.advance.new.self _ c.in_ok-advance.ensures c.if-branch.false in
     ends-well d.model c.args.checkpoints (given c.args.reader.now) (given c.groups.reader) (given c.advance.new.reader)
     (g.W.Write.contents c.args.writer.now) (g.W.Write.contents c.groups.writer) c.args.store.now c.groups.store c.groups.input c.advance.new.self c.groups.answers c.groups.invariant.so_far
     _ end refl refl refl (ap length c.piece.ensures)

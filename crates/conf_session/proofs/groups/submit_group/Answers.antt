@@ -1,9 +1,10 @@
 -- Each turn performs one piece. What was read closes the next one, or the group ends.
-use Rattle.std.proofs.Common.{◌≡◌, ◌++◌, List, ℕ, length, refl, sym, ◌∙◌, subst, arith}
+use Rattle.std.proofs.Common.{◌≡◌, ◌++◌, false, List, ℕ, length, refl, sym, ◌∙◌, subst, arith}
 use Rattle.std.specs.Prelude.{Err}
 use Rattle.std.proofs.lemmas.Result.{err_from_is_err_and}
 use Rattle.conf_session.specs.Input.{AdvancesAhead, AdvancesWithin, ahead, bytes_read, piece_or_rest as piece_of}
-use Rattle.conf_session.specs.Gathering.{HasRoomFor, Submits}
+use Rattle.conf_session.specs.Replies.{PerformsAll}
+use Rattle.conf_session.specs.Gathering.{HasRoomFor, GathersPieces}
 use Rattle.conf_session.proofs.GatherLemmas.{submits-none, submits-more, submits-failing, submits-starved, not-full, shorter-piece}
 use Rattle.conf_session.specs.declared.fault.SessionFault.{SessionFault}
 use Rattle.conf_session.specs.declared.fault.SessionFault.TheVariants.{Device}
@@ -71,7 +72,7 @@ pieces-preserved g c =
           (subst (λ (l : List ℕ). HasRoomFor after (length l) (bytes_read c.pieces.input)) advances.joined c.in_ok-submit_piece.ensures.room);
       read = advances.total ∙ inv.read;
       less = omega (arith, shorter, inv.less);
-      so_far = subst (λ (l : List ℕ). Submits d.model bytes l c.args.store.now new c.args.answers.now after) advances.joined
+      so_far = subst (λ (l : List ℕ). GathersPieces (PerformsAll false d.model) bytes l c.args.store.now new c.args.answers.now after) advances.joined
           (submits-more d.model bytes (piece_of c.pieces.input) (ahead c.pieces.input) c.args.store.now c.pieces.store c.args.answers.now c.pieces.answers inv.so_far
           inv.piece.piece inv.piece.short new after one);
       risen = omega (arith, inv.risen, c.submit_piece.ensures.failures.risen);

@@ -7,8 +7,9 @@ use Rattle.yaml_data.specs.TextBytes.{text_bytes}
 use Rattle.conf_session.specs.Said.{get_at, export_of, said_of}
 use Rattle.conf_session.specs.Requests.{MeansRequest, checkpointing, getting, exporting, naming, bad}
 use Rattle.conf_session.specs.Replies.{Handles, is_at_once}
-use Rattle.conf_session.specs.declared.reply.Reply.TheVariants.{NoCommand}
-use Rattle.conf_session.proofs.LengthLemmas.{bad-short}
+use Rattle.conf_session.specs.declared.reply.Reply.TheVariants.{Refused}
+use Rattle.conf_session.specs.declared.words.Refusal.TheVariants.{BadCommand}
+use Rattle.conf_session.proofs.WordLemmas.{refusal-short}
 use Rattle.conf_session.proofs.RequestLemmas.{handles-none, handles-reading, handles-retold}
 use Rattle.conf_session.proofs.reply.answer_said.Goals as goal
 
@@ -53,7 +54,7 @@ returns-in-Nothing g c =
     let d = g.D.Disk in
     let store = c.args.store.now in
     handles-reading (is_at_once c.args.way) d.model store c.requires.means (MeansRequest (said_of c.args.said)) (λ image h is. g.met.D.Disk.only_now store.disk image h is)
-    bad (subst (λ s. MeansRequest s bad) (sym (ap said_of c.in-Nothing.is)) refl) tt (Ok NoCommand) (record { bytes = refl; accepted = refl; refused = refl; short = bad-short }) tt
+    bad (subst (λ s. MeansRequest s bad) (sym (ap said_of c.in-Nothing.is)) refl) tt (Ok (Refused BadCommand)) (record { bytes = refl; accepted = refl; refused = refl; short = refusal-short BadCommand }) tt
 
 pub returns-in_err-names_answer-in-Names : goal.returns-in_err-names_answer-in-Names
 returns-in_err-names_answer-in-Names g c =

@@ -6,8 +6,9 @@ use Rattle.yaml_grammar.specs.Closings.{ClosesOnce}
 use Rattle.conf_session.specs.Requests.{Asks, bad}
 use Rattle.conf_session.specs.Replies.{Handles}
 use Rattle.conf_session.specs.Rounds.{RoundAsks}
-use Rattle.conf_session.specs.declared.reply.Reply.TheVariants.{NoCommand}
-use Rattle.conf_session.proofs.LengthLemmas.{bad-short}
+use Rattle.conf_session.specs.declared.reply.Reply.TheVariants.{Refused}
+use Rattle.conf_session.specs.declared.words.Refusal.TheVariants.{BadCommand}
+use Rattle.conf_session.proofs.WordLemmas.{refusal-short}
 use Rattle.conf_session.proofs.RequestLemmas.{handles-reading, handles-retold}
 use Rattle.conf_session.proofs.rounds.submit_piece.Goals as goal
 
@@ -17,7 +18,7 @@ returns-then-not-closes_once g c =
     let store = c.args.store.now in
     handles-reading false d.model store c.requires.means (RoundAsks c.args.piece.now.bytes.items) (λ image h is. g.met.D.Disk.only_now store.disk image h is) bad
     (inr (λ closes. false≢true (sym c.if-not-closes_once.true ∙ c.closes_once.ensures.1 (subst ClosesOnce (sym c.deref.ensures.value) closes)), refl)) tt
-    (Ok NoCommand) (record { bytes = refl; accepted = refl; refused = refl; short = bad-short }) tt
+    (Ok (Refused BadCommand)) (record { bytes = refl; accepted = refl; refused = refl; short = refusal-short BadCommand }) tt
 
 pub returns : goal.returns
 returns g c =

@@ -1,10 +1,8 @@
 -- Each turn performs and answers one piece.
-use Rattle.std.proofs.Common.{◌≡◌, ◌++◌, [], false, refl, sym, ◌∙◌, ap, subst, arith, length}
-use Rattle.std.specs.Prelude.{Ok}
+use Rattle.std.proofs.Common.{◌≡◌, false, refl, sym, ◌∙◌, ap, arith, length}
 use Rattle.std.proofs.lemmas.Result.{err_from_is_err_and}
-use Rattle.conf_session.specs.Input.{Advances, AdvancesToPiece, AdvancesToEnd, ahead, bytes_read}
-use Rattle.conf_session.specs.Gathering.{last_bytes, unwritten_bytes}
-use Rattle.conf_session.proofs.ReadLemmas.{longer-piece, room-read}
+use Rattle.conf_session.specs.Input.{ahead, bytes_read}
+use Rattle.conf_session.proofs.ReadLemmas.{longer-piece, none-unwritten, room-none, room-read, at-piece, at-end}
 use Rattle.conf_session.proofs.SessionLemmas.{so_far-none, so_far-more, ends-well, ends-in_input, ends-failing, starts-without-memory}
 use Rattle.conf_session.proofs.session.run.Goals as goal
 
@@ -24,10 +22,6 @@ pieces-init g c =
     let start = c.in_ok-input.ensures in
     let zero = c.new-answers.ensures in
     let answers = c.new-answers.result in
-    let nothing : unwritten_bytes answers ≡ [] = ap (λ l. l ++ last_bytes answers.last) zero.text ∙ ap last_bytes zero.last in
-    let none = ap length start.1 in
-    let empty = ap length zero.text in
-    let unwritten = ap length nothing in
     record {
       off = off;
       sound = off;
@@ -37,15 +31,8 @@ pieces-init g c =
           (λ image h is. g.met.D.Disk.only_now c.args.store.now.disk image h is) c.needs_reopen.ensures.now start.1 zero.documents zero.accepted zero.refused zero.written start.2;
       means = c.needs_reopen.ensures.now;
       no_last = zero.last;
-      none = nothing;
-      room = record {
-        within = omega (arith, empty);
-        few = omega (arith, zero.documents, none, start.2);
-        limit = start.0.total;
-        accepted = omega (arith, zero.documents, zero.accepted);
-        refused = omega (arith, zero.documents, zero.refused);
-        out = omega (arith, zero.documents, zero.written, unwritten);
-      };
+      none = none-unwritten answers zero.text zero.last;
+      room = room-none c.in_ok-input.input answers start.0 start.1 start.2 zero.text zero.last zero.documents zero.accepted zero.refused zero.written;
       risen = omega arith;
     }
 
@@ -65,8 +52,7 @@ pub perform_piece-requires-clause-can : goal.perform_piece-requires-clause-can
 perform_piece-requires-clause-can g c =
     let given = g.R.Read.remaining in
     let inv = c.pieces.invariant in
-    let advances : AdvancesToPiece (given c.pieces.reader) (given c.advance.new.reader) c.pieces.input c.advance.new.self =
-    subst (λ b. Advances (given c.pieces.reader) (given c.advance.new.reader) c.pieces.input c.advance.new.self (Ok b)) c.if-branch.true c.in_ok-advance.ensures in
+    let advances = at-piece (given c.pieces.reader) (given c.advance.new.reader) c.pieces.input c.advance.new.self _ c.in_ok-advance.ensures c.if-branch.true in
     record {
       sound = inv.sound;
       means = inv.means;
@@ -81,8 +67,7 @@ returns-in_err-perform_piece-clause-runs g c =
     let inv = c.pieces.invariant in
     let given = g.R.Read.remaining in
     let held = g.W.Write.contents in
-    let advances : AdvancesToPiece (given c.pieces.reader) (given c.advance.new.reader) c.pieces.input c.advance.new.self =
-    subst (λ b. Advances (given c.pieces.reader) (given c.advance.new.reader) c.pieces.input c.advance.new.self (Ok b)) c.if-branch.true c.in_ok-advance.ensures in
+    let advances = at-piece (given c.pieces.reader) (given c.advance.new.reader) c.pieces.input c.advance.new.self _ c.in_ok-advance.ensures c.if-branch.true in
     let out = inv.room.out in
     let ends = ends-failing d.model (given c.args.reader.now) (given c.pieces.reader) (given c.advance.new.reader)
     (held c.args.writer.now) (held c.pieces.writer) c.args.store.now c.pieces.store c.pieces.input c.advance.new.self c.pieces.answers inv.so_far advances
@@ -94,8 +79,7 @@ returns-in_err-perform_piece-clause-runs g c =
 pub pieces-smaller : goal.pieces-smaller
 pieces-smaller g c =
     let given = g.R.Read.remaining in
-    let advances : AdvancesToPiece (given c.pieces.reader) (given c.advance.new.reader) c.pieces.input c.advance.new.self =
-    subst (λ b. Advances (given c.pieces.reader) (given c.advance.new.reader) c.pieces.input c.advance.new.self (Ok b)) c.if-branch.true c.in_ok-advance.ensures in
+    let advances = at-piece (given c.pieces.reader) (given c.advance.new.reader) c.pieces.input c.advance.new.self _ c.in_ok-advance.ensures c.if-branch.true in
     let longer = longer-piece (given c.pieces.reader) (given c.advance.new.reader) c.pieces.input c.advance.new.self advances in
     let within = advances.sound.total in
     omega (arith, longer, within)
@@ -106,8 +90,7 @@ pieces-preserved g c =
     let inv = c.pieces.invariant in
     let given = g.R.Read.remaining in
     let held = g.W.Write.contents in
-    let advances : AdvancesToPiece (given c.pieces.reader) (given c.advance.new.reader) c.pieces.input c.advance.new.self =
-    subst (λ b. Advances (given c.pieces.reader) (given c.advance.new.reader) c.pieces.input c.advance.new.self (Ok b)) c.if-branch.true c.in_ok-advance.ensures in
+    let advances = at-piece (given c.pieces.reader) (given c.advance.new.reader) c.pieces.input c.advance.new.self _ c.in_ok-advance.ensures c.if-branch.true in
     let new = c.perform_piece.new in
     let one = c.in_ok-perform_piece.ensures.performs in
     record {
@@ -129,8 +112,7 @@ returns-clause-runs g c =
     let d = g.D.Disk in
     let inv = c.pieces.invariant in
     let given = g.R.Read.remaining in
-    let end : AdvancesToEnd (given c.pieces.reader) (given c.advance.new.reader) c.pieces.input c.advance.new.self =
-    subst (λ b. Advances (given c.pieces.reader) (given c.advance.new.reader) c.pieces.input c.advance.new.self (Ok b)) c.if-branch.false c.in_ok-advance.ensures in
+    let end = at-end (given c.pieces.reader) (given c.advance.new.reader) c.pieces.input c.advance.new.self _ c.in_ok-advance.ensures c.if-branch.false in
     ends-well d.model (given c.args.reader.now) (given c.pieces.reader) (given c.advance.new.reader)
     (g.W.Write.contents c.args.writer.now) (g.W.Write.contents c.pieces.writer) c.args.store.now c.pieces.store c.pieces.input c.advance.new.self c.pieces.answers inv.so_far
     _ end inv.means refl refl refl (ap length c.piece.ensures)

@@ -1,0 +1,12 @@
+use Rattle.std.proofs.Common.{codes, sym, subst}
+use Rattle.std.proofs.lemmas.Option.{IfSome_then}
+use Rattle.std.proofs.lemmas.Result.{IfOk-weaker}
+use Rattle.conf_record.specs.EditLines.{lines_of}
+use Rattle.conf_session.specs.CommandLines.{SpellsPart}
+use Rattle.conf_session.proofs.part_lines.part_on_lines.Goals as goal
+
+pub returns-in-Some : goal.returns-in-Some
+returns-in-Some c =
+    let own = lines_of c.args.lines (codes "text: ") in
+    IfOk-weaker c.made_part.result _ _
+    (λ made is. IfSome_then made is (λ part same. subst (SpellsPart own) (sym same) c.in-Some.ensures)) c.made_part.ensures
