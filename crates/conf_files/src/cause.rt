@@ -1,8 +1,10 @@
 // Why a file or a folder could not be used.
-ghost use Rattle.std.specs.Prelude.{◌≡◌, Ok, Err, MatchResult};
+ghost use Rattle.std.specs.Prelude.{◌≡◌, ◌↔◌, Ok, Err, IsTrue, MatchResult};
+ghost use Rattle.std.specs.IoError.{error_kind};
 
 use std::alloc::AllocError;
 use std::fmt::{Display, Formatter, Write};
+use std::io::ErrorKind;
 use std::{fmt, io};
 
 /// What the standard library writes after the words of an error of the system, before the error's number.
@@ -54,6 +56,13 @@ impl Subject {
 }
 
 impl Cause {
+    /// Whether memory ran out.
+    pub fn is_out_of_memory(&self) -> bool
+        ensures { IsTrue result ↔ (error_kind self.now.error ≡ ErrorKind.OutOfMemory) }
+    {
+        self.error.kind() == ErrorKind::OutOfMemory
+    }
+
     /// The cause in words, as `store.yaml: No space left on device`. `given` is the path that the caller gave, as it is
     /// to be shown.
     pub fn shown<'n>(self, given: &'n str) -> ShownCause<'n> {

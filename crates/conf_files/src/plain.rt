@@ -43,11 +43,7 @@ pub fn look<R: Files<File = File>>(rt: &R, path: &str) -> io::Result<Option<Meta
 ///
 /// # Errors
 /// If it is another one, nothing or no plain file is there, or the system refuses.
-pub fn find_same<R: Files<File = File>>(
-    rt: &R,
-    path: &str,
-    identity: Identity,
-) -> io::Result<()> {
+pub fn find_same<R: Files<File = File>>(rt: &R, path: &str, identity: Identity) -> io::Result<()> {
     match look(rt, path)? {
         Some(found) if Identity::of(&found) == identity => Ok(()),
         _ => Err(elsewhere_by_now()),
@@ -59,7 +55,10 @@ pub(crate) fn no_plain_file(found: &Metadata) -> io::Error {
     if found.is_dir() {
         io::Error::new(ErrorKind::IsADirectory, "it is a folder")
     } else if found.is_symlink() {
-        io::Error::new(ErrorKind::InvalidInput, "it is a link, which is not followed")
+        io::Error::new(
+            ErrorKind::InvalidInput,
+            "it is a link, which is not followed",
+        )
     } else {
         io::Error::new(ErrorKind::InvalidInput, "it is no plain file")
     }

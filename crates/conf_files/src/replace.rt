@@ -1,7 +1,4 @@
 // A file of other bytes in the place of one that is there.
-ghost use Rattle.std.specs.Prelude.{◌↔◌, ◌≡◌};
-ghost use Rattle.std.specs.IoError.{error_kind};
-
 use crate::cause::{Cause, Subject};
 use crate::folder::{OpenFolder, parent_of};
 use crate::owner::{OWNER_ALONE, take_after};
@@ -32,11 +29,8 @@ pub enum ReplaceFault {
 }
 
 impl From<Cause> for ReplaceFault {
-    ghost from_gives = { λ cause fault.
-        (fault ≡ ReplaceFault.OutOfMemory) ↔ (error_kind cause.error ≡ ErrorKind.OutOfMemory) };
-
     fn from(cause: Cause) -> ReplaceFault {
-        if cause.error.kind() == ErrorKind::OutOfMemory {
+        if cause.is_out_of_memory() {
             ReplaceFault::OutOfMemory
         } else {
             ReplaceFault::Device
@@ -68,7 +62,10 @@ pub fn open_to_replace<R: Files<File = File>>(
     if !found.is_file() {
         return Err(Subject::Given.cause(no_plain_file(&found)));
     }
-    if Subject::Given.blame(fs::symlink_metadata(rt, path))?.is_symlink() {
+    if Subject::Given
+        .blame(fs::symlink_metadata(rt, path))?
+        .is_symlink()
+    {
         let target = Subject::Given.blame(fs::canonicalize(&(rt, alloc), path))?;
         return open_in_folder(rt, alloc, target.as_path().as_str());
     }

@@ -574,9 +574,7 @@ impl<'r, R: Files<File = File>> Disk for FolderDisk<'r, R> {
         self.may_fail()?;
         match self.try_read(alloc, name, max) {
             Ok(content) => Ok(content),
-            Err(cause) if cause.error.kind() == ErrorKind::OutOfMemory => {
-                Err(DiskFault::OutOfMemory)
-            }
+            Err(cause) if cause.is_out_of_memory() => Err(DiskFault::OutOfMemory),
             Err(cause) => Err(self.fail(cause)),
         }
     }

@@ -1,6 +1,5 @@
 // Why a folder can't be used as a disk.
-ghost use Rattle.std.specs.Prelude.{◌≡◌, ◌↔◌, None};
-ghost use Rattle.std.specs.IoError.{error_kind};
+ghost use Rattle.std.specs.Prelude.{◌≡◌};
 
 use conf_files::{Cause, Subject};
 use std::alloc::AllocError;
@@ -55,11 +54,13 @@ impl FolderError {
 }
 
 impl From<Cause> for FolderError {
-    ghost from_gives = { λ cause error.
-        (error.fault ≡ FolderFault.OutOfMemory) ↔ (error_kind cause.error ≡ ErrorKind.OutOfMemory) };
+    ghost use Rattle.std.specs.Prelude.{◌≡◌, ◌⊎◌};
+    ghost use Rattle.conf_folder.specs.declared.fault.FolderFault.TheVariants.{Device, OutOfMemory};
+
+    ghost from_gives = { λ _ error. (error.fault ≡ Device) ⊎ (error.fault ≡ OutOfMemory) };
 
     fn from(cause: Cause) -> FolderError {
-        if cause.error.kind() == ErrorKind::OutOfMemory {
+        if cause.is_out_of_memory() {
             return FolderError::from(AllocError);
         }
         FolderError {
@@ -70,6 +71,8 @@ impl From<Cause> for FolderError {
 }
 
 impl From<FolderFault> for FolderError {
+    ghost use Rattle.std.specs.Prelude.{◌≡◌, None};
+
     ghost from_gives = { λ fault error. error ≡ record { fault = fault; cause = None } };
 
     fn from(fault: FolderFault) -> FolderError {
@@ -78,7 +81,10 @@ impl From<FolderFault> for FolderError {
 }
 
 impl From<AllocError> for FolderError {
-    ghost from_gives = { λ _ error. error.fault ≡ FolderFault.OutOfMemory };
+    ghost use Rattle.std.specs.Prelude.{◌≡◌};
+    ghost use Rattle.conf_folder.specs.declared.fault.FolderFault.TheVariants.{OutOfMemory};
+
+    ghost from_gives = { λ _ error. error.fault ≡ OutOfMemory };
 
     fn from(_error: AllocError) -> FolderError {
         FolderError::from(FolderFault::OutOfMemory)
