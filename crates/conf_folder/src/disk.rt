@@ -378,14 +378,23 @@ impl<'r, R: Files<File = File>> FolderDisk<'r, R> {
             Some(_) => Replacing::Store,
             None => Replacing::Nothing,
         };
-        let like = replaced.as_ref().or(self.like.as_ref());
-        let made = create_staged(self.rt, self.path(Name::Next)?, like);
-        let file = subject_of(Name::Next).blame(made)?;
+        let file = self.create_next_file(replaced.as_ref())?;
         self.next = Appended {
             file: Some(file),
             bytes: Bytes::OnDevice,
         };
         Ok(())
+    }
+
+    /// Makes an empty `next.yaml`. It takes after the `store.yaml` that it is to replace, or else after the file that the
+    /// disk was opened with, if there was one.
+    fn create_next_file(&self, replaced: Option<&Metadata>) -> Result<File, Cause> {
+        let path = self.path(Name::Next)?;
+        let made = match replaced {
+            Some(replaced) => create_staged(self.rt, path, Some(replaced)),
+            None => create_staged(self.rt, path, self.like.as_ref()),
+        };
+        subject_of(Name::Next).blame(made)
     }
 
     fn try_rename_next(&mut self) -> Result<(), Cause>

@@ -139,9 +139,7 @@ fn take_free_name<R: Files<File = File>>(rt: &R, path: &str, free: &str) -> io::
     match fs::hard_link(rt, path, free) {
         Ok(()) => fs::remove_file(rt, path),
         Err(error) if has_no_links(&error) => match look(rt, free)? {
-            Some(_) => {
-                Err(io::Error::new(ErrorKind::AlreadyExists, "it is there after all"))
-            }
+            Some(_) => { Err(io::Error::new(ErrorKind::AlreadyExists, "it is there after all")) }
             None => fs::rename(rt, path, free),
         },
         Err(error) => Err(error),
