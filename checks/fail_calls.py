@@ -6,8 +6,8 @@ part of its bytes, or ends the process before, in the middle of, or after it. Th
 over a new folder, and one over a torn store with checkpoints, one command at a time and in groups, with checkpoints in
 slices beside them. All are run once more with 7 bytes at most to each read and write.
 
-Each time the status and the fault are the promised ones, and the output is exactly the answers that were written
-before. A new session then has to find the state after a prefix of the commands, which holds each one that was
+Each time the status and the fault are the promised ones, the line below the fault names the file of the call and says
+why in the system's words, and the output is exactly the answers that were written before. A new session then has to find the state after a prefix of the commands, which holds each one that was
 answered. All commands of a group whose answers were begun to be written are held.
 
 Run it from the repository's root after the program is built. It takes half a minute, and needs a C compiler:
@@ -294,7 +294,12 @@ def try_fault(trial: Trial, call: Call, kind: Kind) -> tuple[Failures, str]:
     status, output, errors = trial.run(folder, kind.environment(call.number))
     failures = Failures()
     expected = Expected(trial, call, kind)
-    begun = errors[: len(expected.ended[1])] if expected.ended[1].endswith(": ") else errors
+    fault = expected.ended[1]
+    has_cause = fault.endswith((DEVICE[1], LOCKED[1]))
+    begun = errors[: len(fault)] if has_cause or fault.endswith(": ") else errors
+    if has_cause:
+        cause = errors[len(fault) :]
+        failures.expect(f"{name}: the cause {cause!r}", is_cause(cause, folder, call, kind), True)
     failures.expect(f"{name}: ending", (status, begun), expected.ended)
     failures.expect(f"{name}: output", output, trial.story.output[: expected.written])
     left = {file: read_file(os.path.join(folder, file)) for file in os.listdir(folder)}
@@ -331,6 +336,22 @@ def try_story(top: str, story: Story, most: int, failures: Failures) -> None:
 def is_change(call: Call) -> bool:
     """Whether a call changes the folder, syncs a change, or answers."""
     return call.name in ("fsync", "unlink", "create", "link", "rename", "write")
+
+
+def is_cause(line: str, folder: str, call: Call, kind: Kind) -> bool:
+    """Whether a line says why the call failed: of which file or folder, and the reason. Where all later calls fail, it
+    may be any of them. A new file takes the name `store.yaml` by more than one call."""
+    subject, _, reason = line.removesuffix("\n").rpartition(": ")
+    if kind.answer == "zero":
+        wanted = "nothing was written" if call.is_of_note() else "failed to write whole buffer"
+    elif kind.error == errno.EWOULDBLOCK:
+        wanted = "another run holds its lock"
+    else:
+        wanted = os.strerror(kind.error)
+    of_folder = call.file in ("folder", "proc")
+    of_rename = call.name in ("link", "rename", "unlink")
+    is_subject = kind.later or subject == (folder if of_folder else call.file) or (of_rename and subject == "store.yaml")
+    return line.endswith("\n") and reason == wanted and is_subject
 
 
 def name_of(ending: Ending) -> str:

@@ -8,6 +8,10 @@
   that folder is replaced or left over, and none has another owner.
 - Each call that opens or looks at a file of a store says falsely that it is not there, once or from then on: no store
   is made over the one that is there, and what was acknowledged is held.
+- A word that is refused makes nothing: a folder without a store stays empty, one with a store gets no `store.lock`, and
+  a `salvage` leaves no new folder. Beside a run that makes the store at the same moment a change is refused, and harms nothing.
+- A store that is salvaged has the owner, the group and the mode of the damaged one.
+- `init` syncs the folder above, also where its own folder is there.
 
 The library that lets calls go wrong is shims/fail_calls.c. Run it from the repository's root after the program is
 built; run as root it tries more. It takes a minute at most, and needs a C compiler:
@@ -38,6 +42,9 @@ OUTSIDER = "daemon"
 STORE = EMPTY + IMPORT
 COMMANDS = b'set: a\npath: ""\nvalue: p\n...\ncheckpoint:\n...\nset: a\npath: ""\nvalue: q\n...\n'
 VALUES = ["x\n", "p\n", "q\n"]
+
+# How many stores are made beside changes.
+BESIDE = 20
 
 
 def run(program: str, *words: str, commands: bytes = b"", user: str | None = None, **env: str) -> tuple[int, str]:
@@ -198,12 +205,114 @@ def hidden_files(top: Path, library: str, failures: Failures) -> None:
     print(f"  {tried} files hidden")
 
 
+def ending(*words: str) -> tuple[int, str]:
+    """The status of the program, and the first line that it wrote to standard error."""
+    done = subprocess.run([PROGRAM, *words], input=b"", capture_output=True, check=False, timeout=SECONDS)
+    return done.returncode, done.stderr.decode().partition("\n")[0]
+
+
+def contents(folder: Path) -> dict[str, bytes] | None:
+    """The files of a folder, or None if it is not there."""
+    return {path.name: path.read_bytes() for path in folder.iterdir()} if folder.is_dir() else None
+
+
+def refused_words(top: Path, failures: Failures) -> None:
+    """Words that are refused, each in a folder of its own, which stays as it was."""
+    text = top / "x.yaml"
+    text.write_text("x\n")
+    changes = {"set": ("a", "/k", "v"), "delete": ("a", "/k"), "checkpoint": (), "import": ("a", str(text))}
+    lefts: tuple[dict[str, bytes], ...] = ({}, {"next.yaml": STORE})
+    rows = [(word, rest, files, "NotAStore") for word, rest in changes.items() for files in lefts]
+    rows.append(("init", (), {"store.yaml": STORE}, "StoreExists"))
+    for number, (word, rest, files, fault) in enumerate(rows):
+        folder = top / f"refused {number}"
+        folder.mkdir()
+        for file, content in files.items():
+            (folder / file).write_bytes(content)
+        name = f"{word} over {sorted(files)}"
+        failures.expect(name, ending(word, str(folder), *rest), (1, f"confstore: {fault}"))
+        failures.expect(f"{name}: what is left", contents(folder), files)
+
+
+def refused_salvages(top: Path, failures: Failures) -> None:
+    """A salvage of what is no store, or to where a store is: no new folder, and no file in one that was there."""
+    damaged = STORE + STORE
+    olds: tuple[dict[str, bytes], ...] = ({}, {"store.yaml": b"no store"}, {"store.yaml": b""}, {"store.yaml": damaged})
+    news: tuple[dict[str, bytes] | None, ...] = (None, {}, {"store.yaml": STORE})
+    for number, (files, before) in enumerate((old, new) for old in olds for new in news):
+        folder, new = top / f"old {number}", top / f"new {number}"
+        for path, content in ((folder, files), (new, before)):
+            for file, held in (content or {}).items():
+                path.mkdir()
+                (path / file).write_bytes(held)
+            if content == {}:
+                path.mkdir()
+        is_saved = files.get("store.yaml") == damaged and not before
+        fault = "StoreExists" if files and before else "NotAStore"
+        name = f"a salvage of {files} to {before}"
+        failures.expect(name, ending("salvage", str(folder), str(new)), (0, "") if is_saved else (1, f"confstore: {fault}"))
+        if is_saved:
+            failures.expect(f"{name}: what is saved", value_of(new), "x\n")
+        else:
+            failures.expect(f"{name}: what is left", contents(new), before)
+        failures.expect(f"{name}: the old folder", contents(folder), files)
+
+
+def owners_of_saved_stores(top: Path, failures: Failures) -> None:
+    """A salvaged store takes after the damaged one: the mode, and for root the owner and the group."""
+    nobody = pwd.getpwnam(NOBODY)
+    owners = [(os.geteuid(), os.getegid())] + ([(nobody.pw_uid, nobody.pw_gid)] if os.geteuid() == 0 else [])
+    for owner in owners:
+        for mode in (0o600, 0o640, 0o644, 0o664):
+            folder, new = new_store(top, f"damaged {owner} {mode:o}"), top / f"saved {owner} {mode:o}"
+            old = folder / "store.yaml"
+            old.write_bytes(STORE + STORE)
+            os.chown(old, *owner)
+            old.chmod(mode)
+            failures.expect(f"{new.name}: status", run(PROGRAM, "salvage", str(folder), str(new))[0], 0)
+            found = (new / "store.yaml").stat()
+            failures.expect(new.name, (found.st_uid, found.st_gid, stat.S_IMODE(found.st_mode)), (*owner, mode))
+
+
+def changes_beside_new_stores(top: Path, failures: Failures) -> None:
+    """Changes beside a run that makes the store: each is refused, since there is no store yet or the run holds it."""
+    refusals = {"confstore: NotAStore", "confstore: Locked"}
+    for number in range(BESIDE):
+        folder = top / f"beside {number}"
+        folder.mkdir()
+        making = subprocess.Popen([PROGRAM, "run", str(folder)], stdin=subprocess.PIPE, stdout=subprocess.PIPE)
+        words = ["set", str(folder), "a", "", "p"]
+        changes = [subprocess.Popen([PROGRAM, *words], stderr=subprocess.PIPE, text=True) for _ in range(4)]
+        said = [change.communicate(timeout=SECONDS)[1].partition("\n")[0] for change in changes]
+        failures.expect(f"{folder.name}: {said}", set(said) <= refusals, True)
+        answer, _ = making.communicate(b'import: a\ntext: "x"\n...\n', timeout=SECONDS)
+        failures.expect(f"{folder.name}: the run", (making.returncode, answer), (0, b'---\nok: "1"\n...\n'))
+        failures.expect(f"{folder.name}: the value", value_of(folder), "x\n")
+
+
+def syncs_of_init(top: Path, library: str, failures: Failures) -> None:
+    """`init` syncs the folder above its own one, whether it makes that or finds it."""
+    for way in ("made", "found"):
+        folder, log = top / way, top / "syncs"
+        if way == "found":
+            folder.mkdir()
+        run(PROGRAM, "init", str(folder), LD_PRELOAD=library, FAULT_LOG=str(log))
+        synced = [line.split(" ")[1] for line in log.read_text().splitlines() if line.startswith("fsync ")]
+        failures.expect(f"the first sync of init, its folder {way}", synced[:1], [top.name])
+        log.unlink()
+
+
 def main() -> int:
     need_program()
     failures = Failures()
     with tempfile.TemporaryDirectory() as name:
         top = Path(name)
         library = compiled("fail_calls.c", name)
+        refused_words(top, failures)
+        refused_salvages(top, failures)
+        owners_of_saved_stores(top, failures)
+        changes_beside_new_stores(top, failures)
+        syncs_of_init(top, library, failures)
         lock_modes(top, failures)
         if os.geteuid() == 0:
             locks_of_others(top, failures)

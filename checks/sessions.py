@@ -46,9 +46,12 @@ from lib.store_runs import (
 # The user that owns no folder here.
 NOBODY = "nobody"
 
-# What a session ends with that can't use its folder.
-DEVICE = (3, b"", "confstore: Device\n")
-LOCKED = (3, b"", "confstore: Locked\n")
+# The file whose lock a session holds.
+LOCK_FILE = "store.lock"
+
+# Why what lies at a name is not used.
+NO_FOLDER = "it is no folder"
+NO_PLAIN_FILE = "it is no plain file"
 
 # A change of the store that `EMPTY + IMPORT` is, and a look at it with its answer.
 SET = b'set: a\npath: ""\nvalue: z\n...\n'
@@ -59,7 +62,7 @@ CHECKPOINT = b"checkpoint:\n...\n"
 SECOND = '---\nok: "2"\n...\n'
 
 # The names of a folder, and how long a session may take that is to be refused at once.
-NAMES = ("store.lock", "store.yaml", "next.yaml")
+NAMES = (LOCK_FILE, "store.yaml", "next.yaml")
 SECONDS = 10
 
 KILLED = 200
@@ -70,6 +73,18 @@ COMMANDS = 50
 Session = subprocess.Popen[bytes]
 Owned = tuple[int, int, int]
 Making = Callable[[str, str, str], object]
+
+
+def device(subject: str, reason: int | str) -> Ended:
+    """What a session ends with that can't use its folder: for which file or folder, and the system's reason by its number,
+    or another one."""
+    said = os.strerror(reason) if isinstance(reason, int) else reason
+    return 3, b"", f"confstore: Device\n{subject}: {said}\n"
+
+
+def locked(subject: str) -> Ended:
+    """What a session ends with where another one holds the lock of the subject."""
+    return 3, b"", f"confstore: Locked\n{subject}: another run holds its lock\n"
 
 
 def started(folder: str, **more: Any) -> Session:
@@ -189,15 +204,16 @@ def outputs_and_folders_fail(top: str, failures: Failures) -> None:
         words = [PROGRAM, "run", folder]
         done = subprocess.run(words, input=b"names:\n...\n", stdout=full, stderr=subprocess.PIPE, check=False)
     failures.expect("a full device", (done.returncode, done.stderr), (3, b"confstore: Output\n"))
-    failures.expect("a missing folder", session(os.path.join(top, "none"), b""), DEVICE)
+    missing = os.path.join(top, "none")
+    failures.expect("a missing folder", session(missing, b""), device(missing, errno.ENOENT))
     file = os.path.join(top, "file")
     with open(file, "w", encoding="utf-8"):
         pass
-    failures.expect("a file for a folder", session(file, b""), DEVICE)
+    failures.expect("a file for a folder", session(file, b""), device(file, NO_FOLDER))
     held = os.path.join(top, "held")
     os.mkdir(held)
     process = begun(held)
-    failures.expect("a locked folder", session(held, b""), LOCKED)
+    failures.expect("a locked folder", session(held, b""), locked(LOCK_FILE))
     ended(process)
     failures.expect("a folder that is free again", session(held, b"")[0], 0)
 
@@ -225,8 +241,8 @@ def read_only_folders_are_refused(top: str, failures: Failures) -> None:
             os.chmod(os.path.join(folder, file), 0o444)
         os.chmod(folder, 0o555)
         done = subprocess.run([program, "run", folder], input=b"names:\n...\n", capture_output=True, check=False, **who)
-        wanted = (3, b"", b"confstore: Device\n")
-        failures.expect(f"a read-only folder, {name}", (done.returncode, done.stdout, done.stderr), wanted)
+        found = done.returncode, done.stdout, done.stderr.decode()
+        failures.expect(f"a read-only folder, {name}", found, device(LOCK_FILE, errno.EACCES))
         done = subprocess.run([program, "export", folder, "a"], capture_output=True, check=False, **who)
         wanted = (0, b"x\n", b"") if files else (1, b"", b"confstore: NoConfig\n")
         failures.expect(f"an export, {name}", (done.returncode, done.stdout, done.stderr), wanted)
@@ -249,13 +265,14 @@ def limited(most: int, words: Sequence[str], commands: bytes = b"") -> Ended:
 
 def a_full_device_is_read(top: str, failures: Failures) -> None:
     """A limit on the sizes of files stands for a full device, which tears an append."""
+    full = functools.partial(device, reason=errno.EFBIG)
     folder = folder_with_store(top, "full device")
     store = os.path.join(folder, "store.yaml")
-    failures.expect("a torn append", limited(len(EMPTY + IMPORT) + 10, ["run", folder], SET), DEVICE)
+    failures.expect("a torn append", limited(len(EMPTY + IMPORT) + 10, ["run", folder], SET), full("store.yaml"))
     torn = read_file(store)
     left = torn.startswith(EMPTY + IMPORT), len(torn)
     failures.expect("what the append left", left, (True, len(EMPTY + IMPORT) + 10))
-    failures.expect("a session on a full device", limited(0, ["run", folder], LOOK), DEVICE)
+    failures.expect("a session on a full device", limited(0, ["run", folder], LOOK), full("next.yaml"))
     failures.expect("an export from a full device", limited(0, ["export", folder, "a"]), (0, b"x\n", ""))
     failures.expect("an unknown name", limited(0, ["export", folder, "b"]), (1, b"", "confstore: NoConfig\n"))
     failures.expect("the file", read_file(store), torn)
@@ -279,12 +296,12 @@ def a_lock_outlives_its_file(top: str, failures: Failures) -> None:
         os.remove(lock)
         if way == "replaced":
             write_file(lock, b"")
-        failures.expect(f"a second session, store.lock {way}", session(folder, LOOK), LOCKED)
+        failures.expect(f"a second session, store.lock {way}", session(folder, LOOK), locked(folder))
         failures.expect(f"a change, store.lock {way}", ask(process, SET), SECOND)
         failures.expect(f"a checkpoint, store.lock {way}", ask(process, CHECKPOINT), SECOND)
         failures.expect(f"the status, store.lock {way}", ended(process), 0)
         failures.expect(f"what is held, store.lock {way}", session(folder, LOOK), HELD)
-    for name, made, wanted in ((".", False, LOCKED), (".", True, HELD_BEFORE), ("store.lock", True, LOCKED)):
+    for name, made in ((".", False), (".", True), (LOCK_FILE, True)):
         for how in (fcntl.LOCK_EX, fcntl.LOCK_SH):
             folder = folder_with_store(top, f"lock {how} at {name}, {made}")
             if made:
@@ -292,6 +309,7 @@ def a_lock_outlives_its_file(top: str, failures: Failures) -> None:
             handle = os.open(os.path.join(folder, name), os.O_RDONLY)
             fcntl.flock(handle, how)
             described = f"another program's lock {how} at {name}, store.lock {'there' if made else 'missing'}"
+            wanted = locked(LOCK_FILE) if name == LOCK_FILE else HELD_BEFORE if made else locked(folder)
             failures.expect(described, session(folder, LOOK), wanted)
             os.close(handle)
 
@@ -309,17 +327,18 @@ def without_proc(top: str) -> dict[str, str]:
 def a_moved_folder_keeps_its_store(top: str, failures: Failures) -> None:
     """A folder is moved during a session, and another one is made under its name. Where there is no /proc, a checkpoint
     is refused then."""
-    ways: Sequence[tuple[str, dict[str, Any], str, tuple[int, str]]] = (
-        ("moved", {}, SECOND, (0, "")), ("moved, no proc", {"env": without_proc(top)}, "", (3, DEVICE[2])),
+    ways: Sequence[tuple[str, dict[str, Any], str]] = (
+        ("moved", {}, SECOND), ("moved, no proc", {"env": without_proc(top)}, ""),
     )  # fmt: skip
-    for way, more, answered, end in ways:
+    for way, more, answered in ways:
         folder = folder_with_store(top, f"{way}, before")
+        end = (0, "") if answered else (3, device(folder, "its name leads elsewhere by now")[2])
         moved = os.path.join(top, f"{way}, after")
         process = begun(folder, stderr=subprocess.PIPE, **more)
         os.rename(folder, moved)
         os.mkdir(folder)
         failures.expect(f"a change, {way}", ask(process, SET), SECOND)
-        failures.expect(f"a second session, {way}", session(moved, LOOK), LOCKED)
+        failures.expect(f"a second session, {way}", session(moved, LOOK), locked(LOCK_FILE))
         failures.expect(f"a checkpoint, {way}", ask(process, CHECKPOINT), answered)
         failures.expect(f"the end, {way}", (ended(process), said_by(process)), end)
         failures.expect(f"the folder under the old name, {way}", os.listdir(folder), [])
@@ -333,22 +352,23 @@ def said_by(process: Session) -> str:
     return said.decode()
 
 
-def things() -> Sequence[tuple[str, Making]]:
-    """What may lie at a name in the place of a plain file: each with how it is made there. `outside` is a plain file in
-    another folder, and `missing` is not there."""
+def things() -> Sequence[tuple[str, str, Making]]:
+    """What may lie at a name in the place of a plain file: each with why it is not used, and how it is made there.
+    `outside` is a plain file in another folder, and `missing` is not there."""
+    link = "it is a link, which is not followed"
     return (
-        ("a link", lambda path, outside, missing: os.symlink(outside, path)),
-        ("a link to nothing", lambda path, outside, missing: os.symlink(missing, path)),
-        ("a FIFO", lambda path, outside, missing: os.mkfifo(path)),
-        ("a folder", lambda path, outside, missing: os.mkdir(path)),
-        ("a socket", lambda path, outside, missing: socket.socket(socket.AF_UNIX).bind(path)),
+        ("a link", link, lambda path, outside, missing: os.symlink(outside, path)),
+        ("a link to nothing", link, lambda path, outside, missing: os.symlink(missing, path)),
+        ("a FIFO", NO_PLAIN_FILE, lambda path, outside, missing: os.mkfifo(path)),
+        ("a folder", "it is a folder", lambda path, outside, missing: os.mkdir(path)),
+        ("a socket", NO_PLAIN_FILE, lambda path, outside, missing: socket.socket(socket.AF_UNIX).bind(path)),
     )
 
 
 def only_plain_files_are_used(top: str, failures: Failures) -> None:
     missing = os.path.join(top, "missing")
     for name in NAMES:
-        for thing, make in things():
+        for thing, reason, make in things():
             folder = folder_with_store(top, f"{thing} at {name}")
             outside = os.path.join(top, f"outside of {thing} at {name}")
             write_file(outside, EMPTY)
@@ -356,9 +376,10 @@ def only_plain_files_are_used(top: str, failures: Failures) -> None:
                 os.remove(os.path.join(folder, name))
             make(os.path.join(folder, name), outside, missing)
             before = {file: os.lstat(os.path.join(folder, file)).st_ino for file in os.listdir(folder)}
-            failures.expect(f"{thing} at {name}", session(folder, CHECKPOINT, timeout=SECONDS), DEVICE)
+            wanted = device(name, reason)
+            failures.expect(f"{thing} at {name}", session(folder, CHECKPOINT, timeout=SECONDS), wanted)
             if name == "store.yaml":
-                failures.expect(f"`names` of {thing}", session(folder, b"", ("names",), timeout=SECONDS), DEVICE)
+                failures.expect(f"`names` of {thing}", session(folder, b"", ("names",), timeout=SECONDS), wanted)
             after = {file: os.lstat(os.path.join(folder, file)).st_ino for file in os.listdir(folder)}
             failures.expect(f"the folder with {thing} at {name}", after, before)
             failures.expect(f"the file outside of {thing} at {name}", read_file(outside), EMPTY)
@@ -368,10 +389,10 @@ def only_plain_files_are_used(top: str, failures: Failures) -> None:
     os.mkfifo(os.path.join(folder, "next.yaml"))
     failures.expect("a checkpoint over a FIFO", ask(process, CHECKPOINT), "")
     failures.expect("the status after a checkpoint over a FIFO", ended(process), 3)
-    failures.expect("the fault of a checkpoint over a FIFO", said_by(process), DEVICE[2])
+    failures.expect("the fault of a checkpoint over a FIFO", said_by(process), device("next.yaml", NO_PLAIN_FILE)[2])
     fifo = os.path.join(top, "fifo")
     os.mkfifo(fifo)
-    failures.expect("a FIFO for a folder", session(fifo, b"", timeout=SECONDS), DEVICE)
+    failures.expect("a FIFO for a folder", session(fifo, b"", timeout=SECONDS), device(fifo, NO_FOLDER))
     link = os.path.join(top, "link")
     os.symlink(folder_with_store(top, "linked"), link)
     failures.expect("a link to a folder", session(link, b""), (0, b"", ""))

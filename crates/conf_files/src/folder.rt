@@ -1,5 +1,5 @@
 // A folder that is open, and reached by its own name.
-use crate::plain::Identity;
+use crate::plain::{Identity, elsewhere_by_now};
 use std::alloc::{AllocError, Global};
 use std::fs::File;
 use std::io::ErrorKind;
@@ -48,9 +48,16 @@ impl OpenFolder {
         format!(in alloc; "{folder}/{name}")
     }
 
-    /// Whether the path still leads to the folder.
-    pub fn is_in_place<R: Files<File = File>>(&self, rt: &R) -> bool {
-        leads_to(rt, self.path.as_str(), self.identity)
+    /// Finds that the path still leads to the folder.
+    ///
+    /// # Errors
+    /// If it doesn't, or the system refuses. The error is never `NotFound`.
+    pub fn find_in_place<R: Files<File = File>>(&self, rt: &R) -> io::Result<()> {
+        match fs::metadata(rt, self.path.as_str()) {
+            Ok(found) if Identity::of(&found) == self.identity => Ok(()),
+            Err(error) if error.kind() != ErrorKind::NotFound => Err(error),
+            Ok(_) | Err(_) => Err(elsewhere_by_now()),
+        }
     }
 
     /// Syncs the folder.
@@ -74,14 +81,14 @@ pub fn parent_of(path: &str) -> &str {
 fn open_folder<R: Files<File = File>>(rt: &R, path: &str) -> io::Result<(File, Identity)> {
     let found = fs::metadata(rt, path)?;
     if !found.is_dir() {
-        return Err(io::Error::from(ErrorKind::NotADirectory));
+        return Err(io::Error::new(ErrorKind::NotADirectory, "it is no folder"));
     }
     let file = File::open(rt, path)?;
     let identity = Identity::of(&file.metadata()?);
     if identity == Identity::of(&found) {
         Ok((file, identity))
     } else {
-        Err(io::Error::from(ErrorKind::NotFound))
+        Err(elsewhere_by_now())
     }
 }
 

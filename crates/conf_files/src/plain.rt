@@ -1,4 +1,5 @@
 // Plain files under paths. What is no plain file, as a link, a FIFO or a folder, is neither opened nor followed.
+use crate::cause::{Cause, Subject};
 use std::fs::{File, Metadata, OpenOptions};
 use std::io::ErrorKind;
 use std::os::unix::fs::MetadataExt;
@@ -32,10 +33,40 @@ impl Identity {
 pub fn look<R: Files<File = File>>(rt: &R, path: &str) -> io::Result<Option<Metadata>> {
     match fs::symlink_metadata(rt, path) {
         Ok(metadata) if metadata.is_file() => Ok(Some(metadata)),
-        Ok(_) => Err(io::Error::from(ErrorKind::InvalidInput)),
+        Ok(metadata) => Err(no_plain_file(&metadata)),
         Err(error) if error.kind() == ErrorKind::NotFound => Ok(None),
         Err(error) => Err(error),
     }
+}
+
+/// Finds that the plain file under a path is the one of this identity.
+///
+/// # Errors
+/// If it is another one, nothing or no plain file is there, or the system refuses.
+pub fn find_same<R: Files<File = File>>(rt: &R, path: &str, identity: Identity) -> io::Result<()> {
+    match look(rt, path)? {
+        Some(found) if Identity::of(&found) == identity => Ok(()),
+        _ => Err(elsewhere_by_now()),
+    }
+}
+
+/// The error of something that is there, and is no plain file.
+pub(crate) fn no_plain_file(found: &Metadata) -> io::Error {
+    if found.is_dir() {
+        io::Error::new(ErrorKind::IsADirectory, "it is a folder")
+    } else if found.is_symlink() {
+        io::Error::new(
+            ErrorKind::InvalidInput,
+            "it is a link, which is not followed",
+        )
+    } else {
+        io::Error::new(ErrorKind::InvalidInput, "it is no plain file")
+    }
+}
+
+/// The error of a name that leads to another file or folder than before, or to none. It is never `NotFound`.
+pub(crate) fn elsewhere_by_now() -> io::Error {
+    io::Error::new(ErrorKind::InvalidInput, "its name leads elsewhere by now")
 }
 
 /// Opens the plain file under a path, which is the one that was looked at before. Returns `None` if it is another one by
@@ -49,7 +80,7 @@ fn open_seen<R: Files<File = File>>(
     path: &str,
 ) -> io::Result<Option<File>> {
     let Some(found) = look(rt, path)? else {
-        return Err(io::Error::from(ErrorKind::NotFound));
+        return Err(io::Error::new(ErrorKind::NotFound, "no such file"));
     };
     let file = how.open(rt, path)?;
     if Identity::of(&file.metadata()?) == Identity::of(&found) {
@@ -70,7 +101,7 @@ pub fn open_plain<R: Files<File = File>>(
 ) -> io::Result<File> {
     match open_seen(rt, how, path)? {
         Some(file) => Ok(file),
-        None => Err(io::Error::from(ErrorKind::InvalidInput)),
+        None => Err(elsewhere_by_now()),
     }
 }
 
@@ -86,5 +117,18 @@ pub fn open_to_read<R: Files<File = File>>(rt: &R, path: &str) -> io::Result<Fil
             return Ok(file);
         }
     }
-    Err(io::Error::from(ErrorKind::InvalidInput))
+    Err(elsewhere_by_now())
+}
+
+/// Opens what is at a path that a user names, to be read. A link is followed, and a FIFO or a device is opened.
+///
+/// # Errors
+/// If nothing is there, it is a folder, or the system refuses.
+pub fn open_input<R: Files<File = File>>(rt: &R, path: &str) -> Result<File, Cause> {
+    let file = Subject::Given.blame(File::open(rt, path))?;
+    let found = Subject::Given.blame(file.metadata())?;
+    if found.is_dir() {
+        return Err(Subject::Given.cause(no_plain_file(&found)));
+    }
+    Ok(file)
 }

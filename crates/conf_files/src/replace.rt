@@ -1,7 +1,8 @@
 // A file of other bytes in the place of one that is there.
+use crate::cause::{Cause, Subject};
 use crate::folder::{OpenFolder, parent_of};
 use crate::owner::{OWNER_ALONE, take_after};
-use crate::plain::{Identity, look, open_plain};
+use crate::plain::{Identity, elsewhere_by_now, find_same, no_plain_file, open_plain};
 use std::alloc::Global;
 use std::fs::{File, Metadata, OpenOptions};
 use std::io::{ErrorKind, Write};
@@ -14,7 +15,7 @@ use thiserror::Error;
 /// How many names are tried for a new file, of which others may be left over.
 const MOST_NAMES: u32 = 10_000;
 
-/// Why a file was not opened to be replaced, or not replaced.
+/// What it comes to if a file was not opened to be replaced, or not replaced.
 #[derive(Clone, Copy, Debug, PartialEq, Eq, Error)]
 pub enum ReplaceFault {
     /// There is no plain file at the path, it may not be read or written, another file has its name by now, or a call
@@ -27,9 +28,9 @@ pub enum ReplaceFault {
     OutOfMemory,
 }
 
-impl From<io::Error> for ReplaceFault {
-    fn from(error: io::Error) -> ReplaceFault {
-        if error.kind() == ErrorKind::OutOfMemory {
+impl From<Cause> for ReplaceFault {
+    fn from(cause: Cause) -> ReplaceFault {
+        if cause.is_out_of_memory() {
             ReplaceFault::OutOfMemory
         } else {
             ReplaceFault::Device
@@ -49,17 +50,26 @@ pub struct Place {
 /// file. If the path is a link, it is the file that the link leads to. What is no plain file is not opened.
 ///
 /// # Errors
-/// - [`ReplaceFault::Device`] if there is no plain file at the path, or the system refuses.
+/// The cause, which comes to
+/// - [`ReplaceFault::Device`] if there is no plain file at the path, or the system refuses;
 /// - [`ReplaceFault::OutOfMemory`] if there is no memory for a path.
 pub fn open_to_replace<R: Files<File = File>>(
     rt: &R,
     alloc: Global,
     path: &str,
-) -> Result<(File, Place), ReplaceFault> {
-    match open_target(rt, alloc, path) {
-        Ok(opened) => Ok(opened),
-        Err(error) => Err(ReplaceFault::from(error)),
+) -> Result<(File, Place), Cause> {
+    let found = Subject::Given.blame(fs::metadata(rt, path))?;
+    if !found.is_file() {
+        return Err(Subject::Given.cause(no_plain_file(&found)));
     }
+    if Subject::Given
+        .blame(fs::symlink_metadata(rt, path))?
+        .is_symlink()
+    {
+        let target = Subject::Given.blame(fs::canonicalize(&(rt, alloc), path))?;
+        return open_in_folder(rt, alloc, target.as_path().as_str());
+    }
+    open_in_folder(rt, alloc, path)
 }
 
 /// Puts a file that has these bytes in the place of a file that was opened to be replaced.
@@ -76,9 +86,10 @@ pub fn open_to_replace<R: Files<File = File>>(
 /// A process that is killed may leave the new file under its first name. A later call takes another name.
 ///
 /// # Errors
+/// The cause, which comes to
 /// - [`ReplaceFault::Device`] if another file has the name by now, the file may not be written, or a call of the system
-///   fails. The file is the old one, or the new one if its folder can't be synced.
-/// - [`ReplaceFault::OutOfMemory`] if there is no memory for a path. The file is the old one.
+///   fails: the file is the old one, or the new one if its folder can't be synced;
+/// - [`ReplaceFault::OutOfMemory`] if there is no memory for a path: the file is the old one.
 ///
 /// Nothing else is left in the folder then, if the new file can be removed.
 pub fn replace_file<R: Files<File = File>>(
@@ -86,27 +97,14 @@ pub fn replace_file<R: Files<File = File>>(
     alloc: Global,
     place: &Place,
     bytes: &[u8],
-) -> Result<(), ReplaceFault> {
-    match replace_at(rt, alloc, place, bytes) {
-        Ok(()) => Ok(()),
-        Err(error) => Err(ReplaceFault::from(error)),
+) -> Result<(), Cause> {
+    let replaced = Subject::Given.blame(writable_file(rt, place))?;
+    let (staged_path, staged) = Subject::Staged.blame(create_staged(rt, alloc, &place.folder))?;
+    if let Err(cause) = swap_in(rt, staged, staged_path.as_str(), place, &replaced, bytes) {
+        let _ = fs::remove_file(rt, staged_path.as_str());
+        return Err(cause);
     }
-}
-
-/// Opens the file at a path, or the one that a link at it leads to.
-fn open_target<R: Files<File = File>>(
-    rt: &R,
-    alloc: Global,
-    path: &str,
-) -> io::Result<(File, Place)> {
-    if !fs::metadata(rt, path)?.is_file() {
-        return Err(io::Error::from(ErrorKind::InvalidInput));
-    }
-    if fs::symlink_metadata(rt, path)?.is_symlink() {
-        let target = fs::canonicalize(&(rt, alloc), path)?;
-        return open_in_folder(rt, alloc, target.as_path().as_str());
-    }
-    open_in_folder(rt, alloc, path)
+    Subject::Parent.blame(place.folder.sync())
 }
 
 /// Opens the file at a path that is no link, in the open folder that has it.
@@ -114,14 +112,17 @@ fn open_in_folder<R: Files<File = File>>(
     rt: &R,
     alloc: Global,
     path: &str,
-) -> io::Result<(File, Place)> {
+) -> Result<(File, Place), Cause> {
     let Some(name) = Path::new(path).file_name() else {
-        return Err(io::Error::from(ErrorKind::InvalidInput));
+        let error = io::Error::new(ErrorKind::InvalidInput, "it names no file");
+        return Err(Subject::Given.cause(error));
     };
-    let folder = OpenFolder::new(rt, alloc, parent_of(path))?;
+    let folder = Subject::Parent.blame(OpenFolder::new(rt, alloc, parent_of(path)))?;
     let path = folder.path_of(alloc, name)?;
-    let file = open_plain(rt, OpenOptions::new().read(true), path.as_str())?;
-    let identity = Identity::of(&file.metadata()?);
+    let mut how = OpenOptions::new();
+    how.read(true);
+    let file = Subject::Given.blame(open_plain(rt, &how, path.as_str()))?;
+    let identity = Identity::of(&Subject::Given.blame(file.metadata())?);
     Ok((
         file,
         Place {
@@ -132,33 +133,15 @@ fn open_in_folder<R: Files<File = File>>(
     ))
 }
 
-/// Replaces the file at a place.
-fn replace_at<R: Files<File = File>>(
-    rt: &R,
-    alloc: Global,
-    place: &Place,
-    bytes: &[u8],
-) -> io::Result<()> {
-    let replaced = writable_file(rt, place)?;
-    let (staged_path, staged) = create_staged(rt, alloc, &place.folder)?;
-    if let Err(error) = swap_in(rt, staged, staged_path.as_str(), place, &replaced, bytes) {
-        let _ = fs::remove_file(rt, staged_path.as_str());
-        return Err(error);
-    }
-    place.folder.sync()
-}
-
 /// What is known of the file at a place, which may be written.
 fn writable_file<R: Files<File = File>>(rt: &R, place: &Place) -> io::Result<Metadata> {
-    if !place.folder.is_in_place(rt) {
-        return Err(io::Error::from(ErrorKind::NotFound));
-    }
+    place.folder.find_in_place(rt)?;
     let file = open_plain(rt, OpenOptions::new().append(true), place.path.as_str())?;
     let found = file.metadata()?;
     if Identity::of(&found) == place.identity {
         Ok(found)
     } else {
-        Err(io::Error::from(ErrorKind::NotFound))
+        Err(elsewhere_by_now())
     }
 }
 
@@ -179,7 +162,7 @@ fn create_staged<R: Files<File = File>>(
             Err(error) => return Err(error),
         }
     }
-    Err(io::Error::from(ErrorKind::AlreadyExists))
+    Err(io::Error::new(ErrorKind::AlreadyExists, "too many are left over"))
 }
 
 /// Writes the new file, syncs it, and renames it to the name of the one that it replaces, which still has to be there.
@@ -190,23 +173,22 @@ fn swap_in<R: Files<File = File>>(
     place: &Place,
     replaced: &Metadata,
     bytes: &[u8],
-) -> io::Result<()> {
+) -> Result<(), Cause> {
+    Subject::Staged.blame(write_staged(staged, replaced, bytes))?;
+    Subject::Given.blame(find_there(rt, place))?;
+    Subject::Given.blame(fs::rename(rt, staged_path, place.path.as_str()))
+}
+
+/// Writes a new file, gives it the owner, the group and the mode of the one that it will replace, and syncs it.
+fn write_staged(staged: File, replaced: &Metadata, bytes: &[u8]) -> io::Result<()> {
     let mut staged = staged;
     staged.write_all(bytes)?;
     take_after(&staged, replaced)?;
-    staged.sync_all()?;
-    if !is_there(rt, place)? {
-        return Err(io::Error::from(ErrorKind::NotFound));
-    }
-    fs::rename(rt, staged_path, place.path.as_str())
+    staged.sync_all()
 }
 
-/// Whether the file that was opened still has its name, in the folder that the path leads to.
-fn is_there<R: Files<File = File>>(rt: &R, place: &Place) -> io::Result<bool> {
-    match look(rt, place.path.as_str())? {
-        Some(found) => {
-            Ok(Identity::of(&found) == place.identity && place.folder.is_in_place(rt))
-        }
-        None => Ok(false),
-    }
+/// Finds that the file that was opened still has its name, in the folder that the path leads to.
+fn find_there<R: Files<File = File>>(rt: &R, place: &Place) -> io::Result<()> {
+    find_same(rt, place.path.as_str(), place.identity)?;
+    place.folder.find_in_place(rt)
 }

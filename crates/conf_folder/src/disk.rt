@@ -2,21 +2,20 @@
 ghost use Rattle.std.specs.Prelude.{◌≡◌, ◌≢◌, ◌<◌, Err, OnOk, IfErr, min, ◌+◌};
 ghost use Rattle.conf_disk.specs.Moments.{CountsFailures};
 
-use crate::FolderFault;
-use crate::lock::{find_unlocked, lock_store};
+use crate::files::{
+    LOCK, Paths, Replacing, STORE, create_staged, file_content, look_at_files, open_folder, rename,
+    subject_of,
+};
+use crate::lock::{HeldLock, find_unlocked, lock_store};
 use crate::note::Note;
-use crate::reading::open_folder;
+use crate::{FolderError, FolderFault};
 use conf_disk::{Content, Disk, DiskFault, Name};
-use conf_files::{OWNER_ALONE, OpenFolder, look, open_plain, open_to_read, take_after};
-use std::alloc::{AllocError, Global};
+use conf_files::{Cause, OpenFolder, Subject, look, open_plain, open_to_read};
+use std::alloc::Global;
 use std::fs::{File, Metadata, OpenOptions};
-use std::io::{ErrorKind, Read, Write};
-use std::os::unix::fs::OpenOptionsExt;
+use std::io::{ErrorKind, Write};
 use std::rt::Files;
 use std::{fs, io};
-
-/// The name of the file that a store is read from.
-pub(crate) const STORE_FILE: &str = "store.yaml";
 
 /// The disk of a real folder: `store.yaml` and `next.yaml` in it. It holds a lock on `store.lock`, one on the folder,
 /// and a handle for appending to each file that it appended to, until it is dropped. Where a name has no plain file but
@@ -39,25 +38,30 @@ pub struct FolderDisk<'r, R: Files<File = File>> {
     /// What is noted in `store.lock`. `None` if a note failed: either may stand there.
     note: Option<Note>,
     replacing: Replacing,
-    /// Whether `store.yaml` was not there when it was looked for last.
-    is_missing: bool,
+    presence: Presence,
+    /// The file that a new `store.yaml` takes after where there is none.
+    like: Option<Metadata>,
     failures: u64,
+    /// Why the call that failed last did.
+    cause: Option<Cause>,
 }
 
-/// What the new `next.yaml` is to do when it is renamed.
+/// What a run knows of whether `store.yaml` is there.
 #[derive(Clone, Copy, PartialEq, Eq)]
-enum Replacing {
-    /// It takes the place of the `store.yaml` that was there when it was made.
-    Store,
-    /// It takes a name that is free: no `store.yaml` was there.
-    Nothing,
+enum Presence {
+    /// It may be there or not.
+    Unknown,
+    /// It was there, and no run removes it.
+    There,
+    /// It was not there, and no other run makes it.
+    Missing,
 }
 
 /// What a disk does with its folder.
 #[derive(Drop)]
 enum Access {
     /// It reads and changes the files, under the lock on `store.lock`.
-    Changing { lock: File },
+    Changing { lock: HeldLock },
     /// It reads alone.
     Reading,
 }
@@ -102,119 +106,70 @@ impl Appended {
     }
 }
 
-/// The paths of the files of a folder.
-#[derive(Drop)]
-struct Paths {
-    lock: String,
-    store: String,
-    next: String,
-}
-
-impl Paths {
-    fn new(alloc: Global, folder: &OpenFolder) -> Result<Paths, AllocError> {
-        let lock = folder.path_of(alloc, "store.lock")?;
-        let store = folder.path_of(alloc, STORE_FILE)?;
-        let next = folder.path_of(alloc, "next.yaml")?;
-        Ok(Paths { lock, store, next })
-    }
-}
-
-/// The bytes of a file, or `TooLong` if it has more than `max`.
-fn file_content(alloc: Global, file: File, max: u64) -> io::Result<Content> {
-    if file.metadata()?.len() > max {
-        return Ok(Content::TooLong);
-    }
-    let mut bytes = Vec::new(alloc);
-    file.take(max.saturating_add(1)).read_to_end(&mut bytes)?;
-    if bytes.len() as u64 > max {
-        return Ok(Content::TooLong);
-    }
-    Ok(Content::Bytes(bytes))
-}
-
-/// Looks at `store.yaml` and `next.yaml`. Returns what is known of the first, if it is there.
-///
-/// # Errors
-/// `Device` if either is no plain file, or a call of the system fails.
-fn look_at_files<R: Files<File = File>>(
-    rt: &R,
-    paths: &Paths,
-) -> Result<Option<Metadata>, FolderFault> {
-    match (
-        look(rt, paths.store.as_str()),
-        look(rt, paths.next.as_str()),
-    ) {
-        (Ok(store), Ok(_)) => Ok(store),
-        _ => Err(FolderFault::Device),
-    }
-}
-
-/// Makes an empty file under a path, for appending. If it is to replace a file, it takes after that one, and nobody but
-/// its owner has access before. Otherwise its mode is that of any new file.
-fn create_staged<R: Files<File = File>>(
-    rt: &R,
-    path: &str,
-    replaced: Option<Metadata>,
-) -> io::Result<File> {
-    let mut how = OpenOptions::new();
-    how.append(true).create_new(true);
-    let Some(replaced) = replaced else {
-        return how.open(rt, path);
-    };
-    let file = how.mode(OWNER_ALONE).open(rt, path)?;
-    take_after(&file, &replaced)?;
-    Ok(file)
-}
-
-/// Renames a file. It takes the place of the one that is there, or takes a name that is free.
-fn rename<R: Files<File = File>>(
-    rt: &R,
-    replacing: Replacing,
-    from: &str,
-    to: &str,
-) -> io::Result<()> {
-    match replacing {
-        Replacing::Store => fs::rename(rt, from, to),
-        Replacing::Nothing => take_free_name(rt, from, to),
-    }
-}
-
-/// Gives the file at a path another name, which has to be free, and removes the old one. A file system that has no hard
-/// links is only asked whether the name is free.
-fn take_free_name<R: Files<File = File>>(rt: &R, path: &str, free: &str) -> io::Result<()> {
-    match fs::hard_link(rt, path, free) {
-        Ok(()) => fs::remove_file(rt, path),
-        Err(error) if has_no_links(&error) => match look(rt, free)? {
-            Some(_) => Err(io::Error::from(ErrorKind::AlreadyExists)),
-            None => fs::rename(rt, path, free),
-        },
-        Err(error) => Err(error),
-    }
-}
-
-/// Whether an error says that the file system has no hard links.
-fn has_no_links(error: &io::Error) -> bool {
-    error.kind() == ErrorKind::PermissionDenied || error.kind() == ErrorKind::Unsupported
+/// The cause of the failure of a call that would change something, on a disk that reads alone.
+fn reads_alone() -> Cause {
+    let error = io::Error::new(ErrorKind::PermissionDenied, "it is open for reading alone");
+    Subject::Given.cause(error)
 }
 
 impl<'r, R: Files<File = File>> FolderDisk<'r, R> {
-    /// The disk of the folder at a path. It opens the folder, takes the lock on its `store.lock`, and one on the folder,
-    /// without waiting. It makes `store.lock` if it is missing.
+    /// The disk of the folder at a path, in which a store is made if there is none. It opens the folder, takes the lock
+    /// on its `store.lock`, and one on the folder, without waiting. It makes `store.lock` if it is missing.
     ///
     /// Whoever can only read the folder can't hold these locks, once a run has made `store.lock`.
     ///
     /// # Errors
     /// `Device` if there is no folder at the path, one of the names has no plain file but something else, or a call of
     /// the system fails; `Locked` if another run holds a lock; and `OutOfMemory`.
-    pub fn new(rt: &'r R, alloc: Global, folder: &str) -> Result<Self, FolderFault> {
-        let folder = open_folder(rt, alloc, folder)?;
-        let paths = Paths::new(alloc, &folder)?;
-        let store = look_at_files(rt, &paths)?;
-        let lock = lock_store(rt, &folder, paths.lock.as_str(), store)?;
-        let Ok(note) = Note::read(&lock) else {
-            return Err(FolderFault::Device);
+    pub fn new(rt: &'r R, alloc: Global, folder: &str) -> Result<Self, FolderError> {
+        let (folder, paths) = open_folder(rt, alloc, folder)?;
+        match look_at_files(rt, &paths)? {
+            Some(store) => FolderDisk::locked(rt, folder, paths, Presence::There, Some(store)),
+            None => FolderDisk::locked(rt, folder, paths, Presence::Unknown, None),
+        }
+    }
+
+    /// The disk of the folder at a path, which has a store. It is opened as by [`new`](FolderDisk::new), but no store is
+    /// made: where `store.yaml` is missing, no file is made.
+    ///
+    /// `store.yaml` is looked for before the locks are taken. So beside a run that makes the store at this moment this
+    /// returns `NotAStore`, as before that run, or `Locked`, or the disk of the new store, as after it. If `store.yaml`
+    /// is there at first and a read doesn't find it, the read fails.
+    ///
+    /// # Errors
+    /// `NotAStore` if there is no `store.yaml`: the folder is as it was. Otherwise those of [`new`](FolderDisk::new).
+    pub fn of_store(rt: &'r R, alloc: Global, folder: &str) -> Result<Self, FolderError> {
+        let (folder, paths) = open_folder(rt, alloc, folder)?;
+        match look_at_files(rt, &paths)? {
+            Some(store) => FolderDisk::locked(rt, folder, paths, Presence::There, Some(store)),
+            None => Err(FolderError::from(FolderFault::NotAStore)),
+        }
+    }
+
+    /// The disk of the folder at a path, in which a new store is to be made. It is opened as by
+    /// [`new`](FolderDisk::new). The new `store.yaml` has the mode of `like`, the file of another store, and its owner
+    /// and its group as far as the system allows it. Without one it is as any new file.
+    ///
+    /// Another run may make a store before this one has the locks. Then the next read finds it.
+    ///
+    /// # Errors
+    /// `StoreExists` if there is a `store.yaml`: the folder is as it was. Otherwise those of [`new`](FolderDisk::new),
+    /// and `Device` if the system refuses to look at `like`.
+    pub fn for_new_store(
+        rt: &'r R,
+        alloc: Global,
+        folder: &str,
+        like: Option<&File>,
+    ) -> Result<Self, FolderError> {
+        let (folder, paths) = open_folder(rt, alloc, folder)?;
+        if look_at_files(rt, &paths)?.is_some() {
+            return Err(FolderError::from(FolderFault::StoreExists));
+        }
+        let like = match like {
+            Some(file) => Some(STORE.blame(file.metadata())?),
+            None => None,
         };
-        Ok(FolderDisk::over(rt, folder, paths, Access::Changing { lock }, note))
+        FolderDisk::locked(rt, folder, paths, Presence::Unknown, like)
     }
 
     /// The disk of the folder at a path, for reading alone: for a folder or files that can't be written, or are not to
@@ -224,12 +179,27 @@ impl<'r, R: Files<File = File>> FolderDisk<'r, R> {
     /// `Device` if there is no folder at the path, `store.yaml` or `next.yaml` is no plain file but something else, or
     /// a call of the system fails; `Locked` if another run holds the lock on the folder; and `OutOfMemory`. The folder
     /// is unchanged.
-    pub fn for_reading(rt: &'r R, alloc: Global, folder: &str) -> Result<Self, FolderFault> {
-        let folder = open_folder(rt, alloc, folder)?;
+    pub fn for_reading(rt: &'r R, alloc: Global, folder: &str) -> Result<Self, FolderError> {
+        let (folder, paths) = open_folder(rt, alloc, folder)?;
         find_unlocked(&folder)?;
-        let paths = Paths::new(alloc, &folder)?;
         look_at_files(rt, &paths)?;
         Ok(FolderDisk::over(rt, folder, paths, Access::Reading, Note::OnDevice))
+    }
+
+    /// The disk of an open folder, once it has the locks.
+    fn locked(
+        rt: &'r R,
+        folder: OpenFolder,
+        paths: Paths,
+        presence: Presence,
+        like: Option<Metadata>,
+    ) -> Result<Self, FolderError> {
+        let lock = lock_store(rt, &folder, paths.lock.as_str(), like.as_ref())?;
+        let note = LOCK.blame(Note::read(lock.file()))?;
+        let mut disk = FolderDisk::over(rt, folder, paths, Access::Changing { lock }, note);
+        disk.presence = presence;
+        disk.like = like;
+        Ok(disk)
     }
 
     /// The disk of an open folder, on which no call has failed.
@@ -247,18 +217,37 @@ impl<'r, R: Files<File = File>> FolderDisk<'r, R> {
             next: Appended::closed(Bytes::OnDevice),
             note: Some(note),
             replacing: Replacing::Nothing,
-            is_missing: false,
+            presence: Presence::Unknown,
+            like: None,
             failures: 0,
+            cause: None,
         }
     }
 
+    /// Why the call that failed last did, if any did.
+    pub fn cause(&self) -> Option<Cause> {
+        self.cause
+    }
+
     /// Ends the run, and lets go of the locks. If the device has all bytes of `store.yaml`, it is noted in `store.lock`;
-    /// where the system refuses that, the next run puts a copy in its place once more.
+    /// where the system refuses that, the next run puts a copy in its place once more. If there is no `store.yaml`, a
+    /// `store.lock` that this run made is removed.
     pub fn release(self) {
-        if self.note != Some(Note::OnDevice) && self.store.bytes == Bytes::OnDevice {
-            if let Access::Changing { lock } = &self.access {
-                let _ = Note::OnDevice.write(lock);
-            }
+        let Access::Changing { lock } = &self.access else {
+            return;
+        };
+        if lock.is_made() && self.has_no_store() {
+            let _ = fs::remove_file(self.rt, self.paths.lock.as_str());
+        } else if self.note != Some(Note::OnDevice) && self.store.bytes == Bytes::OnDevice {
+            let _ = Note::OnDevice.write(lock.file());
+        }
+    }
+
+    /// Whether there is no `store.yaml`.
+    fn has_no_store(&self) -> bool {
+        match self.path(Name::Store) {
+            Ok(path) => matches!(look(self.rt, path), Ok(None)),
+            Err(_) => false,
         }
     }
 
@@ -266,10 +255,10 @@ impl<'r, R: Files<File = File>> FolderDisk<'r, R> {
     ///
     /// # Errors
     /// If it was opened for reading alone.
-    fn lock(&self) -> io::Result<&File> {
+    fn lock(&self) -> Result<&File, Cause> {
         match &self.access {
-            Access::Changing { lock } => Ok(lock),
-            Access::Reading => Err(io::Error::from(ErrorKind::PermissionDenied)),
+            Access::Changing { lock } => Ok(lock.file()),
+            Access::Reading => Err(reads_alone()),
         }
     }
 
@@ -277,20 +266,20 @@ impl<'r, R: Files<File = File>> FolderDisk<'r, R> {
     ///
     /// # Errors
     /// If it was opened for reading alone.
-    fn may_change(&self) -> io::Result<()> {
+    fn may_change(&self) -> Result<(), Cause> {
         match self.access {
             Access::Changing { .. } => Ok(()),
-            Access::Reading => Err(io::Error::from(ErrorKind::PermissionDenied)),
+            Access::Reading => Err(reads_alone()),
         }
     }
 
     /// Has something stand in `store.lock`, if it doesn't.
-    fn have_noted(&mut self, note: Note) -> io::Result<()>
+    fn have_noted(&mut self, note: Note) -> Result<(), Cause>
         ensures { self.new.failures ≡ self.old.failures }
     {
         if self.note != Some(note) {
             self.note = None;
-            note.write(self.lock()?)?;
+            LOCK.blame(note.write(self.lock()?))?;
             self.note = Some(note);
         }
         Ok(())
@@ -300,10 +289,8 @@ impl<'r, R: Files<File = File>> FolderDisk<'r, R> {
     ///
     /// # Errors
     /// If the path to the folder leads elsewhere by now.
-    fn path(&self, name: Name) -> io::Result<&str> {
-        if !self.folder.is_in_place(self.rt) {
-            return Err(io::Error::from(ErrorKind::NotADirectory));
-        }
+    fn path(&self, name: Name) -> Result<&str, Cause> {
+        Subject::Given.blame(self.folder.find_in_place(self.rt))?;
         match name {
             Name::Store => Ok(self.paths.store.as_str()),
             Name::Next => Ok(self.paths.next.as_str()),
@@ -312,7 +299,7 @@ impl<'r, R: Files<File = File>> FolderDisk<'r, R> {
 
     /// Takes out the handle for appending to a file, or opens the file if there is none. A caller that succeeds gives
     /// the handle back to `keep_handle`; after a failure it is closed.
-    fn take_handle(&mut self, name: Name) -> io::Result<File>
+    fn take_handle(&mut self, name: Name) -> Result<File, Cause>
         ensures { self.new.failures ≡ self.old.failures }
     {
         let kept = match name {
@@ -321,7 +308,11 @@ impl<'r, R: Files<File = File>> FolderDisk<'r, R> {
         };
         match kept {
             Some(file) => Ok(file),
-            None => open_plain(self.rt, OpenOptions::new().append(true), self.path(name)?),
+            None => {
+                let path = self.path(name)?;
+                let opened = open_plain(self.rt, OpenOptions::new().append(true), path);
+                subject_of(name).blame(opened)
+            }
         }
     }
 
@@ -334,7 +325,7 @@ impl<'r, R: Files<File = File>> FolderDisk<'r, R> {
         }
     }
 
-    fn try_append(&mut self, name: Name, bytes: &[u8]) -> io::Result<()>
+    fn try_append(&mut self, name: Name, bytes: &[u8]) -> Result<(), Cause>
         ensures { self.new.failures ≡ self.old.failures }
     {
         self.may_change()?;
@@ -346,21 +337,21 @@ impl<'r, R: Files<File = File>> FolderDisk<'r, R> {
             }
             Name::Next => self.next.was_appended_to(),
         }
-        file.write_all(bytes)?;
+        subject_of(name).blame(file.write_all(bytes))?;
         self.keep_handle(name, file);
         Ok(())
     }
 
-    fn try_sync(&mut self, name: Name) -> io::Result<()>
+    fn try_sync(&mut self, name: Name) -> Result<(), Cause>
         ensures { self.new.failures ≡ self.old.failures }
     {
         self.may_change()?;
         let file = match self.take_handle(name) {
             Ok(file) => file,
-            Err(error) if error.kind() == ErrorKind::NotFound => return Ok(()),
-            Err(error) => return Err(error),
+            Err(cause) if cause.error.kind() == ErrorKind::NotFound => return Ok(()),
+            Err(cause) => return Err(cause),
         };
-        let synced = file.sync_all();
+        let synced = subject_of(name).blame(file.sync_all());
         match (name, &synced) {
             (Name::Store, Ok(())) => self.store.was_synced(),
             (Name::Next, Ok(())) => self.next.was_synced(),
@@ -375,11 +366,11 @@ impl<'r, R: Files<File = File>> FolderDisk<'r, R> {
         Ok(())
     }
 
-    fn try_create_next(&mut self) -> io::Result<()>
+    fn try_create_next(&mut self) -> Result<(), Cause>
         ensures { self.new.failures ≡ self.old.failures }
     {
         self.may_change()?;
-        let replaced = look(self.rt, self.path(Name::Store)?)?;
+        let replaced = STORE.blame(look(self.rt, self.path(Name::Store)?))?;
         if replaced.is_some() {
             self.find_store()?;
         }
@@ -387,7 +378,7 @@ impl<'r, R: Files<File = File>> FolderDisk<'r, R> {
             Some(_) => Replacing::Store,
             None => Replacing::Nothing,
         };
-        let file = create_staged(self.rt, self.path(Name::Next)?, replaced)?;
+        let file = self.create_next_file(replaced.as_ref())?;
         self.next = Appended {
             file: Some(file),
             bytes: Bytes::OnDevice,
@@ -395,7 +386,18 @@ impl<'r, R: Files<File = File>> FolderDisk<'r, R> {
         Ok(())
     }
 
-    fn try_rename_next(&mut self) -> io::Result<()>
+    /// Makes an empty `next.yaml`. It takes after the `store.yaml` that it is to replace, or else after the file that the
+    /// disk was opened with, if there was one.
+    fn create_next_file(&self, replaced: Option<&Metadata>) -> Result<File, Cause> {
+        let path = self.path(Name::Next)?;
+        let made = match replaced {
+            Some(replaced) => create_staged(self.rt, path, Some(replaced)),
+            None => create_staged(self.rt, path, self.like.as_ref()),
+        };
+        subject_of(Name::Next).blame(made)
+    }
+
+    fn try_rename_next(&mut self) -> Result<(), Cause>
         ensures { self.new.failures ≡ self.old.failures }
     {
         self.may_change()?;
@@ -403,8 +405,8 @@ impl<'r, R: Files<File = File>> FolderDisk<'r, R> {
         let staged = self.next.file.take();
         let replacing = self.replacing;
         let (from, to) = (self.path(Name::Next)?, self.path(Name::Store)?);
-        rename(self.rt, replacing, from, to)?;
-        self.is_missing = false;
+        STORE.blame(rename(self.rt, replacing, from, to))?;
+        self.presence = Presence::There;
         self.store = Appended {
             file: staged,
             bytes: self.next.bytes,
@@ -412,31 +414,47 @@ impl<'r, R: Files<File = File>> FolderDisk<'r, R> {
         Ok(())
     }
 
-    fn try_remove_next(&mut self) -> io::Result<()>
+    fn try_remove_next(&mut self) -> Result<(), Cause>
         ensures { self.new.failures ≡ self.old.failures }
     {
         self.may_change()?;
         self.next.file = None;
-        let path = self.path(Name::Next)?;
-        match look(self.rt, path)? {
-            Some(_) => fs::remove_file(self.rt, path),
+        let (next, path) = (subject_of(Name::Next), self.path(Name::Next)?);
+        match next.blame(look(self.rt, path))? {
+            Some(_) => next.blame(fs::remove_file(self.rt, path)),
             None => Ok(()),
         }
     }
 
-    fn try_sync_folder(&self) -> io::Result<()> {
+    fn try_sync_folder(&self) -> Result<(), Cause> {
         self.may_change()?;
-        self.folder.sync()
+        Subject::Given.blame(self.folder.sync())
     }
 
     /// Returns if `store.yaml` may be there, which was found.
     ///
     /// # Errors
     /// If it was not there before, and this run has not made it: then the system has said something false.
-    fn find_store(&self) -> io::Result<()> {
-        if self.is_missing {
-            return Err(io::Error::from(ErrorKind::AlreadyExists));
+    fn find_store(&self) -> Result<(), Cause> {
+        if self.presence == Presence::Missing {
+            let error = io::Error::new(ErrorKind::AlreadyExists, "it was not there before");
+            return Err(STORE.cause(error));
         }
+        Ok(())
+    }
+
+    /// Takes note that `store.yaml` is missing, which was not found.
+    ///
+    /// # Errors
+    /// If it was there before: then the system has said something false, or another program has removed it.
+    fn find_no_store(&mut self) -> Result<(), Cause>
+        ensures { self.new.failures ≡ self.old.failures }
+    {
+        if self.presence == Presence::There {
+            let error = io::Error::new(ErrorKind::NotFound, "it was there before");
+            return Err(STORE.cause(error));
+        }
+        self.presence = Presence::Missing;
         Ok(())
     }
 
@@ -444,7 +462,7 @@ impl<'r, R: Files<File = File>> FolderDisk<'r, R> {
     ///
     /// # Errors
     /// If the system refuses. The disk reads alone then, and changes nothing any more.
-    fn put_on_device(&mut self, content: &Content) -> io::Result<()>
+    fn put_on_device(&mut self, content: &Content) -> Result<(), Cause>
         ensures { self.new.failures ≡ self.old.failures }
     {
         if self.store.bytes != Bytes::Unsure || self.may_change().is_err() {
@@ -453,9 +471,9 @@ impl<'r, R: Files<File = File>> FolderDisk<'r, R> {
         let Content::Bytes(bytes) = content else {
             return Ok(());
         };
-        if let Err(error) = self.put_copy(bytes.as_slice()) {
+        if let Err(cause) = self.put_copy(bytes.as_slice()) {
             self.access = Access::Reading;
-            return Err(error);
+            return Err(cause);
         }
         let _ = self.have_noted(Note::OnDevice);
         Ok(())
@@ -463,7 +481,7 @@ impl<'r, R: Files<File = File>> FolderDisk<'r, R> {
 
     /// Puts a new file with the bytes of `store.yaml` in its place, all synced. Where a sync failed, a file system may
     /// never write what is written again to the same file.
-    fn put_copy(&mut self, bytes: &[u8]) -> io::Result<()>
+    fn put_copy(&mut self, bytes: &[u8]) -> Result<(), Cause>
         ensures { self.new.failures ≡ self.old.failures }
     {
         self.try_remove_next()?;
@@ -479,25 +497,25 @@ impl<'r, R: Files<File = File>> FolderDisk<'r, R> {
 
     /// Reads the file under a name, if there is one. A file of more than `max` bytes is `TooLong`. A run that may
     /// change the files has put what it reads of `store.yaml` on the device.
-    fn try_read(&mut self, alloc: Global, name: Name, max: u64) -> io::Result<Content>
+    fn try_read(&mut self, alloc: Global, name: Name, max: u64) -> Result<Content, Cause>
         ensures { self.new.failures ≡ self.old.failures }
     {
         let opened = open_to_read(self.rt, self.path(name)?);
         match (opened, name) {
             (Ok(file), Name::Store) => {
                 self.find_store()?;
-                let content = file_content(alloc, file, max)?;
+                let content = STORE.blame(file_content(alloc, file, max))?;
                 self.put_on_device(&content)?;
                 Ok(content)
             }
-            (Ok(file), Name::Next) => file_content(alloc, file, max),
+            (Ok(file), Name::Next) => subject_of(name).blame(file_content(alloc, file, max)),
             (Err(error), name) if error.kind() == ErrorKind::NotFound => {
                 if name == Name::Store {
-                    self.is_missing = true;
+                    self.find_no_store()?;
                 }
                 Ok(Content::Missing)
             }
-            (Err(error), _) => Err(error),
+            (Err(error), name) => Err(subject_of(name).cause(error)),
         }
     }
 
@@ -515,19 +533,27 @@ impl<'r, R: Files<File = File>> FolderDisk<'r, R> {
         Ok(())
     }
 
-    /// Counts a failure if a call failed, and returns it as `Device`.
-    fn count(&mut self, done: io::Result<()>) -> Result<(), DiskFault>
+    /// Counts a failure if a call failed, keeps its cause, and returns it as `Device`.
+    fn count(&mut self, done: Result<(), Cause>) -> Result<(), DiskFault>
         requires { self.old.failures < u64.MAX }
         ensures failures { CountsFailures self.old.failures self.new.failures result }
         ensures fault { result ≢ Err DiskFault.OutOfMemory }
     {
         match done {
             Ok(()) => Ok(()),
-            Err(_) => {
-                self.failures = self.failures.saturating_add(1);
-                Err(DiskFault::Device)
-            }
+            Err(cause) => Err(self.fail(cause)),
         }
+    }
+
+    /// Counts a failure, and keeps its cause.
+    fn fail(&mut self, cause: Cause) -> DiskFault
+        requires { self.old.failures < u64.MAX }
+        ensures failures { self.new.failures ≡ self.old.failures + 1 }
+        ensures fault { result ≡ DiskFault.Device }
+    {
+        self.failures += 1;
+        self.cause = Some(cause);
+        DiskFault::Device
     }
 }
 
@@ -557,11 +583,8 @@ impl<'r, R: Files<File = File>> Disk for FolderDisk<'r, R> {
         self.may_fail()?;
         match self.try_read(alloc, name, max) {
             Ok(content) => Ok(content),
-            Err(error) if error.kind() == ErrorKind::OutOfMemory => Err(DiskFault::OutOfMemory),
-            Err(_) => {
-                self.failures = self.failures.saturating_add(1);
-                Err(DiskFault::Device)
-            }
+            Err(cause) if cause.is_out_of_memory() => Err(DiskFault::OutOfMemory),
+            Err(cause) => Err(self.fail(cause)),
         }
     }
 

@@ -5,18 +5,21 @@
 //! no lock and changes nothing, so it serves for a folder that can't be written. [`make_folder`] makes a folder that is
 //! to hold one. [`open_store_file`] opens the file of a store alone, to be read from its start to its end.
 //!
+//! What fails says why in a [`FolderError`], and a call of the disk in its [`cause`](FolderDisk::cause).
+//!
 //! Its contract says nothing of what the folder keeps: that a real folder is an honest disk is a premise that nothing
 //! here proves.
 #![tactic(auto)]
 
 mod disk;
 mod fault;
+mod files;
 mod lock;
 mod making;
 mod note;
 mod reading;
 
 pub use disk::FolderDisk;
-pub use fault::FolderFault;
-pub use making::make_folder;
+pub use fault::{FolderError, FolderFault};
+pub use making::{NewFolder, make_folder};
 pub use reading::open_store_file;

@@ -1,9 +1,11 @@
 // The locks by which one run at a time changes a store.
 ghost use Rattle.std.specs.Prelude.{◌≡◌, ◌⊎◌, bit_and};
 
-use crate::FolderFault;
+use crate::FolderError;
+use crate::files::LOCK;
 use conf_files::{
-    Identity, OpenFolder, give_owner_and_group, is_of_same_owner_and_group, look, open_plain,
+    Identity, OpenFolder, Subject, find_same, give_owner_and_group, is_of_same_owner_and_group,
+    open_plain,
 };
 use std::fs::{File, Metadata, OpenOptions, Permissions, TryLockError};
 use std::io::ErrorKind;
@@ -24,22 +26,49 @@ const ACCESS: u32 = 0o7777;
 /// The bits of a mode that say that the group and all others may write.
 const OTHER_WRITERS: u32 = 0o22;
 
+/// A `store.lock` that this run holds the lock of, until this is dropped.
+#[derive(Drop)]
+pub(crate) struct HeldLock {
+    file: File,
+    origin: Origin,
+}
+
+/// Where a `store.lock` comes from.
+#[derive(Clone, Copy, PartialEq, Eq)]
+enum Origin {
+    /// It was there.
+    Found,
+    /// This run made it, where none was.
+    Made,
+}
+
+impl HeldLock {
+    /// The open `store.lock`.
+    pub(crate) fn file(&self) -> &File {
+        &self.file
+    }
+
+    /// Whether this run made the file, where none was. It holds the lock on the folder alone then.
+    pub(crate) fn is_made(&self) -> bool {
+        self.origin == Origin::Made
+    }
+}
+
 /// Finds that no run holds the lock on a folder.
 ///
 /// # Errors
 /// `Locked` if another run holds it, and `Device` if a call of the system fails.
-pub(crate) fn find_unlocked(folder: &OpenFolder) -> Result<(), FolderFault> {
-    take_lock(folder.file())?;
-    match folder.file().unlock() {
-        Ok(()) => Ok(()),
-        Err(_) => Err(FolderFault::Device),
-    }
+pub(crate) fn find_unlocked(folder: &OpenFolder) -> Result<(), FolderError> {
+    take_lock(folder.file(), Subject::Given)?;
+    Subject::Given.blame(folder.file().unlock())?;
+    Ok(())
 }
 
-/// Takes the locks of a run that changes the store in a folder, without waiting. They are held until the file that this
-/// returns and the folder are closed. A missing `store.lock` is made.
+/// Takes the locks of a run that changes the store in a folder, without waiting. They are held until what this returns
+/// and the folder are closed. A missing `store.lock` is made.
 ///
-/// `store` is what is known of `store.yaml`, if it is there.
+/// `like` is what is known of the file whose owner, group and mode count: `store.yaml`, or the one that a new store takes
+/// after. If there is none, those of the folder count.
 ///
 /// # Errors
 /// `Locked` if another run holds a lock, and `Device` if a call of the system fails.
@@ -47,12 +76,11 @@ pub(crate) fn lock_store<R: Files<File = File>>(
     rt: &R,
     folder: &OpenFolder,
     path: &str,
-    store: Option<Metadata>,
-) -> Result<File, FolderFault> {
-    match open_marked(rt, path) {
-        Ok(Some(file)) => lock_marked(rt, folder, path, file),
-        Ok(None) => lock_anew(rt, folder, path, store),
-        Err(_) => Err(FolderFault::Device),
+    like: Option<&Metadata>,
+) -> Result<HeldLock, FolderError> {
+    match LOCK.blame(open_marked(rt, path))? {
+        Some(file) => lock_marked(rt, folder, path, file),
+        None => lock_anew(rt, folder, path, like),
     }
 }
 
@@ -77,25 +105,24 @@ fn lock_marked<R: Files<File = File>>(
     folder: &OpenFolder,
     path: &str,
     file: File,
-) -> Result<File, FolderFault> {
-    take_lock(&file)?;
+) -> Result<HeldLock, FolderError> {
+    take_lock(&file, LOCK)?;
     match folder.file().try_lock_shared() {
         Ok(()) | Err(TryLockError::WouldBlock) => {}
-        Err(TryLockError::Error(_)) => return Err(FolderFault::Device),
+        Err(TryLockError::Error(error)) => {
+            return Err(FolderError::from(Subject::Given.cause(error)));
+        }
     }
-    match is_at(rt, path, &file) {
-        Ok(true) => Ok(file),
-        Ok(false) | Err(_) => Err(FolderFault::Device),
-    }
+    LOCK.blame(find_at(rt, path, &file))?;
+    Ok(HeldLock {
+        file,
+        origin: Origin::Found,
+    })
 }
 
-/// Whether an open file is the one at a path.
-fn is_at<R: Files<File = File>>(rt: &R, path: &str, file: &File) -> io::Result<bool> {
-    let identity = Identity::of(&file.metadata()?);
-    match look(rt, path)? {
-        Some(found) => Ok(Identity::of(&found) == identity),
-        None => Ok(false),
-    }
+/// Finds that an open file is the one at a path.
+fn find_at<R: Files<File = File>>(rt: &R, path: &str, file: &File) -> io::Result<()> {
+    find_same(rt, path, Identity::of(&file.metadata()?))
 }
 
 /// Locks a folder for this run alone, and then its `store.lock`, which is made, or marked if no run made it.
@@ -103,55 +130,56 @@ fn lock_anew<R: Files<File = File>>(
     rt: &R,
     folder: &OpenFolder,
     path: &str,
-    store: Option<Metadata>,
-) -> Result<File, FolderFault> {
-    take_lock(folder.file())?;
-    let Ok(file) = open_or_make(rt, path) else {
-        return Err(FolderFault::Device);
-    };
-    take_lock(&file)?;
-    match admit(folder, &file, store) {
-        Ok(()) => Ok(file),
-        Err(_) => Err(FolderFault::Device),
-    }
+    like: Option<&Metadata>,
+) -> Result<HeldLock, FolderError> {
+    take_lock(folder.file(), Subject::Given)?;
+    let lock = LOCK.blame(open_or_make(rt, path))?;
+    take_lock(&lock.file, LOCK)?;
+    LOCK.blame(admit(folder, &lock.file, like))?;
+    Ok(lock)
 }
 
 /// Takes the lock on an open file or folder without waiting. It is held until that is closed.
-fn take_lock(file: &File) -> Result<(), FolderFault> {
+fn take_lock(file: &File, subject: Subject) -> Result<(), FolderError> {
     match file.try_lock() {
         Ok(()) => Ok(()),
-        Err(TryLockError::WouldBlock) => Err(FolderFault::Locked),
-        Err(TryLockError::Error(_)) => Err(FolderFault::Device),
+        Err(TryLockError::WouldBlock) => Err(FolderError::locked(subject)),
+        Err(TryLockError::Error(error)) => Err(FolderError::from(subject.cause(error))),
     }
 }
 
 /// Opens the plain file at a path. A missing file is made, and one that may not be opened is replaced by a new one:
 /// nobody holds its lock, since its holder would hold the folder's too.
-fn open_or_make<R: Files<File = File>>(rt: &R, path: &str) -> io::Result<File> {
-    match open_plain(rt, OpenOptions::new().read(true).write(true), path) {
-        Err(error) if error.kind() == ErrorKind::NotFound => {}
-        Err(error) if error.kind() == ErrorKind::PermissionDenied => fs::remove_file(rt, path)?,
-        opened => return opened,
-    }
+fn open_or_make<R: Files<File = File>>(rt: &R, path: &str) -> io::Result<HeldLock> {
+    let origin = match open_plain(rt, OpenOptions::new().read(true).write(true), path) {
+        Ok(file) => {
+            return Ok(HeldLock {
+                file,
+                origin: Origin::Found,
+            });
+        }
+        Err(error) if error.kind() == ErrorKind::NotFound => Origin::Made,
+        Err(error) if error.kind() == ErrorKind::PermissionDenied => {
+            fs::remove_file(rt, path)?;
+            Origin::Found
+        }
+        Err(error) => return Err(error),
+    };
     let mut how = OpenOptions::new();
     how.read(true).write(true).create_new(true).mode(NEW_LOCK);
-    how.open(rt, path)
+    let file = how.open(rt, path)?;
+    Ok(HeldLock { file, origin })
 }
-
-/// Gives a `store.lock` the owner and the group of `store.yaml`, or of the folder if there is no store, and lets open it
-/// whoever may write either. Where the system refuses, it stays as it is.
-fn admit(folder: &OpenFolder, file: &File, store: Option<Metadata>) -> io::Result<()> {
+/// Gives a `store.lock` the owner and the group of `like`, or of the folder if there is none, and lets open it whoever
+/// may write either. Where the system refuses, it stays as it is.
+fn admit(folder: &OpenFolder, file: &File, like: Option<&Metadata>) -> io::Result<()> {
     let of_folder = folder.file().metadata()?;
-    let writers = match &store {
-        Some(store) => store.mode() | of_folder.mode(),
-        None => of_folder.mode(),
-    };
-    let owner = store.unwrap_or(of_folder);
+    let owner = like.unwrap_or(&of_folder);
     let made = file.metadata()?;
-    if !is_of_same_owner_and_group(&made, &owner) {
-        give_owner_and_group(file, &owner);
+    if !is_of_same_owner_and_group(&made, owner) {
+        give_owner_and_group(file, owner);
     }
-    let mode = lock_mode(writers | made.mode());
+    let mode = lock_mode(owner.mode() | of_folder.mode() | made.mode());
     if made.mode() & ACCESS != mode {
         let _ = file.set_permissions(Permissions::from_mode(mode));
     }

@@ -39,7 +39,7 @@ impl Note {
         };
         match lock.write_at(byte, 0) {
             Ok(1) => Ok(()),
-            Ok(_) => Err(io::Error::from(ErrorKind::WriteZero)),
+            Ok(_) => Err(io::Error::new(ErrorKind::WriteZero, "nothing was written")),
             Err(error) => Err(error),
         }
     }

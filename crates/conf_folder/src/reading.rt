@@ -1,8 +1,7 @@
 // The file of a store, opened to be read beside a run that holds the store.
-use crate::FolderFault;
-use crate::disk::STORE_FILE;
-use crate::fault::fault_of;
-use conf_files::{OpenFolder, open_to_read};
+use crate::FolderError;
+use crate::files::{STORE, store_path};
+use conf_files::{OpenFolder, Subject, open_to_read};
 use std::alloc::Global;
 use std::fs::File;
 use std::io::ErrorKind;
@@ -21,30 +20,13 @@ pub fn open_store_file<R: Files<File = File>>(
     rt: &R,
     alloc: Global,
     folder: &str,
-) -> Result<Option<File>, FolderFault> {
-    let folder = open_folder(rt, alloc, folder)?;
-    let path = folder.path_of(alloc, STORE_FILE)?;
-    if !folder.is_in_place(rt) {
-        return Err(FolderFault::Device);
-    }
+) -> Result<Option<File>, FolderError> {
+    let folder = Subject::Given.blame(OpenFolder::new(rt, alloc, folder))?;
+    let path = store_path(alloc, &folder)?;
+    Subject::Given.blame(folder.find_in_place(rt))?;
     match open_to_read(rt, path.as_str()) {
         Ok(file) => Ok(Some(file)),
         Err(error) if error.kind() == ErrorKind::NotFound => Ok(None),
-        Err(_) => Err(FolderFault::Device),
-    }
-}
-
-/// Opens the folder at a path.
-///
-/// # Errors
-/// `Device` if there is no folder at the path or a call of the system fails, and `OutOfMemory`.
-pub(crate) fn open_folder<R: Files<File = File>>(
-    rt: &R,
-    alloc: Global,
-    path: &str,
-) -> Result<OpenFolder, FolderFault> {
-    match OpenFolder::new(rt, alloc, path) {
-        Ok(folder) => Ok(folder),
-        Err(error) => Err(fault_of(error)),
+        Err(error) => Err(FolderError::from(STORE.cause(error))),
     }
 }

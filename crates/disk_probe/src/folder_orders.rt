@@ -11,8 +11,14 @@ pub(crate) fn answer(
     match words {
         ["make", name] => folders.make(alloc, name),
         ["remove", name] => folders.remove(alloc, name),
+        ["unmake"] => folders.unmake(alloc),
+        ["files", name] => folders.files(alloc, name),
         ["take", name] => folders.take(alloc, name),
+        ["take_store", name] => folders.take_store(alloc, name),
+        ["take_new", name] => folders.take_new(alloc, name),
         ["take_for_reading", name] => folders.take_for_reading(alloc, name),
+        ["cause"] => folders.cause(alloc),
+        ["release"] => folders.release(alloc),
         ["close"] => folders.close(alloc),
         words => folders.call(alloc, words),
     }

@@ -20,12 +20,16 @@
 //!
 //! The group `folder`, folders of the system and the disk of one of them:
 //!
-//! - `make;NAME` and `remove;NAME`: makes and removes the folder, with all that is in it.
-//! - `take;NAME`: takes the disk of the folder. `close`: closes the disk that was taken.
-//! - A call of the disk that was taken, or a procedure of the journal.
+//! - `make;NAME`: makes the folder, or finds it. `unmake`: removes the folder that was made last, if nothing is in it.
+//!   `remove;NAME`: removes it, with all that is in it. `files;NAME`: which files of a store are in it.
+//! - `take;NAME`: takes the disk of the folder. `take_store;NAME`: the same, if there is a store. `take_new;NAME`: the
+//!   same, if there is none. `take_for_reading;NAME`: the same, for reading alone. `close`: closes the disk that was
+//!   taken. `release`: the same, at the end of a run.
+//! - A call of the disk that was taken, or a procedure of the journal. `cause`: why the one that failed last did.
 //!
-//! What fails is answered with the fault. The disk returns `Device` if there is no file to be appended to or renamed,
-//! or if there is one that is to be created.
+//! What fails is answered with the fault. Where a folder can't be made or taken, its cause follows. In the answer to
+//! `cause` the folder is `it`. The disk returns `Device` if there is no file to be appended to or renamed, or if there
+//! is one that is to be created.
 #![tactic(auto)]
 
 mod calls;
