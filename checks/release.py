@@ -164,7 +164,8 @@ def try_making(scene: Scene, failures: Failures) -> Path:
     for maker in makers:
         scene.run(["bash", "-c", f"umask 077; {maker}"], LC_ALL="C.UTF-8", TZ="Asia/Tokyo")
     again = {path.name: path.read_bytes() for path in (copy / "release").iterdir()}
-    failures.expect("what is in the release", sorted(name.rpartition(".")[2] for name in first), ["manifest", "whl", "xz"])
+    kinds = sorted(name.rpartition(".")[2] for name in first)
+    failures.expect("what is in the release", kinds, ["manifest", "whl", "xz"])
     failures.expect("the same is made twice", again == first, True)
     failures.expect("the manifest is in the one style", scene.run([PROGRAM, "check", copy / "release/manifest"]).stdout, b"")
     said = scene.run([copy / "prove"]).stderr.decode()

@@ -57,7 +57,7 @@ CONTROL
 # system's list of libraries is made again.
 echo "libconfstore ${soname##*.} $shared_package (>= $version)" >"$root/DEBIAN/shlibs"
 {
-    echo "$soname $shared_package #MINVER#"
+    printf '%s\n' "$soname $shared_package #MINVER#" "* Build-Depends-Package: libconfstore-dev"
     nm -D --defined-only --with-symbol-versions "$root$libraries/$soname" |
         awk '{ name = $2 == "A" ? $3 "@" $3 : $3; sub("@@", "@", name); since = name; sub(".*_", "", since)
                print " " name " " since }' | LC_ALL=C sort

@@ -4,8 +4,9 @@
 #
 #     packaging/deb/try.sh [PROGRAM]
 #
-# It needs dpkg, and root or fakeroot; and for the library make, cc, objdump and pkg-config. Nothing outside of a
-# temporary folder is changed. The last line is 'N passed, M failed', and the status is 0 if M is 0.
+# It needs dpkg, and root or fakeroot; and for the library make, cc, objdump and pkg-config. Where lintian is installed
+# it looks at the packages. Nothing outside of a temporary folder is changed. The last line is 'N passed, M failed', and
+# the status is 0 if M is 0.
 set -u
 top=$(cd "$(dirname "${BASH_SOURCE[0]}")/../.." && pwd)
 # shellcheck source=packaging/program.sh
@@ -115,10 +116,11 @@ link_program() { # LIBDIR
         LD_LIBRARY_PATH=$1 "$folder/linked"
 }
 is_without_library() { [ -z "$(find "$tree/usr" -name '*libconfstore*' -o -name 'confstore.[h3]*' -o -name '*.pc')" ]; }
-# The program is packed as it was proved, and not stripped; and no bug of Debian's is closed by a first package.
+# What lintian finds wrong. Three findings are left out: the program is packed as it was proved, and not stripped;
+# DEBEMAIL names who maintains the packages; and the copyright has no year.
 checks_policy() { # PACKAGE..
-    lintian --allow-root --fail-on error,warning --suppress-tags unstripped-binary-or-object,initial-upload-closes-no-bugs \
-        "$@"
+    local tags=unstripped-binary-or-object,bogus-mail-host,bogus-mail-host-in-debian-changelog
+    lintian --allow-root --fail-on error,warning --suppress-tags "$tags,copyright-without-copyright-notice" "$@"
 }
 can_build_library() {
     local tool
