@@ -82,10 +82,12 @@ class Room:
 
     def python(self, code: str) -> str:
         """What a program in Python prints, which is run by the Python of the venv."""
-        path = os.path.join(self.top, "example.py")
-        with open(path, "w", encoding="utf-8") as target:
+        self.write("example.py", code)
+        return self.shell("venv/bin/python example.py")
+
+    def write(self, name: str, code: str) -> None:
+        with open(os.path.join(self.clone, name), "w", encoding="utf-8") as target:
             target.write(self.here(code))
-        return self.shell(f"venv/bin/python {path}")
 
     @contextlib.contextmanager
     def running(self, line: str) -> Iterator[subprocess.Popen[str]]:
@@ -173,10 +175,8 @@ def walk_asyncio(room: Room, lines: str) -> None:
 
 
 def walk_following(room: Room, code: str) -> None:
-    path = os.path.join(room.top, "following.py")
-    with open(path, "w", encoding="utf-8") as target:
-        target.write(room.here(code).replace("    for change in", "    print('begun')\n    for change in"))
-    with room.running(f"venv/bin/python {path}") as process:
+    room.write("following.py", code.replace("    for change in", "    print('begun')\n    for change in"))
+    with room.running("venv/bin/python following.py") as process:
         room.failures.expect("the following begins", next_line(process), "begun\n")
         count = room.shell("confstore set /var/lib/app web /port 82").strip()
         wanted = f"{count} [('set', '/port', '82')]\n"

@@ -13,8 +13,9 @@
 
 #define STORE_FILE "store.yaml"
 
-/* How many bytes are read at once. */
+/* How many bytes are read at once, and how much room is kept for what is read later. */
 #define PART 65536
+#define ROOM_KEPT 1048576
 
 /* How many milliseconds lie between two looks: at most without inotify, at most with it, and after a change. Each wait
  * is twice as long as the one before, until it is as long as it may be. */
@@ -73,6 +74,7 @@ static void drop_taken(struct confstore_watch *watch) {
     if (left > 0) memmove(watch->got.data, watch->got.data + watch->taken, left);
     watch->got.length = left;
     watch->taken = 0;
+    if (left == 0 && watch->got.room > ROOM_KEPT) confstore_bytes_free(&watch->got);
 }
 
 /* Reads a part of the file. CONFSTORE_NOTHING_DUE: this is its end. */

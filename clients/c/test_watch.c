@@ -147,6 +147,35 @@ static void over_checkpoints(void) {
     confstore_watch_close(watch);
 }
 
+/* A base and a record that are longer than what is read at once. */
+static void long_documents(void) {
+    struct confstore *store;
+    struct confstore_bytes command = {0}, answer = {0};
+    struct confstore_change change = {0};
+    const char *folder = store_in("long");
+    size_t length = 3000000;
+    char *text = malloc(length);
+    memset(text, 'x', length);
+    make_set(&command, "", text, length);
+    free(text);
+    expect_status("open", confstore_open(program, folder, PATIENCE, &store), CONFSTORE_OK);
+    for (int turn = 0; turn < 2; turn++) {
+        expect("set", ask(store, command.data, command.length, &answer).kind, CONFSTORE_SAID_OK);
+        if (turn == 0) expect("checkpoint", ask_text(store, "checkpoint:\n...\n", &answer).kind, CONFSTORE_SAID_OK);
+    }
+    expect_status("close", confstore_close(store, NULL), CONFSTORE_OK);
+    struct confstore_watch *watch = watching(folder, 2);
+    expect_event(watch, CONFSTORE_EVENT_CUT, 2, 2);
+    expect_status("a long record", confstore_watch_next(watch, 0, &change), CONFSTORE_OK);
+    expect("its number", (long)change.first, 3);
+    expect("it is long", change.length > length, 1);
+    checkpoint(folder);
+    expect_nothing(watch);
+    confstore_watch_close(watch);
+    confstore_bytes_free(&command);
+    confstore_bytes_free(&answer);
+}
+
 /* A file of the store that is kept aside, and takes its place again. */
 static void keep(const char *folder, const char *from, const char *to) {
     char words[8192];
@@ -525,6 +554,7 @@ void watches(const char *of) {
     program = of;
     from_a_number_on();
     over_checkpoints();
+    long_documents();
     a_backup();
     a_torn_record();
     by_hand();
