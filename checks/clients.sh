@@ -3,8 +3,9 @@
 #
 #     ./confstore --version && checks/clients.sh
 #
-# - Python: the package is installed without a network, its types are checked where mypy is installed, and its tests run
-#   over real stores, those of the server among them; and the tests of `replicated/` that need no etcd.
+# - Python: the package is installed without a network, its types and those of all tests are checked where mypy is
+#   installed, and its tests run over real stores, those of the server among them; and the tests of `replicated/` that
+#   need no etcd.
 # - The examples of the pages of python/, clients/ and release/, as they stand there.
 # - C: the library and its test under the sanitizers of each compiler that is there, and under valgrind, over sessions
 #   of its own and over a socket; the library as its Makefile installs it, shared and static, and its version.
@@ -62,7 +63,7 @@ has() { command -v "$1" >/dev/null || { echo "left out: $1 is not installed"; fa
 
 git clone --quiet --no-hardlinks "$top" "$folder/clone" || exit 1
 cd "$folder/clone" || exit 1
-[ -z "$(git -C "$top" status --porcelain -- python clients completions packaging docs/man)" ] ||
+[ -z "$(git -C "$top" status --porcelain -- python clients replicated completions packaging release docs/man)" ] ||
     echo "the working tree has changes that are not tried: commit them first"
 
 try_install() {

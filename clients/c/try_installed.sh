@@ -103,7 +103,7 @@ works_set() { # OUTPUT
 works_watch() { # OUTPUT: a batch, and what is there when it begins, after a checkpoint
     diff <(run_on "$1" "$folder/$1.store") <(echo "1 web web/port") &&
         "$program" checkpoint "$folder/$1.store" &&
-        diff <(run_on "$1" "$folder/$1.store") <(printf '%s\n' "1 to 1 cut" "2 web web/port")
+        diff <(run_on "$1" "$folder/$1.store") <(printf '%s\n' "no change 1" "2 web web/port")
 }
 says_status() { # OUTPUT: the status of a folder that isn't there
     diff <(CONFSTORE=$program LD_LIBRARY_PATH=$libdir "$folder/$1" "$folder/none" 2>&1) \
