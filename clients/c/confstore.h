@@ -224,7 +224,7 @@ enum confstore_status confstore_watch_open(const char *folder, uint64_t start, s
  *
  * CONFSTORE_NOT_A_STORE, CONFSTORE_DAMAGED and CONFSTORE_DEVICE are what has become of the store, after all that was
  * before; each later call returns the same. So does CONFSTORE_NOT_IN_STYLE: what would be told, or the file's first
- * document, is written by hand in another form. A checkpoint writes it anew. */
+ * document, is written by hand in another form. A checkpoint writes the file anew. */
 enum confstore_status confstore_watch_next(struct confstore_watch *watch, int timeout,
                                            struct confstore_change *change);
 
