@@ -219,8 +219,8 @@ enum confstore_status confstore_watch_open(const char *folder, uint64_t start, s
  * change comes once, in order. The last ones may not be on the disk yet.
  *
  * Changes are looked for while one is waited for: where the system has inotify, as soon as it says that something was
- * written, and else five times a second. CONFSTORE_EVENT_CUT comes where two checkpoints lie between two looks, or
- * where the first change that is asked for was dropped before.
+ * written, and once a second at least; else five times a second. CONFSTORE_EVENT_CUT comes where two checkpoints lie
+ * between two looks, or where the first change that is asked for was dropped before.
  *
  * CONFSTORE_NOT_A_STORE, CONFSTORE_DAMAGED and CONFSTORE_DEVICE are what has become of the store, after all that was
  * before; each later call returns the same. So does CONFSTORE_NOT_IN_STYLE: what would be told, or the file's first
