@@ -178,9 +178,10 @@ def walk_following(room: Room, code: str) -> None:
     room.write("following.py", code.replace("    for change in", "    print('begun')\n    for change in"))
     with room.running("venv/bin/python following.py") as process:
         room.failures.expect("the following begins", next_line(process), "begun\n")
-        count = room.shell("confstore set /var/lib/app web /port 82").strip()
-        wanted = f"{count} [('set', '/port', '82')]\n"
-        room.failures.expect("a change that is followed", next_line(process), wanted)
+        room.shell("confstore set /var/lib/app web /port 82")
+        number, _, edits = next_line(process).partition(" ")
+        wanted = (True, "[('set', '/port', '82')]\n")
+        room.failures.expect("a change that is followed", (number.isdecimal(), edits), wanted)
 
 
 def walk_words(room: Room, page: Page, lines: str) -> None:
@@ -189,7 +190,7 @@ def walk_words(room: Room, page: Page, lines: str) -> None:
     assert edits is not None
     room.shell(f"echo '{edits[1]}' > edits.yaml")
     *single, watch = lines.splitlines()
-    room.failures.expect("the value that is got", room.shell("\n".join(single)).splitlines()[1], "81")
+    room.failures.expect("the value that is got", room.shell("\n".join(single)), "81\n")
     room.failures.expect("what the batch has made", room.shell("confstore get --raw /var/lib/app dns /a"), "b\n")
     with room.running(f"{watch} --from 1") as process:
         room.failures.expect("the first change that is watched", next_line(process), "1 import web\n")
@@ -236,9 +237,11 @@ def walk_servers(room: Room, page: Page) -> None:
         words = "from confstore import Store\nprint(Store.connect('/run/app/socket').names())\n"
         room.failures.expect("what a client is told", room.python(words), "['web', 'dns']\n")
     inside, change = page.take("clients/serve.py /var/lib/app/confstore.sock").splitlines()
+    room.shell("confstore set /var/lib/app web /port 80")
     with room.serving(inside):
-        count = room.shell(change)
-    room.failures.expect("the change through the socket", count.strip().isdecimal(), True)
+        room.shell(change)
+        found = room.shell("confstorectl get /var/lib/app web /port --raw")
+    room.failures.expect("what was set through the socket", found, "81\n")
     measured, asked = page.take("clients/serve.py --metrics").splitlines()
     if has("curl"):
         with room.serving(measured):
