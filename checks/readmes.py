@@ -93,8 +93,9 @@ class Room:
     def running(self, line: str) -> Iterator[subprocess.Popen[str]]:
         """A line that goes on until it is interrupted."""
         words = ["bash", "-c", f"exec {self.here(line)}"]
+        environment = {**self.environment, "PYTHONUNBUFFERED": "1"}
         with subprocess.Popen(
-            words, cwd=self.clone, env={**self.environment, "PYTHONUNBUFFERED": "1"}, stdout=subprocess.PIPE, text=True
+            words, cwd=self.clone, env=environment, stdout=subprocess.PIPE, stderr=subprocess.DEVNULL, text=True
         ) as process:
             try:
                 yield process
