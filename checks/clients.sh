@@ -20,7 +20,7 @@
 #
 # What isn't installed is left out, with a line that says so. Each step has a limit of time, and ends what it started.
 # The program is CONFSTORE, or the one that ./confstore builds. The last line is 'N passed, M failed', of steps, and the
-# status is 0 if M is 0. It takes some seven minutes.
+# status is 0 if M is 0. It takes some ten minutes.
 set -u
 top=$(cd "$(dirname "${BASH_SOURCE[0]}")/.." && pwd)
 CONFSTORE=${CONFSTORE:-$top/crates/confstore/out/confstore}
