@@ -3,9 +3,10 @@
 #
 #     ./confstore --version && checks/clients.sh
 #
-# - Python: the package is installed without a network, its types are checked where mypy is installed, and its tests run
-#   over real stores, those of the server among them; and the tests of `replicated/` that need no etcd.
-# - The lines of clients/README.md, as they stand there.
+# - Python: the package is installed without a network, its types and those of all tests are checked where mypy is
+#   installed, and its tests run over real stores, those of the server among them; and the tests of `replicated/` that
+#   need no etcd.
+# - The examples of the pages of python/, clients/ and release/, as they stand there.
 # - C: the library and its test under the sanitizers of each compiler that is there, and under valgrind, over sessions
 #   of its own and over a socket; the library as its Makefile installs it, shared and static, and its version.
 # - Sixteen clients of one session that is killed and started again.
@@ -19,7 +20,7 @@
 #
 # What isn't installed is left out, with a line that says so. Each step has a limit of time, and ends what it started.
 # The program is CONFSTORE, or the one that ./confstore builds. The last line is 'N passed, M failed', of steps, and the
-# status is 0 if M is 0. It takes some seven minutes.
+# status is 0 if M is 0. It takes some ten minutes.
 set -u
 top=$(cd "$(dirname "${BASH_SOURCE[0]}")/.." && pwd)
 CONFSTORE=${CONFSTORE:-$top/crates/confstore/out/confstore}
@@ -62,7 +63,7 @@ has() { command -v "$1" >/dev/null || { echo "left out: $1 is not installed"; fa
 
 git clone --quiet --no-hardlinks "$top" "$folder/clone" || exit 1
 cd "$folder/clone" || exit 1
-[ -z "$(git -C "$top" status --porcelain -- python clients completions packaging docs/man)" ] ||
+[ -z "$(git -C "$top" status --porcelain -- python clients replicated completions packaging release docs/man)" ] ||
     echo "the working tree has changes that are not tried: commit them first"
 
 try_install() {
@@ -90,18 +91,20 @@ script_types() {
     MYPYPATH=checks:clients:python:replicated mypy --strict --explicit-package-bases \
         --config-file python/pyproject.toml clients/serve.py python/pages_of_confstorectl.py checks/*.py checks/lib/*.py
 }
-export -f types script_types
+# Each in a run of its own, as both are packages of the same name.
+test_types() {
+    local folder
+    for folder in python replicated; do
+        MYPYPATH=python:replicated mypy --config-file python/pyproject.toml --explicit-package-bases \
+            "$folder/tests" || return
+    done
+}
+export -f types script_types test_types
 if has mypy; then step "its types, and those of the replicated store" 120 bash -c types; fi
+if has mypy; then step "the types of its tests" 120 bash -c test_types; fi
 step "its tests" 600 env -C python "$python" -m unittest
 step "the replicated store's tests without etcd" 300 env -C replicated "$python" -m unittest
-readme_lines() {
-    mkdir "$folder/lines" && sed -n 's/^    //p' clients/README.md | grep -Ev '^(clients/serve.py|curl|confstorectl) ' |
-        sed "s|/tmp/|$folder/lines/|g; s#python3 clients/examples/service.py.*#timeout 3 & || [ \$? -eq 124 ]#" \
-            >"$folder/lines.sh" || return 1
-    bash -e "$folder/lines.sh" && [ -s "$folder/lines/app.html" ]
-}
-export -f readme_lines
-step "the lines of clients/README.md" 120 bash -c readme_lines
+step "the examples of the pages" 300 "$python" checks/readmes.py
 
 warnings=(-std=c11 -Wall -Wextra -Wpedantic -Wconversion -Wshadow -Werror -g -O1)
 sources=(clients/c/*.c "-Wl,--wrap=realloc" "-Wl,--wrap=calloc" -pthread)

@@ -9,11 +9,12 @@
 - **Waiting** for a store that is locked, and for a server that is not there; and which socket is taken.
 - **Clients.** Sixteen of them append 50 texts each to one list: it has all of them, those of each in their order. So
   do four without a server, which wait for each other.
-- **Watching.** 2,000 changes, ten checkpoints and three ends of the server: `watch` and `Reader.follow` say each change
-  once, or that it was cut. None is cut where a checkpoint comes a second after the changes before it.
+- **Watching.** 10,000 changes, 20 checkpoints and five restarts of the server, after its session was killed or it was
+  told to end: `watch` and `Reader.follow` say each change once, and none as cut where it was told before the checkpoint
+  came. Where checkpoints come at once, or a watch is stopped meanwhile, each change is said once, or that it was cut.
 - **Pages.** The completions and the man page are those of the table of words, and keys are pressed in each shell.
 
-Run it from the repository's root after the program is built; it needs PyYAML, and takes a minute:
+Run it from the repository's root after the program is built; it needs PyYAML, and takes one minute or two:
 
     ./confstore --version && python3 checks/ctl.py
 
@@ -60,7 +61,11 @@ PATIENCE = 60
 
 CLIENTS, APPENDS = 16, 50
 CLIENTS_ALONE, APPENDS_ALONE = 4, 10
-CHANGES, CHECKPOINTS, RESTARTS = 2_000, 10, 3
+CHANGES, CHECKPOINTS, RESTARTS = 10_000, 20, 5
+
+# How many checkpoints come once all changes before them were told, and before how many of the last ones the watch is
+# stopped.
+CALM, STOPPED = 10, 2
 
 # What does rows of words, each in a process of its own that is forked where all is imported.
 DRIVER = """
@@ -377,17 +382,18 @@ class Writer:
     """Makes changes of a store that is served, each `set` with its own number as the value."""
 
     def __init__(self, folder: str, at: str) -> None:
-        self.folder, self.at, self.number, self.cuts = folder, at, 1, 0
+        self.folder, self.at, self.number = folder, at, 1
 
     def change(self, count: int) -> None:
+        """Makes so many changes: a part of them one by one, and the others at once."""
         with Store.connect(self.at) as store:
             batches: list[list[Tree]] = [
                 [{"set": "web", "path": "/n", "value": str(number)}]
                 for number in range(self.number + 1, self.number + count + 1)
             ]
-            for batch in batches[: count // 2]:
+            for batch in batches[: count // 4]:
                 store.perform_batches([batch])
-            store.perform_batches(batches[count // 2 :])
+            store.perform_batches(batches[count // 4 :])
         self.number += count
 
     def checkpoint(self) -> None:
@@ -395,23 +401,44 @@ class Writer:
             store.checkpoint()
 
 
-def change_all(writer: Writer, watch: subprocess.Popen[bytes]) -> int:
-    """The changes and checkpoints, through servers that end. Before the last two checkpoints the watch is stopped. How
-    many changes came before the hasty ones."""
-    share, calm = (CHANGES - 1) // CHECKPOINTS, 0
-    turns, lives = iter(range(CHECKPOINTS)), RESTARTS + 1
+class Watched:
+    """What those who watch the store have told."""
+
+    def __init__(self, output: str) -> None:
+        self.output = output
+        self.followed: list[str] = []
+        self.wrong: list[str] = []
+
+    def lines(self) -> list[str]:
+        """The lines of `watch`, as far as they are whole."""
+        return read_file(self.output).decode().split("\n")[:-1]
+
+    def have_come_to(self, number: int) -> bool:
+        return all(lines and last_in(lines[-1]) >= number for lines in (self.lines(), self.followed))
+
+
+def last_in(line: str) -> int:
+    """The number of the last change that a line of a watch is about."""
+    found = re.match(r"(?:\d+-)?(\d+) ", line)
+    assert found is not None, line
+    return int(found[1])
+
+
+def change_all(writer: Writer, watch: subprocess.Popen[bytes], watched: Watched, failures: Failures) -> int:
+    """The changes and checkpoints, through servers of which every second one is told to end, and the session of the
+    others is killed. How many changes came before the checkpoints that wait for nobody."""
+    share, calm, lives = (CHANGES - 1) // CHECKPOINTS, 0, RESTARTS + 1
     for life in range(lives):
         with serving(writer.at, writer.folder) as server:
-            count = CHECKPOINTS // lives + (life < CHECKPOINTS % lives)
-            for turn in [next(turns) for _ in range(count)]:
-                if turn == CHECKPOINTS - 2:
+            for turn in range(CHECKPOINTS * life // lives, CHECKPOINTS * (life + 1) // lives):
+                if turn == CHECKPOINTS - STOPPED:
                     watch.send_signal(signal.SIGSTOP)
                 writer.change(share if turn < CHECKPOINTS - 1 else CHANGES - writer.number)
-                if turn < CHECKPOINTS // 2:
-                    time.sleep(1)
+                if turn < CALM:
                     calm = writer.number
+                    failures.expect(f"all is told up to {calm}", until(lambda: watched.have_come_to(calm)), True)
                 writer.checkpoint()
-            if life == 1:
+            if life % 2:
                 os.kill(session_of(server), signal.SIGKILL)
                 server.wait(PATIENCE)
     watch.send_signal(signal.SIGCONT)
@@ -433,45 +460,43 @@ def numbers_of(lines: Sequence[str], failures: Failures) -> list[int]:
     return seen
 
 
-def follow(reader: Reader, told: list[str], wrong: list[str]) -> None:
+def follow(reader: Reader, watched: Watched) -> None:
     """Follows the changes until the last one, and compares each value with its number."""
     with reader.follow(1) as changes:
-        while not told or not re.match(rf"{CHANGES} |\d+-{CHANGES} cut", told[-1]):
+        while not watched.followed or last_in(watched.followed[-1]) < CHANGES:
             event = changes.within(PATIENCE)
             if event is None:
-                wrong.append("nothing comes")
+                watched.wrong.append("nothing comes")
                 return
             if isinstance(event, Cut):
-                told.append(f"{event.first}-{event.last} cut")
+                watched.followed.append(f"{event.first}-{event.last} cut")
             elif isinstance(event, Record):
-                told.append(event.line)
+                watched.followed.append(event.line)
                 if event.number > 1 and event.edits[0].tree != str(event.number):
-                    wrong.append(f"{event}")
+                    watched.wrong.append(f"{event}")
 
 
 def try_watching(top: str, failures: Failures) -> None:
     folder, output = os.path.join(top, "watched"), os.path.join(top, "watch.txt")
     with Store(folder, make=True, program=PROGRAM) as store:
         store["web"] = {"n": "1"}
-    writer = Writer(folder, os.path.join(folder, "confstore.sock"))
-    told: list[str] = []
-    wrong: list[str] = []
-    thread = threading.Thread(target=follow, args=(Reader(folder, program=PROGRAM), told, wrong), daemon=True)
+    writer, watched = Writer(folder, os.path.join(folder, "confstore.sock")), Watched(output)
+    thread = threading.Thread(target=follow, args=(Reader(folder, program=PROGRAM), watched), daemon=True)
     with open(output, "wb") as target:
         watch = subprocess.Popen([*CTL, "watch", folder, "--from", "1"], stdout=target, env=ENVIRONMENT)
     try:
         thread.start()
-        calm = change_all(writer, watch)
-        ends = re.compile(rf"(?m)^({CHANGES} .*|\d+-{CHANGES} cut)\n\Z".encode())
-        failures.expect("the watch comes to the end", until(lambda: bool(ends.search(read_file(output)))), True)
+        calm = change_all(writer, watch, watched, failures)
+        failures.expect("all come to the end", until(lambda: watched.have_come_to(CHANGES)), True)
         thread.join(PATIENCE)
     finally:
         watch.send_signal(signal.SIGINT)
         failures.expect("the watch ends as it is told", watch.wait(PATIENCE), -signal.SIGINT)
-    failures.expect("the values", wrong, [])
-    watched = read_file(output).decode().splitlines()
-    failures.expect("what the watch missed while it was stopped", any(line.endswith(" cut") for line in watched), True)
-    for name, lines in (("watch", watched), ("follow", told)):
+    failures.expect("the values", watched.wrong, [])
+    lines_of_watch = watched.lines()
+    is_cut = any(line.endswith(" cut") for line in lines_of_watch)
+    failures.expect("the watch was cut while it was stopped", is_cut, True)
+    for name, lines in (("watch", lines_of_watch), ("follow", watched.followed)):
         seen = numbers_of(lines, failures)
         failures.expect(f"{name}: those before a calm checkpoint", seen[:calm] == list(range(1, calm + 1)), True)
         print(f"{name}: {len(seen)} of {CHANGES} changes were told, and {CHANGES - len(seen)} cut")

@@ -1,9 +1,11 @@
 #!/usr/bin/env python3
-"""Tries ./confstore, ./prove, packaging/release.sh and checks/released.sh in copies of the repository.
+"""Tries ./confstore, ./prove, packaging/release.sh, packaging/wheel.sh and checks/released.sh in copies of the
+repository.
 
-No hour of proof is needed: in the copies, most of which have a few of the crates alone, an `rt` stands first on the PATH that proves nothing, and "builds" a program
-that is given. The release is made of that program by the copy's own packaging/release.sh, and is then damaged, or made
-to disagree with the sources, in each way that the scripts have to notice. Any program will do:
+No hour of proof is needed: in the copies, most of which have a few of the crates alone, an `rt` stands first on the
+PATH that proves nothing, and "builds" a program that is given. The release is made of that program by the copy's own
+scripts, and is then damaged, or made to disagree with the sources, in each way that the scripts have to notice. Any
+program will do:
 
     ./confstore --version && python3 checks/release.py
 
@@ -138,8 +140,12 @@ def archive_of(copy: Path) -> Path:
     return next((copy / "release").glob("*.tar.xz"))
 
 
+def wheel_of(copy: Path) -> Path:
+    return next((copy / "release").glob("*.whl"))
+
+
 def try_making(scene: Scene, failures: Failures) -> Path:
-    """./prove, packaging/release.sh and checks/released.sh. Returns a copy with a release that is whole."""
+    """./prove, packaging/release.sh, packaging/wheel.sh and checks/released.sh. Returns a copy with a release that is whole."""
     copy = scene.small_copy()
     shutil.rmtree(copy / "release", ignore_errors=True)
     proved = scene.run([copy / "prove"])
@@ -148,13 +154,19 @@ def try_making(scene: Scene, failures: Failures) -> Path:
     failures.expect("./prove names what runs", re.search(r"2 of 3 crates .*now confstore \d+ s", proved.stderr.decode()) is not None, True)
     failures.expect("./prove leaves nothing behind", (copy / "out" / "proof").exists(), False)
     failures.expect("no release: checks/released.sh", scene.run([copy / "checks/released.sh"]).returncode, 1)
-    made = scene.run([copy / "packaging/release.sh"])
-    failures.expect("release.sh", (made.returncode, made.stderr), (0, b""))
+    makers = [copy / "packaging/release.sh", copy / "packaging/wheel.sh"]
+    for maker in makers:
+        made = scene.run([maker])
+        failures.expect(maker.name, (made.returncode, made.stderr), (0, b""))
     first = {path.name: path.read_bytes() for path in (copy / "release").iterdir()}
     time.sleep(1.1)
-    scene.run([copy / "packaging/release.sh"], LC_ALL="C.UTF-8", TZ="Asia/Tokyo")
+    (copy / "python/confstore/store.py").touch()
+    for maker in makers:
+        scene.run(["bash", "-c", f"umask 077; {maker}"], LC_ALL="C.UTF-8", TZ="Asia/Tokyo")
     again = {path.name: path.read_bytes() for path in (copy / "release").iterdir()}
-    failures.expect("release.sh makes the same twice", again == first, True)
+    kinds = sorted(name.rpartition(".")[2] for name in first)
+    failures.expect("what is in the release", kinds, ["manifest", "whl", "xz"])
+    failures.expect("the same is made twice", again == first, True)
     failures.expect("the manifest is in the one style", scene.run([PROGRAM, "check", copy / "release/manifest"]).stdout, b"")
     said = scene.run([copy / "prove"]).stderr.decode()
     failures.expect("./prove knows the released program", "bit for bit" in said, True)
@@ -186,7 +198,7 @@ def try_comparing(scene: Scene, whole: Path, failures: Failures) -> None:
     failures.expect("./prove with another program", "it is NOT the released program" in said, True)
     again = scene.run([copy / "checks/released.sh"], RT_IDENTITY="another toolchain")
     failures.expect("the gate's look with another toolchain", again.returncode, 0)
-    failures.expect("and what it says", b"nothing was compared" in again.stdout, True)
+    failures.expect("and what it says", b"the program wasn't compared" in again.stdout, True)
     said = scene.run([copy / "prove"], RT_IDENTITY="another toolchain").stderr.decode()
     failures.expect("./prove with another toolchain", "nothing was compared" in said, True)
 
@@ -211,6 +223,15 @@ def try_comparing(scene: Scene, whole: Path, failures: Failures) -> None:
     copy = proved_copy()
     change(copy / CODE)
     look("a source that changed after the proof", copy, "run checks/gate.sh first")
+    copy = proved_copy()
+    change(copy / "python/confstore/store.py")
+    look("another source of the package", copy, "isn't the wheel that packaging/wheel.sh makes")
+    copy = proved_copy()
+    wheel = wheel_of(copy)
+    shutil.copy(wheel, wheel.with_name("confstore-0.0.1-py3-none-any.whl"))
+    look("a wheel of old", copy, "confstore-0.0.1-py3-none-any.whl isn't the wheel")
+    wheel.unlink()
+    look("no wheel", copy, f"release/{wheel.name} is missing")
 
 
 def try_starts(scene: Scene, whole: Path, failures: Failures) -> None:

@@ -1,11 +1,12 @@
 #!/usr/bin/env bash
-# Looks whether release/ is what the sources here give: whether the program that was proved and built here is the one in
-# the archive, byte for byte, and the archive and the manifest are what packaging/release.sh makes.
+# Looks whether release/ is what the sources here give: whether the wheel is what packaging/wheel.sh makes, the program
+# that was proved and built here is the one in the archive, byte for byte, and the archive and the manifest are what
+# packaging/release.sh makes.
 #
 #     checks/released.sh
 #
-# checks/gate.sh or ./prove have to run first. With another toolchain than the manifest's nothing is compared, and a
-# line says so. The status is 0 if nothing differs, and each difference has a line.
+# checks/gate.sh or ./prove have to run first. With another toolchain than the manifest's the wheel alone is compared,
+# and a line says so. The status is 0 if nothing differs, and each difference has a line.
 set -u
 top=$(cd "$(dirname "${BASH_SOURCE[0]}")/.." && pwd) || exit 1
 # shellcheck source=packaging/program.sh
@@ -19,10 +20,22 @@ differs() {
     wrong=1
 }
 
+# Looks whether the wheel of the release is the one that the Python package's sources make, and the only one.
+compare_wheel() {
+    local wheel file
+    wheel=$("$top/packaging/wheel.sh" "$room/wheel") || exit 1
+    [ -e "$top/release/${wheel##*/}" ] || differs "release/${wheel##*/} is missing"
+    for file in "$top"/release/*.whl; do
+        [ ! -e "$file" ] || { [ "${file##*/}" = "${wheel##*/}" ] && cmp -s "$wheel" "$file"; } ||
+            differs "$file isn't the wheel that packaging/wheel.sh makes"
+    done
+}
+
+compare_wheel
 toolchain=$(rt version) || exit 1
 if [ -f "$manifest" ] && [ "$(field "$manifest" toolchain)" != "$toolchain" ]; then
-    echo "the release was made by $(field "$manifest" toolchain), and here is $toolchain: nothing was compared"
-    exit 0
+    echo "the release was made by $(field "$manifest" toolchain), and here is $toolchain: the program wasn't compared"
+    exit "$wrong"
 fi
 made=$("$top/packaging/release.sh" "$room/made") || exit 1
 if [ -f "$manifest" ]; then
@@ -48,5 +61,5 @@ if [ -f "$manifest" ]; then
 else
     differs "release/manifest is missing"
 fi
-[ "$wrong" -eq 0 ] || echo "run packaging/release.sh, and commit release/ with the sources"
+[ "$wrong" -eq 0 ] || echo "run packaging/release.sh, and commit release/ with the sources; wheel.sh makes the wheel"
 exit "$wrong"

@@ -1,6 +1,5 @@
 /* Sessions: see confstore.h. SPDX-License-Identifier: Apache-2.0 */
-#define _GNU_SOURCE
-#include "confstore.h"
+#include "confstore_inner.h"
 
 #include <errno.h>
 #include <fcntl.h>
@@ -8,14 +7,11 @@
 #include <pthread.h>
 #include <signal.h>
 #include <spawn.h>
-#include <stdbool.h>
 #include <stdlib.h>
-#include <string.h>
 #include <sys/socket.h>
 #include <sys/stat.h>
 #include <sys/un.h>
 #include <sys/wait.h>
-#include <time.h>
 #include <unistd.h>
 
 extern char **environ;
@@ -70,19 +66,6 @@ static const char *const STATUS_NAMES[] = {
 const char *confstore_status_name(enum confstore_status status) {
     size_t number = (size_t)status;
     return number < sizeof STATUS_NAMES / sizeof *STATUS_NAMES ? STATUS_NAMES[number] : "none";
-}
-
-/* Sessions. */
-
-static int64_t now(void) {
-    struct timespec time;
-    clock_gettime(CLOCK_MONOTONIC, &time);
-    return (int64_t)time.tv_sec * 1000 + time.tv_nsec / 1000000;
-}
-
-static void close_end(int *end) {
-    if (*end >= 0) close(*end);
-    *end = -1;
 }
 
 /* The same end under a number that is no standard stream's, since those are given to the program. */
@@ -238,24 +221,11 @@ static enum confstore_status distrust(struct confstore *store, enum confstore_st
     return store->ended = why;
 }
 
-/* The end of the first answer from a place on that has its closing line, or 0. None ends before the second place. */
-static size_t answer_end(const struct confstore *store, size_t from, size_t at) {
-    const char *data = store->got.data;
-    while (at + 4 <= store->got.length) {
-        const char *found = memchr(data + at, '.', store->got.length - at - 3);
-        if (!found) break;
-        at = (size_t)(found - data);
-        if (!memcmp(found, "...\n", 4) && (at == from || found[-1] == '\n')) return at + 4;
-        at++;
-    }
-    return 0;
-}
-
 /* Looks which answers are whole, since so many bytes more are there. Each is to a command, and none is too long. */
 static enum confstore_status look_at_answers(struct confstore *store, size_t more) {
     size_t old = store->got.length - more, end;
     size_t at = old > store->whole + 3 ? old - 3 : store->whole;
-    while ((end = answer_end(store, store->whole, at)) > 0) {
+    while ((end = document_end(&store->got, store->whole, at)) > 0) {
         if (end - store->whole > CONFSTORE_LONGEST_ANSWER) return distrust(store, CONFSTORE_ANSWER_LONG);
         if (store->answers == store->due) return distrust(store, CONFSTORE_BAD_ANSWER);
         store->answers++;
@@ -358,7 +328,7 @@ enum confstore_status confstore_take(struct confstore *store, struct confstore_b
         enum confstore_status status = turn(store, deadline, &none, &left);
         if (status != CONFSTORE_OK && store->ended == CONFSTORE_OK && store->answers == 0) return status;
     }
-    size_t end = answer_end(store, store->taken, store->taken);
+    size_t end = document_end(&store->got, store->taken, store->taken);
     answer->length = 0;
     if (confstore_bytes_add(answer, store->got.data + store->taken, end - store->taken) != CONFSTORE_OK)
         return CONFSTORE_NO_MEMORY;

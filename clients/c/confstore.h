@@ -1,4 +1,5 @@
-/* Holds a store of confstore: starts a session of the program, sends it commands and takes its answers.
+/* Holds a store of confstore: starts a session of the program, sends it commands and takes its answers. And watches the
+ * changes of a store that anybody holds.
  *
  *     struct confstore *store;
  *     struct confstore_bytes command = {0}, answer = {0};
@@ -50,6 +51,9 @@ extern "C" {
 /* The longest answer that a session gives, with its closing line. */
 #define CONFSTORE_LONGEST_ANSWER ((size_t)67108864)
 
+/* The longest record of a store, and the longest base. */
+#define CONFSTORE_LONGEST_RECORD ((size_t)67108864)
+
 /* What a call returns. */
 enum confstore_status {
     CONFSTORE_OK,
@@ -82,7 +86,9 @@ enum confstore_status {
     CONFSTORE_COMMAND_LONG,  /* TooLong: a command was longer than a session takes */
     CONFSTORE_SESSION_LONG,  /* SessionLong: so was the whole input */
     CONFSTORE_INPUT_FAILED,  /* Input */
-    CONFSTORE_OUTPUT_FAILED  /* Output */
+    CONFSTORE_OUTPUT_FAILED, /* Output */
+    /* Of a watch, which is over too, and of a record. */
+    CONFSTORE_NOT_IN_STYLE /* it is not written as the program writes it: by hand, or it is none */
 };
 
 /* The status's name, as "CONFSTORE_OK". It is never freed. */
@@ -148,6 +154,15 @@ enum confstore_status confstore_write_pair(struct confstore_bytes *to, const cha
 enum confstore_status confstore_begin(struct confstore_bytes *command);
 enum confstore_status confstore_end(struct confstore_bytes *command);
 
+/* Makes the bytes the start of a batch: a command of several edits, of which all are made or none. Each edit is begun
+ * by its word, `import`, `set` or `delete`, and the name of its configuration, and then has the other pairs of such a
+ * command, as `path` and `value`. confstore_end ends the batch. */
+enum confstore_status confstore_begin_batch(struct confstore_bytes *command);
+enum confstore_status confstore_begin_edit(struct confstore_bytes *command, const char *word, const char *name,
+                                           size_t length);
+enum confstore_status confstore_write_edit_pair(struct confstore_bytes *command, const char *key, const char *text,
+                                                size_t length);
+
 /* Reads back a scalar of the one style, with the line feed that ends it, and writes its text at the end of the bytes.
  * What is there already stays. Where a text ends in at most one line feed, the one that ends the scalar may be missing.
  */
@@ -173,6 +188,70 @@ struct confstore_answer {
 
 /* Reads an answer. Returns CONFSTORE_BAD_ANSWER for what is none. */
 enum confstore_status confstore_read_answer(const char *answer, size_t length, struct confstore_answer *said);
+
+/* A watch of the changes of a store. It takes no lock and writes nothing, so it runs beside whoever holds the store,
+ * and goes on over checkpoints and over sessions that end and begin. It is used by one thread at a time, and by the
+ * process that opened it. */
+struct confstore_watch;
+
+/* What a watch tells. Numbers are those of accepted commands, from 1. */
+enum confstore_event {
+    CONFSTORE_EVENT_CHANGE,  /* the command with the number `first` was accepted, and `record` is its record */
+    CONFSTORE_EVENT_CUT,     /* a checkpoint dropped the changes `first` to `last` before they were seen */
+    CONFSTORE_EVENT_REPLACED /* the store has another history after the change `last`, as a backup that took its place;
+                              * what it has after that number is told next */
+};
+
+/* An event. Of a change, `first` is `last`, and `record` points into the watch until its next call: it is the document
+ * as it stands in the store. Of another event `record` is NULL, and of CONFSTORE_EVENT_REPLACED `first` is `last`. */
+struct confstore_change {
+    enum confstore_event event;
+    uint64_t first, last;
+    const char *record;
+    size_t length;
+};
+
+/* Begins to watch the store of a folder: from the change with the number `start` on, or the changes after this call if
+ * that is 0. `*watch` is NULL unless this returns CONFSTORE_OK. CONFSTORE_NOT_A_STORE: the folder has no store. */
+enum confstore_status confstore_watch_open(const char *folder, uint64_t start, struct confstore_watch **watch);
+
+/* Takes the next event, and waits for one for at most so many milliseconds; then it returns CONFSTORE_TIMED_OUT. Each
+ * change comes once, in order. The last ones may not be on the disk yet.
+ *
+ * Changes are looked for while one is waited for: where the system has inotify, as soon as it says that something was
+ * written, and once a second at least; else five times a second. CONFSTORE_EVENT_CUT comes where two checkpoints lie
+ * between two looks, or where the first change that is asked for was dropped before.
+ *
+ * CONFSTORE_NOT_A_STORE, CONFSTORE_DAMAGED and CONFSTORE_DEVICE are what has become of the store, after all that was
+ * before; each later call returns the same. So does CONFSTORE_NOT_IN_STYLE: what would be told, or the file's first
+ * document, is written by hand in another form. A checkpoint writes the file anew. */
+enum confstore_status confstore_watch_next(struct confstore_watch *watch, int timeout,
+                                           struct confstore_change *change);
+
+/* Ends a watch, and frees it. NULL is closed already. */
+void confstore_watch_close(struct confstore_watch *watch);
+
+/* Bytes that belong to somebody else. */
+struct confstore_part {
+    const char *data;
+    size_t length;
+};
+
+enum confstore_edit_kind { CONFSTORE_EDIT_IMPORT, CONFSTORE_EDIT_SET, CONFSTORE_EDIT_DELETE };
+
+/* An edit of a record. Its parts point into the record, and are what follows their keys: `name` and `path` are scalars,
+ * for confstore_read_text, and `value` is a tree in the one style. An import has the empty path, and a delete has no
+ * value. */
+struct confstore_edit {
+    enum confstore_edit_kind kind;
+    struct confstore_part name, path, value;
+};
+
+/* Reads the edit at a place of a record, and moves the place behind it. The place of the first edit is 0; only the
+ * record of a batch has more than one. Returns CONFSTORE_NOTHING_DUE behind the last one, and CONFSTORE_NOT_IN_STYLE
+ * for what the program did not write. */
+enum confstore_status confstore_read_edit(const char *record, size_t length, size_t *place,
+                                          struct confstore_edit *edit);
 
 #ifdef __cplusplus
 }

@@ -1,9 +1,7 @@
-/* Texts of the one style, and answers: see confstore.h. SPDX-License-Identifier: Apache-2.0 */
-#include "confstore.h"
+/* Texts of the one style, commands, answers and records: see confstore.h. SPDX-License-Identifier: Apache-2.0 */
+#include "confstore_inner.h"
 
-#include <stdbool.h>
 #include <stdlib.h>
-#include <string.h>
 
 /* The longest word that is plain. */
 #define LONGEST_WORD 128
@@ -164,19 +162,50 @@ enum confstore_status confstore_write_key(struct confstore_bytes *to, const char
     return written(to, before, push_quoted(to, text, length));
 }
 
-enum confstore_status confstore_write_pair(struct confstore_bytes *to, const char *key, const char *text,
-                                           size_t length) {
-    size_t before = to->length;
-    enum confstore_status status = confstore_write_key(to, key, strlen(key));
+/* Commands. */
+
+/* Writes the start of a line, a word as the key, and a text as its value. */
+static enum confstore_status write_pair(struct confstore_bytes *to, const char *start, const char *key,
+                                        const char *text, size_t length) {
+    size_t before = to->length, margin = strlen(start);
+    enum confstore_status status = push(to, start, margin) ? CONFSTORE_OK : CONFSTORE_NO_MEMORY;
+    if (status == CONFSTORE_OK) status = confstore_write_key(to, key, strlen(key));
     if (status == CONFSTORE_OK && !push(to, ": ", 2)) status = CONFSTORE_NO_MEMORY;
-    if (status == CONFSTORE_OK) status = confstore_write_text(to, text, length, 2);
+    if (status == CONFSTORE_OK) status = confstore_write_text(to, text, length, margin + 2);
     if (status != CONFSTORE_OK) to->length = before;
     return status;
 }
 
-enum confstore_status confstore_begin(struct confstore_bytes *command) {
+enum confstore_status confstore_write_pair(struct confstore_bytes *to, const char *key, const char *text,
+                                           size_t length) {
+    return write_pair(to, "", key, text, length);
+}
+
+/* The starts of the lines of an edit in a batch: of the first one, and of the others. */
+#define FIRST_OF_EDIT "  - "
+#define OTHER_OF_EDIT "    "
+
+enum confstore_status confstore_begin_edit(struct confstore_bytes *command, const char *word, const char *name,
+                                           size_t length) {
+    return write_pair(command, FIRST_OF_EDIT, word, name, length);
+}
+
+enum confstore_status confstore_write_edit_pair(struct confstore_bytes *command, const char *key, const char *text,
+                                                size_t length) {
+    return write_pair(command, OTHER_OF_EDIT, key, text, length);
+}
+
+/* Makes the bytes the first lines of a command. */
+static enum confstore_status begin_with(struct confstore_bytes *command, const char *lines) {
+    size_t before = command->length;
     command->length = 0;
-    return push(command, "---\n", 4) ? CONFSTORE_OK : CONFSTORE_NO_MEMORY;
+    return written(command, before, push(command, lines, strlen(lines)));
+}
+
+enum confstore_status confstore_begin(struct confstore_bytes *command) { return begin_with(command, "---\n"); }
+
+enum confstore_status confstore_begin_batch(struct confstore_bytes *command) {
+    return begin_with(command, "---\nbatch:\n");
 }
 
 enum confstore_status confstore_end(struct confstore_bytes *command) {
@@ -283,13 +312,7 @@ enum confstore_status confstore_read_text(const char *written, size_t length, st
 /* Reads a count in double quotes, with its line feed. */
 static bool read_count(const char *value, size_t length, uint64_t *count) {
     if (length < 4 || value[0] != '"' || value[length - 2] != '"' || value[length - 1] != '\n') return false;
-    *count = 0;
-    for (size_t at = 1; at < length - 2; at++) {
-        unsigned digit = (unsigned)(value[at] - '0');
-        if (digit > 9 || *count > (UINT64_MAX - digit) / 10) return false;
-        *count = *count * 10 + digit;
-    }
-    return true;
+    return read_digits(value + 1, length - 3, count);
 }
 
 enum confstore_status confstore_read_answer(const char *answer, size_t length, struct confstore_answer *said) {
@@ -314,4 +337,84 @@ enum confstore_status confstore_read_answer(const char *answer, size_t length, s
         return CONFSTORE_OK;
     }
     return CONFSTORE_BAD_ANSWER;
+}
+
+/* Records. */
+
+/* The place behind a line. */
+static const char *after_line(const char *line, const char *end) {
+    const char *feed = memchr(line, '\n', (size_t)(end - line));
+    return feed ? feed + 1 : end;
+}
+
+/* Whether a line is empty, or behind more than so many spaces. */
+static bool is_deeper(const char *line, const char *end, size_t margin) {
+    if (*line == '\n') return true;
+    size_t spaces = 0;
+    while (spaces <= margin && line + spaces < end && line[spaces] == ' ') spaces++;
+    return spaces > margin;
+}
+
+/* Takes the start of a line, a key, and what follows it: the rest of the line, and the lines that are deeper. */
+static bool take_pair(const char **at, const char *end, const char *start, const char *key,
+                      struct confstore_part *value) {
+    size_t margin = strlen(start), length = strlen(key);
+    const char *line = *at;
+    if ((size_t)(end - line) < margin + length + 2 || memcmp(line, start, margin)) return false;
+    line += margin;
+    if (memcmp(line, key, length) || line[length] != ':') return false;
+    line += length + 1;
+    if (*line != ' ' && *line != '\n') return false;
+    const char *from = line + 1;
+    line = *line == ' ' ? after_line(from, end) : from;
+    while (line < end && is_deeper(line, end, margin)) line = after_line(line, end);
+    *value = (struct confstore_part){from, (size_t)(line - from)};
+    *at = line;
+    return value->length > 0;
+}
+
+/* Takes what stands before the edits of a record: its number, and the word of a batch. */
+static bool take_head(const char **at, const char *end) {
+    static const char BATCH[] = "batch:\n";
+    struct confstore_part number;
+    if (end - *at >= 4 && !memcmp(*at, "---\n", 4)) *at += 4;
+    if (!take_pair(at, end, "", "at", &number)) return false;
+    if ((size_t)(end - *at) >= sizeof BATCH && !memcmp(*at, BATCH, sizeof BATCH - 1)) *at += sizeof BATCH - 1;
+    return *at < end;
+}
+
+/* Takes an edit, whose first line has a start of its own. */
+static bool take_edit(const char **at, const char *end, const char *first, const char *other,
+                      struct confstore_edit *edit) {
+    static const struct confstore_part NO_PATH = {"\"\"\n", 3}, NO_VALUE = {NULL, 0};
+    static const struct {
+        enum confstore_edit_kind kind;
+        const char *word, *path, *value;
+    } FORMS[] = {
+        {CONFSTORE_EDIT_IMPORT, "import", NULL, "tree"},
+        {CONFSTORE_EDIT_SET, "set", "path", "value"},
+        {CONFSTORE_EDIT_DELETE, "delete", "path", NULL},
+    };
+    for (size_t number = 0; number < sizeof FORMS / sizeof *FORMS; number++) {
+        *edit = (struct confstore_edit){FORMS[number].kind, {NULL, 0}, NO_PATH, NO_VALUE};
+        if (!take_pair(at, end, first, FORMS[number].word, &edit->name)) continue;
+        if (FORMS[number].path && !take_pair(at, end, other, FORMS[number].path, &edit->path)) return false;
+        return !FORMS[number].value || take_pair(at, end, other, FORMS[number].value, &edit->value);
+    }
+    return false;
+}
+
+enum confstore_status confstore_read_edit(const char *record, size_t length, size_t *place,
+                                          struct confstore_edit *edit) {
+    if (length < 4 || memcmp(record + length - 4, "...\n", 4)) return CONFSTORE_NOT_IN_STYLE;
+    if (*place > 0 && *place >= length - 4) return CONFSTORE_NOTHING_DUE;
+    const char *end = record + length - 4, *at = record + *place;
+    if (*place == 0 && !take_head(&at, end)) return CONFSTORE_NOT_IN_STYLE;
+    size_t margin = strlen(FIRST_OF_EDIT);
+    bool is_of_batch = (size_t)(end - at) > margin && !memcmp(at, FIRST_OF_EDIT, margin);
+    if (*place > 0 && !is_of_batch) return CONFSTORE_NOT_IN_STYLE;
+    const char *first = is_of_batch ? FIRST_OF_EDIT : "", *other = is_of_batch ? OTHER_OF_EDIT : "";
+    if (!take_edit(&at, end, first, other, edit)) return CONFSTORE_NOT_IN_STYLE;
+    *place = (size_t)(at - record);
+    return CONFSTORE_OK;
 }

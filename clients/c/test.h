@@ -4,6 +4,8 @@
 
 #include "confstore.h"
 
+#include <stdbool.h>
+
 /* Counts a test, and prints what was wrong. */
 void expect(const char *name, long found, long wanted);
 void expect_status(const char *name, enum confstore_status found, enum confstore_status wanted);
@@ -13,6 +15,11 @@ void expect_bytes(const char *name, const char *found, size_t length, const char
 const char *path_of(const char *name);
 const char *folder_of(const char *name);
 void write_file(const char *path, const char *content, int mode);
+
+/* Lets so many allocations of the library succeed, and refuses the next one; all if that is negative. And whether one
+ * was refused since. */
+void refuse_after(long count);
+bool was_refused(void);
 
 /* The command that gets the configuration `c`. */
 #define LOOK "get: c\npath: \"\"\n...\n"
@@ -36,5 +43,8 @@ void forks(const char *program, const char *served);
 void endless_programs(void);
 void longest_answers(void);
 void paths(const char *program);
+
+/* What is tried of watches, batches and edits. */
+void watches(const char *program);
 
 #endif

@@ -33,18 +33,25 @@
 #endif
 
 static long allowed = -1;
-static int was_refused;
+static bool one_was_refused;
 
 void *__real_realloc(void *, size_t);
 void *__real_calloc(size_t, size_t);
 void *__wrap_realloc(void *, size_t);
 void *__wrap_calloc(size_t, size_t);
 
-static int refuses(void) {
-    if (allowed < 0 || allowed-- > 0) return 0;
+void refuse_after(long count) {
+    allowed = count;
+    one_was_refused = false;
+}
+
+bool was_refused(void) { return one_was_refused; }
+
+static bool refuses(void) {
+    if (allowed < 0 || allowed-- > 0) return false;
     allowed = -1;
-    was_refused = 1;
-    return 1;
+    one_was_refused = true;
+    return true;
 }
 
 void *__wrap_realloc(void *old, size_t size) { return refuses() ? NULL : __real_realloc(old, size); }
@@ -196,13 +203,12 @@ static void all_of(struct confstore *store) {
 /* Each allocation of a run is refused in turn: the call says so, and nothing is left behind. */
 static void without_memory(void) {
     const char *folder = folder_of("memory");
-    int number = 0;
-    do {
+    bool is_refused = true;
+    for (long number = 0; is_refused && number < 100; number++) {
         struct confstore *store;
         struct confstore_bytes command = {0}, answer = {0}, text = {0};
         struct confstore_answer said = {0};
-        was_refused = 0;
-        allowed = number++;
+        refuse_after(number);
         enum confstore_status status = confstore_open(program, folder, PATIENCE, &store);
         if (status == CONFSTORE_OK) status = confstore_ask(store, IMPORT, strlen(IMPORT), &answer);
         if (status == CONFSTORE_OK) status = confstore_begin(&command);
@@ -212,15 +218,17 @@ static void without_memory(void) {
         if (status == CONFSTORE_OK) status = confstore_ask(store, command.data, command.length, &answer);
         if (status == CONFSTORE_OK) status = confstore_read_answer(answer.data, answer.length, &said);
         if (status == CONFSTORE_OK) status = confstore_read_text("a\n", 2, &text);
-        expect_status("without memory", status, was_refused ? CONFSTORE_NO_MEMORY : CONFSTORE_OK);
-        allowed = -1;
+        is_refused = was_refused();
+        refuse_after(-1);
+        expect_status("without memory", status, is_refused ? CONFSTORE_NO_MEMORY : CONFSTORE_OK);
         enum confstore_status closed = confstore_close(store, NULL);
         expect_status("closed without memory", closed, CONFSTORE_OK);
         confstore_bytes_free(&command);
         confstore_bytes_free(&answer);
         confstore_bytes_free(&text);
-    } while (was_refused && number < 100);
-    expect("some were refused", number > 3, 1);
+        expect("some are refused", is_refused || number > 3, 1);
+    }
+    expect("not all are refused", is_refused, 0);
 }
 
 /* Faults. */
@@ -399,6 +407,7 @@ int main(int count, char **words) {
     endless_programs();
     longest_answers();
     paths(program);
+    watches(program);
     if (count > 3) {
         expect_status("connect", confstore_connect(words[3], PATIENCE, &store), CONFSTORE_OK);
         if (store) all_of(store);

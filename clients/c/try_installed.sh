@@ -1,10 +1,10 @@
 #!/usr/bin/env bash
-# Tries the library where it is installed: what it exports, its pkg-config file, and the example of its man page.
+# Tries the library where it is installed: what it exports, its pkg-config file, and the examples of its man page.
 #
 #     clients/c/try_installed.sh PREFIX LIBDIR [PROGRAM]
 #
 # PREFIX and LIBDIR are where the files are now, which may be another place than the one they were installed for. With a
-# PROGRAM the example is run on a store. The compilers are gcc and clang, as far as they are there. The last line is
+# PROGRAM the examples are run on a store. The compilers are gcc and clang, as far as they are there. The last line is
 # 'N passed, M failed', and the status is 0 if M is 0.
 set -u
 prefix=${1:?where the library is installed}
@@ -74,23 +74,36 @@ page_has_all() {
     done
     return $status
 }
-page | sed -n '/^\.SH EXAMPLES$/,/^\.EE$/p' | sed '1,/^\.EX$/d; /^\.EE$/d; s/\\-/-/g; s/\\e/\\/g' >"$folder/example.c"
+# The examples of the page: the first one sets a value, and the second one watches.
+example() { # NUMBER
+    page | sed '1,/^\.SH EXAMPLES$/d' |
+        awk -v wanted="$1" '/^\.EE$/ { within = 0 } within; /^\.EX$/ { within = ++number == wanted }' |
+        sed 's/\\-/-/g; s/\\e/\\/g'
+}
+example 1 >"$folder/set.c"
+example 2 >"$folder/watch.c"
 
-compile() { # COMPILER OUTPUT [-static]
-    local compiler=$1 output=$2 words
-    shift 2
+compile() { # COMPILER EXAMPLE OUTPUT [-static]
+    local compiler=$1 example=$2 output=$3 words
+    shift 3
     # The words of pkg-config are flags, which have no spaces.
     read -ra words < <(flags --cflags --libs "${@/#-static/--static}") && [ ${#words[@]} -ge 3 ] &&
-        "$compiler" "${warnings[@]}" "$@" -o "$folder/$output" "$folder/example.c" "${words[@]}"
+        "$compiler" "${warnings[@]}" "$@" -o "$folder/$output" "$folder/$example.c" "${words[@]}"
 }
 needs_library() { names NEEDED "$folder/$1" | grep -qx "$(names SONAME "$libdir/libconfstore.so")"; }
 needs_nothing() { [ -z "$(names NEEDED "$folder/$1")" ]; }
 
-works() { # OUTPUT
-    local store=$folder/$1.store
-    mkdir "$store" || return
-    diff <(CONFSTORE=$program LD_LIBRARY_PATH=$libdir "$folder/$1" "$store") <(echo 81) &&
-        diff <("$program" get --raw "$store" web /port) <(echo 81)
+run_on() { # OUTPUT FOLDER
+    mkdir -p "$2" && CONFSTORE=$program LD_LIBRARY_PATH=$libdir "$folder/$1" "$2"
+}
+works_set() { # OUTPUT
+    diff <(run_on "$1" "$folder/$1.store") <(echo 81) &&
+        diff <("$program" get --raw "$folder/$1.store" web /port) <(echo 81)
+}
+works_watch() { # OUTPUT: a batch, and what is there when it begins, after a checkpoint
+    diff <(run_on "$1" "$folder/$1.store") <(echo "1 web web/port") &&
+        "$program" checkpoint "$folder/$1.store" &&
+        diff <(run_on "$1" "$folder/$1.store") <(printf '%s\n' "no change 1" "2 web web/port")
 }
 says_status() { # OUTPUT: the status of a folder that isn't there
     diff <(CONFSTORE=$program LD_LIBRARY_PATH=$libdir "$folder/$1" "$folder/none" 2>&1) \
@@ -105,15 +118,18 @@ try "the version" has_version
 try "what the man page has" page_has_all
 for compiler in gcc clang; do
     command -v "$compiler" >/dev/null || continue
-    try "$compiler, shared" compile "$compiler" "$compiler-shared"
-    try "$compiler, shared: needs the library" needs_library "$compiler-shared"
-    try "$compiler, static" compile "$compiler" "$compiler-static" -static
-    try "$compiler, static: needs no library" needs_nothing "$compiler-static"
-    [ -n "$program" ] || continue
-    try "$compiler, shared: runs" works "$compiler-shared"
-    try "$compiler, static: runs" works "$compiler-static"
-    try "$compiler, shared: says a status" says_status "$compiler-shared"
+    for name in set watch; do
+        output=$compiler-$name
+        try "$output, shared" compile "$compiler" "$name" "$output-shared"
+        try "$output, shared: needs the library" needs_library "$output-shared"
+        try "$output, static" compile "$compiler" "$name" "$output-static" -static
+        try "$output, static: needs no library" needs_nothing "$output-static"
+        [ -n "$program" ] || continue
+        try "$output, shared: runs" "works_$name" "$output-shared"
+        try "$output, static: runs" "works_$name" "$output-static"
+    done
+    [ -z "$program" ] || try "$compiler: says a status" says_status "$compiler-set-shared"
 done
-[ -n "$program" ] || echo "left out: no program was given to run the example with"
+[ -n "$program" ] || echo "left out: no program was given to run the examples with"
 echo "$passed passed, $failed failed"
 [ "$failed" -eq 0 ]

@@ -19,7 +19,6 @@ if [ -z "$program" ] && ! find_program; then
 fi
 
 root=$(mktemp -d)
-chmod 755 "$root"
 trap 'rm -rf "$root"' EXIT
 # shellcheck source=packaging/deb/package.sh
 . "$top/packaging/deb/package.sh"

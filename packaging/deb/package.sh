@@ -1,5 +1,5 @@
 # shellcheck shell=bash disable=SC2154
-# What both packages share. It is sourced, with `top`, and with `root`, the folder that is packed. DEBFULLNAME and
+# What the packages share. It is sourced, with `top`, and with `root`, the folder that is packed. DEBFULLNAME and
 # DEBEMAIL name the maintainer. All times in a package are that of the commit.
 
 # shellcheck source=packaging/files.sh
@@ -17,7 +17,7 @@ needed_c_library() { # FILE
 
 # Compresses the man pages, and puts in the copyright and the list of changes.
 put_papers() { # NAME VERSION
-    gzip -n9 "$root"/usr/share/man/man*/*
+    find "$root/usr" -path '*/share/man/*' -type f -exec gzip -n9 {} +
     put 644 "$top/packaging/deb/copyright" "$root/usr/share/doc/$1/copyright"
     gzip -n9 >"$root/usr/share/doc/$1/changelog.gz" <<CHANGES
 $1 ($2) unstable; urgency=medium
@@ -32,6 +32,7 @@ installed_size() { du -sk --exclude=DEBIAN "$root" | cut -f 1; }
 
 # Packs the folder, which has its DEBIAN/control, and prints the package's path.
 pack() { # FOLDER FILE
+    chmod 755 "$root"
     (cd "$root" && find usr -type f -print0 | LC_ALL=C sort -z | xargs -0 md5sum >DEBIAN/md5sums)
     find "$root" -exec touch -h -d "@$SOURCE_DATE_EPOCH" {} +
     mkdir -p "$1"

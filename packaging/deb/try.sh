@@ -4,8 +4,9 @@
 #
 #     packaging/deb/try.sh [PROGRAM]
 #
-# It needs dpkg, and root or fakeroot; and for the library make, cc, objdump and pkg-config. Nothing outside of a
-# temporary folder is changed. The last line is 'N passed, M failed', and the status is 0 if M is 0.
+# It needs dpkg, and root or fakeroot; and for the library make, cc, objdump and pkg-config. Where lintian is installed
+# it looks at the packages. Nothing outside of a temporary folder is changed. The last line is 'N passed, M failed', and
+# the status is 0 if M is 0.
 set -u
 top=$(cd "$(dirname "${BASH_SOURCE[0]}")/../.." && pwd)
 # shellcheck source=packaging/program.sh
@@ -23,6 +24,7 @@ fi
 folder=$(mktemp -d) || exit 1
 trap 'rm -rf "$folder"' EXIT
 tree=$folder/unpacked
+library=()
 passed=0
 failed=0
 
@@ -57,36 +59,69 @@ works() {
 }
 
 # The C library, in the same root: it shares no file with the program.
-try_library() { # PACKAGE AGAIN
-    local libraries page=$tree/usr/share/man/man3/confstore.3.gz
+try_library() { # SHARED DEVELOPMENT AGAIN..
+    local shared=$1 development=$2 libraries page=$tree/usr/share/man/man3/confstore.3.gz package
     libraries=$tree/usr/lib/$("${CC:-cc}" -print-multiarch)
-    try "the same library's package twice" cmp "$1" "$2"
-    try "install the library" in_root --install "$1"
+    try "the same package of the shared library twice" cmp "$shared" "$3"
+    try "the same package for development twice" cmp "$development" "$4"
+    try "install the library" in_root --install "$shared" "$development"
     try "the library" "$top/clients/c/try_installed.sh" "$tree/usr" "$libraries" "$program"
     try "the library's prefix" grep -qx 'prefix=/usr' "$libraries/pkgconfig/confstore.pc"
-    try "the library's licence" grep -q '^License: Apache-2.0$' "$tree/usr/share/doc/libconfstore-dev/copyright"
-    try "the version of the library's package" is_version_of_library "$1"
-    try "what is linked with the library depends on" is_depended_on "$1" "$libraries/libconfstore.so"
-    try "the system's list of libraries" is_triggering "$1"
+    for package in "$shared" "$development"; do
+        try "the licence of $(name_of "$package")" grep -q '^License: Apache-2.0$' \
+            "$tree/usr/share/doc/$(name_of "$package")/copyright"
+        try "the version of $(name_of "$package")" is_version_of_library "$package"
+        try "what is installed of $(name_of "$package")" in_root --verify "$(name_of "$package")"
+    done
+    try "the development package needs the same version" needs_same "$development" "$shared"
+    try "what is linked with the library depends on" is_depended_on "$shared" "$libraries/libconfstore.so"
+    try "the symbols of the library" has_symbols "$shared" "$libraries/libconfstore.so"
+    try "the system's list of libraries" is_triggering "$shared"
     try "the library's page" has_page "$page"
     try "no warning in the library's page" has_no_warning "$page"
-    try "what is installed of the library" in_root --verify libconfstore-dev
-    try "remove the library" in_root --purge libconfstore-dev
+    try "a program that is linked with the library" link_program "$libraries"
+    try "remove what is for development" in_root --purge libconfstore-dev
+    try "that program goes on" env LD_LIBRARY_PATH="$libraries" "$folder/linked"
+    try "remove the library" in_root --purge "$(name_of "$shared")"
     try "nothing of the library is left" is_without_library
     try "the program stays" in_root --verify confstore
 }
+name_of() { dpkg-deb --field "$1" Package; }
 is_version_of_library() {
     diff <(dpkg-deb --field "$1" Version) \
         <(sed -n 's/^#define CONFSTORE_VERSION "\(.*\)"$/\1/p' "$top/clients/c/confstore.h")
 }
+needs_same() { # DEVELOPMENT SHARED
+    dpkg-deb --field "$1" Depends | grep -qF "$(name_of "$2") (= $(dpkg-deb --field "$2" Version))"
+}
+of_control() { dpkg-deb --ctrl-tarfile "$1" | tar -xO "./$2"; } # PACKAGE FILE
 is_depended_on() { # PACKAGE LIBRARY
     local soname
     soname=$(objdump -p "$2" | awk '$1 == "SONAME" { print $2 }')
-    diff <(dpkg-deb --ctrl-tarfile "$1" | tar -xO ./shlibs) \
-        <(echo "${soname%.so.*} ${soname##*.} libconfstore-dev (>= $(dpkg-deb --field "$1" Version))")
+    diff <(of_control "$1" shlibs) \
+        <(echo "${soname%.so.*} ${soname##*.} $(name_of "$1") (>= $(dpkg-deb --field "$1" Version))")
 }
-is_triggering() { dpkg-deb --ctrl-tarfile "$1" | tar -xO ./triggers | grep -qx 'activate-noawait ldconfig'; }
+# Each function that the library exports has the version that its symbol has.
+has_symbols() { # PACKAGE LIBRARY
+    diff <(of_control "$1" symbols | sed -n 's/^ \(confstore_[a-z_]*\)@CONFSTORE_\([0-9.]*\) \2$/\1@@CONFSTORE_\2/p') \
+        <(nm -D --defined-only "$2" | awk '$2 == "T" { print $3 }' | LC_ALL=C sort)
+}
+is_triggering() { of_control "$1" triggers | grep -qx 'activate-noawait ldconfig'; }
+link_program() { # LIBDIR
+    local words
+    printf '%s\n' '#include <confstore.h>' 'int main(void) { return !confstore_status_name(CONFSTORE_OK); }' \
+        >"$folder/linked.c"
+    read -ra words < <(PKG_CONFIG_LIBDIR=$1/pkgconfig pkg-config --define-variable=prefix="$tree/usr" --cflags --libs \
+        confstore) && "${CC:-cc}" -o "$folder/linked" "$folder/linked.c" "${words[@]}" &&
+        LD_LIBRARY_PATH=$1 "$folder/linked"
+}
 is_without_library() { [ -z "$(find "$tree/usr" -name '*libconfstore*' -o -name 'confstore.[h3]*' -o -name '*.pc')" ]; }
+# What lintian finds wrong. Three findings are left out: the program is packed as it was proved, and not stripped;
+# DEBEMAIL names who maintains the packages; and the copyright has no year.
+checks_policy() { # PACKAGE..
+    local tags=unstripped-binary-or-object,bogus-mail-host,bogus-mail-host-in-debian-changelog
+    lintian --allow-root --fail-on error,warning --suppress-tags "$tags,copyright-without-copyright-notice" "$@"
+}
 can_build_library() {
     local tool
     for tool in make "${CC:-cc}" objdump pkg-config; do
@@ -118,10 +153,12 @@ try "the server" "$tree/usr/lib/confstore/serve.py" --help
 command -v systemd-analyze >/dev/null && try "the unit" verifies_unit
 try "what is installed" in_root --verify confstore
 if can_build_library; then
-    library=$("$top/packaging/deb/build_library.sh" "$folder/one") || exit 1
-    library_again=$("$top/packaging/deb/build_library.sh" "$folder/two") || exit 1
-    try_library "$library" "$library_again"
+    mapfile -t library < <("$top/packaging/deb/build_library.sh" "$folder/one")
+    mapfile -t library_again < <("$top/packaging/deb/build_library.sh" "$folder/two")
+    [ ${#library[@]} -eq 2 ] && [ ${#library_again[@]} -eq 2 ] || exit 1
+    try_library "${library[@]}" "${library_again[@]}"
 fi
+command -v lintian >/dev/null && try "Debian's policy" checks_policy "$package" "${library[@]}"
 try "remove" in_root --purge confstore
 try "nothing is left" is_removed
 echo "$passed passed, $failed failed"

@@ -66,6 +66,7 @@ class Awaited(StoreTest):
                 call.cancel()
             ended = await asyncio.gather(*calls, return_exceptions=True)
             tree = await store.get("a")
+            assert isinstance(tree, dict)
             for number, count in enumerate(ended):
                 if number % 3:
                     self.assertIsInstance(count, int)

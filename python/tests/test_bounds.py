@@ -1,5 +1,7 @@
 """What a session may take: memory, time and a place. Programs that say too much, and paths that can't be used."""
 
+from __future__ import annotations
+
 import errno
 import os
 import resource
@@ -9,9 +11,11 @@ import sys
 import textwrap
 import time
 import unittest
+from typing import Callable
+from unittest import mock
 
 import confstore
-from confstore import Reader, Store
+from confstore import ConfstoreError, Reader, Store, Tree
 from confstore.session import LONGEST_ANSWER, LONGEST_COMMAND
 
 from .places import StoreTest, python_path
@@ -62,10 +66,10 @@ class Answers(StoreTest):
             self.assertEqual(found, (0, f"{kind}\n" * 2, ""), (stream, text[:10]))
             self.assertLess(time.monotonic() - start, 2 * 60)
 
-    def run_python(self, code, *words):
+    def run_python(self, code: str, *words: str) -> tuple[int, str, str]:
         environment = {**os.environ, "PYTHONPATH": python_path()}
-        words = [sys.executable, "-c", textwrap.dedent(code), *words]
-        done = subprocess.run(words, capture_output=True, env=environment, check=False, text=True, timeout=300)
+        command = [sys.executable, "-c", textwrap.dedent(code), *words]
+        done = subprocess.run(command, capture_output=True, env=environment, check=False, text=True, timeout=300)
         return done.returncode, done.stdout, done.stderr
 
     def test_an_answer_to_no_command(self) -> None:
@@ -79,22 +83,31 @@ class Answers(StoreTest):
 
     def test_a_reader_has_bounds(self) -> None:
         script = self.program("")
-        for body, kind in (("exec yes", confstore.AnswerLong), ("exec yes >&2", confstore.TimedOut)):
+        kinds: list[tuple[str, type[ConfstoreError]]] = [
+            ("exec yes", confstore.AnswerLong),
+            ("exec yes >&2", confstore.TimedOut),
+        ]
+        for body, kind in kinds:
             with open(script, "w", encoding="ascii") as target:
                 target.write(f"#!/bin/sh\n{body}\n")
             reader = Reader(self.folder, program=script, timeout=60 if kind is confstore.AnswerLong else 1)
-            for call in (reader.names, lambda reader=reader: reader.get("a")):
+            for call in self.reads_of(reader):
                 start = time.monotonic()
                 with self.assertRaises(kind):
                     call()
                 self.assertLess(time.monotonic() - start, 60)
 
 
+    def reads_of(self, reader: Reader) -> list[Callable[[], Tree | list[str]]]:
+        return [reader.names, lambda: reader.get("a")]
+
+
 class Sent(StoreTest):
     def test_what_was_not_sent_is_never_performed(self) -> None:
         """A program that does not read for a while: what timed out unsent is not among what it reads then."""
         program, heard = self.program_that_waits()
-        session, sent = self.store(program=program)._session, {}
+        session = self.store(program=program)._session
+        sent: dict[int, bool] = {}
         for number in range(4):
             with self.assertRaises(confstore.TimedOut) as caught:
                 session.ask(b"names:\n#%d" % number + b"x" * (LONGEST_COMMAND // 2) + b"\n...\n", 0.3)
@@ -105,23 +118,20 @@ class Sent(StoreTest):
 
 
 class Made(StoreTest):
-    def made(self, folder, fail=None):
+    def made(self, folder: str, fail: str | None = None) -> list[str]:
         """What is synced while a folder is made."""
-        synced, real = [], os.fsync
+        synced: list[str] = []
+        real = os.fsync
 
-        def fsync(file):
+        def fsync(file: int) -> None:
             path = os.readlink(f"/proc/self/fd/{file}")
             if path == fail:
                 raise OSError(errno.EIO, "Input/output error")
             synced.append(path)
             real(file)
 
-        os.fsync = fsync
-        try:
-            with Store(folder, make=True) as store:
-                store["a"] = "x"
-        finally:
-            os.fsync = real
+        with mock.patch.object(os, "fsync", fsync), Store(folder, make=True) as store:
+            store["a"] = "x"
         return synced
 
     def test_parents_are_synced(self) -> None:
@@ -148,17 +158,22 @@ class Made(StoreTest):
     def test_what_can_not_be_made(self) -> None:
         with open(os.path.join(self.top, "file"), "w", encoding="ascii"):
             pass
-        for folder, kind in (
+        rows: list[tuple[str, type[ConfstoreError]]] = [
             (os.path.join(self.top, "file"), confstore.MissingFolder),
             (os.path.join(self.top, "file", "below"), confstore.MissingFolder),
             (os.path.join(self.top, "x" * 300), confstore.UnusablePath),
             ("/proc/none", confstore.MissingFolder),
-        ):
+        ]
+        for folder, kind in rows:
             with self.assertRaises(kind):
                 Store(folder, make=True)
 
 
 class Paths(StoreTest):
+    def opens(self, folder: str, program: str | None = None) -> list[Callable[[], object]]:
+        """The two ways to use a folder by a program."""
+        return [lambda: Store(folder, program=program), lambda: Reader(folder, program=program).names()]
+
     def test_folders(self) -> None:
         os.symlink("loop", os.path.join(self.top, "loop"))
         for folder, number in (
@@ -167,7 +182,7 @@ class Paths(StoreTest):
             (os.path.join(self.top, "loop"), errno.ELOOP),
             ("a\0b", errno.EINVAL),
         ):
-            for call in (lambda folder=folder: Store(folder), lambda folder=folder: Reader(folder).names()):
+            for call in self.opens(folder):
                 with self.assertRaises(confstore.UnusablePath) as caught:
                     call()
                 self.assertEqual(caught.exception.errno, number)
@@ -178,7 +193,7 @@ class Paths(StoreTest):
         with open(file, "w", encoding="ascii") as target:
             target.write("#!/none\n")
         os.chmod(file, stat.S_IRWXU)
-        for program, kind, number in (
+        rows: list[tuple[str, type[OSError], int]] = [
             ("/" + "x" * 300, confstore.UnusablePath, errno.ENAMETOOLONG),
             ("x" * 300, confstore.UnusablePath, errno.ENAMETOOLONG),
             (loop, confstore.UnusablePath, errno.ELOOP),
@@ -186,10 +201,11 @@ class Paths(StoreTest):
             ("no-such-program-here", confstore.MissingProgram, errno.ENOENT),
             (os.path.join(file, "below"), confstore.MissingProgram, errno.ENOENT),
             (file, confstore.MissingProgram, errno.ENOENT),
-        ):
-            for call in (Store, lambda *words, **more: Reader(*words, **more).names()):
+        ]
+        for program, kind, number in rows:
+            for call in self.opens(self.folder, program):
                 with self.assertRaises(kind) as caught:
-                    call(self.folder, program=program)
+                    call()
                 self.assertEqual(caught.exception.errno, number, program[:20])
 
     def test_a_long_pointer(self) -> None:
@@ -204,7 +220,7 @@ class Paths(StoreTest):
     def test_a_long_environment(self) -> None:
         os.environ["TOO_LONG"] = "x" * 200_000
         self.addCleanup(os.environ.pop, "TOO_LONG")
-        for call in (lambda: Store(self.folder), lambda: Reader(self.folder).names()):
+        for call in self.opens(self.folder):
             with self.assertRaises(confstore.NotStarted) as caught:
                 call()
             self.assertEqual(caught.exception.errno, errno.E2BIG)
@@ -213,13 +229,14 @@ class Paths(StoreTest):
         """With any number of files it is opened, or it is told, and nothing is left."""
         limits = resource.getrlimit(resource.RLIMIT_NOFILE)
         self.addCleanup(resource.setrlimit, resource.RLIMIT_NOFILE, limits)
-        before, kinds = os.listdir("/proc/self/fd"), set()
+        before = os.listdir("/proc/self/fd")
+        kinds: set[tuple[type[ConfstoreError], int | None] | None] = set()
         for room in range(12):
             resource.setrlimit(resource.RLIMIT_NOFILE, (len(before) + room, limits[1]))
             try:
                 Store(self.folder).close()
                 kinds.add(None)
-            except confstore.ConfstoreError as fault:
+            except confstore.NotStarted as fault:
                 kinds.add((type(fault), fault.errno))
             resource.setrlimit(resource.RLIMIT_NOFILE, limits)
             self.assertEqual(len(os.listdir("/proc/self/fd")), len(before))

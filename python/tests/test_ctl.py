@@ -27,7 +27,7 @@ from confstore.ctl import perform_words
 from confstore.ctl_asked import Asked, Help, Version, asked_of
 from confstore.ctl_faults import Fault, shown
 from confstore.ctl_help import help_of, help_of_all
-from confstore.ctl_sockets import Connection, Place, SessionReply, line_of, place_of
+from confstore.ctl_sockets import Command, Connection, Place, SessionReply, line_of, place_of
 from confstore.ctl_words import COMMON, WORDS
 from confstore.other import Cutter
 from confstore.style import Tree
@@ -41,7 +41,7 @@ PATIENCE = 20
 class Words(unittest.TestCase):
     def asked(self, line: str) -> tuple[str, dict[str, str], dict[str, str]]:
         asked = asked_of(shlex.split(line))
-        self.assertIsInstance(asked, Asked)
+        assert isinstance(asked, Asked)
         return asked.word.name, asked.arguments, asked.options
 
     def test_arguments_and_options(self) -> None:
@@ -130,7 +130,7 @@ class Faults(unittest.TestCase):
 
 
 class Lines(unittest.TestCase):
-    COMMANDS = (
+    COMMANDS: tuple[Command, ...] = (
         {"set": "web", "path": "/a", "value": "\x7f\x80\x9f\u2028\ufeff\U0001f600\\\"\n\t\r\b\f/ # : - [ { '"},
         {"set": "web", "path": "", "value": {"a": ["", {}, [], {"": "b: c"}], "no": "~", "- x": "# y"}},
         {"names": ""},
@@ -160,7 +160,7 @@ def random_tree(chance: random.Random, depth: int) -> Tree:
 
 
 class Sessions(StoreTest):
-    TREES = (
+    TREES: tuple[Tree, ...] = (
         "x", "", "two\nlines", "two\n\n lines\n\n", [], {}, ["a", ["b", {"c": "d\ne\n"}], []], {"k": {"l": ["m\n\nn"]}},
         {"no": "", "k" * 1_100: {"a": "b"}, "\x85": ["\u2028"]},
     )  # fmt: skip
@@ -215,7 +215,7 @@ class SocketTest(StoreTest):
     def setUp(self) -> None:
         super().setUp()
         self.path = os.path.join(self.top, "socket")
-        self.heard = []
+        self.heard: list[bytes] = []
 
     def listen(self, *answers: bytes) -> None:
         """Gives a client what it is to be answered, one line of `...` after the other, and then closes."""
@@ -276,7 +276,7 @@ class Sockets(SocketTest):
 
     def test_what_no_line_can_hold_is_sent_as_a_document(self) -> None:
         self.listen(b"---\nrefused: BadCommand\n...\n", b'---\nok: "2"\n...\n')
-        command = {"set": "web", "path": "", "value": {"k" * 2_000: "v"}}
+        command: dict[str, Tree] = {"set": "web", "path": "", "value": {"k" * 2_000: "v"}}
         with Connection(Place(self.path, True)) as connection:
             self.assertEqual(connection.ask(command).key, "ok")
         self.assertEqual(self.heard[1].decode(), f"---\n{to_text(command)}")
@@ -291,7 +291,12 @@ class Sockets(SocketTest):
     def test_a_server_that_goes_and_comes_again(self) -> None:
         """A question is asked again, and a change isn't."""
         self.listen(b"")
-        timer = threading.Timer(0.5, lambda: (os.remove(self.path), self.listen(b"---\nnames: []\n...\n")))
+
+        def come_again() -> None:
+            os.remove(self.path)
+            self.listen(b"---\nnames: []\n...\n")
+
+        timer = threading.Timer(0.5, come_again)
         timer.start()
         self.assertEqual(self.perform("--wait", str(PATIENCE), "names", self.folder), (0, b"", ""))
         timer.join()
@@ -401,6 +406,7 @@ class Programs(StoreTest):
     def test_it_is_interrupted_without_a_trace(self) -> None:
         self.store()["web"] = "x"
         process = self.process("watch", self.folder, "--from", "1", stdout=subprocess.PIPE, stderr=subprocess.PIPE)
+        assert process.stdout is not None
         self.assertEqual(process.stdout.readline(), b"1 import web\n")
         process.send_signal(signal.SIGINT)
         self.assertEqual(process.communicate(timeout=PATIENCE), (b"", b""))

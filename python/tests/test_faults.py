@@ -1,5 +1,7 @@
 """Sessions that end, programs that answer wrongly, and folders that can't be used. Nothing here may hang."""
 
+from __future__ import annotations
+
 import gc
 import os
 import random
@@ -8,16 +10,20 @@ import signal
 import threading
 import time
 import unittest
+from typing import Callable
+from unittest import mock
 
 import confstore
-from confstore import Reader, SessionEnded, Store
-from confstore.session import LONGEST_COMMAND, Session, Cutter
+from confstore import ConfstoreError, Reader, Record, SessionEnded, Store, Tree, View
+from confstore import session as module
+from confstore.other import Cutter
+from confstore.session import LONGEST_COMMAND, Session
 
 from . import TOP
-from .places import StoreTest
+from .places import StoreTest, process_of
 
 
-def write(path, content):
+def write(path: str, content: bytes) -> None:
     with open(path, "wb") as target:
         target.write(content)
 
@@ -72,12 +78,14 @@ class Opening(StoreTest):
 
 
 class ReadingAlone(StoreTest):
-    def calls(self):
+    def calls(
+        self,
+    ) -> tuple[Callable[[], list[str]], Callable[[], list[Record]], Callable[[], Tree], Callable[[], View]]:
         reader = Reader(self.folder)
         self.supported(lambda: self.ignored(reader.names))
         return (reader.names, reader.log, lambda: reader.get("a"), lambda: reader.at(0))
 
-    def ignored(self, call):
+    def ignored(self, call: Callable[[], object]) -> None:
         try:
             call()
         except SessionEnded:
@@ -113,14 +121,15 @@ class ReadingAlone(StoreTest):
 
     def test_beside_a_session(self) -> None:
         """Each read is the state after some prefix of the commands, and never an older one than the read before."""
-        store, reader, stop, wrong = self.store(), Reader(self.folder), threading.Event(), []
+        store, reader, stop = self.store(), Reader(self.folder), threading.Event()
+        wrong: list[tuple[int, int, list[int]]] = []
         store["a"] = {"n": "0"}
         self.supported(reader.names)
 
         def read() -> None:
             last = 0
             while not stop.is_set():
-                found = int(reader.get("a", "/n"))
+                found = int(str(reader.get("a", "/n")))
                 numbers = [record.number for record in reader.log()]
                 if found < last or numbers != list(range(1, len(numbers) + 1)) or len(numbers) <= found:
                     wrong.append((last, found, numbers[-3:]))
@@ -141,7 +150,7 @@ class Ending(StoreTest):
     def test_killed(self) -> None:
         store = self.store()
         store["a"] = "x"
-        os.kill(store._session._other.process.pid, signal.SIGKILL)
+        os.kill(process_of(store).pid, signal.SIGKILL)
         for _ in range(2):
             with self.assertRaises(SessionEnded) as caught:
                 store.set("a", "", "y")
@@ -150,9 +159,11 @@ class Ending(StoreTest):
         self.assertEqual((store["a"], store.checkpoint()), ("x", 1))
 
     def test_killed_among_threads(self) -> None:
-        store, answered, ends = self.store(), {}, []
+        store = self.store()
+        answered: dict[int, int] = {}
+        ends: list[int | None] = []
 
-        def append(number):
+        def append(number: int) -> None:
             try:
                 for turn in range(10**6):
                     store.set(f"list{number}", "/-", f"n{turn}")
@@ -166,7 +177,7 @@ class Ending(StoreTest):
         for thread in threads:
             thread.start()
         time.sleep(0.5)
-        os.kill(store._session._other.process.pid, signal.SIGKILL)
+        os.kill(process_of(store).pid, signal.SIGKILL)
         for thread in threads:
             thread.join(60)
         self.assertEqual(ends, [-signal.SIGKILL] * 8)
@@ -189,12 +200,12 @@ class Ending(StoreTest):
         with self.store() as store:
             self.assertEqual(store["a"], "x")
 
-    def test_opened_again_by_many_threads(self):
+    def test_opened_again_by_many_threads(self) -> None:
         store = self.store()
         store["a"] = {"n": []}
-        os.kill(store._session._other.process.pid, signal.SIGKILL)
+        os.kill(process_of(store).pid, signal.SIGKILL)
 
-        def append(number):
+        def append(number: int) -> int:
             while True:
                 try:
                     return store.set("a", "/n/-", str(number))
@@ -206,7 +217,8 @@ class Ending(StoreTest):
             thread.start()
         for thread in threads:
             thread.join(60)
-        self.assertEqual(sorted(store["a"]["n"]), [str(number) for number in range(8)])
+        held = store.get("a", "/n")
+        self.assertEqual(sorted(map(str, held)), [str(number) for number in range(8)])
 
     def test_closed(self) -> None:
         store = self.store()
@@ -217,7 +229,7 @@ class Ending(StoreTest):
 
     def test_dropped(self) -> None:
         store = Store(self.folder)
-        process = store._session._other.process
+        process = process_of(store)
         del store
         gc.collect()
         self.assertEqual(process.wait(10), 0)
@@ -240,10 +252,9 @@ class Ending(StoreTest):
         session = self.store()._session
         fitting = b"#" * (LONGEST_COMMAND - 5) + b"\n...\n"
         self.assertEqual(session.ask(fitting, 60), b"---\nrefused: BadCommand\n...\n")
-        self.addCleanup(setattr, confstore.session, "LONGEST_COMMAND", LONGEST_COMMAND)
-        confstore.session.LONGEST_COMMAND = LONGEST_COMMAND + 1
-        with self.assertRaises(confstore.CommandLong):
-            session.ask(b"#" + fitting, 60)
+        with mock.patch.object(module, "LONGEST_COMMAND", LONGEST_COMMAND + 1):
+            with self.assertRaises(confstore.CommandLong):
+                session.ask(b"#" + fitting, 60)
 
 
 class Limits(unittest.TestCase):
@@ -256,8 +267,9 @@ class Limits(unittest.TestCase):
         )
         for file, pattern in rows:
             with open(os.path.join(TOP, file), encoding="utf-8") as source:
-                found = re.search(pattern, source.read())[1]
-            self.assertEqual(int(found.replace(",", "")), LONGEST_COMMAND, file)
+                found = re.search(pattern, source.read())
+            assert found is not None, file
+            self.assertEqual(int(found[1].replace(",", "")), LONGEST_COMMAND, file)
 
 
 class Names(unittest.TestCase):
@@ -265,7 +277,7 @@ class Names(unittest.TestCase):
         """The names in the tables of docs/FAULTS.md on texts and commands, without the reasons of `Syntax`."""
         with open(os.path.join(TOP, "docs", "FAULTS.md"), encoding="utf-8") as source:
             parts = re.split(r"(?m)^## |^\| reason ", source.read())
-        names = set()
+        names: set[str] = set()
         for part in parts:
             if part.startswith(("Of a text", "Of a command")):
                 for cell in re.findall(r"(?m)^\| (`.*?) \|", part):
@@ -349,7 +361,7 @@ class ChangedAnswers(unittest.TestCase):
         b"\t", b"\n", b"%YAML 1.1\n", b"---\n", b"#", b"\0", b"\xff", b"\xc2\x85", b"\xef\xbb\xbf", b"=", b"~",
     )  # fmt: skip
 
-    def changed(self, chance):
+    def changed(self, chance: random.Random) -> bytes:
         answer = bytearray(chance.choice(self.ANSWERS))
         for _ in range(chance.randrange(1, 5)):
             place = chance.randrange(len(answer) + 1)
@@ -359,19 +371,26 @@ class ChangedAnswers(unittest.TestCase):
                 answer[place : place + 1] = bytes([chance.randrange(256)])
         return bytes(answer)
 
-    def test_each_is_read_or_told(self):
-        class Silent:
-            def ask(self, document, timeout):
+    def test_each_is_read_or_told(self) -> None:
+        answer = b""
+        faults: list[ConfstoreError] = []
+
+        class Silent(Session):
+            def __init__(self) -> None:
+                pass
+
+            def ask(self, document: bytes, timeout: float) -> bytes:
                 return answer
 
-            def distrust(self, fault):
+            def distrust(self, fault: ConfstoreError) -> None:
                 faults.append(fault)
 
-        store, chance, faults, read = Store.__new__(Store), random.Random(3), [], 0
+        store, chance, read = Store.__new__(Store), random.Random(3), 0
         store._session, store._timeout = Silent(), 1
+        calls: list[Callable[[], object]] = [store.names, store.checkpoint, lambda: store.get("a")]
         for _ in range(3_000):
             answer = self.changed(chance)
-            for call in (store.names, store.checkpoint, lambda: store.get("a")):
+            for call in calls:
                 try:
                     call()
                     read += 1
@@ -390,7 +409,8 @@ class Cutting(unittest.TestCase):
         stream = b"...\na\n...\n....\n ...\n...\n\n...\nb...\nrest"
         pieces = [b"...\n", b"a\n...\n", b"....\n ...\n...\n", b"\n...\n"]
         for step in (1, 2, 3, 5, 100):
-            cutter, found = Cutter(), []
+            cutter = Cutter()
+            found: list[bytes] = []
             for place in range(0, len(stream), step):
                 found += cutter.cut(stream[place : place + step])
             self.assertEqual((found, bytes(cutter.rest)), (pieces, b"b...\nrest"))

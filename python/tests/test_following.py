@@ -8,6 +8,7 @@ import subprocess
 import threading
 import time
 import unittest
+from typing import Callable
 from unittest import mock
 
 from confstore import Cut, Damaged, Device, Edit, MissingFolder, NotAStore, Reader, Record, Replaced, Store
@@ -234,7 +235,8 @@ class Faults(FollowTest):
             Reader(os.path.join(self.top, "none")).follow()
 
     def test_what_is_no_plain_file(self) -> None:
-        for make in (os.mkfifo, os.mkdir, lambda path: os.symlink("/dev/zero", path)):
+        makes: list[Callable[[str], None]] = [os.mkfifo, os.mkdir, lambda path: os.symlink("/dev/zero", path)]
+        for make in makes:
             if os.path.isdir(self.file):
                 os.rmdir(self.file)
             else:
@@ -276,7 +278,8 @@ class Lines(FollowTest):
                 batch.delete("b")
         words = [os.environ["CONFSTORE"], "log", self.folder]
         log = subprocess.run(words, capture_output=True, check=True).stdout.decode()
-        self.assertEqual("".join(f"{record.line}\n" for record in self.all_of(self.follow(1))), log)
+        records = [event for event in self.all_of(self.follow(1)) if isinstance(event, Record)]
+        self.assertEqual("".join(f"{record.line}\n" for record in records), log)
 
     def test_the_bytes_of_records(self) -> None:
         self.set(1, 2)

@@ -1,5 +1,7 @@
 """A process that is forked does not hold the session of its parent, and can't use it."""
 
+from __future__ import annotations
+
 import ctypes
 import multiprocessing
 import os
@@ -9,26 +11,28 @@ import sys
 import threading
 import time
 import unittest
+from typing import Callable
 
 import confstore
 from confstore import Reader, Store
 
-from .places import StoreTest, python_path
+from .places import StoreTest, process_of, python_path
 from .test_server import ServerTest
 
 PATIENCE = 20
 
 
-def tries(store):
+def tries(store: Store) -> dict[str, str]:
     """What each call of a store raises, by name."""
-    found = {}
-    for name, call in (
+    found: dict[str, str] = {}
+    calls: list[tuple[str, Callable[[], object]]] = [
         ("names", store.names),
         ("set", lambda: store.set("a", "", "child")),
         ("batches", lambda: store.perform_batches([[{"delete": "a", "path": ""}]])),
         ("reopen", store.reopen),
         ("checkpoint", store.checkpoint),
-    ):
+    ]
+    for name, call in calls:
         try:
             found[name] = repr(call())
         except confstore.ConfstoreError as fault:
@@ -59,7 +63,7 @@ os.kill(os.getpid(), signal.SIGKILL)
 
 
 class Forks(StoreTest):
-    def child(self, call):
+    def child(self, call: Callable[[], object]) -> str:
         """A forked process, which makes a call and lives on until the test is over."""
         told, tell = os.pipe()
         child = os.fork()
@@ -78,7 +82,7 @@ class Forks(StoreTest):
     def test_closing_beside_a_child(self) -> None:
         store = self.store()
         store["a"] = "x"
-        process = store._session._other.process
+        process = process_of(store)
         self.assertEqual(self.child(lambda: tries(store)), repr(CLOSED))
         self.assertEqual((store["a"], store.set("a", "", "y")), ("x", 2))
         start = time.monotonic()
@@ -105,13 +109,14 @@ class Forks(StoreTest):
             words = [sys.executable, "-c", DYING, self.folder, way]
             environment = {**os.environ, "PYTHONPATH": python_path()}
             with subprocess.Popen(words, stdout=subprocess.PIPE, env=environment) as parent:
+                assert parent.stdout is not None
                 child = int(parent.stdout.readline())
             try:
                 self.opened().close()
             finally:
                 os.kill(child, signal.SIGKILL)
 
-    def opened(self):
+    def opened(self) -> Store:
         end = time.monotonic() + PATIENCE
         while True:
             try:
@@ -124,7 +129,7 @@ class Forks(StoreTest):
     def test_a_fork_that_python_does_not_see(self) -> None:
         """The child has copies of the ends, and still closing ends the session."""
         store = self.store()
-        process = store._session._other.process
+        process = process_of(store)
         child = ctypes.CDLL(None).fork()
         if child == 0:
             os.kill(os.getpid(), signal.SIGSTOP)
@@ -146,12 +151,14 @@ class Forks(StoreTest):
 
     def test_forks_while_stores_are_opened(self) -> None:
         """No fork has a socket, wherever the opening of a store in another thread was."""
-        stop, opened, found = threading.Event(), [], []
+        stop = threading.Event()
+        opened: list[float] = []
+        found: list[int] = []
 
         def open_stores() -> None:
             while not stop.is_set():
                 Store(self.folder).close()
-                opened.append(None)
+                opened.append(time.monotonic())
 
         thread = threading.Thread(target=open_stores)
         thread.start()
@@ -167,18 +174,18 @@ class Forks(StoreTest):
         thread.join(PATIENCE)
         self.assertEqual((set(found), thread.is_alive(), len(opened) > 3), ({0}, False, True))
 
-    def test_a_child_has_its_own_stores(self):
+    def test_a_child_has_its_own_stores(self) -> None:
         self.store()
         other = os.path.join(self.top, "other")
 
-        def use():
+        def use() -> tuple[int, confstore.Tree]:
             with Store(other, make=True) as store:
                 return store.put("a", "x"), Reader(other).get("a")
 
         self.assertEqual(self.child(use), "(1, 'x')")
 
 
-def in_pool(_):
+def in_pool(_: int) -> dict[str, str]:
     return tries(globals()["held"])
 
 

@@ -1,14 +1,19 @@
 """Exceptions that a signal handler raises in a call. `checks/interrupts.py` tries all calls at all places."""
 
+from __future__ import annotations
+
 import _thread
 import os
 import signal
 import time
 import unittest
+from typing import Callable
+from unittest import mock
 
 import confstore
 from confstore import Reader, Store
-from confstore.session import LONGEST_COMMAND, Cutter
+from confstore.other import Cutter
+from confstore.session import LONGEST_COMMAND
 
 from .places import StoreTest
 
@@ -19,7 +24,7 @@ class Stop(BaseException):
     pass
 
 
-def stop(*_):
+def stop(*_: object) -> None:
     raise Stop
 
 
@@ -29,7 +34,7 @@ class Interrupts(StoreTest):
         self.addCleanup(signal.signal, signal.SIGALRM, signal.signal(signal.SIGALRM, stop))
         self.heard = os.path.join(self.top, "heard")
 
-    def interrupted(self, call, after=0.3):
+    def interrupted(self, call: Callable[[], object], after: float = 0.3) -> None:
         try:
             with self.assertRaises(Stop):
                 signal.setitimer(signal.ITIMER_REAL, after)
@@ -37,7 +42,7 @@ class Interrupts(StoreTest):
         finally:
             signal.setitimer(signal.ITIMER_REAL, 0)
 
-    def slow_program(self, seconds):
+    def slow_program(self, seconds: float) -> str:
         """A program that notes what it hears, and takes its time over each answer, which is its number."""
         return self.program(f"""number = 1
 with open({self.heard!r}, "ab", 0) as target:
@@ -49,7 +54,7 @@ with open({self.heard!r}, "ab", 0) as target:
             number += 1
 """)
 
-    def heard_sets(self):
+    def heard_sets(self) -> list[str]:
         with open(self.heard, encoding="ascii") as source:
             return [line.split()[1].strip('"') for line in source if line.startswith("value:")]
 
@@ -63,7 +68,8 @@ with open({self.heard!r}, "ab", 0) as target:
 
     def test_a_handler_that_uses_the_store(self) -> None:
         """It may, in the middle of a call, and each gets its own answer."""
-        store, found = self.store(program=self.slow_program(0.5)), []
+        store = self.store(program=self.slow_program(0.5))
+        found: list[int] = []
         signal.signal(signal.SIGALRM, lambda *_: found.append(store.set("a", "", "handler")))
         signal.setitimer(signal.ITIMER_REAL, 0.2)
         self.assertEqual((store.set("a", "", "call"), found, self.heard_sets()), (1, [2], ["call", "handler"]))
@@ -100,49 +106,37 @@ with open({self.heard!r}, "ab", 0) as target:
         with open(program, "w", encoding="utf-8") as target:
             target.write(text.replace("heard()\nsay", "heard()\ntime.sleep(1)\nsay"))
         self.interrupted(store.reopen)
-        self.assertEqual((store.set("a", "", "x"), store.reopen()), (1, None))
+        self.assertEqual(store.set("a", "", "x"), 1)
+        store.reopen()
 
     def test_a_thread_that_is_interrupted(self) -> None:
         """As where memory runs out: the session is given up, and says so."""
         store = self.store()
         store["a"] = "x"
-        real = Cutter.cut
-
-        def cut(*_):
-            raise MemoryError
-
-        Cutter.cut = cut
-        self.addCleanup(setattr, Cutter, "cut", real)
-        for _ in range(2):
-            with self.assertRaises(confstore.Unknown):
-                store.set("a", "", "y")
-        Cutter.cut = real
+        with mock.patch.object(Cutter, "cut", side_effect=MemoryError):
+            for _ in range(2):
+                with self.assertRaises(confstore.Unknown):
+                    store.set("a", "", "y")
         store.reopen()
         self.assertEqual((store["a"], store.checkpoint()), ("y", 2))
 
     def test_no_thread(self) -> None:
-        def refuse(*_):
-            raise RuntimeError("can't start new thread")
-
-        self.addCleanup(setattr, _thread, "start_new_thread", _thread.start_new_thread)
         self.store()
-        _thread.start_new_thread = refuse
-        for call in (lambda: Store(self.folder), Reader(self.folder).names):
-            with self.assertRaises(confstore.NotStarted):
-                call()
+        calls: list[Callable[[], object]] = [lambda: Store(self.folder), Reader(self.folder).names]
+        refused = RuntimeError("can't start new thread")
+        for call in calls:
+            with mock.patch.object(_thread, "start_new_thread", side_effect=refused):
+                with self.assertRaises(confstore.NotStarted):
+                    call()
 
     def test_a_thread_that_can_not_send(self) -> None:
         """A session whose thread can't send is given up too."""
         store = self.store()
-
-        def claim(*_):
-            raise MemoryError
-
-        store._session._line._claim = claim
         start = time.monotonic()
-        for _ in range(2):
-            with self.assertRaises(confstore.Unknown):
-                store.set("a", "", "y")
+        with mock.patch.object(store._session._line, "_claim", side_effect=MemoryError):
+            for _ in range(2):
+                with self.assertRaises(confstore.Unknown):
+                    store.set("a", "", "y")
         self.assertLess(time.monotonic() - start, PATIENCE)
         store.reopen()
         self.assertEqual(store.names(), [])

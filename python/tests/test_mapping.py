@@ -4,14 +4,16 @@ from __future__ import annotations
 
 import collections.abc
 import doctest
+import io
 import os
 import pickle
 import pydoc
 import unittest
-from typing import Callable
+from typing import Any, Callable
+from unittest import mock
 
 import confstore
-from confstore import Reader, Store
+from confstore import ConfstoreError, Reader, Store
 from confstore import store as module
 
 from . import TOP
@@ -51,19 +53,21 @@ class Mappings(StoreTest):
     def test_in_asks_one_short_question(self) -> None:
         store = self.store()
         store.update(text="x", list=["x"], empty={}, key={"": "x"}, other={"k": "x"})
-        asked, ask = [], store._session.ask
+        asked: list[tuple[bytes, int]] = []
+        ask = store._session.ask
 
-        def asking(document: bytes, timeout: float | None) -> bytes:
+        def asking(document: bytes, timeout: float) -> bytes:
             answer = ask(document, timeout)
             asked.append((document.split(b"\n")[1][:4], len(answer)))
             return answer
 
-        store._session.ask = asking
-        for mapping in (store, Reader(self.folder)):
-            for name in ("text", "list", "empty", "key", "other"):
-                self.assertIn(name, mapping)
-            for name in ("none", "None", "", "\ud800", 5, None):
-                self.assertNotIn(name, mapping)
+        absent: list[object] = ["none", "None", "", "\ud800", 5, None]
+        with mock.patch.object(store._session, "ask", asking):
+            for mapping in (store, Reader(self.folder)):
+                for name in ("text", "list", "empty", "key", "other"):
+                    self.assertIn(name, mapping)
+                for other in absent:
+                    self.assertNotIn(other, mapping)
         self.assertEqual({kind for kind, _ in asked}, {b"get:"})
         self.assertLess(max(length for _, length in asked), 40)
 
@@ -71,7 +75,11 @@ class Mappings(StoreTest):
         store = self.store()
         store.update([("a", "x"), ("b", "y"), ("a", "z")], c=[])
         self.assertEqual((dict(store), store.checkpoint()), ({"a": "z", "b": "y", "c": []}, 1))
-        for kind, trees in ((confstore.BadName, {"d": "x", "D": "y"}), (confstore.NotATree, {"d": "x", "e": 5})):
+        rows: list[tuple[type[ConfstoreError], dict[str, Any]]] = [
+            (confstore.BadName, {"d": "x", "D": "y"}),
+            (confstore.NotATree, {"d": "x", "e": 5}),
+        ]
+        for kind, trees in rows:
             with self.assertRaises(kind):
                 store.update(trees)
             self.assertEqual((store.names(), store.checkpoint()), (["a", "b", "c"], 1))
@@ -82,7 +90,8 @@ class Mappings(StoreTest):
         self.assertEqual(store.checkpoint(), 2)
 
     def test_clear_beside_one_who_deletes(self) -> None:
-        store, names = self.store(), []
+        store = self.store()
+        names: list[list[str]] = []
         store.update(a="x", b="y")
         names_of = store.names
 
@@ -93,8 +102,8 @@ class Mappings(StoreTest):
             names.append(found)
             return found
 
-        store.names = asking
-        store.clear()
+        with mock.patch.object(store, "names", asking):
+            store.clear()
         self.assertEqual((names, names_of()), ([["a", "b"], ["a"]], []))
 
     def test_pop(self) -> None:
@@ -105,7 +114,8 @@ class Mappings(StoreTest):
         self.assertEqual((store.setdefault("a", "w"), store.setdefault("d", "v")), ("x", "v"))
         self.assertEqual(dict(store), {"a": "x", "d": "v"})
         store.clear()
-        for call in (store.popitem, lambda: store.pop("a")):
+        calls: list[Callable[[], object]] = [store.popitem, lambda: store.pop("a")]
+        for call in calls:
             with self.assertRaises(KeyError):
                 call()
 
@@ -171,7 +181,9 @@ class Sentences(StoreTest):
 
 class Shown(StoreTest):
     def test_help(self) -> None:
-        shown = pydoc.render_doc(confstore, renderer=pydoc.plaintext)
+        output = io.StringIO()
+        pydoc.Helper(output=output).help(confstore)
+        shown = output.getvalue()
         self.assertIn("from confstore import Store", shown[:300])
         self.assertEqual(confstore.__all__[0], "Store")
         for name in confstore.faults.__all__:

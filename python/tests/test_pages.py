@@ -29,26 +29,29 @@ class Pages(StoreTest):
         self.assertEqual((done.returncode, errors), (0, ""))
         return done.stdout.decode()
 
-    def page(self, *names: str) -> str:
+    def on_page(self, pattern: str, *names: str) -> re.Match[str]:
+        """What a pattern matches on a page."""
         with open(os.path.join(TOP, *names), encoding="utf-8") as source:
-            return source.read()
+            found = re.search(pattern, source.read())
+        assert found is not None, names
+        return found
 
     def test_readme(self) -> None:
-        code = re.search(r"(?m)^    from confstore import Store\n(?:    .*\n|\n)*", self.page("README.md"))[0]
+        code = self.on_page(r"(?m)^    from confstore import Store\n(?:    .*\n|\n)*", "README.md")[0]
         self.run_example(textwrap.dedent(code))
         with Store(os.path.join(self.top, "app")) as store:
             self.assertEqual(store["web"], {"port": "81"})
 
     def test_readme_of_the_package(self) -> None:
-        code = re.search(r"```python\n(.*?)```", self.page("python", "README.md"), re.DOTALL)[1]
+        code = self.on_page(r"(?s)```python\n(.*?)```", "python", "README.md")[1]
         self.assertEqual(self.run_example(code), "a ['web', 'dns']\n")
         with Store(os.path.join(self.top, "app")) as store:
             self.assertEqual(store["web"], {"port": "81", "hosts": ["a", "b", "c"]})
 
     def test_following(self) -> None:
         """The example of the package's page, for three changes."""
-        code = re.search(r"```python\nfrom confstore import Cut.*?```", self.page("python", "README.md"), re.DOTALL)[0]
-        code = code.strip("`").replace("python\n", "", 1).replace(".follow()", ".follow(2)")
+        code = self.on_page(r"(?s)```python\n(from confstore import Cut.*?)```", "python", "README.md")[1]
+        code = code.replace(".follow()", ".follow(2)")
         folder = os.path.join(self.top, "app")
         with Store(folder, make=True) as store:
             store["web"] = {"port": "80"}
@@ -62,8 +65,8 @@ class Pages(StoreTest):
         self.assertEqual(self.run_example(code), wanted)
 
     def test_docstring(self) -> None:
-        page = self.page("python", "confstore", "__init__.py")
-        code = re.search(r"(?m)^    from confstore import Store\n(?:    .*\n|\n)*", page)[0]
+        pattern = r"(?m)^    from confstore import Store\n(?:    .*\n|\n)*"
+        code = self.on_page(pattern, "python", "confstore", "__init__.py")[0]
         self.assertEqual(self.run_example(textwrap.dedent(code)), "81\n")
 
 

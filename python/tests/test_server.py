@@ -1,5 +1,7 @@
 """`clients/serve.py`: one session for many clients, and `Store.connect`."""
 
+from __future__ import annotations
+
 import importlib.util
 import os
 import signal
@@ -10,6 +12,7 @@ import sys
 import threading
 import time
 import unittest
+from unittest import mock
 
 import confstore
 from confstore import Store
@@ -28,7 +31,7 @@ class ServerTest(StoreTest):
         super().setUp()
         self.path = os.path.join(self.top, "socket")
 
-    def serve(self, *options, errors=None):
+    def serve(self, *options: str, errors: int | None = None) -> subprocess.Popen[bytes]:
         """A server that has begun to take clients, or has ended."""
         words = [sys.executable, SERVER, *options, self.path, self.folder]
         process = subprocess.Popen(words, stderr=errors)
@@ -41,18 +44,18 @@ class ServerTest(StoreTest):
             time.sleep(0.01)
         return process
 
-    def stop(self, process):
+    def stop(self, process: subprocess.Popen[bytes]) -> None:
         process.kill()
         process.wait()
         if process.stderr:
             process.stderr.close()
 
-    def connect(self):
+    def connect(self) -> Store:
         store = Store.connect(self.path, timeout=PATIENCE)
         self.addCleanup(store.close)
         return store
 
-    def raw(self):
+    def raw(self) -> socket.socket:
         connection = socket.socket(socket.AF_UNIX)
         connection.settimeout(PATIENCE)
         connection.connect(self.path)
@@ -60,12 +63,18 @@ class ServerTest(StoreTest):
         return connection
 
 
-def session_of(process):
+def session_of(process: subprocess.Popen[bytes]) -> int:
     with open(f"/proc/{process.pid}/task/{process.pid}/children", encoding="ascii") as children:
         return int(children.read())
 
 
-def received(connection, count):
+def errors_of(process: subprocess.Popen[bytes]) -> bytes:
+    """What a process that has ended wrote to standard error."""
+    assert process.stderr is not None
+    return process.stderr.read()
+
+
+def received(connection: socket.socket, count: int) -> bytes:
     """So many answers, or those until the server cuts the client off."""
     answers = b""
     while answers.count(b"...\n") < count and (part := connection.recv(65_536)):
@@ -76,9 +85,10 @@ def received(connection, count):
 class Clients(ServerTest):
     def test_clients_share_a_session(self) -> None:
         self.serve()
-        stores, wrong = [self.connect() for _ in range(16)], []
+        stores = [self.connect() for _ in range(16)]
+        wrong: list[int] = []
 
-        def append(number):
+        def append(number: int) -> None:
             store = stores[number]
             store[f"list{number}"] = []
             for turn in range(20):
@@ -161,11 +171,13 @@ class Clients(ServerTest):
 class Cutting(unittest.TestCase):
     def test_pieces(self) -> None:
         spec = importlib.util.spec_from_file_location("serve", SERVER)
+        assert spec is not None and spec.loader is not None
         serve = importlib.util.module_from_spec(spec)
         spec.loader.exec_module(serve)
         stream = b"...\na\n...\n....\n ...\n...\n\n...\nb...\nrest"
         for step in (1, 2, 3, 5, 100):
-            pieces, found = serve.Pieces(), []
+            pieces = serve.Pieces()
+            found: list[bytes] = []
             for place in range(0, len(stream), step):
                 pieces.add(stream[place : place + step])
                 while pieces.end:
@@ -213,11 +225,12 @@ class Ends(ServerTest):
     def test_sixteen_clients_of_sessions_that_are_killed(self) -> None:
         """Each client appends numbers to a list of its own, and connects again when it is cut off."""
         served = [self.serve()]
-        answered, wrong, stop = [0] * 16, [], threading.Event()
+        answered, stop = [0] * 16, threading.Event()
+        wrong: list[tuple[int, int, int | str]] = []
         for number in range(16):
             self.connect().put(f"list{number}", [])
 
-        def append(number):
+        def append(number: int) -> None:
             store = Store.connect(self.path, timeout=PATIENCE)
             while not stop.is_set():
                 try:
@@ -244,7 +257,9 @@ class Ends(ServerTest):
         lists = [len(store[f"list{number}"]) for number in range(16)]
         self.assertEqual((lists, wrong, min(answered) > 0), (answered, [], True))
 
-    def catch_up(self, store, number, answered, wrong):
+    def catch_up(
+        self, store: Store, number: int, answered: list[int], wrong: list[tuple[int, int, int | str]]
+    ) -> bool:
         """Connects again, and sees which commands are there: all that were answered, and at most one more."""
         end = time.monotonic() + PATIENCE
         while time.monotonic() < end:
@@ -258,13 +273,13 @@ class Ends(ServerTest):
                 wrong.append((number, answered[number], len(found)))
             answered[number] = len(found)
             return True
-        wrong.append((number, "no server"))
+        wrong.append((number, answered[number], "no server"))
         return False
 
     def test_a_store_that_is_held(self) -> None:
         self.store()
         process = self.serve(errors=subprocess.PIPE)
-        self.assertEqual((process.wait(PATIENCE), process.stderr.read()), (3, b"confstore: Locked\n"))
+        self.assertEqual((process.wait(PATIENCE), errors_of(process)), (3, b"confstore: Locked\n"))
         self.assertFalse(os.path.exists(self.path))
 
     def test_a_new_session_after_many_bytes(self) -> None:
@@ -326,9 +341,8 @@ class Sockets(ServerTest):
         with socket.socket(socket.AF_UNIX, socket.SOCK_DGRAM) as manager:
             manager.settimeout(PATIENCE)
             manager.bind(os.path.join(self.top, "manager"))
-            os.environ["NOTIFY_SOCKET"] = os.path.join(self.top, "manager")
-            self.addCleanup(os.environ.pop, "NOTIFY_SOCKET", None)
-            self.serve()
+            with mock.patch.dict(os.environ, {"NOTIFY_SOCKET": os.path.join(self.top, "manager")}):
+                self.serve()
             self.assertEqual(manager.recv(100), b"READY=1")
 
 

@@ -1,12 +1,15 @@
 """Calls of a store, over real sessions."""
 
+from __future__ import annotations
+
 import enum
 import os
 import threading
 import unittest
+from typing import Callable
 
 import confstore
-from confstore import Edit, Reader, Record, Store
+from confstore import Batch, ConfstoreError, Edit, Reader, Record, Store, Tree
 from confstore.session import LONGEST_COMMAND
 
 from .places import StoreTest
@@ -38,10 +41,10 @@ class Calls(StoreTest):
 
     def test_texts_of_all_kinds(self) -> None:
         store = self.store()
-        texts = [*CHARACTERS, CHARACTERS, "a\n...\nb\n", "---\n", "...\n", "x" * 100_000, "\U0010ffff"]
+        texts: list[Tree] = [*CHARACTERS, CHARACTERS, "a\n...\nb\n", "---\n", "...\n", "x" * 100_000, "\U0010ffff"]
         store["texts"] = texts
         self.assertEqual(store["texts"], texts)
-        for text in texts:
+        for text in map(str, texts):
             store.set("texts", "", {text: text})
             self.assertEqual(store["texts"], {text: text})
 
@@ -74,11 +77,12 @@ class Calls(StoreTest):
             self.assertEqual(store.names(), [])
 
     def test_many_threads(self) -> None:
-        store, wrong = self.store(), []
+        store = self.store()
+        wrong: list[int] = []
         for number in range(16):
             store[f"list{number}"] = []
 
-        def append(number):
+        def append(number: int) -> None:
             for turn in range(25):
                 store.set(f"list{number}", "/-", f"n{turn}")
             if store[f"list{number}"] != [f"n{turn}" for turn in range(25)]:
@@ -93,7 +97,8 @@ class Calls(StoreTest):
         self.assertEqual(store.checkpoint(), 16 * 26)
 
     def test_large_commands_of_many_threads(self) -> None:
-        store, tree = self.store(), ["x" * 900_000]
+        store = self.store()
+        tree: Tree = ["x" * 900_000]
         threads = [threading.Thread(target=store.put, args=(f"c{number}", tree)) for number in range(8)]
         for thread in threads:
             thread.start()
@@ -114,7 +119,7 @@ class Refusals(StoreTest):
     def test_words(self) -> None:
         store = self.store()
         store["a"] = {"l": ["x"]}
-        rows = [
+        rows: list[tuple[type[confstore.Refused], Callable[[], object]]] = [
             (confstore.NoConfig, lambda: store["b"]),
             (confstore.BadName, lambda: store["B"]),
             (confstore.BadPath, lambda: store.get("a", "l")),
@@ -139,23 +144,24 @@ class Refusals(StoreTest):
 
     def test_what_is_never_sent(self) -> None:
         store = self.store()
-        for kind, call in (
+        rows: list[tuple[type[ConfstoreError], Callable[[], object]]] = [
             (confstore.NotText, lambda: store.set("a", "", "\ud800")),
             (confstore.NotText, lambda: store.get("a", "/\udc00")),
-            (confstore.NotATree, lambda: store.put("a", {"port": 80})),
+            (confstore.NotATree, lambda: store.put("a", {"port": 80})),  # type: ignore[dict-item]
             (confstore.TooLongToSend, lambda: store.import_text("a", "#" * LONGEST_COMMAND)),
-        ):
+        ]
+        for kind, call in rows:
             with self.assertRaises(kind):
                 call()
         self.assertEqual(store.names(), [])
 
 
 class Batches(StoreTest):
-    def test_all_or_nothing(self):
+    def test_all_or_nothing(self) -> None:
         store = self.store()
         store["a"] = {"k": "x"}
 
-        def both():
+        def both() -> Batch:
             with store.batch() as batch:
                 batch.set("a", "/k", "y")
                 batch.import_text("b", "[1]")
@@ -195,7 +201,7 @@ class Reading(StoreTest):
         self.assertEqual((store.at(0).names(), store.at(2).get("a", "/k/1")), ([], "y"))
         reader = Reader(self.folder)
         self.assertEqual((reader.names(), reader.get("a", "/k")), (["a"], ["y"]))
-        for kind, call in (
+        rows: list[tuple[type[ConfstoreError], Callable[[], object]]] = [
             (confstore.NoSuchCommand, lambda: store.at(4)),
             (confstore.NoConfig, lambda: reader.get("b")),
             (confstore.BadName, lambda: reader.get("--help")),
@@ -206,7 +212,8 @@ class Reading(StoreTest):
             (confstore.Unsupported, lambda: reader.get("a", "/\0")),
             (confstore.NoSuchCommand, lambda: store.at(-1)),
             (confstore.NoSuchCommand, lambda: store.at(2**64)),
-        ):
+        ]
+        for kind, call in rows:
             with self.assertRaises(kind):
                 call()
         store.checkpoint()
@@ -227,8 +234,8 @@ class Reading(StoreTest):
         self.assertEqual(store.log(), [Record(1, (Edit("import", "a", "", "x"), Edit("delete", "a", "", None)))])
 
 
-def nested(depth):
-    tree = "x"
+def nested(depth: int) -> Tree:
+    tree: Tree = "x"
     for _ in range(depth):
         tree = [tree]
     return tree

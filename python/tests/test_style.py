@@ -1,12 +1,15 @@
 """Texts in the one style: the rows of docs/STYLE.md, and the program's own as the measure of random trees."""
 
+from __future__ import annotations
+
 import enum
 import os
 import random
 import subprocess
 import unittest
+from typing import Any
 
-from confstore import NotATree, NotText, TooDeep, document, from_text, to_text
+from confstore import ConfstoreError, NotATree, NotText, TooDeep, Tree, document, from_text, to_text
 from confstore.style import scalar
 
 # Texts with what they are as values, indented by two, worked out by hand from docs/STYLE.md.
@@ -46,7 +49,7 @@ ports:
     number: "443"
 empty: {}
 """
-PAGE_TREE = {
+PAGE_TREE: Tree = {
     "host": "example",
     "port": "8080",
     "motd": "Welcome.\nBe kind.\n",
@@ -67,36 +70,36 @@ class Color(str, enum.Enum):
 class Odd(str):
     """A str that says something else of itself wherever it can."""
 
-    def odd(self, *_):
+    def odd(self, *_: object) -> str:
         return "odd"
 
     __str__ = __repr__ = __format__ = lower = rstrip = odd
     __hash__ = object.__hash__
 
-    def __eq__(self, other):
+    def __eq__(self, other: object) -> bool:
         return self is other
 
-    def __contains__(self, _):
+    def __contains__(self, _: object) -> bool:
         return False
 
-    def __len__(self):
+    def __len__(self) -> int:
         return 0
 
-    def __getitem__(self, _):
+    def __getitem__(self, _: object) -> str:
         return " "
 
-    def encode(self, *_):
+    def encode(self, *_: object) -> bytes:
         return b"odd"
 
-    def split(self, *_):
+    def split(self, *_: Any) -> list[str]:
         return ["odd"]
 
 
-def random_text(chance):
+def random_text(chance: random.Random) -> str:
     return "".join(chance.choice(CHARACTERS) for _ in range(chance.choice((0, 1, 3, 9))))
 
 
-def random_tree(chance, depth):
+def random_tree(chance: random.Random, depth: int) -> Tree:
     kind = chance.randrange(4) if depth else 0
     if kind < 2:
         return random_text(chance)
@@ -114,18 +117,19 @@ class Style(unittest.TestCase):
         """A text of a class of its own is written as the text that it is, wherever it stands."""
         for text in (*(color.value for color in Color), *(text for text, _ in SCALARS)):
             odd = Odd(text)
-            for plain, other in (
+            rows: list[tuple[Tree, Tree]] = [
                 (text, odd),
                 ([text, "a"], [odd, "a"]),
                 ({text: text}, {odd: odd}),
                 ({"a": [{text: []}]}, {"a": [{odd: []}]}),
-            ):
+            ]
+            for plain, other in rows:
                 self.assertEqual(to_text(other), to_text(plain))
                 self.assertEqual(document(other), document(plain))
             self.assertEqual(scalar(odd), scalar(text))
         for color in Color:
-            for plain, other in ((color.value, color), ({color.value: [color.value]}, {color: [color]})):
-                self.assertEqual(to_text(other), to_text(plain))
+            self.assertEqual(to_text(color), to_text(color.value))
+            self.assertEqual(to_text({color: [color]}), to_text({color.value: [color.value]}))
         with self.assertRaises(NotATree):
             to_text({Odd("red"): "a", "red": "b"})
         with self.assertRaises(NotText):
@@ -151,16 +155,17 @@ class Style(unittest.TestCase):
             self.assertEqual(from_text(text), tree)
 
     def test_refused(self) -> None:
-        endless = []
+        endless: list[Tree] = []
         endless.append(endless)
-        deep = "x"
+        deep: Tree = "x"
         for _ in range(201):
             deep = [deep]
-        for tree, kind in (
+        rows: list[tuple[Any, type[ConfstoreError]]] = [
             (80, NotATree), (None, NotATree), ({1: "a"}, NotATree), ([True], NotATree), (("a",), NotATree),
             ("\ud800", NotText), (["a\udfffb"], NotText), ({"\ud800": ""}, NotText), (endless, TooDeep),
             (deep, TooDeep),
-        ):  # fmt: skip
+        ]  # fmt: skip
+        for tree, kind in rows:
             with self.assertRaises(kind):
                 to_text(tree)
 

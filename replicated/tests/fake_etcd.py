@@ -4,20 +4,35 @@ It is written from etcd's documentation of its API, not from the code that it te
 put back, as a snapshot is restored, and an answer can be lost after its call was performed.
 """
 
+from __future__ import annotations
+
 import base64
 import copy
 import json
+import ssl
 import threading
 from http.server import BaseHTTPRequestHandler, ThreadingHTTPServer
+from typing import Any, Callable, Dict, List, NamedTuple, Tuple
 
 CREATED = "create_revision"
 
+# A request or an answer, as JSON has it.
+Body = Dict[str, Any]
 
-def decoded(text):
+
+class Held(NamedTuple):
+    """A key's value, and the revisions that made and changed it."""
+
+    value: bytes
+    created: int
+    modified: int
+
+
+def decoded(text: str) -> bytes:
     return base64.b64decode(text)
 
 
-def encoded(data):
+def encoded(data: bytes) -> str:
     return base64.b64encode(data).decode()
 
 
@@ -26,48 +41,50 @@ class Keys:
 
     def __init__(self) -> None:
         self.revision = 1
-        self.keys = {}  # each with its value, and the revisions that made and changed it
-        self.events = []
+        self.keys: Dict[bytes, Held] = {}
+        self.events: List[Tuple[int, Dict[str, str]]] = []
 
-    def put(self, key, value, revision):
-        created = self.keys[key][1] if key in self.keys else revision
-        self.keys[key] = value, created, revision
+    def put(self, key: bytes, value: bytes, revision: int) -> None:
+        created = self.keys[key].created if key in self.keys else revision
+        self.keys[key] = Held(value, created, revision)
         self.events.append((revision, self.found(key)))
 
-    def found(self, key, keys_only=False):
+    def found(self, key: bytes, keys_only: bool = False) -> Dict[str, str]:
         value, created, modified = self.keys[key]
         told = {"key": encoded(key), CREATED: str(created), "mod_revision": str(modified), "version": "1"}
         return told if keys_only else {**told, "value": encoded(value)}
 
-    def in_range(self, asked):
+    def in_range(self, asked: Body) -> List[bytes]:
         first, end = decoded(asked["key"]), decoded(asked.get("range_end", ""))
         return sorted(key for key in self.keys if (first <= key < end if end else key == first))
 
-    def range(self, asked):
+    def range(self, asked: Body) -> Body:
         keys = self.in_range(asked)
         least, most = int(asked.get("min_create_revision", 0)), int(asked.get("max_create_revision", 0))
-        keys = [key for key in keys if self.keys[key][1] >= least and (not most or self.keys[key][1] <= most)]
+        keys = [key for key in keys if self.keys[key].created >= least and (not most or self.keys[key].created <= most)]
         if asked.get("sort_target") == "CREATE":
-            keys.sort(key=lambda key: self.keys[key][1], reverse=asked.get("sort_order") == "DESCEND")
+            keys.sort(key=lambda key: self.keys[key].created, reverse=asked.get("sort_order") == "DESCEND")
         limit = int(asked.get("limit", 0)) or len(keys)
         return {"kvs": [self.found(key, asked.get("keys_only", False)) for key in keys[:limit]]}
 
-    def delete(self, asked):
+    def delete(self, asked: Body) -> None:
         for key in self.in_range(asked):
             del self.keys[key]
 
-    def holds(self, compare):
-        value, created, _ = self.keys.get(decoded(compare["key"]), (None, 0, 0))
+    def holds(self, compare: Dict[str, str]) -> bool:
+        held = self.keys.get(decoded(compare["key"]))
         if compare["target"] == "VALUE":
-            return value == decoded(compare["value"])
+            return held is not None and held.value == decoded(compare["value"])
+        created = 0 if held is None else held.created
         wanted = int(compare[CREATED])
         results = {"EQUAL": created == wanted, "LESS": created < wanted, "GREATER": created > wanted}
         return results[compare.get("result", "EQUAL")]
 
-    def transact(self, asked):
+    def transact(self, asked: Body) -> Body:
         succeeded = all(map(self.holds, asked.get("compare", ())))
         operations = asked.get("success" if succeeded else "failure", ())
-        revision, responses = self.revision + 1, []
+        revision = self.revision + 1
+        responses: List[Body] = []
         for operation in operations:
             ((kind, words),) = operation.items()
             if kind == "request_range":
@@ -85,11 +102,13 @@ class Keys:
 class FakeEtcd:
     """One member. `lose` is called with each request, and its answer is lost if that is true."""
 
-    def __init__(self, context=None, password=None, padding=0):
+    def __init__(self, context: ssl.SSLContext | None = None, password: str | None = None, padding: int = 0) -> None:
         self.keys, self.cluster, self.incarnation = Keys(), 77, 0
         self.lock = threading.Condition()
-        self.password, self.tokens, self.asked, self.padding = password, [], [], padding
-        self.lose = lambda path, body: False
+        self.password, self.padding = password, padding
+        self.tokens: List[str] = []
+        self.asked: List[Tuple[str, Body]] = []
+        self.lose: Callable[[str, Body], bool] = lambda path, body: False
         member = self
 
         class Handler(BaseHTTPRequestHandler):
@@ -98,12 +117,16 @@ class FakeEtcd:
             def do_POST(self) -> None:
                 member.answer(self, json.loads(self.rfile.read(int(self.headers["Content-Length"]))))
 
-            def log_message(self, *_):
+            def log_message(self, *_: object) -> None:
                 pass
 
-        self.server = ThreadingHTTPServer(("127.0.0.1", 0), Handler)
-        self.server.daemon_threads = True
-        self.server.handle_error = lambda *_: None  # clients may go at any time
+        class Gateway(ThreadingHTTPServer):
+            daemon_threads = True
+
+            def handle_error(self, *_: object) -> None:
+                pass  # clients may go at any time
+
+        self.server = Gateway(("127.0.0.1", 0), Handler)
         self.address = "127.0.0.1:%d" % self.server.server_address[1]
         if context is not None:
             self.server.socket = context.wrap_socket(self.server.socket, server_side=True)
@@ -114,11 +137,11 @@ class FakeEtcd:
         self.server.shutdown()
         self.server.server_close()
 
-    def snapshot(self):
+    def snapshot(self) -> Keys:
         with self.lock:
             return copy.deepcopy(self.keys)
 
-    def restore(self, keys, cluster=None):
+    def restore(self, keys: Keys | None, cluster: int | None = None) -> None:
         """Holds what a snapshot has, or nothing."""
         with self.lock:
             self.keys = copy.deepcopy(keys) if keys is not None else Keys()
@@ -131,19 +154,22 @@ class FakeEtcd:
             self.incarnation += 1
             self.lock.notify_all()
 
-    def header(self):
+    def header(self) -> Dict[str, str]:
         return {"cluster_id": str(self.cluster), "revision": str(self.keys.revision)}
 
-    def answer(self, handler, body):
+    def answer(self, handler: BaseHTTPRequestHandler, body: Body) -> None:
         path = handler.path
         with self.lock:
             self.asked.append((path, body))
             if path == "/v3/auth/authenticate":
-                return self.authenticate(handler, body)
+                self.authenticate(handler, body)
+                return
             if self.password is not None and handler.headers.get("Authorization") not in self.tokens:
-                return self.send(handler, 401, {"error": "etcdserver: invalid auth token", "code": 16})
+                self.send(handler, 401, {"error": "etcdserver: invalid auth token", "code": 16})
+                return
         if path == "/v3/watch":
-            return self.watch(handler, body["create_request"])
+            self.watch(handler, body["create_request"])
+            return
         with self.lock:
             told = {"/v3/kv/range": self.keys.range, "/v3/kv/txn": self.keys.transact}.get(path, self.write)(body)
             answer = {"header": self.header(), **told, "padding": " " * self.padding}
@@ -153,26 +179,27 @@ class FakeEtcd:
         else:
             self.send(handler, 200, answer)
 
-    def write(self, body):
+    def write(self, body: Body) -> Body:
         if "value" in body:
             self.keys.revision += 1
             self.keys.put(decoded(body["key"]), decoded(body["value"]), self.keys.revision)
         return {}
 
-    def authenticate(self, handler, body):
+    def authenticate(self, handler: BaseHTTPRequestHandler, body: Body) -> None:
         if body != {"name": "app", "password": self.password}:
-            return self.send(handler, 400, {"error": "authentication failed, invalid user ID or password", "code": 3})
+            self.send(handler, 400, {"error": "authentication failed, invalid user ID or password", "code": 3})
+            return
         self.tokens.append(f"token{len(self.asked)}")
         self.send(handler, 200, {"token": self.tokens[-1]})
 
-    def send(self, handler, status, answer):
+    def send(self, handler: BaseHTTPRequestHandler, status: int, answer: Body) -> None:
         text = json.dumps(answer).encode()
         handler.send_response(status)
         handler.send_header("Content-Length", str(len(text)))
         handler.end_headers()
         handler.wfile.write(text)
 
-    def watch(self, handler, asked):
+    def watch(self, handler: BaseHTTPRequestHandler, asked: Dict[str, str]) -> None:
         handler.close_connection = True
         handler.send_response(200)
         handler.end_headers()
@@ -190,7 +217,7 @@ class FakeEtcd:
             if events:
                 self.tell(handler, {"events": events})
 
-    def tell(self, handler, told):
+    def tell(self, handler: BaseHTTPRequestHandler, told: Body) -> None:
         try:
             handler.wfile.write(json.dumps({"result": told}).encode() + b"\n")
         except OSError:

@@ -6,9 +6,12 @@ import os
 import tempfile
 import unittest
 from typing import Any, List
+from unittest import mock
 
 import confstore
-from confstore import Refused as StoreRefused, Store
+from confstore import Refused as StoreRefused, Store, Tree
+from confstore_replicated import answers as answers_module
+from confstore_replicated import follower as following
 from confstore_replicated.answers import answers_in, base_length_in, count_in
 from confstore_replicated.entries import LONGEST, MARK_LENGTH, NO_MARK, RESERVED, Refused, command_of, edits_in
 from confstore_replicated.entries import Edit, edits_of, entry_of, has_nonce, number_in
@@ -17,9 +20,9 @@ from confstore_replicated.etcd import Item
 from confstore_replicated.follower import Follower, NotReplicated
 from confstore_replicated.history import mark_of, short_of
 
-IMPORT = {"import": "a", "text": "n: x"}
-SET = {"set": "a", "path": "/n", "value": "y"}
-WRONG = {"set": "b", "path": "/n", "value": "y"}
+IMPORT: Edit = {"import": "a", "text": "n: x"}
+SET: Edit = {"set": "a", "path": "/n", "value": "y"}
+WRONG: Edit = {"set": "b", "path": "/n", "value": "y"}
 
 MARK = "e" + "x" * (MARK_LENGTH - 1)
 
@@ -39,7 +42,7 @@ def refusal_of(word: str, number: int, before: int) -> Edits:
 LONGEST_BASE = 67_108_864
 
 
-def nested(depth: int, tree: Any = "x") -> Any:
+def nested(depth: int, tree: Tree = "x") -> Tree:
     for _ in range(depth):
         tree = [tree]
     return tree
@@ -47,7 +50,7 @@ def nested(depth: int, tree: Any = "x") -> Any:
 
 class Entries(unittest.TestCase):
     def test_what_is_refused_before_the_log(self) -> None:
-        rows = [
+        rows: list[tuple[str, Any]] = [
             ("BadCommand", None),
             ("BadCommand", {}),
             ("BadCommand", {"set": "a", "value": "y", "path": "/n"}),
@@ -87,8 +90,9 @@ class Entries(unittest.TestCase):
 
     def test_numbers(self) -> None:
         self.assertEqual(number_in({"00000000000000000012": NO_MARK}), (12, NO_MARK))
-        wrong = ({}, "12", {"12": ""}, {"0000000000000000001x": ""}, {"00000000000000000012": "", "b": ""})
-        for tree in (*wrong, {"00000000000000000012": ["x"]}):
+        wrong: list[Tree] = [{}, "12", {"12": ""}, {"0000000000000000001x": ""}, {"00000000000000000012": "", "b": ""}]
+        wrong.append({"00000000000000000012": ["x"]})
+        for tree in wrong:
             with self.assertRaises(confstore.ConfstoreError):
                 number_in(tree)
 
@@ -139,6 +143,12 @@ class Batches(StoreTest):
         self.assertEqual(self.answers(store, refusal_of("NoConfig", 5, 0), marked([IMPORT], 6, 5)), [1, 2])
 
 
+def store_of(follower: Follower) -> Store:
+    """The store that a follower holds."""
+    assert follower.store is not None
+    return follower.store
+
+
 class Followers(StoreTest):
     def follower(self) -> tuple[Follower, list[tuple[Any, ...]]]:
         told = []
@@ -166,7 +176,7 @@ class Followers(StoreTest):
         follower.close()
         again, from_file = self.follower()
         self.assertEqual([(number, performed.answer) for number, performed in from_file], wanted)
-        self.assertEqual((again._place.number, again.store["a"]), (20, {"n": "y"}))
+        self.assertEqual((again._place.number, store_of(again)["a"]), (20, {"n": "y"}))
         for (_, performed), entry in zip(from_file, entries):
             self.assertEqual([performed.is_of(other) for other in entries], [other is entry for other in entries])
             another = entry._replace(value=entry_of(edits_in(entry.value)[1]))
@@ -192,18 +202,16 @@ class Followers(StoreTest):
     def test_the_file(self) -> None:
         """Records are found however the file lies in what is read at once."""
         follower, told = self.follower()
-        long = {"import": "a", "text": "x" * 3_000}
+        long: Edit = {"import": "a", "text": "x" * 3_000}
         follower._perform(self.items(*[IMPORT, long, WRONG] * 10))
-        from confstore_replicated import answers
-
-        before, found = answers.PART, []
+        wanted = [(number, performed.answer) for number, performed in told]
         with open(os.path.join(self.folder, "store.yaml"), "rb") as file:
             base_length = file.read().index(b"\n...\n") + 5
-        self.addCleanup(setattr, answers, "PART", before)
-        for answers.PART in (1, 7, 611, before):
-            found.append([(number, performed.answer) for number, performed in answers_in(self.folder)])
-            self.assertEqual((count_in(self.folder), base_length_in(self.folder)), (30, base_length))
-        self.assertEqual(found, [[(number, performed.answer) for number, performed in told]] * 4)
+        for part in (1, 7, 611, answers_module.PART):
+            with mock.patch.object(answers_module, "PART", part):
+                found = [(number, performed.answer) for number, performed in answers_in(self.folder)]
+                self.assertEqual(found, wanted)
+                self.assertEqual((count_in(self.folder), base_length_in(self.folder)), (30, base_length))
 
     def test_marks_are_as_long_as_those_of_the_version_before(self) -> None:
         """So the size of a state doesn't tell which version performed its entries."""
@@ -221,10 +229,10 @@ class Followers(StoreTest):
         """`JournalLong` is no answer: the store makes its file short, and the command is sent again."""
         follower, told = self.follower()
         follower._perform(self.items(IMPORT))
-        store, sent = follower.store, []
-        perform = store.perform_batches
+        sent: list[int] = []
+        perform = store_of(follower).perform_batches
 
-        def too_long(batches: list[Edits]) -> list[Any]:
+        def too_long(batches: list[Edits]) -> list[int | confstore.ConfstoreError]:
             sent.append(len(batches))
             if len(sent) in wanted:
                 first = perform(batches[: wanted[len(sent)]])
@@ -232,55 +240,53 @@ class Followers(StoreTest):
             return perform(batches)
 
         wanted = {1: 2}
-        store.perform_batches = too_long
-        follower._perform(self.items(SET, WRONG, SET, SET, start=2))
         answers = [{"ok": "1"}, {"ok": "2"}, {"refused": "NoConfig"}, {"ok": "4"}, {"ok": "5"}]
-        self.assertEqual([performed.answer for _, performed in told], answers)
-        sent.clear()
-        wanted.update({1: 1, 2: 0})
-        with self.assertRaises(confstore.ConfstoreError):
-            follower._perform(self.items(SET, SET, start=7))
+        with mock.patch.object(store_of(follower), "perform_batches", too_long):
+            follower._perform(self.items(SET, WRONG, SET, SET, start=2))
+            self.assertEqual([performed.answer for _, performed in told], answers)
+            sent.clear()
+            wanted.update({1: 1, 2: 0})
+            with self.assertRaises(confstore.ConfstoreError):
+                follower._perform(self.items(SET, SET, start=7))
         self.assertEqual(len(told), 6, "what is refused again after a checkpoint is not answered")
 
     def test_a_word_that_is_not_known(self) -> None:
         follower, told = self.follower()
-        follower.store.perform_batches = lambda batches: [confstore.Refused("NewWord")] * len(batches)
-        with self.assertRaises(confstore.ConfstoreError):
+        refused = mock.patch.object(store_of(follower), "perform_batches", return_value=[confstore.Refused("NewWord")])
+        with refused, self.assertRaises(confstore.ConfstoreError):
             follower._perform(self.items(IMPORT))
         self.assertEqual(told, [])
 
     def test_checkpoints_by_what_is_written(self) -> None:
         """A small entry whose record is long: the file is made short by the bytes of records."""
-        import confstore_replicated.follower as module
-
-        self.addCleanup(setattr, module, "CHECKPOINT_BYTES", module.CHECKPOINT_BYTES)
-        module.CHECKPOINT_BYTES = 1_000_000
-        follower, _ = self.follower()
-        follower._perform(self.items(IMPORT))
-        deep = {"set": "a", "path": "", "value": nested(120, ["x"] * 2_000)}
+        deep: Edit = {"set": "a", "path": "", "value": nested(120, ["x"] * 2_000)}
         entries = self.items(*[deep] * 8, start=2)
         self.assertLess(sum(len(entry.value) for entry in entries), 200_000)
-        for entry in entries:
-            follower._perform([entry])
-            self.assertLess(os.path.getsize(os.path.join(self.folder, "store.yaml")), 2_600_000)
+        with mock.patch.object(following, "CHECKPOINT_BYTES", 1_000_000):
+            follower, _ = self.follower()
+            follower._perform(self.items(IMPORT))
+            for entry in entries:
+                follower._perform([entry])
+                self.assertLess(os.path.getsize(os.path.join(self.folder, "store.yaml")), 2_600_000)
 
     def test_a_store_that_is_full(self) -> None:
         """A number is put also where the store is full to the last byte and its count gets a digit more."""
         follower, told = self.follower()
         follower._perform(self.items(IMPORT))
-        self.fill(follower.store)
+        store = store_of(follower)
+        self.fill(store)
         follower._checkpoint_length = LONGEST_BASE
-        count = follower.store.checkpoint()
+        count = store.checkpoint()
         self.assertTrue(10 <= count < 99)
         entries = self.items(*[WRONG] * (105 - count), start=2)
         follower._perform(entries)
         self.assertEqual([performed.answer for _, performed in told[1:]], [{"refused": "NoConfig"}] * (105 - count))
-        number, mark = number_in(follower.store[RESERVED])
+        number, mark = number_in(store[RESERVED])
         self.assertEqual((number, mark), (entries[-1].created, short_of(mark_of(0, entries[-1]))))
         *_, (number, performed) = answers_in(self.folder)
         self.assertEqual((number, performed.mark), (entries[-1].created, mark))
         self.assertEqual([performed.is_of(entry) for entry in entries[-2:]], [False, True])
-        self.assertEqual(follower.store.checkpoint(), 105)
+        self.assertEqual(store.checkpoint(), 105)
 
     def fill(self, store: Store) -> None:
         """Has the base of a store be as long as it may be."""

@@ -1,5 +1,7 @@
 """The client of etcd: TLS, users, answers that are too long, and what one transaction compares."""
 
+from __future__ import annotations
+
 import os
 import shutil
 import ssl
@@ -16,15 +18,22 @@ from .fake_etcd import FakeEtcd
 
 
 class EtcdTest(unittest.TestCase):
-    def member(self, **words):
-        member = FakeEtcd(**words)
+    def member(self, context: ssl.SSLContext | None = None, password: str | None = None) -> FakeEtcd:
+        member = FakeEtcd(context, password)
         self.addCleanup(member.close)
         return member
 
-    def client(self, member, access=None, timeout=0.2):
+    def client(self, member: FakeEtcd, access: Access | None = None, timeout: float = 0.2) -> Etcd:
         etcd = Etcd([member.address], timeout, access)
         self.addCleanup(etcd.close)
         return etcd
+
+
+    def keys_in(self, stream: Stream) -> list[bytes]:
+        """The keys of the items that come next."""
+        items = stream.take(5, 10)
+        assert items is not None
+        return [item.key for item in items]
 
 
 class Users(EtcdTest):
@@ -44,7 +53,7 @@ class Users(EtcdTest):
         stream = Stream(etcd, b"log/", 2)
         self.assertTrue(stream.has_begun(10))
         etcd.put(b"log/a", b"x")
-        self.assertEqual([item.key for item in stream.take(5, 10)], [b"log/a"])
+        self.assertEqual(self.keys_in(stream), [b"log/a"])
         member.tokens[:] = ["another"]
         member.restart()
         self.assertIsNone(stream.take(5, 10))
@@ -78,10 +87,10 @@ class Tls(EtcdTest):
         self.make("client", "/CN=client", signed=True)
         self.make("stranger", "/CN=authority", "-x509")
 
-    def path(self, name):
+    def path(self, name: str) -> str:
         return os.path.join(self.top, name)
 
-    def make(self, name, subject, *more, signed=False):
+    def make(self, name: str, subject: str, *more: str, signed: bool = False) -> None:
         key = self.path(f"{name}.key")
         words = ["openssl", "req", "-newkey", "rsa:2048", "-nodes", "-subj", subject, "-keyout", key]
         if signed:
@@ -94,7 +103,7 @@ class Tls(EtcdTest):
             more = ()
         subprocess.run([*words, *more, "-days", "2", "-out", self.path(f"{name}.crt")], check=True, capture_output=True)
 
-    def tls_member(self, asks_for_certificate=False):
+    def tls_member(self, asks_for_certificate: bool = False) -> FakeEtcd:
         context = ssl.SSLContext(ssl.PROTOCOL_TLS_SERVER)
         context.load_cert_chain(self.path("member.crt"), self.path("member.key"))
         if asks_for_certificate:
@@ -108,11 +117,11 @@ class Tls(EtcdTest):
         etcd.put(b"log/a", b"x")
         self.assertEqual(etcd.get(b"log/a"), b"x")
         stream = Stream(etcd, b"log/", 1)
-        self.assertEqual([item.key for item in stream.take(5, 10)], [b"log/a"])
+        self.assertEqual(self.keys_in(stream), [b"log/a"])
         stream.close()
-        for access in (Access(self.path("stranger.crt")), None):
+        for other in (Access(self.path("stranger.crt")), None):
             with self.assertRaises(Unavailable):
-                self.client(member, access).get(b"a")
+                self.client(member, other).get(b"a")
 
     def test_certificates_of_clients(self) -> None:
         member = self.tls_member(asks_for_certificate=True)

@@ -1,5 +1,7 @@
 """Marks, and whether a log is the one that a store has performed."""
 
+from __future__ import annotations
+
 import json
 import unittest
 
@@ -14,7 +16,7 @@ CLUSTER, OTHER = 7, 8
 MARK = mark_of(CLUSTER, ENTRY)
 
 
-def base(floor, number=20, floor_mark=""):
+def base(floor: int, number: int = 20, floor_mark: str = "") -> bytes:
     return json.dumps({"number": number, "floor": floor, "sha256": "", "floor_mark": floor_mark}).encode()
 
 
@@ -44,7 +46,14 @@ class Marks(unittest.TestCase):
 
 
 class Judgements(unittest.TestCase):
-    def judged(self, place, at=None, base_text=None, revision=30, cluster=CLUSTER):
+    def judged(
+        self,
+        place: Place,
+        at: Item | None = None,
+        base_text: bytes | None = None,
+        revision: int = 30,
+        cluster: int = CLUSTER,
+    ) -> type[Exception] | None:
         try:
             judge(Look(cluster, revision, at, base_text, []), place)
         except (Behind, OtherHistory) as error:

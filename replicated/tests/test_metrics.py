@@ -196,7 +196,7 @@ class Figures(NodeTest):
 
                 self.addCleanup(all_of_them.set)
                 self.addCleanup(some.set)
-                late.follower._perform = held  # type: ignore[method-assign]
+                self.patched(late.follower, "_perform", held)
                 late.follower.open()
                 wanted = self.entries(late.follower.place().number)
                 self.assertEqual(wanted, count)
@@ -227,9 +227,8 @@ class Figures(NodeTest):
         until(lambda: figures_in(metrics_of(node))["ids_expired_total"] == made - there() > 20)
 
     def test_an_etcd_that_is_gone(self) -> None:
-        module.PATIENCE = 2.0
-        self.addCleanup(setattr, following, "OLDEST_LOOK", following.OLDEST_LOOK)
-        following.OLDEST_LOOK = 1.0
+        self.patched(module, "PATIENCE", 2.0)
+        self.patched(following, "OLDEST_LOOK", 1.0)
         node = self.told()
         path = os.path.join(self.top, "socket")
         server = Server(path, self.top, node.answer, node.counts)

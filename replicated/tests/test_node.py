@@ -1,5 +1,7 @@
 """Nodes over an etcd that can be restored from a snapshot, made anew, and lose answers."""
 
+from __future__ import annotations
+
 import contextlib
 import io
 import os
@@ -7,15 +9,20 @@ import tempfile
 import threading
 import time
 import unittest
+from typing import Callable, TypeVar
+from unittest import mock
 
-from confstore import Store
+from confstore import Store, Tree
+from confstore_replicated import follower as following
 from confstore_replicated import node as module
-from confstore_replicated.entries import RESERVED, command_of, edits_of
+from confstore_replicated.bases import Bases
+from confstore_replicated.entries import RESERVED, command_of, digest_of, edits_of
 from confstore_replicated.etcd import Etcd
 from confstore_replicated.history import base_in
 from confstore_replicated.node import Node
+from confstore_replicated.stream import Stream
 
-from .fake_etcd import FakeEtcd
+from .fake_etcd import Body, FakeEtcd, Keys
 
 FAILED = {"failed": "OtherHistory"}
 LOG = b"/confstore/x/log/"
@@ -23,7 +30,10 @@ IDS = b"/confstore/x/ids/"
 BASE = b"/confstore/x/base"
 
 
-def until(holds, seconds=30):
+T = TypeVar("T")
+
+
+def until(holds: Callable[[], T], seconds: float = 30) -> T:
     deadline = time.monotonic() + seconds
     while not (found := holds()):
         if time.monotonic() > deadline:
@@ -39,13 +49,18 @@ class NodeTest(unittest.TestCase):
         self.top = holder.name
         self.etcd = FakeEtcd()
         self.addCleanup(self.etcd.close)
-        self.addCleanup(setattr, module, "PATIENCE", module.PATIENCE)
-        module.PATIENCE = 10.0
+        self.patched(module, "PATIENCE", 10.0)
         errors = contextlib.redirect_stderr(io.StringIO())
         self.said = errors.__enter__()
         self.addCleanup(errors.__exit__, None, None, None)
 
-    def node(self, name="a", base_after=1_000_000, names_kept=100_000):
+    def patched(self, owner: object, name: str, value: object) -> None:
+        """Gives a name of a module or a class another value until the test is over."""
+        patch = mock.patch.object(owner, name, value)
+        patch.start()
+        self.addCleanup(patch.stop)
+
+    def node(self, name: str = "a", base_after: int = 1_000_000, names_kept: int = 100_000) -> Node:
         node = Node(
             os.path.join(self.top, name), [self.etcd.address], "x", base_after=base_after, names_kept=names_kept
         )  # fmt: skip
@@ -53,22 +68,22 @@ class NodeTest(unittest.TestCase):
         self.addCleanup(self.end, node)
         return node
 
-    def end(self, node):
+    def end(self, node: Node) -> None:
         node.end()
         self.assertFalse(node.follower.is_alive())
 
-    def set(self, node, value, **more):
+    def set(self, node: Node, value: str, **more: str) -> Body:
         return node.answer({"set": "a", "path": "/n", "value": value, **more})
 
-    def get(self, node, fresh="yes"):
+    def get(self, node: Node, fresh: str = "yes") -> Body:
         return node.answer({"get": "a", "path": "/n", "fresh": fresh})
 
-    def begin(self, node, count=3):
+    def begin(self, node: Node, count: int = 3) -> None:
         self.assertEqual(node.answer({"import": "a", "text": "n: 0"}), {"ok": "1"})
         for number in range(count):
             self.assertEqual(self.set(node, str(number)), {"ok": str(number + 2)})
 
-    def burn(self, count):
+    def burn(self, count: int) -> None:
         """Another application makes revisions in the same etcd."""
         etcd = Etcd([self.etcd.address])
         for _ in range(count):
@@ -96,11 +111,12 @@ class Questions(NodeTest):
         self.assertEqual(self.set(one, "y", id="i"), {"refused": "IdTaken"})
         self.assertEqual(self.set(one, "y", id=""), {"refused": "BadCommand"})
 
-    def test_an_answer_of_etcd_that_is_lost(self):
+    def test_an_answer_of_etcd_that_is_lost(self) -> None:
         """The command is sent again, with another nonce, and is in the log once."""
-        node, lost = self.node(), []
+        node = self.node()
+        lost: list[Body] = []
 
-        def lose(path, body):
+        def lose(path: str, body: Body) -> bool:
             if path == "/v3/kv/txn" and body["compare"] and not lost:
                 lost.append(body)
                 return True
@@ -116,7 +132,7 @@ class Questions(NodeTest):
 
 
 class OtherHistories(NodeTest):
-    def refuses_all(self, node):
+    def refuses_all(self, node: Node) -> None:
         until(lambda: self.get(node, "no") == FAILED)
         for request in ({"names": ""}, {"export": "a"}, {"names": "", "fresh": "yes"}, {"import": "b", "text": "x"}):
             self.assertEqual(node.answer(request), FAILED)
@@ -203,35 +219,31 @@ class OtherHistories(NodeTest):
         node = self.node()
         self.begin(node)
         with self.etcd.lock:
-            key = max(self.etcd.keys.keys, key=lambda key: self.etcd.keys.keys[key][1] * key.startswith(LOG))
-            self.etcd.keys.revision += 1
-            self.etcd.keys.put(key, self.etcd.keys.keys[key][0], self.etcd.keys.revision)
+            keys = self.etcd.keys
+            key = max((key for key in keys.keys if key.startswith(LOG)), key=lambda key: keys.keys[key].created)
+            keys.revision += 1
+            keys.put(key, keys.keys[key].value, keys.revision)
         self.refuses_all(node)
 
-    def test_skipped_by_a_stream(self):
+    def test_skipped_by_a_stream(self) -> None:
         """Entries that a restored log got before the stream began are not left out."""
-        from confstore_replicated import follower
-
         node = self.node()
         self.begin(node)
         self.burn(5)
         snapshot = self.etcd.snapshot()
         self.burn(5)
         begun, go_on = threading.Event(), threading.Event()
-        before = follower.Stream
 
-        def late(*words):
+        def late(etcd: Etcd, prefix: bytes, revision: int) -> Stream:
             begun.set()
             go_on.wait(20)
-            return before(*words)
+            return Stream(etcd, prefix, revision)
 
-        self.addCleanup(setattr, follower, "Stream", before)
-        follower.Stream = late
-        self.etcd.restart()
-        begun.wait(20)
-        self.etcd.restore(snapshot)
-        other = self.node("b")
-        follower.Stream = before
+        with mock.patch.object(following, "Stream", late):
+            self.etcd.restart()
+            begun.wait(20)
+            self.etcd.restore(snapshot)
+            other = self.node("b")
         self.end(other)
         again = self.node("b")
         self.assertEqual(self.set(again, "missed"), {"ok": "5"})
@@ -239,23 +251,27 @@ class OtherHistories(NodeTest):
         self.assertEqual(self.set(again, "next"), {"ok": "6"})
         until(lambda: self.get(node) == {"value": "next"})
         self.assertEqual(node.follower.place().number, again.follower.place().number)
-        self.assertEqual(node.follower.store.names(), again.follower.store.names())
+        self.assertEqual(self.names_in(node), self.names_in(again))
+
+    def names_in(self, node: Node) -> list[str]:
+        assert node.follower.store is not None
+        return node.follower.store.names()
 
 
 class StoresOfTheVersionBefore(NodeTest):
     """Their marks say nothing, and their entries have no nonce."""
 
-    def make(self, entries):
+    def make(self, entries: list[tuple[int, dict[str, Tree]]]) -> None:
         folder = os.path.join(self.top, "a")
         with Store(folder, make=True) as store:
             for number, command in entries:
-                edits = [{"delete": RESERVED, "path": f"/{number - 1:020}"}]
+                edits: list[Tree] = [{"delete": RESERVED, "path": f"/{number - 1:020}"}]
                 if number == 2:
                     edits = [{"import": RESERVED, "text": "{}\n"}]
-                last = {"set": RESERVED, "path": f"/{number:020}", "value": "spare-room-for-the-count"}
+                last: Tree = {"set": RESERVED, "path": f"/{number:020}", "value": "spare-room-for-the-count"}
                 store.perform_batches([[*edits, command, last]])
                 self.etcd.keys.put(LOG + b"k%d" % number, command_of([command]), number)
-                self.etcd.keys.put(IDS + b"k%d" % number, module.digest_of(command_of([command])), number)
+                self.etcd.keys.put(IDS + b"k%d" % number, digest_of(command_of([command])), number)
                 self.etcd.keys.revision = number
 
     def test_it_goes_on_and_is_tied_then(self) -> None:
@@ -280,10 +296,11 @@ class BasesAndNames(NodeTest):
     def test_a_new_node_starts_from_a_base(self) -> None:
         node = self.node(base_after=10)
         self.begin(node, 60)
-        base = until(lambda: base_in(self.etcd.keys.keys.get(BASE, (None,))[0]))
-        self.assertTrue(base.floor > 0 and base.count and base.mark and base.floor_mark)
+        until(lambda: BASE in self.etcd.keys.keys and base_in(self.etcd.keys.keys[BASE].value).floor > 0)
+        base = base_in(self.etcd.keys.keys[BASE].value)
+        self.assertTrue(base.count and base.mark and base.floor_mark)
         with self.etcd.lock:
-            old = [key for key, (_, created, _) in self.etcd.keys.keys.items() if created <= base.floor]
+            old = [key for key, held in self.etcd.keys.keys.items() if held.created <= base.floor]
         self.assertFalse([key for key in old if key.startswith(LOG)])
         self.assertTrue([key for key in old if key.startswith(IDS)], "names outlive their entries")
         other = self.node("b")
@@ -301,7 +318,7 @@ class BasesAndNames(NodeTest):
             before = file.read()
         for count in range(40):
             self.set(node, str(count))
-        until(lambda: base_in(self.etcd.keys.keys[BASE][0]).floor > 10)
+        until(lambda: base_in(self.etcd.keys.keys[BASE].value).floor > 10)
         self.assertEqual(self.get(self.node("b")), {"value": "39"})
         with open(os.path.join(self.top, "b", "before-base.yaml"), "rb") as file:
             self.assertEqual(file.read(), before)
@@ -310,7 +327,7 @@ class BasesAndNames(NodeTest):
         node = self.node(base_after=10, names_kept=30)
         self.begin(node, 0)
         self.assertEqual(self.set(node, "first", id="i"), {"ok": "2"})
-        number = self.etcd.keys.keys[IDS + b"i"][1]
+        number = self.etcd.keys.keys[IDS + b"i"].created
         self.burn(200)
         for count in range(28):
             self.set(node, str(count))
@@ -322,7 +339,7 @@ class BasesAndNames(NodeTest):
                 self.assertTrue(has_name or not has_entry)
         self.assertFalse(has_name)
         self.assertNotIn("refused", self.set(node, "second", id="i"))
-        self.assertGreater(self.etcd.keys.keys[LOG + b"i"][1], number)
+        self.assertGreater(self.etcd.keys.keys[LOG + b"i"].created, number)
 
     def test_an_id_whose_entry_is_gone(self) -> None:
         node = self.node(base_after=10)
@@ -334,27 +351,27 @@ class BasesAndNames(NodeTest):
         self.assertEqual(self.set(node, "first", id="i"), {"ok": "2"})
         self.assertEqual(self.set(self.node("b"), "first", id="i"), {"failed": "Forgotten"})
 
-    def restored_at_parts(self, node, snapshot, when):
-        """Has etcd be restored before or after the parts of a base are put."""
-        bases, held = node.follower._bases, threading.Event()
+    def restored_at_parts(self, node: Node, snapshot: Keys | None, when: str) -> None:
+        """Has etcd be restored before or after the parts of a base are put: to a snapshot, or to what it has then."""
+        bases, is_restored = node.follower._bases, threading.Event()
 
-        def restore() -> None:
-            self.etcd.restore(snapshot or held.snapshot)
+        def restore(keys: Keys) -> None:
+            self.etcd.restore(keys)
             self.burn(10)
-            held.set()
+            is_restored.set()
 
-        def put_parts(path, prefix):
-            held.snapshot = self.etcd.snapshot()
+        def put_parts(path: str, prefix: bytes) -> tuple[str, list[bytes]]:
+            keys = snapshot or self.etcd.snapshot()
             if when == "before":
-                restore()
-            found = type(bases)._put_parts(bases, path, prefix)
+                restore(keys)
+            found = Bases._put_parts(bases, path, prefix)
             if when == "after":
-                restore()
+                restore(keys)
             return found
 
-        bases._put_parts = put_parts
-        self.set(node, "x")
-        self.assertTrue(held.wait(20))
+        with mock.patch.object(bases, "_put_parts", put_parts):
+            self.set(node, "x")
+            self.assertTrue(is_restored.wait(20))
 
     def test_a_base_of_another_history_is_not_put(self) -> None:
         node = self.node(base_after=4)

@@ -1,5 +1,7 @@
 """The socket of a node: who may connect, and how much clients can have it keep."""
 
+from __future__ import annotations
+
 import json
 import os
 import shutil
@@ -10,9 +12,13 @@ import tempfile
 import threading
 import time
 import unittest
+from typing import Any, Callable, Dict
+from unittest import mock
 
 from confstore_replicated import Client, listener as listening, server as module
 from confstore_replicated.server import Server
+
+Answering = Callable[[Dict[str, Any]], Dict[str, Any]]
 
 
 class ServerTest(unittest.TestCase):
@@ -24,12 +30,13 @@ class ServerTest(unittest.TestCase):
         os.mkdir(self.folder)
         self.path = os.path.join(self.top, "socket")
 
-    def bound(self, **bounds):
+    def bound(self, **bounds: float) -> None:
         for name, bound in bounds.items():
-            self.addCleanup(setattr, module, name, getattr(module, name))
-            setattr(module, name, bound)
+            patch = mock.patch.object(module, name, bound)
+            patch.start()
+            self.addCleanup(patch.stop)
 
-    def serve(self, answer=lambda request: {"asked": json.dumps(request)[:40]}):
+    def serve(self, answer: Answering = lambda request: {"asked": json.dumps(request)[:40]}) -> Server:
         server = Server(self.path, self.folder, answer)
         thread = threading.Thread(target=server.serve, daemon=True)
         thread.start()
@@ -37,21 +44,21 @@ class ServerTest(unittest.TestCase):
         self.addCleanup(server.end)
         return server
 
-    def client(self):
+    def client(self) -> socket.socket:
         client = socket.socket(socket.AF_UNIX)
         self.addCleanup(client.close)
         client.settimeout(30)
         client.connect(self.path)
         return client
 
-    def said(self, line):
+    def said(self, line: bytes) -> bytes:
         client = self.client()
         client.sendall(line)
         client.shutdown(socket.SHUT_WR)
         with client.makefile("rb") as answers:
             return answers.read()
 
-    def is_cut_off(self, client):
+    def is_cut_off(self, client: socket.socket) -> bool:
         client.settimeout(10)
         try:
             return client.recv(1) == b""
@@ -151,7 +158,7 @@ class Bounds(ServerTest):
         """More connections at once than places: all are answered in the end."""
         self.bound(MOST_CLIENTS=8)
         self.serve(lambda request: {})
-        answers = []
+        answers: list[bytes] = []
         threads = [threading.Thread(target=lambda: answers.append(self.said(b"{}\n"))) for _ in range(60)]
         for thread in threads:
             thread.start()
@@ -161,7 +168,7 @@ class Bounds(ServerTest):
 
 
 class Access(ServerTest):
-    def mode(self):
+    def mode(self) -> int:
         return stat.S_IMODE(os.stat(self.path).st_mode)
 
     def listen(self) -> None:
@@ -182,7 +189,11 @@ class Access(ServerTest):
         with self.assertRaises(OSError):
             listening.listen(self.path, self.folder)
         os.unlink(self.path)
-        for make in (lambda: open(self.path, "x").close(), lambda: os.symlink(self.folder, self.path)):
+        makes: list[Callable[[], None]] = [
+            lambda: open(self.path, "x").close(),
+            lambda: os.symlink(self.folder, self.path),
+        ]
+        for make in makes:
             make()
             with self.assertRaises(OSError):
                 listening.listen(self.path, self.folder)
@@ -205,13 +216,11 @@ class Access(ServerTest):
         os.chmod(self.folder, 0o777)
         before = listening._give_to_writers
 
-        def slow(path, folder):
+        def slow(path: str, folder: str) -> None:
             os.symlink(other, self.path)
             before(path, folder)
 
-        self.addCleanup(setattr, listening, "_give_to_writers", before)
-        listening._give_to_writers = slow
-        with self.assertRaises(OSError):
+        with mock.patch.object(listening, "_give_to_writers", slow), self.assertRaises(OSError):
             listening.listen(self.path, self.folder)
         self.assertEqual(stat.S_IMODE(os.stat(other).st_mode), 0o600)
         os.unlink(self.path)
@@ -267,12 +276,8 @@ class Access(ServerTest):
     def test_an_access_list_that_can_not_be_set(self) -> None:
         subprocess.run(["setfacl", "-m", "u:12345:rwx", self.folder], check=True)
 
-        def refuse(*_):
-            raise OSError(95, "not supported")
-
-        self.addCleanup(setattr, os, "setxattr", os.setxattr)
-        os.setxattr = refuse
-        self.listen()
+        with mock.patch.object(os, "setxattr", side_effect=OSError(95, "not supported")):
+            self.listen()
         self.assertEqual(self.mode(), 0o600)
 
 
