@@ -201,8 +201,8 @@ pub record BreaksOff {D : Type 0} (model : DiskModel D) (bytes : List ℕ) (old 
       → LeavesOnly model old.disk new.disk
       (λ image. AfterPrefix flushed (waiting ++ accepted_commands (stored_of old) requests) image.store)
 
--- What became of a group whose bytes are the piece in hand and those after it. If memory ran out, the pieces before are
--- performed.
+-- What became of a group whose bytes are the piece in hand and those after it, and that is performed as `Performed`
+-- says. If memory ran out, the pieces before are performed.
 abbrev pub EndsGathering : {D : Type 0} → DiskModel D → (StoreView D → StoreView D → List Request → Type 0)
     → List ℕ → Input → StoreView D → StoreView D → Unwritten → Unwritten → Result (Unit {0}) SessionFault → Type 0
 EndsGathering model Performed bytes input old new before after (Ok done) =
@@ -212,13 +212,13 @@ EndsGathering model Performed bytes input old new before after (Err fault.OutOfM
 EndsGathering model Performed bytes input old new before after (Err fault.Device) = BreaksOff model bytes old new
 EndsGathering model Performed bytes input old new before after (Err fault) = ⊥
 
--- nothing was flushed but by a checkpoint
+-- what became of a group before it is flushed: only a checkpoint flushed something
 abbrev pub SubmitsGroup : {D : Type 0} → DiskModel D → List ℕ → Input
     → StoreView D → StoreView D → Unwritten → Unwritten → Result (Unit {0}) SessionFault → Type 0
 SubmitsGroup model bytes input old new before after result =
     EndsGathering model (PerformsAll false model) bytes input old new before after result
 
--- all is flushed
+-- the same once it is flushed
 abbrev pub EndsGroup : {D : Type 0} → DiskModel D → List ℕ → Input
     → StoreView D → StoreView D → Unwritten → Unwritten → Result (Unit {0}) SessionFault → Type 0
 EndsGroup model bytes input old new before after result =
