@@ -1,5 +1,5 @@
 -- What an edit inside a configuration makes of a state's configurations and of their length.
-use Rattle.std.proofs.Common.{inl, inr, ◌⊎◌, ◌==◌, length, ◌≡◌, ℕ, ◌+◌, ◌*◌, ◌<◌, ◌≤◌, nat_le, nat_lt, Bool, true, false, if◌then◌else◌, List, [], ◌∷◌, ◌++◌, Option, Some, None, option_map, Result, Ok, Err, String, Global, IsUtf8, refl, sym, ap, subst, ◌∙◌, arith}
+use Rattle.std.proofs.Common.{inl, inr, ◌⊎◌, ◌==◌, length, ◌≡◌, ℕ, ◌+◌, ◌*◌, ◌<◌, ◌≤◌, nat_le, Bool, true, false, if◌then◌else◌, List, [], ◌∷◌, ◌++◌, Option, Some, None, option_map, Result, Ok, Err, String, Global, IsUtf8, refl, sym, ap, subst, ◌∙◌, arith}
 use Rattle.std.proofs.lemmas.Bool.Decides.{nat_tests}
 use Rattle.std.specs.Map.{lookup}
 use Rattle.std.specs.Str.{chars}
@@ -23,16 +23,14 @@ use Rattle.yaml_config.specs.declared.change.Change.{Change}
 use Rattle.json_pointer.specs.declared.fault.PathFault.{PathFault}
 use Rattle.conf_state.specs.Configs.{is_name}
 use Rattle.conf_state.specs.BaseTexts.{entry_length, entries_length}
-use Rattle.yaml_config.specs.Edits.{tree_after_edit}
 use Rattle.conf_state.specs.Edits.{configs_with_edit, configs_after_edit}
 use Rattle.conf_state.specs.Kept.{entries_of, ArePlain}
 use Rattle.conf_state.specs.Limits.{AreConfigs}
 use Rattle.conf_state.specs.PathFaults.{store_fault_of}
-use Rattle.conf_state.specs.States.{Entry, Contents, base_limit, config_named, put_config, cut_config}
+use Rattle.conf_state.specs.States.{Entry, base_limit, config_named, put_config, cut_config}
 use Rattle.yaml_config.specs.Limits.{config_limits}
 use Rattle.yaml_config.specs.declared.edit.Edit.{Edit}
 use Rattle.yaml_config.specs.declared.edit.Edit.TheVariants.{Delete}
-use Rattle.conf_state.specs.declared.fault.StoreFault.{StoreFault}
 use Rattle.conf_state.specs.Steps.{and_then, by_path, found, configs_after, configs_after_delete}
 use Rattle.conf_state.specs.Commands.{delete_at}
 use Rattle.conf_state.specs.declared.fault.StoreFault.TheVariants.{NoConfig, OutOfMemory}

@@ -1,5 +1,5 @@
 -- What edits make that put in or take out a whole configuration, or are refused before any change; and batches.
-use Rattle.std.proofs.Common.{◌≡◌, ℕ, ◌<◌, ◌≤◌, ◌==◌, Bool, true, false, not, List, [], ◌∷◌, ◌++◌, length, Option, Some, None, option_map, option_to_list, is_some, Result, Ok, Err, length-append, refl, ap, ◌∙◌, arith}
+use Rattle.std.proofs.Common.{◌≡◌, ℕ, ◌<◌, ◌≤◌, ◌==◌, Bool, true, false, List, [], ◌∷◌, ◌++◌, length, Option, Some, None, option_map, option_to_list, is_some, Result, Ok, Err, length-append, refl, ap, ◌∙◌, arith}
 use Rattle.std.proofs.lemmas.Bool.Decides.{nat_tests}
 use Rattle.yaml_grammar.specs.Style.{style_text}
 use Rattle.yaml_grammar.specs.Texts.{byte_len}

@@ -41,12 +41,7 @@ pub(crate) trait Editor {
             ≡ is_some (config_named (configs self.now target.now) (chars name.now)) };
 
     /// Puts a configuration under a name.
-    fn put(
-        &self,
-        target: &mut Self::Target,
-        name: String,
-        config: Config,
-    ) -> Result<(), StoreFault>
+    fn put(&self, target: &mut Self::Target, name: String, config: Config) -> Result<(), StoreFault>
         requires ready { IsReady self.now target.old }
         requires named { good_name (text_of name) ≡ true }
         requires within { Good (tree_of config) config_limits }

@@ -1,7 +1,7 @@
-use Rattle.std.proofs.Common.{◌≡◌, Err, true, ap, sym, subst, ◌∙◌}
+use Rattle.std.proofs.Common.{Err, ap, sym, subst, ◌∙◌}
 use Rattle.std.specs.Str.{chars}
 use Rattle.yaml_data.specs.Seen.{tree_of}
-use Rattle.conf_state.specs.Commands.{edit_of, name_of, text_of, set_at, delete_at}
+use Rattle.conf_state.specs.Commands.{edit_of, text_of, set_at, delete_at}
 use Rattle.conf_state.specs.Names.{good_name}
 use Rattle.conf_state.specs.Steps.{configs_after}
 use Rattle.conf_state.specs.declared.fault.StoreFault.TheVariants.{BadName}
