@@ -41,7 +41,7 @@ pub struct FolderError {
 }
 
 impl FolderError {
-    /// Another run holds the lock on a file or folder.
+    /// Another run holds the lock of a file or folder.
     pub(crate) fn locked(subject: Subject) -> FolderError
         ensures { result.fault ≡ FolderFault.Locked }
     {

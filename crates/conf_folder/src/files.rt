@@ -1,5 +1,7 @@
 // The files of a folder: their names and paths, and what a disk does with one of them.
-use crate::FolderError;
+ghost use Rattle.std.specs.Prelude.{◌≡◌, ◌⊎◌, IfErr};
+
+use crate::{FolderError, FolderFault};
 use conf_disk::{Content, Name};
 use conf_files::{OWNER_ALONE, OpenFolder, Subject, look, take_after};
 use std::alloc::{AllocError, Global};
@@ -62,7 +64,10 @@ pub(crate) fn open_folder<R: Files<File = File>>(
     rt: &R,
     alloc: Global,
     path: &str,
-) -> Result<(OpenFolder, Paths), FolderError> {
+) -> Result<(OpenFolder, Paths), FolderError>
+    ensures { IfErr result (λ error.
+        (error.fault ≡ FolderFault.Device) ⊎ (error.fault ≡ FolderFault.OutOfMemory)) }
+{
     let folder = Subject::Given.blame(OpenFolder::new(rt, alloc, path))?;
     let paths = Paths::new(alloc, &folder)?;
     Ok((folder, paths))
@@ -75,7 +80,10 @@ pub(crate) fn open_folder<R: Files<File = File>>(
 pub(crate) fn look_at_files<R: Files<File = File>>(
     rt: &R,
     paths: &Paths,
-) -> Result<Option<Metadata>, FolderError> {
+) -> Result<Option<Metadata>, FolderError>
+    ensures { IfErr result (λ error.
+        (error.fault ≡ FolderFault.Device) ⊎ (error.fault ≡ FolderFault.OutOfMemory)) }
+{
     let store = STORE.blame(look(rt, paths.store.as_str()))?;
     subject_of(Name::Next).blame(look(rt, paths.next.as_str()))?;
     Ok(store)
