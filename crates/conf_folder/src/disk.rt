@@ -133,8 +133,8 @@ impl<'r, R: Files<File = File>> FolderDisk<'r, R> {
         }
     }
 
-    /// The disk of the folder at a path, which has a store. It is opened as by [`new`](FolderDisk::new), but no store is
-    /// made: where `store.yaml` is missing, no file is made.
+    /// The disk of the folder at a path, which has a store. It is opened as by [`new`](FolderDisk::new), but no store
+    /// is made: where `store.yaml` is missing, no file is made.
     ///
     /// `store.yaml` is looked for before the locks are taken. So beside a run that makes the store at this moment this
     /// returns `NotAStore`, as before that run, or `Locked`, or the disk of the new store, as after it. If `store.yaml`
@@ -243,9 +243,9 @@ impl<'r, R: Files<File = File>> FolderDisk<'r, R> {
         self.cause
     }
 
-    /// Ends the run, and lets go of the locks. If the device has all bytes of `store.yaml`, it is noted in `store.lock`;
-    /// where the system refuses that, the next run puts a copy in its place once more. If there is no `store.yaml`, a
-    /// `store.lock` that this run made is removed.
+    /// Ends the run, and lets go of the locks. If the device has all bytes of `store.yaml`, it is noted in
+    /// `store.lock`; where the system refuses that, the next run puts a copy in its place once more. If there is no
+    /// `store.yaml`, a `store.lock` that this run made is removed.
     pub fn release(self) {
         let Access::Changing { lock } = &self.access else {
             return;
@@ -402,8 +402,8 @@ impl<'r, R: Files<File = File>> FolderDisk<'r, R> {
         Ok(())
     }
 
-    /// Makes an empty `next.yaml`. It takes after the `store.yaml` that it is to replace, or else after the file that the
-    /// disk was opened with, if there was one.
+    /// Makes an empty `next.yaml`. It takes after the `store.yaml` that it is to replace, or else after the file that
+    /// the disk was opened with, if there was one.
     fn create_next_file(&self, replaced: Option<&Metadata>) -> Result<File, Cause> {
         let path = self.path(Name::Next)?;
         let made = match replaced {

@@ -9,8 +9,8 @@ use thiserror::Error;
 
 /// Why a folder can't be used as a disk.
 ///
-/// With `NotAStore` and `StoreExists` the folder is as it was. Otherwise a `store.lock` may be new in it, or have another
-/// mode, if it was opened for changes.
+/// With `NotAStore` and `StoreExists` the folder is as it was. Otherwise a `store.lock` may be new in it, or have
+/// another mode, if it was opened for changes.
 #[derive(Clone, Copy, Debug, PartialEq, Eq, Error)]
 pub enum FolderFault {
     /// There is no folder at the path, one of its names has something else than a plain file, or a call of the system

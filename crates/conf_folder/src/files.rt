@@ -102,8 +102,8 @@ pub(crate) fn file_content(alloc: Global, file: File, max: u64) -> io::Result<Co
     Ok(Content::Bytes(bytes))
 }
 
-/// Makes an empty file under a path, for appending. If it is to take after a file, nobody but its owner has access before
-/// it does. Otherwise its mode is that of any new file.
+/// Makes an empty file under a path, for appending. If it is to take after a file, nobody but its owner has access
+/// before it does. Otherwise its mode is that of any new file.
 pub(crate) fn create_staged<R: Files<File = File>>(
     rt: &R,
     path: &str,

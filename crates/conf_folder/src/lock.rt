@@ -70,8 +70,8 @@ pub(crate) fn find_unlocked(folder: &OpenFolder) -> Result<(), FolderError>
 /// Takes the locks of a run that changes the store in a folder, without waiting. They are held until what this returns
 /// and the folder are closed. A missing `store.lock` is made.
 ///
-/// `like` is what is known of the file whose owner, group and mode count: `store.yaml`, or the one that a new store takes
-/// after. If there is none, those of the folder count.
+/// `like` is what is known of the file whose owner, group and mode count: `store.yaml`, or the one that a new store
+/// takes after. If there is none, those of the folder count.
 ///
 /// # Errors
 /// `Locked` if another run holds a lock, and `Device` if a call of the system fails.
