@@ -349,9 +349,8 @@ def is_cause(line: str, folder: str, call: Call, kind: Kind) -> bool:
         wanted = "another run holds its lock"
     else:
         wanted = os.strerror(kind.error)
-    of_folder = call.file in ("folder", "proc")
-    of_rename = call.name in ("link", "rename", "unlink")
-    subjects = {folder if of_folder else call.file, "store.yaml" if of_rename else call.file}
+    subject_of_call = folder if call.file in ("folder", "proc") else call.file
+    subjects = {subject_of_call, "store.yaml"} if call.name in ("link", "rename", "unlink") else {subject_of_call}
     return line.endswith("\n") and reason == wanted and (kind.later or subject in subjects)
 
 
