@@ -7,8 +7,9 @@ over a new folder, and one over a torn store with checkpoints, one command at a 
 slices beside them. All are run once more with 7 bytes at most to each read and write.
 
 Each time the status and the fault are the promised ones, the line below the fault names the file of the call and says
-why in the system's words, and the output is exactly the answers that were written before. A new session then has to find the state after a prefix of the commands, which holds each one that was
-answered. All commands of a group whose answers were begun to be written are held.
+why in the system's words, and the output is exactly the answers that were written before. A new session then has to
+find the state after a prefix of the commands, which holds each one that was answered. All commands of a group whose
+answers were begun to be written are held.
 
 Run it from the repository's root after the program is built. It takes half a minute, and needs a C compiler:
 
@@ -348,10 +349,9 @@ def is_cause(line: str, folder: str, call: Call, kind: Kind) -> bool:
         wanted = "another run holds its lock"
     else:
         wanted = os.strerror(kind.error)
-    of_folder = call.file in ("folder", "proc")
-    of_rename = call.name in ("link", "rename", "unlink")
-    is_subject = kind.later or subject == (folder if of_folder else call.file) or (of_rename and subject == "store.yaml")
-    return line.endswith("\n") and reason == wanted and is_subject
+    subject_of_call = folder if call.file in ("folder", "proc") else call.file
+    subjects = {subject_of_call, "store.yaml"} if call.name in ("link", "rename", "unlink") else {subject_of_call}
+    return line.endswith("\n") and reason == wanted and (kind.later or subject in subjects)
 
 
 def name_of(ending: Ending) -> str:

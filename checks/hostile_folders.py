@@ -9,7 +9,8 @@
 - Each call that opens or looks at a file of a store says falsely that it is not there, once or from then on: no store
   is made over the one that is there, and what was acknowledged is held.
 - A word that is refused makes nothing: a folder without a store stays empty, one with a store gets no `store.lock`, and
-  a `salvage` leaves no new folder. Beside a run that makes the store at the same moment a change is refused, and harms nothing.
+  a `salvage` leaves no new folder. Beside a run that makes the store at the same moment a change is refused, and does
+  no harm.
 - A store that is salvaged has the owner, the group and the mode of the damaged one.
 - `init` syncs the folder above, also where its own folder is there.
 
@@ -250,7 +251,8 @@ def refused_salvages(top: Path, failures: Failures) -> None:
         is_saved = files.get("store.yaml") == damaged and not before
         fault = "StoreExists" if files and before else "NotAStore"
         name = f"a salvage of {files} to {before}"
-        failures.expect(name, ending("salvage", str(folder), str(new)), (0, "") if is_saved else (1, f"confstore: {fault}"))
+        wanted = (0, "") if is_saved else (1, f"confstore: {fault}")
+        failures.expect(name, ending("salvage", str(folder), str(new)), wanted)
         if is_saved:
             failures.expect(f"{name}: what is saved", value_of(new), "x\n")
         else:

@@ -76,8 +76,8 @@ Making = Callable[[str, str, str], object]
 
 
 def device(subject: str, reason: int | str) -> Ended:
-    """What a session ends with that can't use its folder: for which file or folder, and the system's reason by its number,
-    or another one."""
+    """What a session ends with that can't use its folder: for which file or folder, and the system's reason by its
+    number, or another one."""
     said = os.strerror(reason) if isinstance(reason, int) else reason
     return 3, b"", f"confstore: Device\n{subject}: {said}\n"
 

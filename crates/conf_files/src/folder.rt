@@ -1,4 +1,7 @@
 // A folder that is open, and reached by its own name.
+ghost use Rattle.std.specs.Prelude.{◌≢◌, IfErr};
+ghost use Rattle.std.specs.IoError.{error_kind};
+
 use crate::plain::{Identity, elsewhere_by_now};
 use std::alloc::{AllocError, Global};
 use std::fs::File;
@@ -51,8 +54,10 @@ impl OpenFolder {
     /// Finds that the path still leads to the folder.
     ///
     /// # Errors
-    /// If it doesn't, or the system refuses. The error is never `NotFound`.
-    pub fn find_in_place<R: Files<File = File>>(&self, rt: &R) -> io::Result<()> {
+    /// If it doesn't, or the system refuses. It is never `NotFound`, which callers have of a file in the folder.
+    pub fn find_in_place<R: Files<File = File>>(&self, rt: &R) -> io::Result<()>
+        ensures { IfErr result (λ error. error_kind error ≢ ErrorKind.NotFound) }
+    {
         match fs::metadata(rt, self.path.as_str()) {
             Ok(found) if Identity::of(&found) == self.identity => Ok(()),
             Err(error) if error.kind() != ErrorKind::NotFound => Err(error),

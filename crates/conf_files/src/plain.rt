@@ -1,4 +1,7 @@
 // Plain files under paths. What is no plain file, as a link, a FIFO or a folder, is neither opened nor followed.
+ghost use Rattle.std.specs.Prelude.{◌≢◌, IfErr};
+ghost use Rattle.std.specs.IoError.{error_kind};
+
 use crate::cause::{Cause, Subject};
 use std::fs::{File, Metadata, OpenOptions};
 use std::io::ErrorKind;
@@ -30,7 +33,9 @@ impl Identity {
 ///
 /// # Errors
 /// If what is there is no plain file, or the system refuses.
-pub fn look<R: Files<File = File>>(rt: &R, path: &str) -> io::Result<Option<Metadata>> {
+pub fn look<R: Files<File = File>>(rt: &R, path: &str) -> io::Result<Option<Metadata>>
+    ensures { IfErr result (λ error. error_kind error ≢ ErrorKind.NotFound) }
+{
     match fs::symlink_metadata(rt, path) {
         Ok(metadata) if metadata.is_file() => Ok(Some(metadata)),
         Ok(metadata) => Err(no_plain_file(&metadata)),
@@ -51,7 +56,9 @@ pub fn find_same<R: Files<File = File>>(rt: &R, path: &str, identity: Identity) 
 }
 
 /// The error of something that is there, and is no plain file.
-pub(crate) fn no_plain_file(found: &Metadata) -> io::Error {
+pub(crate) fn no_plain_file(found: &Metadata) -> io::Error
+    ensures { error_kind result ≢ ErrorKind.NotFound }
+{
     if found.is_dir() {
         io::Error::new(ErrorKind::IsADirectory, "it is a folder")
     } else if found.is_symlink() {
@@ -64,8 +71,10 @@ pub(crate) fn no_plain_file(found: &Metadata) -> io::Error {
     }
 }
 
-/// The error of a name that leads to another file or folder than before, or to none. It is never `NotFound`.
-pub(crate) fn elsewhere_by_now() -> io::Error {
+/// The error of a name that leads to another file or folder than before, or to none.
+pub(crate) fn elsewhere_by_now() -> io::Error
+    ensures { error_kind result ≢ ErrorKind.NotFound }
+{
     io::Error::new(ErrorKind::InvalidInput, "its name leads elsewhere by now")
 }
 

@@ -1,5 +1,6 @@
 // The calls of a disk, each by calls of the system.
 ghost use Rattle.std.specs.Prelude.{◌≡◌, ◌≢◌, ◌<◌, Err, OnOk, IfErr, min, ◌+◌};
+ghost use Rattle.std.specs.IoError.{error_kind};
 ghost use Rattle.conf_disk.specs.Moments.{CountsFailures};
 
 use crate::files::{
@@ -121,7 +122,10 @@ impl<'r, R: Files<File = File>> FolderDisk<'r, R> {
     /// # Errors
     /// `Device` if there is no folder at the path, one of the names has no plain file but something else, or a call of
     /// the system fails; `Locked` if another run holds a lock; and `OutOfMemory`.
-    pub fn new(rt: &'r R, alloc: Global, folder: &str) -> Result<Self, FolderError> {
+    pub fn new(rt: &'r R, alloc: Global, folder: &str) -> Result<Self, FolderError>
+        ensures { IfErr result (λ error.
+            (error.fault ≢ FolderFault.NotAStore) × (error.fault ≢ FolderFault.StoreExists)) }
+    {
         let (folder, paths) = open_folder(rt, alloc, folder)?;
         match look_at_files(rt, &paths)? {
             Some(store) => FolderDisk::locked(rt, folder, paths, Presence::There, Some(store)),
@@ -129,8 +133,8 @@ impl<'r, R: Files<File = File>> FolderDisk<'r, R> {
         }
     }
 
-    /// The disk of the folder at a path, which has a store. It is opened as by [`new`](FolderDisk::new), but no store is
-    /// made: where `store.yaml` is missing, no file is made.
+    /// The disk of the folder at a path, which has a store. It is opened as by [`new`](FolderDisk::new), but no store
+    /// is made: where `store.yaml` is missing, no file is made.
     ///
     /// `store.yaml` is looked for before the locks are taken. So beside a run that makes the store at this moment this
     /// returns `NotAStore`, as before that run, or `Locked`, or the disk of the new store, as after it. If `store.yaml`
@@ -138,7 +142,9 @@ impl<'r, R: Files<File = File>> FolderDisk<'r, R> {
     ///
     /// # Errors
     /// `NotAStore` if there is no `store.yaml`: the folder is as it was. Otherwise those of [`new`](FolderDisk::new).
-    pub fn of_store(rt: &'r R, alloc: Global, folder: &str) -> Result<Self, FolderError> {
+    pub fn of_store(rt: &'r R, alloc: Global, folder: &str) -> Result<Self, FolderError>
+        ensures { IfErr result (λ error. error.fault ≢ FolderFault.StoreExists) }
+    {
         let (folder, paths) = open_folder(rt, alloc, folder)?;
         match look_at_files(rt, &paths)? {
             Some(store) => FolderDisk::locked(rt, folder, paths, Presence::There, Some(store)),
@@ -160,7 +166,9 @@ impl<'r, R: Files<File = File>> FolderDisk<'r, R> {
         alloc: Global,
         folder: &str,
         like: Option<&File>,
-    ) -> Result<Self, FolderError> {
+    ) -> Result<Self, FolderError>
+        ensures { IfErr result (λ error. error.fault ≢ FolderFault.NotAStore) }
+    {
         let (folder, paths) = open_folder(rt, alloc, folder)?;
         if look_at_files(rt, &paths)?.is_some() {
             return Err(FolderError::from(FolderFault::StoreExists));
@@ -179,7 +187,10 @@ impl<'r, R: Files<File = File>> FolderDisk<'r, R> {
     /// `Device` if there is no folder at the path, `store.yaml` or `next.yaml` is no plain file but something else, or
     /// a call of the system fails; `Locked` if another run holds the lock on the folder; and `OutOfMemory`. The folder
     /// is unchanged.
-    pub fn for_reading(rt: &'r R, alloc: Global, folder: &str) -> Result<Self, FolderError> {
+    pub fn for_reading(rt: &'r R, alloc: Global, folder: &str) -> Result<Self, FolderError>
+        ensures { IfErr result (λ error.
+            (error.fault ≢ FolderFault.NotAStore) × (error.fault ≢ FolderFault.StoreExists)) }
+    {
         let (folder, paths) = open_folder(rt, alloc, folder)?;
         find_unlocked(&folder)?;
         look_at_files(rt, &paths)?;
@@ -193,7 +204,10 @@ impl<'r, R: Files<File = File>> FolderDisk<'r, R> {
         paths: Paths,
         presence: Presence,
         like: Option<Metadata>,
-    ) -> Result<Self, FolderError> {
+    ) -> Result<Self, FolderError>
+        ensures { IfErr result (λ error.
+            (error.fault ≢ FolderFault.NotAStore) × (error.fault ≢ FolderFault.StoreExists)) }
+    {
         let lock = lock_store(rt, &folder, paths.lock.as_str(), like.as_ref())?;
         let note = LOCK.blame(Note::read(lock.file()))?;
         let mut disk = FolderDisk::over(rt, folder, paths, Access::Changing { lock }, note);
@@ -229,9 +243,9 @@ impl<'r, R: Files<File = File>> FolderDisk<'r, R> {
         self.cause
     }
 
-    /// Ends the run, and lets go of the locks. If the device has all bytes of `store.yaml`, it is noted in `store.lock`;
-    /// where the system refuses that, the next run puts a copy in its place once more. If there is no `store.yaml`, a
-    /// `store.lock` that this run made is removed.
+    /// Ends the run, and lets go of the locks. If the device has all bytes of `store.yaml`, it is noted in
+    /// `store.lock`; where the system refuses that, the next run puts a copy in its place once more. If there is no
+    /// `store.yaml`, a `store.lock` that this run made is removed.
     pub fn release(self) {
         let Access::Changing { lock } = &self.access else {
             return;
@@ -289,7 +303,9 @@ impl<'r, R: Files<File = File>> FolderDisk<'r, R> {
     ///
     /// # Errors
     /// If the path to the folder leads elsewhere by now.
-    fn path(&self, name: Name) -> Result<&str, Cause> {
+    fn path(&self, name: Name) -> Result<&str, Cause>
+        ensures { IfErr result (λ cause. error_kind cause.error ≢ ErrorKind.NotFound) }
+    {
         Subject::Given.blame(self.folder.find_in_place(self.rt))?;
         match name {
             Name::Store => Ok(self.paths.store.as_str()),
@@ -386,8 +402,8 @@ impl<'r, R: Files<File = File>> FolderDisk<'r, R> {
         Ok(())
     }
 
-    /// Makes an empty `next.yaml`. It takes after the `store.yaml` that it is to replace, or else after the file that the
-    /// disk was opened with, if there was one.
+    /// Makes an empty `next.yaml`. It takes after the `store.yaml` that it is to replace, or else after the file that
+    /// the disk was opened with, if there was one.
     fn create_next_file(&self, replaced: Option<&Metadata>) -> Result<File, Cause> {
         let path = self.path(Name::Next)?;
         let made = match replaced {

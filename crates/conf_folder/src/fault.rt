@@ -9,8 +9,8 @@ use thiserror::Error;
 
 /// Why a folder can't be used as a disk.
 ///
-/// With `NotAStore` and `StoreExists` the folder is as it was. Otherwise a `store.lock` may be new in it, or have another
-/// mode, if it was opened for changes.
+/// With `NotAStore` and `StoreExists` the folder is as it was. Otherwise a `store.lock` may be new in it, or have
+/// another mode, if it was opened for changes.
 #[derive(Clone, Copy, Debug, PartialEq, Eq, Error)]
 pub enum FolderFault {
     /// There is no folder at the path, one of its names has something else than a plain file, or a call of the system
@@ -41,7 +41,7 @@ pub struct FolderError {
 }
 
 impl FolderError {
-    /// Another run holds the lock on a file or folder.
+    /// Another run holds the lock of a file or folder.
     pub(crate) fn locked(subject: Subject) -> FolderError
         ensures { result.fault ≡ FolderFault.Locked }
     {

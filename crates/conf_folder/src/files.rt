@@ -1,5 +1,7 @@
 // The files of a folder: their names and paths, and what a disk does with one of them.
-use crate::FolderError;
+ghost use Rattle.std.specs.Prelude.{◌≡◌, ◌⊎◌, IfErr};
+
+use crate::{FolderError, FolderFault};
 use conf_disk::{Content, Name};
 use conf_files::{OWNER_ALONE, OpenFolder, Subject, look, take_after};
 use std::alloc::{AllocError, Global};
@@ -62,7 +64,10 @@ pub(crate) fn open_folder<R: Files<File = File>>(
     rt: &R,
     alloc: Global,
     path: &str,
-) -> Result<(OpenFolder, Paths), FolderError> {
+) -> Result<(OpenFolder, Paths), FolderError>
+    ensures { IfErr result (λ error.
+        (error.fault ≡ FolderFault.Device) ⊎ (error.fault ≡ FolderFault.OutOfMemory)) }
+{
     let folder = Subject::Given.blame(OpenFolder::new(rt, alloc, path))?;
     let paths = Paths::new(alloc, &folder)?;
     Ok((folder, paths))
@@ -75,7 +80,10 @@ pub(crate) fn open_folder<R: Files<File = File>>(
 pub(crate) fn look_at_files<R: Files<File = File>>(
     rt: &R,
     paths: &Paths,
-) -> Result<Option<Metadata>, FolderError> {
+) -> Result<Option<Metadata>, FolderError>
+    ensures { IfErr result (λ error.
+        (error.fault ≡ FolderFault.Device) ⊎ (error.fault ≡ FolderFault.OutOfMemory)) }
+{
     let store = STORE.blame(look(rt, paths.store.as_str()))?;
     subject_of(Name::Next).blame(look(rt, paths.next.as_str()))?;
     Ok(store)
@@ -94,8 +102,8 @@ pub(crate) fn file_content(alloc: Global, file: File, max: u64) -> io::Result<Co
     Ok(Content::Bytes(bytes))
 }
 
-/// Makes an empty file under a path, for appending. If it is to take after a file, nobody but its owner has access before
-/// it does. Otherwise its mode is that of any new file.
+/// Makes an empty file under a path, for appending. If it is to take after a file, nobody but its owner has access
+/// before it does. Otherwise its mode is that of any new file.
 pub(crate) fn create_staged<R: Files<File = File>>(
     rt: &R,
     path: &str,

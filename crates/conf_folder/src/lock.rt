@@ -1,8 +1,8 @@
 // The locks by which one run at a time changes a store.
-ghost use Rattle.std.specs.Prelude.{◌≡◌, ◌⊎◌, bit_and};
+ghost use Rattle.std.specs.Prelude.{◌≡◌, ◌≢◌, ◌⊎◌, IfErr, bit_and};
 
-use crate::FolderError;
 use crate::files::LOCK;
+use crate::{FolderError, FolderFault};
 use conf_files::{
     Identity, OpenFolder, Subject, find_same, give_owner_and_group, is_of_same_owner_and_group,
     open_plain,
@@ -58,7 +58,10 @@ impl HeldLock {
 ///
 /// # Errors
 /// `Locked` if another run holds it, and `Device` if a call of the system fails.
-pub(crate) fn find_unlocked(folder: &OpenFolder) -> Result<(), FolderError> {
+pub(crate) fn find_unlocked(folder: &OpenFolder) -> Result<(), FolderError>
+    ensures { IfErr result (λ error.
+        (error.fault ≢ FolderFault.NotAStore) × (error.fault ≢ FolderFault.StoreExists)) }
+{
     take_lock(folder.file(), Subject::Given)?;
     Subject::Given.blame(folder.file().unlock())?;
     Ok(())
@@ -67,8 +70,8 @@ pub(crate) fn find_unlocked(folder: &OpenFolder) -> Result<(), FolderError> {
 /// Takes the locks of a run that changes the store in a folder, without waiting. They are held until what this returns
 /// and the folder are closed. A missing `store.lock` is made.
 ///
-/// `like` is what is known of the file whose owner, group and mode count: `store.yaml`, or the one that a new store takes
-/// after. If there is none, those of the folder count.
+/// `like` is what is known of the file whose owner, group and mode count: `store.yaml`, or the one that a new store
+/// takes after. If there is none, those of the folder count.
 ///
 /// # Errors
 /// `Locked` if another run holds a lock, and `Device` if a call of the system fails.
@@ -77,7 +80,10 @@ pub(crate) fn lock_store<R: Files<File = File>>(
     folder: &OpenFolder,
     path: &str,
     like: Option<&Metadata>,
-) -> Result<HeldLock, FolderError> {
+) -> Result<HeldLock, FolderError>
+    ensures { IfErr result (λ error.
+        (error.fault ≢ FolderFault.NotAStore) × (error.fault ≢ FolderFault.StoreExists)) }
+{
     match LOCK.blame(open_marked(rt, path))? {
         Some(file) => lock_marked(rt, folder, path, file),
         None => lock_anew(rt, folder, path, like),
@@ -105,7 +111,10 @@ fn lock_marked<R: Files<File = File>>(
     folder: &OpenFolder,
     path: &str,
     file: File,
-) -> Result<HeldLock, FolderError> {
+) -> Result<HeldLock, FolderError>
+    ensures { IfErr result (λ error.
+        (error.fault ≢ FolderFault.NotAStore) × (error.fault ≢ FolderFault.StoreExists)) }
+{
     take_lock(&file, LOCK)?;
     match folder.file().try_lock_shared() {
         Ok(()) | Err(TryLockError::WouldBlock) => {}
@@ -131,7 +140,10 @@ fn lock_anew<R: Files<File = File>>(
     folder: &OpenFolder,
     path: &str,
     like: Option<&Metadata>,
-) -> Result<HeldLock, FolderError> {
+) -> Result<HeldLock, FolderError>
+    ensures { IfErr result (λ error.
+        (error.fault ≢ FolderFault.NotAStore) × (error.fault ≢ FolderFault.StoreExists)) }
+{
     take_lock(folder.file(), Subject::Given)?;
     let lock = LOCK.blame(open_or_make(rt, path))?;
     take_lock(&lock.file, LOCK)?;
@@ -140,7 +152,10 @@ fn lock_anew<R: Files<File = File>>(
 }
 
 /// Takes the lock on an open file or folder without waiting. It is held until that is closed.
-fn take_lock(file: &File, subject: Subject) -> Result<(), FolderError> {
+fn take_lock(file: &File, subject: Subject) -> Result<(), FolderError>
+    ensures { IfErr result (λ error.
+        (error.fault ≢ FolderFault.NotAStore) × (error.fault ≢ FolderFault.StoreExists)) }
+{
     match file.try_lock() {
         Ok(()) => Ok(()),
         Err(TryLockError::WouldBlock) => Err(FolderError::locked(subject)),

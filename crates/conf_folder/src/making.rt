@@ -1,5 +1,7 @@
 // Making a folder that is to hold a store.
-use crate::FolderError;
+ghost use Rattle.std.specs.Prelude.{◌≡◌, ◌⊎◌, IfErr};
+
+use crate::{FolderError, FolderFault};
 use conf_files::{Cause, Subject, parent_of};
 use std::alloc::Global;
 use std::fs;
@@ -32,7 +34,10 @@ pub fn make_folder<R: Files<File = File>>(
     rt: &R,
     alloc: Global,
     path: &str,
-) -> Result<Option<NewFolder>, FolderError> {
+) -> Result<Option<NewFolder>, FolderError>
+    ensures { IfErr result (λ error.
+        (error.fault ≡ FolderFault.Device) ⊎ (error.fault ≡ FolderFault.OutOfMemory)) }
+{
     let new = NewFolder {
         path: String::from_str(alloc, path)?,
     };

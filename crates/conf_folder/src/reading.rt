@@ -1,6 +1,8 @@
 // The file of a store, opened to be read beside a run that holds the store.
-use crate::FolderError;
+ghost use Rattle.std.specs.Prelude.{◌≡◌, ◌⊎◌, IfErr};
+
 use crate::files::{STORE, store_path};
+use crate::{FolderError, FolderFault};
 use conf_files::{OpenFolder, Subject, open_to_read};
 use std::alloc::Global;
 use std::fs::File;
@@ -20,7 +22,10 @@ pub fn open_store_file<R: Files<File = File>>(
     rt: &R,
     alloc: Global,
     folder: &str,
-) -> Result<Option<File>, FolderError> {
+) -> Result<Option<File>, FolderError>
+    ensures { IfErr result (λ error.
+        (error.fault ≡ FolderFault.Device) ⊎ (error.fault ≡ FolderFault.OutOfMemory)) }
+{
     let folder = Subject::Given.blame(OpenFolder::new(rt, alloc, folder))?;
     let path = store_path(alloc, &folder)?;
     Subject::Given.blame(folder.find_in_place(rt))?;

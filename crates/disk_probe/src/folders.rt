@@ -77,7 +77,11 @@ impl<'r> Folders<'r> {
 
     /// Takes the disk of a folder in which a new store is to be made.
     pub(crate) fn take_new(&mut self, alloc: Global, name: &str) -> Result<String, AllocError> {
-        self.hold(alloc, name, FolderDisk::for_new_store(self.rt, alloc, name, None))
+        self.hold(
+            alloc,
+            name,
+            FolderDisk::for_new_store(self.rt, alloc, name, None),
+        )
     }
 
     /// Takes the disk of a folder for reading alone.
