@@ -35,7 +35,7 @@ pub use changes::{Change, change_store, make_store};
 pub use exports::export_text;
 pub use file_texts::{Restyled, check_file, list_changed, restyle};
 pub use host::Host;
-pub use laws::calls_hold;
+pub use laws::{call_holds, calls_hold};
 pub use program::{Status, perform, refuse_words, show_unparsed};
 pub use reading_fault::ReadingFault;
 pub use reads::{write_names, write_value};
