@@ -1,5 +1,5 @@
 -- What each word does to the folders of a world.
-use Rattle.std.proofs.Common.{◌≡◌, ◌≢◌, ◌⊎◌, inl, inr, ℕ, Bool, true, false, List, [], ◌∷◌, Option, None, Some, Result, Ok, Err, refl, sym, ap, ◌∙◌, subst, map}
+use Rattle.std.proofs.Common.{◌≡◌, ◌≢◌, ◌⊎◌, inl, inr, ℕ, Bool, true, false, List, [], ◌∷◌, Option, None, Some, Result, Ok, Err, refl, sym, ap, ◌∙◌, subst, map, codes}
 use Rattle.conf_disk.specs.Image.{Image, IsImage}
 use Rattle.conf_disk.specs.Models.{DiskModel}
 use Rattle.conf_files.specs.declared.replace.ReplaceFault.{ReplaceFault}
@@ -12,14 +12,17 @@ use Rattle.conf_words.specs.declared.invocation.Formatting.TheVariants as format
 use Rattle.conf_tools.specs.Performs.{FormatsAll, ChecksAll, Performs, grouping_of}
 use Rattle.conf_tools.specs.ProgramCalls.{Call, changing, disk_before, disk_behind, exporting, running}
 use Rattle.conf_tools.specs.StoreWords.{CannotHoldNew, ChangesInFolder, ExportsFromFolder, Inits, MakesChange, MakesInFolder, OpensFile, OpensNew, RunsOnFolder, SavesFound, SavesInFolder, status_at_end}
-use Rattle.conf_tools.specs.TextWords.{IfSo, OfText, ReplacesAt, ReportsOnAll, RestylesAll, RestylesOpened, stops_all, status_after, status_of_report, worst}
+use Rattle.conf_tools.specs.TextWords.{IfSo, OfText, ReplacesAt, ReportsOnAll, RestylesAll, RestylesOpened, stops_all, status_after, status_of_report}
+use Rattle.conf_tools.specs.Statuses.{worst}
 use Rattle.conf_tools.specs.Worlds.{Around, WorldModel}
 use Rattle.conf_tools.specs.declared.changes.Change.{Change}
 use Rattle.conf_tools.specs.declared.changes.Change.TheVariants as change
 use Rattle.conf_tools.specs.declared.file_texts.Restyled.{Restyled}
 use Rattle.conf_tools.specs.declared.file_texts.Restyled.TheVariants.{Same, Changed}
 use Rattle.conf_tools.specs.declared.file_words.Report.{Report}
+use Rattle.conf_tools.specs.declared.file_words.Report.TheVariants.{Findings, Name}
 use Rattle.conf_tools.specs.declared.program.Status.{Status}
+use Rattle.conf_tools.specs.declared.program.Status.TheVariants.{Done}
 use Rattle.conf_tools.specs.declared.reading_fault.ReadingFault.{ReadingFault}
 use Rattle.conf_tools.specs.declared.reading_fault.ReadingFault.TheVariants as reading
 use Rattle.conf_tools.specs.declared.stores.Grouping.{Grouping}
@@ -81,7 +84,7 @@ module _ {W D F P : Type 0} (world : WorldModel W D F P) (disk : DiskModel D) (r
       on_disk folder old _ (stays old) (keeps.disks _ folder old changes.opened new changes.first _ changes.opens changes.gives_back) changes.ends
 
   of-asked : (folder : List ℕ) (change : Result Change ToolFault) (old new : W) (status : Status) (does : MakesChange world disk folder change old new status)
-      → Effect old new status (Some folder) (asked_for world disk honest change does)
+      → Effect old new status (Some folder) (asked_for world disk honest folder change old new status does)
   of-asked folder (Ok change) old new status does = of-change folder change old new status does
   of-asked folder (Err fault) old new status does = nothing (Some folder) (same old new does.0)
 
@@ -106,6 +109,14 @@ module _ {W D F P : Type 0} (world : WorldModel W D F P) (disk : DiskModel D) (r
   of-open folder old (Ok file) new opens = keeps.stores folder old new _ opens
   of-open folder old (Err (reading.History history.NotAStore)) new opens = keeps.stores folder old new _ opens
   of-open folder old (Err (reading.Folder fault)) new opens = keeps.stores folder old new _ opens
+  of-open folder old (Err (reading.History history.Input)) new opens = absurd opens
+  of-open folder old (Err (reading.History history.Output)) new opens = absurd opens
+  of-open folder old (Err (reading.History (history.Damaged bad))) new opens = absurd opens
+  of-open folder old (Err (reading.History history.NoSuchCommand)) new opens = absurd opens
+  of-open folder old (Err (reading.History history.OutOfMemory)) new opens = absurd opens
+  of-open folder old (Err (reading.Value fault)) new opens = absurd opens
+  of-open folder old (Err (reading.Salvage fault)) new opens = absurd opens
+  of-open folder old (Err reading.Output) new opens = absurd opens
 
   -- a store is salvaged into one folder alone
   abbrev Spares : List ℕ → W → W → Type 0
@@ -114,9 +125,15 @@ module _ {W D F P : Type 0} (world : WorldModel W D F P) (disk : DiskModel D) (r
   spared : (path : List ℕ) (old new : W) → Steady old new → Spares path old new
   spared path old new steady other image is_other is = steady other image is
 
-  of-new : (folder : List ℕ) (old : W) (fault : ReadingFault) (new : W) → OpensNew world disk folder old (Err fault) new → Steady old new
+  of-new : (folder : List ℕ) (old : W) (fault : ReadingFault) (new : W) → OpensNew world folder old (Err fault) new → Steady old new
   of-new folder old (reading.Salvage salvage.StoreExists) new (made, file, makes, opens) =
       then old made new (keeps.made folder old made _ makes) (keeps.stores folder made new _ opens)
+  of-new folder old (reading.Salvage (salvage.History fault)) new opens = absurd opens
+  of-new folder old (reading.Salvage salvage.Device) new opens = absurd opens
+  of-new folder old (reading.Salvage salvage.OutOfMemory) new opens = absurd opens
+  of-new folder old (reading.History fault) new opens = absurd opens
+  of-new folder old (reading.Value fault) new opens = absurd opens
+  of-new folder old reading.Output new opens = absurd opens
   of-new folder old (reading.Folder fault) new (inl makes) = keeps.made folder old new _ makes
   of-new folder old (reading.Folder fault) new (inr (inl (made, makes, opens))) =
       then old made new (keeps.made folder old made _ makes) (keeps.stores folder made new _ opens)
@@ -127,7 +144,7 @@ module _ {W D F P : Type 0} (world : WorldModel W D F P) (disk : DiskModel D) (r
   of-saving : (folder : List ℕ) (given : Option (List ℕ)) (old new : W) (held written : Option (List ℕ)) (status : Status)
       → SavesInFolder world disk folder given old new held written status → Spares folder old new
   of-saving folder given old new held written status (inl cannot) = spared folder old new (of-new folder old cannot.fault new cannot.opens)
-  of-saving folder given old new held written status (inr saves) other image is_other is =
+  of-saving folder given old new held written status (inr saves) = λ other image is_other is.
       let opens = saves.opens in
       let made = opens.0 in
       let seen = opens.1 in
@@ -147,17 +164,18 @@ module _ {W D F P : Type 0} (world : WorldModel W D F P) (disk : DiskModel D) (r
   of-text path says unread old new given left (inl input) = same old new input.1
   of-text path says unread old new given left (inr file) = keeps.files path old new _ file.2.opens
 
+  -- after one report, the others
+  of-rest : (old now new : Around W) (stops : Bool) (ends others : Type 0) → (others → Steady now.world new.world)
+      → IfSo stops ((new ≡ now) × ends) others → Steady now.world new.world
+  of-rest old now new true ends others goes rest = same now.world new.world (ap (λ (a : Around W). a.world) rest.0)
+  of-rest old now new false ends others goes rest = goes rest
+
   of-reports : (report : Report) (paths : List (List ℕ)) (so_far : Status) (old new : Around W) (status : Status)
       → ReportsOnAll world remaining report paths so_far old new status → Steady old.world new.world
   of-reports report [] so_far old new status does = same old.world new.world (ap (λ (a : Around W). a.world) does.0)
   of-reports report (path ∷ paths) so_far old new status (now, result, one, rest) =
       then old.world now.world new.world (of-text path _ _ old.world now.world old.input now.input one)
-      (of-rest report paths (worst so_far (status_of_report result)) now new status (stops_all result) rest)
-
-  of-rest : (report : Report) (paths : List (List ℕ)) (so_far : Status) (now new : Around W) (status : Status) (stops : Bool) (ends : Type 0)
-      → IfSo stops ((new ≡ now) × ends) (ReportsOnAll world remaining report paths so_far now new status) → Steady now.world new.world
-  of-rest report paths so_far now new status true ends rest = same now.world new.world (ap (λ (a : Around W). a.world) rest.0)
-  of-rest report paths so_far now new status false ends rest = of-reports report paths so_far now new status rest
+      (of-rest old now new (stops_all result) _ _ (of-reports report paths (worst so_far (status_of_report result)) now new status) rest)
 
   of-replacing : (place : P) (restyled : Result Restyled ToolFault) (old new : W) (result : Result (Unit {0}) ToolFault)
       → ReplacesAt world place restyled old new result → Steady old new
@@ -183,13 +201,13 @@ module _ {W D F P : Type 0} (world : WorldModel W D F P) (disk : DiskModel D) (r
   of-formatting formatting.Write [] old new status does = same old.world new.world does.1
   of-formatting formatting.Write (path ∷ paths) old new status does = of-text path _ _ old.world new.world old.input new.input does.does
   of-formatting formatting.InPlace paths old new status does = of-restyles paths _ old.world new.world status does.does
-  of-formatting formatting.Check [] old new status does = of-reports _ _ _ old new status does
-  of-formatting formatting.Check (path ∷ paths) old new status does = of-reports _ _ _ old new status does
+  of-formatting formatting.Check [] old new status does = of-reports Name (codes "-" ∷ []) Done old new status does
+  of-formatting formatting.Check (path ∷ paths) old new status does = of-reports Name (path ∷ paths) Done old new status does
 
   of-checking : (paths : List (List ℕ)) (old new : Around W) (status : Status)
       → ChecksAll world remaining paths old new status → Steady old.world new.world
   of-checking [] old new status does = same old.world new.world does.1
-  of-checking (path ∷ paths) old new status does = of-reports _ _ _ old new status does
+  of-checking (path ∷ paths) old new status does = of-reports Findings (path ∷ paths) Done old new status does
 
   -- ---- all words
 

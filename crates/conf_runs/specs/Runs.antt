@@ -1,5 +1,6 @@
 -- Runs of the program, one after the other, and what the store in one folder keeps of their commands.
-use Rattle.std.specs.Prelude.{◌≡◌, ◌≢◌, ◌≤◌, inl, inr, ℕ, Bool, true, false, List, [], ◌∷◌, length, take, Option, None, Some, Result, Ok, Err}
+use Rattle.std.specs.Prelude.{◌≡◌, ◌≢◌, ◌≤◌, ℕ, Bool, true, false, List, [], ◌∷◌, length, take, Option, None, Some, Result, Ok, Err}
+use Rattle.std.proofs.Common.{inl, inr}
 use Rattle.conf_disk.specs.Image.{Image, IsImage}
 use Rattle.conf_disk.specs.Models.{DiskModel}
 use Rattle.conf_state.specs.Commands.{Command}
@@ -67,10 +68,10 @@ module _ {W D F P : Type 0} (world : WorldModel W D F P) (disk : DiskModel D) (h
   changed_in change (inl cannot) = None
   changed_in change (inr changes) = Some (changing change changes.first changes.result (changes.survives honest))
 
-  abbrev pub asked_for : {folder : List ℕ} {old new : W} {status : Status} (change : Result Change ToolFault)
+  abbrev pub asked_for : (folder : List ℕ) (change : Result Change ToolFault) (old new : W) (status : Status)
       → MakesChange world disk folder change old new status → Option (Call disk)
-  asked_for (Ok change) makes = changed_in change makes
-  asked_for (Err fault) makes = None
+  asked_for folder (Ok change) old new status makes = changed_in change makes
+  asked_for folder (Err fault) old new status makes = None
 
   abbrev pub ran_in : {folder : List ℕ} (grouping : Grouping) (old new : Around W) {status : Status}
       → RunsOnFolder world disk folder grouping old new status → Option (Call disk)
@@ -89,9 +90,12 @@ module _ {W D F P : Type 0} (world : WorldModel W D F P) (disk : DiskModel D) (r
   abbrev pub call_of : (invocation : Invocation) (old new : Around W) (status : Status)
       → Performs world disk remaining invocation old new status → Option (Call disk)
   call_of (Init folder) old new status does = initialised world disk honest does.0
-  call_of (Import folder name file) old new status does = asked_for world disk honest does.change does.makes
-  call_of (Set folder name pointer value) old new status does = asked_for world disk honest does.change does.makes
-  call_of (Delete folder name pointer) old new status does = asked_for world disk honest does.change does.makes
+  call_of (Import folder name file) old new status does =
+      asked_for world disk honest folder.now does.change does.read new.world status does.makes
+  call_of (Set folder name pointer value) old new status does =
+      asked_for world disk honest folder.now does.change old.world new.world status does.makes
+  call_of (Delete folder name pointer) old new status does =
+      asked_for world disk honest folder.now does.change old.world new.world status does.makes
   call_of (Checkpoint folder) old new status does = changed_in world disk honest change.Checkpoint does.0
   call_of (Run folder grouping) old new status does = ran_in world disk honest (grouping_of grouping) old new does
   call_of (Export folder name) old new status does = exported_from world disk honest does.0

@@ -34,6 +34,7 @@ mod world;
 pub use changes::{Change, change_store, make_store};
 pub use exports::export_text;
 pub use file_texts::{Restyled, check_file, list_changed, restyle};
+pub use file_words::Report;
 pub use host::Host;
 pub use laws::{call_holds, calls_hold};
 pub use program::{Status, perform, refuse_words, show_unparsed};
