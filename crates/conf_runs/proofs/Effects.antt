@@ -1,6 +1,6 @@
 -- What each word does to the folders of a world.
-use Rattle.std.proofs.Common.{◌≡◌, ◌≢◌, ◌⊎◌, inl, inr, ℕ, Bool, true, false, List, [], ◌∷◌, Option, None, Some, Result, Ok, Err, refl, sym, ap, ◌∙◌, subst, map, codes}
-use Rattle.conf_disk.specs.Image.{Image, IsImage}
+use Rattle.std.proofs.Common.{◌≡◌, ◌≢◌, inl, inr, ℕ, Bool, true, false, List, [], ◌∷◌, Option, None, Some, Result, Ok, Err, refl, sym, ap, subst, codes}
+use Rattle.conf_disk.specs.Image.{Image}
 use Rattle.conf_disk.specs.Models.{DiskModel}
 use Rattle.conf_files.specs.declared.replace.ReplaceFault.{ReplaceFault}
 use Rattle.conf_history.specs.declared.fault.HistoryFault.TheVariants as history
@@ -11,7 +11,7 @@ use Rattle.conf_words.specs.declared.invocation.Formatting.{Formatting}
 use Rattle.conf_words.specs.declared.invocation.Formatting.TheVariants as formatting
 use Rattle.conf_tools.specs.Performs.{FormatsAll, ChecksAll, Performs, grouping_of}
 use Rattle.conf_tools.specs.ProgramCalls.{Call, changing, disk_before, disk_behind, exporting, running}
-use Rattle.conf_tools.specs.StoreWords.{CannotHoldNew, ChangesInFolder, ExportsFromFolder, Inits, MakesChange, MakesInFolder, OpensFile, OpensNew, RunsOnFolder, SavesFound, SavesInFolder, status_at_end}
+use Rattle.conf_tools.specs.StoreWords.{ChangesInFolder, ExportsFromFolder, Inits, MakesChange, MakesInFolder, OpensFile, OpensNew, RunsOnFolder, SavesFound, SavesInFolder, status_at_end}
 use Rattle.conf_tools.specs.TextWords.{IfSo, OfText, ReplacesAt, ReportsOnAll, RestylesAll, RestylesOpened, stops_all, status_after, status_of_report}
 use Rattle.conf_tools.specs.Statuses.{worst}
 use Rattle.conf_tools.specs.Worlds.{Around, WorldModel}

@@ -1,5 +1,5 @@
 -- What runs of the program keep, one run after the other.
-use Rattle.std.proofs.Common.{◌≡◌, ◌≢◌, ◌≤◌, inl, inr, ℕ, Bool, true, false, List, [], ◌∷◌, ◌++◌, length, take, Option, None, Some, Result, Ok, Err, refl, sym, ap, ◌∙◌, subst, arith}
+use Rattle.std.proofs.Common.{◌≡◌, ◌≤◌, ℕ, List, [], ◌∷◌, ◌++◌, take, Option, None, Some, Ok, Err, refl, sym, ap, ◌∙◌, subst, arith}
 use Rattle.conf_disk.specs.Image.{Image, IsImage}
 use Rattle.conf_disk.specs.Models.{DiskModel}
 use Rattle.conf_state.specs.Commands.{Command}
@@ -17,7 +17,7 @@ use Rattle.conf_tools.specs.Worlds.{Around, WorldModel}
 use Rattle.conf_tools.specs.declared.program.Status.{Status}
 use Rattle.conf_tools.specs.declared.program.Status.TheVariants.{Done, Found, Refused, WrongWords, Device}
 use Rattle.conf_runs.specs.Folders.{IsDiskOf, KeepsFolders}
-use Rattle.conf_runs.specs.Runs.{AreRuns, EachKept, Ending, Event, Holds, IsMade, KeptOf, LeavesAfter, MayLeave, MeantBy, RunsHold, Where, accepted_in, acknowledged, call_at, call_in, cut_off, elsewhere, ending_of_call, folder_of, here, if_done, not_begun, returned, salvages}
+use Rattle.conf_runs.specs.Runs.{AreRuns, EachKept, Ending, Event, Holds, IsMade, KeptOf, LeavesAfter, MayLeave, MeantBy, Where, accepted_in, acknowledged, call_at, call_in, cut_off, elsewhere, ending_of_call, folder_of, here, not_begun, returned}
 use Rattle.conf_runs.proofs.StatusLemmas.{not-done}
 use Rattle.conf_runs.proofs.Effects.{Effect, Fits, effect, nothing, on_disk, spares}
 
