@@ -3,9 +3,10 @@
 
     packaging/proof.py [JOBS]
 
-`./prove` calls it, from anywhere. A crate is proved once those below it are, by a run of `rt` of its own; the crates with
-the longest chain above them come first, and where fewer crates are ready than processors are free, a crate gets more
-than one job. JOBS is how many jobs run at one time: one for each processor, if there are 3 GiB of memory for each.
+`./prove` calls it, from anywhere. A crate is proved once those below it are, by a run of `rt` of its own, and the crates
+with the longest chain above them come first. As many run at once as there are processors. Where fewer are ready, a crate
+gets more than one job; and the one whose chain is the longest gets a job for each processor, since the end waits for it.
+JOBS is how many crates run at one time: one for each processor, if there are 3 GiB of memory for each.
 
 `rt` locks a crate and all below it. So each crate is proved in a folder of its own below `out/proof`, which has the
 sources of these crates as they stood at the start, and links to the libraries below it. What the run makes is then moved into
@@ -186,16 +187,19 @@ class Proof:
         self.said = self.start
 
     def begin(self) -> None:
-        """Starts the crates that are ready, and gives them the jobs that are free."""
+        """Starts crates that are ready, one for each processor that none is proved on."""
         ready = [crate for crate in self.waiting if crate.below <= self.done]
-        free = self.jobs - sum(run.jobs for run in self.running)
-        for at, crate in enumerate(ready):
-            if free <= 0:
-                return
-            jobs = min(MOST_JOBS, -(-free // (len(ready) - at)))
+        free = self.jobs - len(self.running)
+        for at, crate in enumerate(ready[:free]):
+            share = -(-free // (len(ready) - at))
+            jobs = min(MOST_JOBS, self.jobs if self.all_wait_for(crate) else share)
             self.waiting.remove(crate)
             self.running.append(start(crate, jobs))
-            free -= jobs
+            free -= share
+
+    def all_wait_for(self, crate: Crate) -> bool:
+        """Whether the chain of crates that wait for this one is longer than that of each crate that runs."""
+        return all(run.crate.chain < crate.chain for run in self.running)
 
     def what_runs(self, now: float) -> str:
         return ", ".join(run.says(now) for run in self.running) or "nothing"

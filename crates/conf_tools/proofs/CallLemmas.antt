@@ -16,7 +16,7 @@ use Rattle.conf_store.specs.Meaning.{FileMeans}
 use Rattle.conf_store.specs.Opens.{MeantAtEntry, OneMeaning}
 use Rattle.conf_session.specs.declared.fault.SessionFault.{SessionFault}
 use Rattle.conf_session.specs.declared.session.Tally.{Tally}
-use Rattle.conf_tools.specs.ProgramCalls.{AreCalls, Call, CallsHold, EachKept, Ending, Event, KeptOf, MayLeave, accepted, answered, changing, cut_off, disk_before, disk_behind, exporting, returned, running}
+use Rattle.conf_tools.specs.ProgramCalls.{AreCalls, Call, CallHolds, CallsHold, EachKept, EachMeans, Ending, Event, KeptOf, MayLeave, MeantBy, accepted, answered, changing, cut_off, disk_before, disk_behind, exporting, returned, running}
 use Rattle.conf_tools.specs.Changes.{KeepsChange}
 use Rattle.conf_tools.specs.Stores.{KeepsAnswered}
 use Rattle.conf_tools.specs.declared.changes.Change.{Change}
@@ -145,6 +145,17 @@ module _ {D : Type 0} (model : DiskModel D)
   kept-call P ending (changing change old (Err (new, StoreExists)) leaves) image stands is = kept-unchanged P old new ending image stands leaves is
   kept-call P ending (exporting old new leaves) image stands is = kept-unchanged P old new ending image stands leaves is
 
+  -- whatever a crash leaves of the disk means a state that an image of it means
+  stands-meant : (disk : D) → EachMeans model disk → Stands disk (MeantBy model disk)
+  stands-meant disk each image is = let meant = each image is in (meant.0, record { entry = image; is = is; means = meant.1 }, meant.1)
+
+  -- what one call keeps
+  pub call-holds : CallHolds model
+  call-holds event each image is =
+      let old = disk_before model event.call in
+      let kept = kept-call (MeantBy model old) event.ending event.call image (stands-meant old each) is in
+      record { start = kept.from; began = kept.holds; kept = kept.kept; of = kept.of; state = kept.to; leads = kept.leads; means = kept.means }
+
   -- What is kept of all calls, from a state of which P holds.
   record KeptOfAll (P : Contents → Type 0) (events : List (Event model)) (file : Option (List ℕ)) : Type 0 where
     kept : List (List Command)
@@ -179,11 +190,6 @@ module _ {D : Type 0} (model : DiskModel D)
 
   -- no answered command is lost, and none is kept that was not accepted
   pub calls-hold : CallsHold model
-  calls-hold s first last events all are image is =
-      let kept = kept-calls events (λ t. t ≡ s) first last (λ image is. (s, refl, all image is)) are image is in record {
-        kept = kept.kept;
-        each = kept.each;
-        state = kept.to;
-        leads = subst (λ (t : Contents). after t (all_commands kept.kept) ≡ Ok kept.to) kept.holds kept.leads;
-        means = kept.means;
-      }
+  calls-hold first last events each are image is =
+      let kept = kept-calls events (MeantBy model first) first last (stands-meant first each) are image is in
+      record { start = kept.from; began = kept.holds; kept = kept.kept; each = kept.each; state = kept.to; leads = kept.leads; means = kept.means }

@@ -6,7 +6,6 @@ use Rattle.conf_disk.specs.Moments.{LeavesOnly}
 use Rattle.conf_state.specs.Commands.{Command}
 use Rattle.conf_state.specs.States.{Contents}
 use Rattle.conf_state.specs.Steps.{after}
-use Rattle.conf_store.specs.Durable.{AllImagesMean}
 use Rattle.conf_store.specs.Lives.{all_commands}
 use Rattle.conf_store.specs.Meaning.{FileMeans}
 use Rattle.conf_store.specs.Opens.{MeantAtEntry}
@@ -145,16 +144,46 @@ module _ {D : Type 0} (model : DiskModel D) where
       KeptOf event.ending (accepted model event.call) (answered model event.call) kept
       × EachKept events others
 
-  -- the file means the first state after what was kept of each call
-  pub record Holds (s : Contents) (events : List (Event model)) (file : Option (List ℕ)) : Type 0 where
-    pub kept : List (List Command)
-    pub each : EachKept events kept
+-- ---- what each call keeps
+
+-- each image that a crash leaves of the folder means a state; the states may differ
+abbrev pub EachMeans : {D : Type 0} → DiskModel D → D → Type 0
+EachMeans model disk = (image : Image) → IsImage (model.folder disk) image → (state : Contents) × FileMeans image.store state
+
+-- a state that an image means, which a crash leaves of the folder
+pub record MeantBy {D : Type 0} (model : DiskModel D) (disk : D) (state : Contents) : Type 0 where
+  pub entry : Image
+  pub is : IsImage (model.folder disk) entry
+  pub means : FileMeans entry.store state
+
+module _ {D : Type 0} (model : DiskModel D) where
+  -- the file means what was kept of one call makes of a state that the folder before the call might mean
+  pub record HoldsOne (event : Event model) (file : Option (List ℕ)) : Type 0 where
+    pub start : Contents
+    pub began : MeantBy model (disk_before model event.call) start
+    pub kept : List Command
+    pub of : KeptOf event.ending (accepted model event.call) (answered model event.call) kept
     pub state : Contents
-    pub leads : after s (all_commands kept) ≡ Ok state
+    pub leads : after start kept ≡ Ok state
     pub means : FileMeans file state
 
-  -- Where whatever a crash leaves of the first folder means `s`, each image of the last one holds what was kept.
+  -- where each image of the folder before a call means a state, each image that the call may leave holds what it keeps
+  abbrev pub CallHolds : Type 0
+  CallHolds = (event : Event model) → EachMeans model (disk_before model event.call)
+      → (image : Image) → MayLeave model event.ending (disk_before model event.call) (disk_behind model event.call) image
+      → HoldsOne event image.store
+
+  -- the file means what was kept of all calls makes of a state that the folder before them might mean
+  pub record Holds (first : D) (events : List (Event model)) (file : Option (List ℕ)) : Type 0 where
+    pub start : Contents
+    pub began : MeantBy model first start
+    pub kept : List (List Command)
+    pub each : EachKept model events kept
+    pub state : Contents
+    pub leads : after start (all_commands kept) ≡ Ok state
+    pub means : FileMeans file state
+
+  -- where each image of the first folder means a state, each image of the last one holds what was kept
   abbrev pub CallsHold : Type 0
-  CallsHold = (s : Contents) (first last : D) (events : List (Event model))
-      → AllImagesMean (model.folder first) s → AreCalls model first events last
-      → (image : Image) → IsImage (model.folder last) image → Holds s events image.store
+  CallsHold = (first last : D) (events : List (Event model)) → EachMeans model first → AreCalls model first events last
+      → (image : Image) → IsImage (model.folder last) image → Holds first events image.store

@@ -15,9 +15,9 @@ use std::alloc::{AllocError, Global};
 use std::io::{Read, Write};
 use yaml_tree::ReadFault;
 
-/// What is written of a file.
+/// What `format --check` and `check` write of a file.
 #[derive(Clone, Copy, Debug, PartialEq, Eq)]
-pub(crate) enum Report {
+pub enum Report {
     /// A line for each of its findings.
     Findings,
     /// Its name, if its text is another one in the one style.

@@ -1,0 +1,278 @@
+-- What each word does to the folders of a world.
+use Rattle.std.proofs.Common.{◌≡◌, ◌≢◌, inl, inr, ℕ, Bool, true, false, List, [], ◌∷◌, Option, None, Some, Result, Ok, Err, refl, sym, ap, subst, codes}
+use Rattle.conf_disk.specs.Image.{Image}
+use Rattle.conf_disk.specs.Models.{DiskModel}
+use Rattle.conf_files.specs.declared.replace.ReplaceFault.{ReplaceFault}
+use Rattle.conf_history.specs.declared.fault.HistoryFault.TheVariants as history
+use Rattle.conf_history.specs.declared.fault.SalvageFault.TheVariants as salvage
+use Rattle.conf_words.specs.declared.invocation.Invocation.{Invocation}
+use Rattle.conf_words.specs.declared.invocation.Invocation.TheVariants.{Init, Import, Set, Delete, Checkpoint, Run, Export, Names, Get, Log, Verify, Salvage, Format, Check}
+use Rattle.conf_words.specs.declared.invocation.Formatting.{Formatting}
+use Rattle.conf_words.specs.declared.invocation.Formatting.TheVariants as formatting
+use Rattle.conf_tools.specs.Performs.{FormatsAll, ChecksAll, Performs, grouping_of}
+use Rattle.conf_tools.specs.ProgramCalls.{Call, changing, disk_before, disk_behind, exporting, running}
+use Rattle.conf_tools.specs.StoreWords.{ChangesInFolder, ExportsFromFolder, Inits, MakesChange, MakesInFolder, OpensFile, OpensNew, RunsOnFolder, SavesFound, SavesInFolder, status_at_end}
+use Rattle.conf_tools.specs.TextWords.{IfSo, OfText, ReplacesAt, ReportsOnAll, RestylesAll, RestylesOpened, stops_all, status_after, status_of_report}
+use Rattle.conf_tools.specs.Statuses.{worst}
+use Rattle.conf_tools.specs.Worlds.{Around, WorldModel}
+use Rattle.conf_tools.specs.declared.changes.Change.{Change}
+use Rattle.conf_tools.specs.declared.changes.Change.TheVariants as change
+use Rattle.conf_tools.specs.declared.file_texts.Restyled.{Restyled}
+use Rattle.conf_tools.specs.declared.file_texts.Restyled.TheVariants.{Same, Changed}
+use Rattle.conf_tools.specs.declared.file_words.Report.{Report}
+use Rattle.conf_tools.specs.declared.file_words.Report.TheVariants.{Findings, Name}
+use Rattle.conf_tools.specs.declared.program.Status.{Status}
+use Rattle.conf_tools.specs.declared.program.Status.TheVariants.{Done}
+use Rattle.conf_tools.specs.declared.reading_fault.ReadingFault.{ReadingFault}
+use Rattle.conf_tools.specs.declared.reading_fault.ReadingFault.TheVariants as reading
+use Rattle.conf_tools.specs.declared.stores.Grouping.{Grouping}
+use Rattle.conf_tools.specs.declared.texts.ToolFault.{ToolFault}
+use Rattle.conf_runs.specs.Folders.{IsDiskOf, KeepsFolders, LeavesNoMore}
+use Rattle.conf_runs.specs.Runs.{asked_for, call_of, changed_in, exported_from, folder_of, initialised, made_in, ran_in, salvages}
+
+module _ {W D F P : Type 0} (world : WorldModel W D F P) (disk : DiskModel D) (remaining : F → Option (List ℕ))
+    (honest : disk.honest) (leaves : W → List ℕ → Image → Type 0) (keeps : KeepsFolders world disk leaves) where
+  -- no folder has changed
+  abbrev Steady : W → W → Type 0
+  Steady = LeavesNoMore leaves
+
+  stays : (old : W) → Steady old old
+  stays old path image is = is
+
+  then : (old between new : W) → Steady old between → Steady between new → Steady old new
+  then old between new first second path image is = first path image (second path image is)
+
+  same : (old new : W) → new ≡ old → Steady old new
+  same old new is = subst (λ (w : W). Steady old w) (sym is) (stays old)
+
+  -- the status of a change is that of its result
+  abbrev pub Fits : Status → Call disk → Type 0
+  Fits status (running given left held written grouping old result crashes) = Unit {0}
+  Fits status (changing change old result crashes) = status ≡ status_at_end result
+  Fits status (exporting old new crashes) = Unit {0}
+
+  -- What a run does to folders, with the call that it makes on a disk.
+  pub data Effect (old new : W) (status : Status) : Option (List ℕ) → Option (Call disk) → Type 0 where
+    nothing : (folder : Option (List ℕ)) → Steady old new → Effect old new status folder None
+    on_disk : (path : List ℕ) (found : W) (call : Call disk) → Steady old found
+        → IsDiskOf disk leaves path found (disk_before disk call) (disk_behind disk call) new → Fits status call
+        → Effect old new status (Some path) (Some call)
+
+  -- no folder has changed before
+  after : {folder : Option (List ℕ)} {call : Option (Call disk)} {status : Status} (old between new : W) → Steady old between
+      → Effect between new status folder call → Effect old new status folder call
+  after old between new steady (nothing folder ends) = nothing folder (then old between new steady ends)
+  after old between new steady (on_disk path found call begins is fits) = on_disk path found call (then old between found steady begins) is fits
+
+  -- ---- words that take a disk
+
+  of-making : (folder : List ℕ) (old new : W) (status : Status) (makes : MakesInFolder world disk folder old new status)
+      → Effect old new status (Some folder) (made_in world disk honest makes)
+  of-making folder old new status (inl cannot) = nothing (Some folder) (keeps.no_disk _ folder old new cannot.fault cannot.opens)
+  of-making folder old new status (inr makes) = on_disk folder old _ (stays old) (keeps.disks _ folder old makes.opened new makes.first _ makes.opens makes.gives_back) tt
+
+  of-init : (folder : List ℕ) (old new : W) (status : Status) (does : Inits world disk folder old new status)
+      → Effect old new status (Some folder) (initialised world disk honest does)
+  of-init folder old new status (inl cannot) = nothing (Some folder) (keeps.made folder old new _ cannot.makes)
+  of-init folder old new status (inr makes) =
+      after old makes.made new (keeps.made folder old makes.made _ makes.makes) (of-making folder makes.made new status makes.then)
+
+  of-change : (folder : List ℕ) (change : Change) (old new : W) (status : Status) (does : ChangesInFolder world disk folder change old new status)
+      → Effect old new status (Some folder) (changed_in world disk honest change does)
+  of-change folder change old new status (inl cannot) = nothing (Some folder) (keeps.no_disk _ folder old new cannot.fault cannot.opens)
+  of-change folder change old new status (inr changes) =
+      on_disk folder old _ (stays old) (keeps.disks _ folder old changes.opened new changes.first _ changes.opens changes.gives_back) changes.ends
+
+  of-asked : (folder : List ℕ) (change : Result Change ToolFault) (old new : W) (status : Status) (does : MakesChange world disk folder change old new status)
+      → Effect old new status (Some folder) (asked_for world disk honest folder change old new status does)
+  of-asked folder (Ok change) old new status does = of-change folder change old new status does
+  of-asked folder (Err fault) old new status does = nothing (Some folder) (same old new does.0)
+
+  of-run : (folder : List ℕ) (grouping : Grouping) (old new : Around W) (status : Status) (does : RunsOnFolder world disk folder grouping old new status)
+      → Effect old.world new.world status (Some folder) (ran_in world disk honest grouping old new does)
+  of-run folder grouping old new status (inl cannot) =
+      nothing (Some folder) (keeps.no_disk _ folder old.world new.world cannot.cannot.fault cannot.cannot.opens)
+  of-run folder grouping old new status (inr runs) =
+      on_disk folder old.world _ (stays old.world) (keeps.disks _ folder old.world runs.opened new.world runs.first _ runs.opens runs.gives_back) tt
+
+  of-export : (folder name : List ℕ) (old new : W) (held written : Option (List ℕ)) (status : Status)
+      (does : ExportsFromFolder world disk folder name old new held written status)
+      → Effect old new status (Some folder) (exported_from world disk honest does)
+  of-export folder name old new held written status (inl cannot) =
+      nothing (Some folder) (keeps.no_disk _ folder old new cannot.cannot.fault cannot.cannot.opens)
+  of-export folder name old new held written status (inr exports) =
+      on_disk folder old _ (stays old) (keeps.disks _ folder old exports.opened new exports.first _ exports.opens exports.gives_back) tt
+
+  -- ---- words that read the file of a store
+
+  of-open : (folder : List ℕ) (old : W) (file : Result F ReadingFault) (new : W) → OpensFile world folder old file new → Steady old new
+  of-open folder old (Ok file) new opens = keeps.stores folder old new _ opens
+  of-open folder old (Err (reading.History history.NotAStore)) new opens = keeps.stores folder old new _ opens
+  of-open folder old (Err (reading.Folder fault)) new opens = keeps.stores folder old new _ opens
+  of-open folder old (Err (reading.History history.Input)) new opens = absurd opens
+  of-open folder old (Err (reading.History history.Output)) new opens = absurd opens
+  of-open folder old (Err (reading.History (history.Damaged bad))) new opens = absurd opens
+  of-open folder old (Err (reading.History history.NoSuchCommand)) new opens = absurd opens
+  of-open folder old (Err (reading.History history.OutOfMemory)) new opens = absurd opens
+  of-open folder old (Err (reading.Value fault)) new opens = absurd opens
+  of-open folder old (Err (reading.Salvage fault)) new opens = absurd opens
+  of-open folder old (Err reading.Output) new opens = absurd opens
+
+  -- a store is salvaged into one folder alone
+  abbrev Spares : List ℕ → W → W → Type 0
+  Spares path old new = (other : List ℕ) (image : Image) → other ≢ path → leaves new other image → leaves old other image
+
+  spared : (path : List ℕ) (old new : W) → Steady old new → Spares path old new
+  spared path old new steady other image is_other is = steady other image is
+
+  of-new : (folder : List ℕ) (old : W) (fault : ReadingFault) (new : W) → OpensNew world folder old (Err fault) new → Steady old new
+  of-new folder old (reading.Salvage salvage.StoreExists) new (made, file, makes, opens) =
+      then old made new (keeps.made folder old made _ makes) (keeps.stores folder made new _ opens)
+  of-new folder old (reading.Salvage (salvage.History fault)) new opens = absurd opens
+  of-new folder old (reading.Salvage salvage.Device) new opens = absurd opens
+  of-new folder old (reading.Salvage salvage.OutOfMemory) new opens = absurd opens
+  of-new folder old (reading.History fault) new opens = absurd opens
+  of-new folder old (reading.Value fault) new opens = absurd opens
+  of-new folder old reading.Output new opens = absurd opens
+  of-new folder old (reading.Folder fault) new (inl makes) = keeps.made folder old new _ makes
+  of-new folder old (reading.Folder fault) new (inr (inl (made, makes, opens))) =
+      then old made new (keeps.made folder old made _ makes) (keeps.stores folder made new _ opens)
+  of-new folder old (reading.Folder fault) new (inr (inr (made, seen, makes, opens, fails))) =
+      then old made new (keeps.made folder old made _ makes)
+      (then made seen new (keeps.stores folder made seen _ opens) (keeps.no_disk _ folder seen new fault fails))
+
+  of-saving : (folder : List ℕ) (given : Option (List ℕ)) (old new : W) (held written : Option (List ℕ)) (status : Status)
+      → SavesInFolder world disk folder given old new held written status → Spares folder old new
+  of-saving folder given old new held written status (inl cannot) = spared folder old new (of-new folder old cannot.fault new cannot.opens)
+  of-saving folder given old new held written status (inr saves) = λ other image is_other is.
+      let opens = saves.opens in
+      let made = opens.0 in
+      let seen = opens.1 in
+      let now = keeps.disks _ folder seen saves.opened new saves.first _ opens.4 saves.gives_back in
+      then old made seen (keeps.made folder old made _ opens.2) (keeps.stores folder made seen _ opens.3) other image
+      (now.elsewhere other image is_other is)
+
+  of-found : (folder : List ℕ) (file : Result F ReadingFault) (old new : W) (held written : Option (List ℕ)) (status : Status)
+      → SavesFound world disk remaining folder file old new held written status → Spares folder old new
+  of-found folder (Ok file) old new held written status saves = of-saving folder (remaining file) old new held written status saves
+  of-found folder (Err fault) old new held written status saves = spared folder old new (same old new saves.0)
+
+  -- ---- words on texts
+
+  of-text : (path : List ℕ) (says : Option (List ℕ) → Option (List ℕ) → Type 0) (unread : Type 0) (old new : W) (given left : Option (List ℕ))
+      → OfText world remaining path says unread old new given left → Steady old new
+  of-text path says unread old new given left (inl input) = same old new input.1
+  of-text path says unread old new given left (inr file) = keeps.files path old new _ file.2.opens
+
+  -- after one report, the others
+  of-rest : (old now new : Around W) (stops : Bool) (ends others : Type 0) → (others → Steady now.world new.world)
+      → IfSo stops ((new ≡ now) × ends) others → Steady now.world new.world
+  of-rest old now new true ends others goes rest = same now.world new.world (ap (λ (a : Around W). a.world) rest.0)
+  of-rest old now new false ends others goes rest = goes rest
+
+  of-reports : (report : Report) (paths : List (List ℕ)) (so_far : Status) (old new : Around W) (status : Status)
+      → ReportsOnAll world remaining report paths so_far old new status → Steady old.world new.world
+  of-reports report [] so_far old new status does = same old.world new.world (ap (λ (a : Around W). a.world) does.0)
+  of-reports report (path ∷ paths) so_far old new status (now, result, one, rest) =
+      then old.world now.world new.world (of-text path _ _ old.world now.world old.input now.input one)
+      (of-rest old now new (stops_all result) _ _ (of-reports report paths (worst so_far (status_of_report result)) now new status) rest)
+
+  of-replacing : (place : P) (restyled : Result Restyled ToolFault) (old new : W) (result : Result (Unit {0}) ToolFault)
+      → ReplacesAt world place restyled old new result → Steady old new
+  of-replacing place (Ok Same) old new result does = same old new does.0
+  of-replacing place (Ok (Changed styled)) old new result (ended, replaced, is) = keeps.replaced place _ old new ended replaced
+  of-replacing place (Err fault) old new result does = same old new does.0
+
+  of-restyling : (found : Result (F × P) ReplaceFault) (old new : W) (result : Result (Unit {0}) ToolFault)
+      → RestylesOpened world remaining found old new result → Steady old new
+  of-restyling (Ok (file, place)) old new result (restyled, left, does, ok, stops) = of-replacing place restyled old new result does
+  of-restyling (Err fault) old new result does = same old new does.0
+
+  of-restyles : (paths : List (List ℕ)) (so_far : Status) (old new : W) (status : Status)
+      → RestylesAll world remaining paths so_far old new status → Steady old new
+  of-restyles [] so_far old new status does = same old new does.0
+  of-restyles (path ∷ paths) so_far old new status (now, result, one, rest) =
+      then old now new
+      (then old one.seen now (keeps.places path old one.seen _ one.opens) (of-restyling one.found one.seen now result one.does))
+      (of-restyles paths (worst so_far (status_after result)) now new status rest)
+
+  of-formatting : (formatting : Formatting) (paths : List (List ℕ)) (old new : Around W) (status : Status)
+      → FormatsAll world remaining formatting paths old new status → Steady old.world new.world
+  of-formatting formatting.Write [] old new status does = same old.world new.world does.1
+  of-formatting formatting.Write (path ∷ paths) old new status does = of-text path _ _ old.world new.world old.input new.input does.does
+  of-formatting formatting.InPlace paths old new status does = of-restyles paths _ old.world new.world status does.does
+  of-formatting formatting.Check [] old new status does = of-reports Name (codes "-" ∷ []) Done old new status does
+  of-formatting formatting.Check (path ∷ paths) old new status does = of-reports Name (path ∷ paths) Done old new status does
+
+  of-checking : (paths : List (List ℕ)) (old new : Around W) (status : Status)
+      → ChecksAll world remaining paths old new status → Steady old.world new.world
+  of-checking [] old new status does = same old.world new.world does.1
+  of-checking (path ∷ paths) old new status does = of-reports Findings (path ∷ paths) Done old new status does
+
+  -- ---- all words
+
+  -- what a run does, unless it salvages
+  pub effect : (invocation : Invocation) (old new : Around W) (status : Status) (does : Performs world disk remaining invocation old new status)
+      → salvages invocation ≡ false
+      → Effect old.world new.world status (folder_of invocation) (call_of world disk remaining honest invocation old new status does)
+  effect (Init folder) old new status does no_salvage = of-init folder.now old.world new.world status does.0
+  effect (Import folder name file) old new status does no_salvage =
+      after old.world does.read new.world (of-text file.now _ _ old.world does.read old.input new.input does.is)
+      (of-asked folder.now does.change does.read new.world status does.makes)
+  effect (Set folder name pointer value) old new status does no_salvage = of-asked folder.now does.change old.world new.world status does.makes
+  effect (Delete folder name pointer) old new status does no_salvage = of-asked folder.now does.change old.world new.world status does.makes
+  effect (Checkpoint folder) old new status does no_salvage = of-change folder.now change.Checkpoint old.world new.world status does.0
+  effect (Run folder grouping) old new status does no_salvage = of-run folder.now (grouping_of grouping) old new status does
+  effect (Export folder name) old new status does no_salvage =
+      of-export folder.now name.now old.world new.world old.output new.output status does.0
+  effect (Names folder at) old new status does no_salvage = nothing None (of-open folder.now old.world does.0.file new.world does.0.opens)
+  effect (Get folder name pointer at form) old new status does no_salvage =
+      nothing None (of-open folder.now old.world does.0.file new.world does.0.opens)
+  effect (Log folder at form) old new status does no_salvage = nothing None (of-open folder.now old.world does.0.file new.world does.0.opens)
+  effect (Verify folder) old new status does no_salvage = nothing None (of-open folder.now old.world does.0.file new.world does.0.opens)
+  effect (Format formatting files) old new status does no_salvage = nothing None (of-formatting formatting _ old new status does)
+  effect (Salvage folder new_folder) old new status does no_salvage = cc
+  effect (Check files) old new status does no_salvage = nothing None (of-checking _ old new status does)
+
+  -- what is done to one folder leaves another as it was
+  beside : (path : List ℕ) (old new : W) {status : Status} {folder : Option (List ℕ)} {call : Option (Call disk)}
+      → Effect old new status folder call → folder ≢ Some path
+      → (image : Image) → leaves new path image → leaves old path image
+  beside path old new (nothing folder steady) is_other image is = steady path image is
+  beside path old new (on_disk own found call begins of fits) is_other image is =
+      begins path image (of.elsewhere path image (λ same. is_other (ap Some (sym same))) is)
+
+  pub spares : (path : List ℕ) (invocation : Invocation) (old new : Around W) (status : Status)
+      → Performs world disk remaining invocation old new status → folder_of invocation ≢ Some path
+      → (image : Image) → leaves new.world path image → leaves old.world path image
+  spares path (Salvage folder new_folder) old new status does is_other image is =
+      let says = does.0 in
+      let begins = of-open folder.now old.world says.file says.found says.opens in
+      begins path image (of-found new_folder.now says.file says.found new.world old.output new.output status says.saves path image
+      (λ same. is_other (ap Some (sym same))) is)
+  spares path (Init folder) old new status does is_other image is =
+      beside path old.world new.world (effect (Init folder) old new status does refl) is_other image is
+  spares path (Import folder name file) old new status does is_other image is =
+      beside path old.world new.world (effect (Import folder name file) old new status does refl) is_other image is
+  spares path (Set folder name pointer value) old new status does is_other image is =
+      beside path old.world new.world (effect (Set folder name pointer value) old new status does refl) is_other image is
+  spares path (Delete folder name pointer) old new status does is_other image is =
+      beside path old.world new.world (effect (Delete folder name pointer) old new status does refl) is_other image is
+  spares path (Checkpoint folder) old new status does is_other image is =
+      beside path old.world new.world (effect (Checkpoint folder) old new status does refl) is_other image is
+  spares path (Run folder grouping) old new status does is_other image is =
+      beside path old.world new.world (effect (Run folder grouping) old new status does refl) is_other image is
+  spares path (Export folder name) old new status does is_other image is =
+      beside path old.world new.world (effect (Export folder name) old new status does refl) is_other image is
+  spares path (Names folder at) old new status does is_other image is =
+      beside path old.world new.world (effect (Names folder at) old new status does refl) is_other image is
+  spares path (Get folder name pointer at form) old new status does is_other image is =
+      beside path old.world new.world (effect (Get folder name pointer at form) old new status does refl) is_other image is
+  spares path (Log folder at form) old new status does is_other image is =
+      beside path old.world new.world (effect (Log folder at form) old new status does refl) is_other image is
+  spares path (Verify folder) old new status does is_other image is =
+      beside path old.world new.world (effect (Verify folder) old new status does refl) is_other image is
+  spares path (Format formatting files) old new status does is_other image is =
+      beside path old.world new.world (effect (Format formatting files) old new status does refl) is_other image is
+  spares path (Check files) old new status does is_other image is =
+      beside path old.world new.world (effect (Check files) old new status does refl) is_other image is

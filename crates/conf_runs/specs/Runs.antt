@@ -1,0 +1,224 @@
+-- Runs of the program, one after the other, and what the store in one folder keeps of their commands.
+use Rattle.std.specs.Prelude.{◌≡◌, ◌≢◌, ◌≤◌, ℕ, Bool, true, false, List, [], ◌∷◌, length, take, Option, None, Some, Result, Ok, Err}
+use Rattle.std.proofs.Common.{inl, inr}
+use Rattle.conf_disk.specs.Image.{Image}
+use Rattle.conf_disk.specs.Models.{DiskModel}
+use Rattle.conf_state.specs.Commands.{Command}
+use Rattle.conf_state.specs.States.{Contents}
+use Rattle.conf_state.specs.Steps.{after}
+use Rattle.conf_store.specs.Lives.{all_commands}
+use Rattle.conf_store.specs.Meaning.{FileMeans}
+use Rattle.conf_words.specs.declared.invocation.Invocation.{Invocation}
+use Rattle.conf_words.specs.declared.invocation.Invocation.TheVariants.{Init, Import, Set, Delete, Checkpoint, Run, Export, Salvage}
+use Rattle.conf_tools.specs.Changes.{Performs as ChangePerforms}
+use Rattle.conf_tools.specs.Exports.{disk_back, disk_handed_back}
+use Rattle.conf_tools.specs.Performs.{Performs, grouping_of}
+use Rattle.conf_tools.specs.ProgramCalls.{Call, Ending as CallEnding, accepted, answered, changing, disk_before, disk_behind, exporting, running}
+use Rattle.conf_tools.specs.ProgramCalls as call
+use Rattle.conf_tools.specs.StoreWords.{ChangesInFolder, ExportsFromFolder, Inits, MakesChange, MakesInFolder, RunsOnFolder}
+use Rattle.conf_tools.specs.Worlds.{Around, WorldModel}
+use Rattle.conf_tools.specs.declared.changes.Change.{Change}
+use Rattle.conf_tools.specs.declared.changes.Change.TheVariants as change
+use Rattle.conf_tools.specs.declared.program.Status.{Status}
+use Rattle.conf_tools.specs.declared.program.Status.TheVariants.{Done}
+use Rattle.conf_tools.specs.declared.stores.Grouping.{Grouping}
+use Rattle.conf_tools.specs.declared.texts.ToolFault.{ToolFault}
+use Rattle.conf_runs.specs.Folders.{KeepsFolders}
+
+-- ---- the folder of a run
+
+-- the folder whose disk a run takes, if its words name one
+abbrev pub folder_of : Invocation → Option (List ℕ)
+folder_of (Init folder) = Some folder.now
+folder_of (Import folder name file) = Some folder.now
+folder_of (Set folder name pointer value) = Some folder.now
+folder_of (Delete folder name pointer) = Some folder.now
+folder_of (Checkpoint folder) = Some folder.now
+folder_of (Run folder grouping) = Some folder.now
+folder_of (Export folder name) = Some folder.now
+folder_of (Salvage folder new) = Some new.now
+folder_of invocation = None
+
+-- whether the words make a store of what a damaged one says
+abbrev pub salvages : Invocation → Bool
+salvages (Salvage folder new) = true
+salvages invocation = false
+
+-- Whether a run is on the store in the folder at a path. No store is salvaged into this folder.
+pub data Where (path : List ℕ) (invocation : Invocation) : Type 0 where
+  here : folder_of invocation ≡ Some path → salvages invocation ≡ false → Where path invocation
+  elsewhere : folder_of invocation ≢ Some path → Where path invocation
+
+-- ---- the call that a run makes on the disk of its folder
+
+-- of an honest disk, as the relations of the words have it
+module _ {W D F P : Type 0} (world : WorldModel W D F P) (disk : DiskModel D) (honest : disk.honest) where
+  abbrev pub made_in : {folder : List ℕ} {old new : W} {status : Status}
+      → MakesInFolder world disk folder old new status → Option (Call disk)
+  made_in (inl cannot) = None
+  made_in (inr makes) = Some (exporting makes.first (disk_handed_back makes.result) (makes.survives honest))
+
+  abbrev pub initialised : {folder : List ℕ} {old new : W} {status : Status}
+      → Inits world disk folder old new status → Option (Call disk)
+  initialised (inl cannot) = None
+  initialised (inr makes) = made_in makes.then
+
+  abbrev pub changed_in : {folder : List ℕ} (change : Change) {old new : W} {status : Status}
+      → ChangesInFolder world disk folder change old new status → Option (Call disk)
+  changed_in change (inl cannot) = None
+  changed_in change (inr changes) = Some (changing change changes.first changes.result (changes.survives honest))
+
+  abbrev pub asked_for : (folder : List ℕ) (change : Result Change ToolFault) (old new : W) (status : Status)
+      → MakesChange world disk folder change old new status → Option (Call disk)
+  asked_for folder (Ok change) old new status makes = changed_in change makes
+  asked_for folder (Err fault) old new status makes = None
+
+  abbrev pub ran_in : {folder : List ℕ} (grouping : Grouping) (old new : Around W) {status : Status}
+      → RunsOnFolder world disk folder grouping old new status → Option (Call disk)
+  ran_in grouping old new (inl cannot) = None
+  ran_in grouping old new (inr runs) =
+      Some (running old.input new.input old.output new.output grouping runs.first runs.result (runs.survives honest))
+
+  abbrev pub exported_from : {folder name : List ℕ} {old new : W} {held written : Option (List ℕ)} {status : Status}
+      → ExportsFromFolder world disk folder name old new held written status → Option (Call disk)
+  exported_from (inl cannot) = None
+  exported_from (inr exports) = Some (exporting exports.first (disk_back exports.result) (exports.survives honest))
+
+module _ {W D F P : Type 0} (world : WorldModel W D F P) (disk : DiskModel D) (remaining : F → Option (List ℕ))
+    (honest : disk.honest) where
+  -- the call of a run, if the disk was handed out to it
+  abbrev pub call_of : (invocation : Invocation) (old new : Around W) (status : Status)
+      → Performs world disk remaining invocation old new status → Option (Call disk)
+  call_of (Init folder) old new status does = initialised world disk honest does.0
+  call_of (Import folder name file) old new status does =
+      asked_for world disk honest folder.now does.change does.read new.world status does.makes
+  call_of (Set folder name pointer value) old new status does =
+      asked_for world disk honest folder.now does.change old.world new.world status does.makes
+  call_of (Delete folder name pointer) old new status does =
+      asked_for world disk honest folder.now does.change old.world new.world status does.makes
+  call_of (Checkpoint folder) old new status does = changed_in world disk honest change.Checkpoint does.0
+  call_of (Run folder grouping) old new status does = ran_in world disk honest (grouping_of grouping) old new does
+  call_of (Export folder name) old new status does = exported_from world disk honest does.0
+  call_of invocation old new status does = None
+
+-- ---- a run
+
+-- Whether a run returned, was cut off while it had the disk, by a crash or by the end of its process, or had none yet.
+pub data Ending : Type 0 where
+  returned : Ending
+  cut_off : Ending
+  not_begun : Ending
+
+-- The same of its call: one that never began is as one that was not made.
+abbrev pub ending_of_call : Ending → CallEnding
+ending_of_call returned = call.returned
+ending_of_call cut_off = call.cut_off
+ending_of_call not_begun = call.cut_off
+
+-- a number, if that is the status
+abbrev pub if_done : Status → ℕ → ℕ
+if_done Done number = number
+if_done status number = 0
+
+module _ {W D F P : Type 0} (world : WorldModel W D F P) (disk : DiskModel D) (remaining : F → Option (List ℕ))
+    (honest : disk.honest) (leaves : W → List ℕ → Image → Type 0) (path : List ℕ) where
+  -- A run of the program, with what the contract of `perform` says of it. One that was cut off is given by what it would
+  -- have done.
+  pub record Event : Type 0 where
+    pub invocation : Invocation
+    pub place : Where path invocation
+    pub old : Around W
+    pub new : Around W
+    pub status : Status
+    pub does : Performs world disk remaining invocation old new status
+    pub ending : Ending
+
+  -- the call on the store in the folder
+  abbrev pub call_at : (invocation : Invocation) → Where path invocation → Ending → (old new : Around W) (status : Status)
+      → Performs world disk remaining invocation old new status → Option (Call disk)
+  call_at invocation (here is no_salvage) returned old new status does =
+      call_of world disk remaining honest invocation old new status does
+  call_at invocation (here is no_salvage) cut_off old new status does =
+      call_of world disk remaining honest invocation old new status does
+  call_at invocation place ending old new status does = None
+
+  abbrev pub call_in : Event → Option (Call disk)
+  call_in event = call_at event.invocation event.place event.ending event.old event.new event.status event.does
+
+  -- What a crash leaves of the folder after a run that returned; of one that was cut off, at any moment of its call. A
+  -- run that made no call leaves no more than was there.
+  abbrev pub LeavesAfter : Ending → Option (Call disk) → (old new : W) → Image → Type 0
+  LeavesAfter returned call old new image = leaves new path image
+  LeavesAfter cut_off (Some call) old new image =
+      disk.left (disk_behind disk call) (disk.moment (disk_before disk call)) image
+  LeavesAfter ending call old new image = leaves old path image
+
+  abbrev pub MayLeave : Event → Image → Type 0
+  MayLeave event image = LeavesAfter event.ending (call_in event) event.old.world event.new.world image
+
+  -- A crash leaves no more of the folder that the first run finds than `before` says, of the folder that each next one
+  -- finds no more than the run before it may leave, and in the end no more than `behind` says.
+  abbrev pub AreRuns : (Image → Type 0) → List Event → (Image → Type 0) → Type 0
+  AreRuns before [] behind = (image : Image) → behind image → before image
+  AreRuns before (event ∷ events) behind =
+      ((image : Image) → leaves event.old.world path image → before image) × AreRuns (MayLeave event) events behind
+
+  -- ---- what they keep
+
+  -- the commands that a run accepted
+  abbrev pub accepted_in : Option (Call disk) → List Command
+  accepted_in None = []
+  accepted_in (Some call) = accepted disk call
+
+  -- How many of them it acknowledged, the first ones: those that a session answered, and the command of a change whose
+  -- status was Done.
+  abbrev pub acknowledged : Status → Option (Call disk) → ℕ
+  acknowledged status None = 0
+  acknowledged status (Some (running given left held written grouping old result crashes)) =
+      answered disk (running given left held written grouping old result crashes)
+  acknowledged status (Some (changing change old result crashes)) =
+      if_done status (length (accepted disk (changing change old result crashes)))
+  acknowledged status (Some (exporting old new crashes)) = 0
+
+  -- where the status of a change was Done, what was accepted is what the change performs
+  abbrev pub IsMade : Status → Option (Call disk) → Type 0
+  IsMade status (Some (changing change old result crashes)) =
+      status ≡ Done → ChangePerforms change (accepted disk (changing change old result crashes))
+  IsMade status call = Unit {0}
+
+  -- the first of the commands that a run accepted; if it returned, all that it acknowledged
+  pub record KeptOf (event : Event) (kept : List Command) : Type 0 where
+    pub count : ℕ
+    pub are : kept ≡ take count (accepted_in (call_in event))
+    pub all_acknowledged : event.ending ≡ returned → acknowledged event.status (call_in event) ≤ count
+    pub is_made : event.ending ≡ returned → IsMade event.status (call_in event)
+
+  abbrev pub EachKept : List Event → List (List Command) → Type 0
+  EachKept [] [] = Unit {0}
+  EachKept [] (kept ∷ others) = ⊥
+  EachKept (event ∷ events) [] = ⊥
+  EachKept (event ∷ events) (kept ∷ others) = KeptOf event kept × EachKept events others
+
+  -- a state that an image means, which a crash leaves of the folder at a moment
+  pub record MeantBy (now : W) (state : Contents) : Type 0 where
+    pub entry : Image
+    pub is : leaves now path entry
+    pub means : FileMeans entry.store state
+
+  -- the file means what was kept of each run makes of a state that the folder might mean before them
+  pub record Holds (first : W) (events : List Event) (file : Option (List ℕ)) : Type 0 where
+    pub start : Contents
+    pub began : MeantBy first start
+    pub kept : List (List Command)
+    pub each : EachKept events kept
+    pub state : Contents
+    pub leads : after start (all_commands kept) ≡ Ok state
+    pub means : FileMeans file state
+
+  -- Where each image of the folder means a state before the runs, each image of it holds after them what was kept. The
+  -- states of the images may differ.
+  abbrev pub RunsHold : Type 0
+  RunsHold = KeepsFolders world disk leaves → (first last : W) (events : List Event)
+      → ((image : Image) → leaves first path image → (state : Contents) × FileMeans image.store state)
+      → AreRuns (leaves first path) events (leaves last path)
+      → (image : Image) → leaves last path image → Holds first events image.store
