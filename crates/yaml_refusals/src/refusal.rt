@@ -1,4 +1,6 @@
 // Why a text is refused, where, and what is known of it.
+ghost use Rattle.std.specs.Prelude.{◌≡◌, IfOk, Some, length};
+
 use crate::detail::Detail;
 use crate::hint::Hint;
 use crate::keys::{collection_as_key, repeated_key, second_document, too_deep};
@@ -32,7 +34,11 @@ impl Refusal {
         bytes: &[u8],
         limits: &Limits,
         fault: ReadFault,
-    ) -> Result<Refusal, AllocError> {
+    ) -> Result<Refusal, AllocError>
+        ensures fault { IfOk result (λ refusal. refusal.fault ≡ fault) }
+        ensures size { fault ≡ ReadFault.TooLong → IfOk result (λ refusal.
+            refusal.detail ≡ Detail.Bytes (length bytes.now) limits.now.bytes) }
+    {
         match fault {
             ReadFault::TooLong => Ok(Refusal::sized(fault, bytes.len() as u64, limits.bytes)),
             ReadFault::NotUtf8 { at } => Ok(Refusal::at_byte(bytes, at, fault)),
@@ -53,7 +59,9 @@ impl Refusal {
         crate::RefusalBrief(self)
     }
 
-    fn unplaced(fault: ReadFault) -> Refusal {
+    fn unplaced(fault: ReadFault) -> Refusal
+        ensures { result.fault ≡ fault }
+    {
         Refusal {
             fault,
             place: None,
@@ -61,7 +69,10 @@ impl Refusal {
         }
     }
 
-    fn sized(fault: ReadFault, found: u64, limit: u64) -> Refusal {
+    fn sized(fault: ReadFault, found: u64, limit: u64) -> Refusal
+        ensures fault { result.fault ≡ fault }
+        ensures size { result.detail ≡ Detail.Bytes found limit }
+    {
         Refusal {
             fault,
             place: None,
@@ -70,7 +81,9 @@ impl Refusal {
     }
 
     /// The refusal of bytes that are a text up to byte `at`, from 0.
-    fn at_byte(bytes: &[u8], at: usize, fault: ReadFault) -> Refusal {
+    fn at_byte(bytes: &[u8], at: usize, fault: ReadFault) -> Refusal
+        ensures { result.fault ≡ fault }
+    {
         Refusal {
             fault,
             place: valid(bytes, at).map(|text| place_at(text, at)),
@@ -78,7 +91,10 @@ impl Refusal {
         }
     }
 
-    fn malformed(bytes: &[u8], fault: ReadFault, place: Place, why: Why) -> Refusal {
+    fn malformed(bytes: &[u8], fault: ReadFault, place: Place, why: Why) -> Refusal
+        ensures fault { result.fault ≡ fault }
+        ensures place { result.place ≡ Some place }
+    {
         let hint = match valid(bytes, bytes.len()) {
             Some(text) => Hint::of(why, &Spot::new(text, place)),
             None => None,
@@ -96,7 +112,9 @@ impl Refusal {
         bytes: &[u8],
         limits: &Limits,
         fault: ReadFault,
-    ) -> Result<Refusal, AllocError> {
+    ) -> Result<Refusal, AllocError>
+        ensures { IfOk result (λ refusal. refusal.fault ≡ fault) }
+    {
         let Some(text) = valid(bytes, bytes.len()) else {
             return Ok(Refusal::unplaced(fault));
         };
@@ -112,7 +130,9 @@ impl Refusal {
         events: &Events<'_>,
         limits: &Limits,
         fault: ReadFault,
-    ) -> Result<Refusal, AllocError> {
+    ) -> Result<Refusal, AllocError>
+        ensures { IfOk result (λ refusal. refusal.fault ≡ fault) }
+    {
         let (at, detail) = match fault {
             ReadFault::Documents { count } => {
                 (
