@@ -5,11 +5,14 @@ _confstore_words='init import set delete checkpoint run export names get log ver
 _confstore_options() {
     case $1 in
     run) echo '--group --checkpoint-after --help' ;;
-    set) echo '--yaml --help' ;;
+    import) echo '--init --explain --help' ;;
+    set) echo '--yaml --whole --explain --help' ;;
+    delete) echo '--whole --help' ;;
     names) echo '--at --help' ;;
     get) echo '--raw --at --help' ;;
     log) echo '--yaml --at --help' ;;
-    format) echo '-i --in-place --check --help' ;;
+    format) echo '-i --in-place --drop-comments --check --explain --help' ;;
+    check) echo '--explain --help' ;;
     *) echo '--help' ;;
     esac
 }

@@ -59,10 +59,14 @@ complete -c confstore -n '__confstore_at 1 salvage' -a '(__fish_complete_directo
 complete -c confstore -n '__confstore_at 2 import' -F
 complete -c confstore -n '__fish_seen_subcommand_from run' -l group -d 'Sync once for all commands at hand'
 complete -c confstore -n '__fish_seen_subcommand_from run' -l checkpoint-after -x -d 'Make checkpoints meanwhile'
+complete -c confstore -n '__fish_seen_subcommand_from import' -l init -d 'Make a store where there is none'
 complete -c confstore -n '__fish_seen_subcommand_from set' -l yaml -d 'Read the value as a text'
+complete -c confstore -n '__fish_seen_subcommand_from set delete' -l whole -d 'Allow the empty pointer'
+complete -c confstore -n '__fish_seen_subcommand_from import set format check' -l explain -d 'Show the line at fault of a refused text'
 complete -c confstore -n '__fish_seen_subcommand_from names get log' -l at -x -d 'Read the store as it was after a command'
 complete -c confstore -n '__fish_seen_subcommand_from get' -l raw -d 'Write a text as it is'
 complete -c confstore -n '__fish_seen_subcommand_from log' -l yaml -d 'Write the records as they stand'
 complete -c confstore -n '__fish_seen_subcommand_from format check' -F
 complete -c confstore -n '__fish_seen_subcommand_from format' -s i -l in-place -d 'Replace each file that would change'
+complete -c confstore -n '__fish_seen_subcommand_from format' -l drop-comments -d 'Replace files with comments too'
 complete -c confstore -n '__fish_seen_subcommand_from format' -l check -d 'Name each file that would change'

@@ -6,10 +6,14 @@ use Rattle.std.proofs.KnownBytes.{Appends-trans, Keeps-refl}
 use Rattle.yaml_events.specs.declared.read_fault.ReadFault.TheVariants.{TooLong, NotUtf8, Syntax, Documents, KeyNotText, KeyTwice, TooDeep, LargeInStyle, OutOfMemory}
 use Rattle.yaml_events.specs.declared.read_fault.ReadFault.{ReadFault}
 use Rattle.yaml_style.specs.declared.finding.Finding.{Finding}
-use Rattle.conf_tools.specs.FileTexts.{Adds, StopsInFile, StopsInReading, file_line, file_report}
-use Rattle.conf_tools.specs.Tools.{RefusesInput, Stops}
+use Rattle.yaml_config.specs.Limits.{config_limits}
+use Rattle.yaml_docs.specs.Reading.{RefusesBytes}
+use Rattle.yaml_tree.specs.Reading.{Refuses}
+use Rattle.conf_words.specs.declared.invocation.Comments.TheVariants.{Dropped}
+use Rattle.conf_tools.specs.FileTexts.{Adds, StopsInFile, StopsRestyling, file_line, file_report}
+use Rattle.conf_tools.specs.Tools.{Stops}
 use Rattle.conf_tools.specs.declared.texts.ToolFault.{ToolFault}
-use Rattle.conf_tools.specs.declared.texts.ToolFault.TheVariants.{Input, Output, Read}
+use Rattle.conf_tools.specs.declared.texts.ToolFault.TheVariants.{Input, Output, Read, Comments}
 
 -- ---- bytes that are known
 
@@ -25,50 +29,37 @@ adds_none held written keeps = ([], nothing_added held written keeps)
 -- ---- one text
 
 -- a text that is refused, of which no line was written
-pub refused_file : (given left held : Option (List ℕ)) (fault : ReadFault) → Stops given left held held (Read fault)
-    → StopsInFile given left held held (Read fault)
-refused_file given left held TooLong stops = stops
-refused_file given left held (NotUtf8 at) stops = stops
-refused_file given left held (Syntax line column why) stops = stops
-refused_file given left held (Documents count) stops = stops
-refused_file given left held KeyNotText stops = stops
-refused_file given left held KeyTwice stops = stops
-refused_file given left held TooDeep stops = stops
-refused_file given left held LargeInStyle stops = stops
-refused_file given left held OutOfMemory stops = adds_none held held stops
+pub refused_file : (bytes : List ℕ) (held : Option (List ℕ)) (fault : ReadFault) → Refuses bytes config_limits fault
+    → StopsInFile bytes held held (Read fault)
+refused_file bytes held TooLong refuses = (refuses, Keeps-refl held)
+refused_file bytes held (NotUtf8 at) refuses = (refuses, Keeps-refl held)
+refused_file bytes held (Syntax line column why) refuses = (refuses, Keeps-refl held)
+refused_file bytes held (Documents count) refuses = (refuses, Keeps-refl held)
+refused_file bytes held KeyNotText refuses = (refuses, Keeps-refl held)
+refused_file bytes held KeyTwice refuses = (refuses, Keeps-refl held)
+refused_file bytes held TooDeep refuses = (refuses, Keeps-refl held)
+refused_file bytes held LargeInStyle refuses = (refuses, Keeps-refl held)
+refused_file bytes held OutOfMemory refuses = adds_none held held (Keeps-refl held)
 
--- a text that is refused, where nothing is written
-pub refused_reading : (given left : Option (List ℕ)) (fault : ReadFault) → Stops given left None None (Read fault)
-    → StopsInReading given left (Read fault)
-refused_reading given left TooLong stops = stops
-refused_reading given left (NotUtf8 at) stops = stops
-refused_reading given left (Syntax line column why) stops = stops
-refused_reading given left (Documents count) stops = stops
-refused_reading given left KeyNotText stops = stops
-refused_reading given left KeyTwice stops = stops
-refused_reading given left TooDeep stops = stops
-refused_reading given left LargeInStyle stops = stops
-refused_reading given left OutOfMemory stops = stops
+-- what is refused as a stream is refused as a text
+pub refused_stream : (bytes : List ℕ) (fault : ReadFault) → RefusesBytes bytes config_limits.bytes fault → Refuses bytes config_limits fault
+refused_stream bytes TooLong refuses = refuses
+refused_stream bytes (NotUtf8 at) refuses = refuses
+refused_stream bytes (Syntax line column why) refuses = refuses
+refused_stream bytes (Documents count) refuses = absurd refuses
+refused_stream bytes KeyNotText refuses = absurd refuses
+refused_stream bytes KeyTwice refuses = absurd refuses
+refused_stream bytes TooDeep refuses = absurd refuses
+refused_stream bytes LargeInStyle refuses = absurd refuses
+refused_stream bytes OutOfMemory refuses = tt
 
-unwritten : (given left held : Option (List ℕ)) (fault : ReadFault) → RefusesInput given left None None fault
-    → RefusesInput given left held held fault
-unwritten given left held fault refused =
-    record { bytes = refused.bytes; read = refused.read; refuses = refused.refuses; keeps = Keeps-refl held }
-
--- the same of a writer that was not used
-pub stops_unwritten : (given left held : Option (List ℕ)) (fault : ToolFault) → StopsInReading given left fault
-    → Stops given left held held fault
-stops_unwritten given left held Input stops = Keeps-refl held
-stops_unwritten given left held Output stops = absurd stops
-stops_unwritten given left held (Read TooLong) stops = unwritten given left held TooLong stops
-stops_unwritten given left held (Read (NotUtf8 at)) stops = unwritten given left held (NotUtf8 at) stops
-stops_unwritten given left held (Read (Syntax line column why)) stops = unwritten given left held (Syntax line column why) stops
-stops_unwritten given left held (Read (Documents count)) stops = unwritten given left held (Documents count) stops
-stops_unwritten given left held (Read KeyNotText) stops = unwritten given left held KeyNotText stops
-stops_unwritten given left held (Read KeyTwice) stops = unwritten given left held KeyTwice stops
-stops_unwritten given left held (Read TooDeep) stops = unwritten given left held TooDeep stops
-stops_unwritten given left held (Read LargeInStyle) stops = unwritten given left held LargeInStyle stops
-stops_unwritten given left held (Read OutOfMemory) stops = Keeps-refl held
+-- where comments are dropped, a text that has none to take its place is refused, and nothing was written
+pub stops_unwritten : (bytes : List ℕ) (held : Option (List ℕ)) (fault : ToolFault) → StopsRestyling Dropped bytes fault
+    → Stops bytes held held fault
+stops_unwritten bytes held Input stops = stops
+stops_unwritten bytes held Output stops = absurd stops
+stops_unwritten bytes held (Read fault) stops = (stops, Keeps-refl held)
+stops_unwritten bytes held (Comments place) stops = cc (stops.0)
 
 -- ---- the lines of a file
 

@@ -1,7 +1,8 @@
 -- Files that are tried or replaced one after the other.
 use Rattle.std.proofs.Common.{◌≡◌, ℕ, true, false, List, ◌∷◌, refl, sym, subst}
 use Rattle.std.specs.Prelude.{Option, Result}
-use Rattle.conf_tools.specs.TextWords.{IfSo, ReportsOn, ReportsOnAll, RestylesAll, RestylesFile, status_after, status_of_report, stops_all}
+use Rattle.conf_words.specs.declared.invocation.Comments.{Comments}
+use Rattle.conf_tools.specs.TextWords.{IfSo, ReportsOn, ReportsOnAll, RestylesAll, RestylesFile, status_of_report, stops_all}
 use Rattle.conf_tools.specs.Statuses.{worst}
 use Rattle.conf_tools.specs.Worlds.{Around, WorldModel}
 use Rattle.conf_tools.specs.declared.file_words.Report.{Report}
@@ -48,14 +49,15 @@ module _ {W D F P : Type 0} (world : WorldModel W D F P) (remaining : F → Opti
   -- ---- files that are replaced
 
   -- the same of files that are replaced
-  pub record LeadsOnward (rest : List (List ℕ)) (so_far : Status) (now : W) (all : List (List ℕ)) (old : W) : Type 0 where
-    pub leads : (new : W) (status : Status) → RestylesAll world remaining rest so_far now new status
-        → RestylesAll world remaining all Done old new status
+  module _ (comments : Comments) where
+    pub record LeadsOnward (rest : List (List ℕ)) (so_far : Status) (now : W) (all : List (List ℕ)) (old : W) : Type 0 where
+      pub leads : (new : W) (status : Status) → RestylesAll world remaining comments rest so_far now new status
+          → RestylesAll world remaining comments all Done old new status
 
-  pub one_replaced : (path : List ℕ) (left rest all : List (List ℕ)) → left ≡ path ∷ rest → (so_far : Status) (now next old : W)
-      → LeadsOnward left so_far now all old → (result : Result (Unit {0}) ToolFault) → RestylesFile world remaining path now next result
-      → LeadsOnward rest (worst so_far (status_after result)) next all old
-  one_replaced path left rest all split so_far now next old leads result restyles = record {
-    leads = λ new status others.
-        (subst (λ paths. LeadsOnward paths so_far now all old) split leads).leads new status (next, result, restyles, others);
-  }
+    pub one_replaced : (path : List ℕ) (left rest all : List (List ℕ)) → left ≡ path ∷ rest → (so_far : Status) (now next old : W)
+        → LeadsOnward left so_far now all old → (of_file : Status) → RestylesFile world remaining comments path now next of_file
+        → LeadsOnward rest (worst so_far of_file) next all old
+    one_replaced path left rest all split so_far now next old leads of_file restyles = record {
+      leads = λ new status others.
+          (subst (λ paths. LeadsOnward paths so_far now all old) split leads).leads new status (next, of_file, restyles, others);
+    }

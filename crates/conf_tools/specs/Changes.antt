@@ -31,13 +31,13 @@ use Rattle.conf_tools.specs.declared.stores.StoreToolFault.TheVariants.{Open, Re
 
 -- The change was made: its command was accepted, or the file is as short as a base of the state.
 abbrev pub Makes : {D : Type 0} → StoreView D → Change → StoreView D → Type 0
-Makes old (Import name text) new = Imports old (text_of name) text.items new
+Makes old (Import name text) new = Imports old (text_of name) text.now new
 Makes old (Perform command) new = Accepts old (command_of command) new
 Makes old Checkpoint new = (new.state ≡ old.state) × (new.size ≡ length (base_bytes old.state))
 
 -- Why the change was refused.
 abbrev pub RefusesChange : {D : Type 0} → StoreView D → Change → StoreView D → StoreFault → Type 0
-RefusesChange old (Import name text) new fault = RefusesImport old (text_of name) text.items new fault
+RefusesChange old (Import name text) new fault = RefusesImport old (text_of name) text.now new fault
 RefusesChange old (Perform command) new fault = RefusesCommand old (command_of command) new fault
 RefusesChange old Checkpoint new fault =
     (new.state ≡ old.state) × ((fault ≡ Reopen) ⊎ (fault ≡ Device) ⊎ (fault ≡ OutOfMemory))
@@ -82,7 +82,7 @@ CannotChange model old change new fault = ⊥
 -- what a change performs: the command of an import or of an edit; a checkpoint performs none
 abbrev pub Performs : Change → List GivenCommand → Type 0
 Performs (Import name text) commands =
-    (tree : Tree) × IsRead text.items config_limits tree × (commands ≡ single (import_as (text_of name) tree) ∷ [])
+    (tree : Tree) × IsRead text.now config_limits tree × (commands ≡ single (import_as (text_of name) tree) ∷ [])
 Performs (Perform command) commands = commands ≡ command_of command ∷ []
 Performs Checkpoint commands = commands ≡ []
 

@@ -1,21 +1,24 @@
--- What a tool has read and written for the text of a file that was named.
-use Rattle.std.specs.Prelude.{◌≡◌, ◌≢◌, ⊤, ℕ, Bool, true, false, List, [], ◌∷◌, ◌++◌, Option, None, length, codes, decimal, encode_utf8_all, string_bytes}
-use Rattle.std.specs.Io.KnownBytes.{Appends, Consumes, IsAtEnd, Keeps}
+-- What a tool has written for the text of a file that was named.
+use Rattle.std.specs.Prelude.{◌≡◌, ◌≢◌, ℕ, Bool, true, false, List, [], ◌∷◌, ◌++◌, Option, length, codes, decimal, encode_utf8_all, string_bytes}
+use Rattle.std.specs.Io.KnownBytes.{Appends, Keeps}
 use Rattle.yaml_grammar.specs.Style.{style_text}
 use Rattle.yaml_grammar.specs.Trees.{Tree}
-use Rattle.yaml_tree.specs.Reading.{IsRead}
+use Rattle.yaml_tree.specs.Reading.{IsRead, Refuses}
 use Rattle.yaml_events.specs.declared.read_fault.ReadFault.{ReadFault}
 use Rattle.yaml_config.specs.Limits.{config_limits}
+use Rattle.yaml_refusals.specs.Comments.{HasComment, HasNoComment}
 use Rattle.yaml_style.specs.Checking.{IsChecked}
 use Rattle.yaml_style.specs.Findings.{name_of}
 use Rattle.yaml_style.specs.declared.finding.Finding.{Finding}
 use Rattle.yaml_style.specs.declared.finding.Rule.{Rule}
 use Rattle.yaml_style.specs.declared.finding.Rule.TheVariants.{TrailingWhitespace, LineEnd, LongLine, NotInStyle}
-use Rattle.conf_tools.specs.Tools.{RefusesInput, StopsInOutput}
+use Rattle.conf_words.specs.declared.invocation.Comments.{Comments}
+use Rattle.conf_words.specs.declared.invocation.Comments.TheVariants.{Refused, Dropped}
+use Rattle.conf_tools.specs.Tools.{GivesTree}
 use Rattle.conf_tools.specs.declared.file_texts.Restyled.{Restyled}
 use Rattle.conf_tools.specs.declared.file_texts.Restyled.TheVariants.{Same, Changed}
 use Rattle.conf_tools.specs.declared.texts.ToolFault.{ToolFault}
-use Rattle.conf_tools.specs.declared.texts.ToolFault.TheVariants.{Input, Output, Read}
+use Rattle.conf_tools.specs.declared.texts.ToolFault.TheVariants.{Input, Output, Read, Comments as HasComments}
 
 -- ---- the one style
 
@@ -24,21 +27,29 @@ abbrev pub IsRestyled : List ℕ → List ℕ → Restyled → Type 0
 IsRestyled bytes styled Same = bytes ≡ styled
 IsRestyled bytes styled (Changed text) = (string_bytes text ≡ styled) × (bytes ≢ styled)
 
--- the reader's bytes, to its end, give a tree, and this is what they are in the one style
-pub record Restyles (given left : Option (List ℕ)) (restyled : Restyled) : Type 0 where
-  pub bytes : List ℕ
+-- another text may take the place of this one: it has no comment, or comments are dropped
+abbrev pub MayLose : Comments → List ℕ → Type 0
+MayLose Dropped bytes = Unit {0}
+MayLose Refused bytes = HasNoComment bytes
+
+-- the same where the other text is the one style's, if that is another one
+abbrev pub MayBecome : Comments → List ℕ → Restyled → Type 0
+MayBecome comments bytes Same = Unit {0}
+MayBecome comments bytes (Changed text) = MayLose comments bytes
+
+-- the bytes give a tree, and this is what they are in the one style, which may take their place
+pub record Restyles (comments : Comments) (bytes : List ℕ) (restyled : Restyled) : Type 0 where
   pub tree : Tree
-  pub taken : Consumes given left bytes
-  pub at_end : IsAtEnd left
   pub reads : IsRead bytes config_limits tree
   pub styled : IsRestyled bytes (encode_utf8_all (style_text tree)) restyled
+  pub loses : MayBecome comments bytes restyled
 
--- what holds if a text is not read; memory may run out before everything is read
-abbrev pub StopsInReading : Option (List ℕ) → Option (List ℕ) → ToolFault → Type 0
-StopsInReading given left Input = ⊤
-StopsInReading given left Output = ⊥
-StopsInReading given left (Read ReadFault.OutOfMemory) = ⊤
-StopsInReading given left (Read fault) = RefusesInput given left None None fault
+-- why there is nothing that may take the place of a text: it is refused, or it has a comment, and is to have none
+abbrev pub StopsRestyling : Comments → List ℕ → ToolFault → Type 0
+StopsRestyling comments bytes Input = ⊥
+StopsRestyling comments bytes Output = ⊥
+StopsRestyling comments bytes (Read fault) = Refuses bytes config_limits fault
+StopsRestyling comments bytes (HasComments place) = (comments ≡ Refused) × HasComment bytes
 
 -- what is written of a file: a line of its name, if its text would change
 abbrev pub name_line : List ℕ → Bool → List ℕ
@@ -50,12 +61,9 @@ abbrev pub Differs : List ℕ → List ℕ → Bool → Type 0
 Differs bytes styled false = bytes ≡ styled
 Differs bytes styled true = bytes ≢ styled
 
--- the reader's bytes, to its end, give a tree, and the file's name was written if they are other ones in the one style
-pub record Lists (file : List ℕ) (given left held written : Option (List ℕ)) (changes : Bool) : Type 0 where
-  pub bytes : List ℕ
+-- the bytes give a tree, and the file's name was written if they are other ones in the one style
+pub record Lists (file bytes : List ℕ) (held written : Option (List ℕ)) (changes : Bool) : Type 0 where
   pub tree : Tree
-  pub taken : Consumes given left bytes
-  pub at_end : IsAtEnd left
   pub reads : IsRead bytes config_limits tree
   pub differs : Differs bytes (encode_utf8_all (style_text tree)) changes
   pub writes : Appends held written (name_line file changes)
@@ -80,12 +88,9 @@ abbrev pub file_report : List ℕ → List Finding → List ℕ
 file_report file [] = []
 file_report file (f ∷ fs) = file_line file f ++ file_report file fs
 
--- the reader's bytes, to its end, give a tree, and the lines of their findings were written; count is their number
-pub record ChecksFile (file : List ℕ) (given left held written : Option (List ℕ)) (count : ℕ) : Type 0 where
-  pub bytes : List ℕ
+-- the bytes give a tree, and the lines of their findings were written; count is their number
+pub record ChecksFile (file bytes : List ℕ) (held written : Option (List ℕ)) (count : ℕ) : Type 0 where
   pub found : List Finding
-  pub taken : Consumes given left bytes
-  pub at_end : IsAtEnd left
   pub checked : IsChecked bytes found
   pub counts : count ≡ length found
   pub writes : Appends held written (file_report file found)
@@ -94,9 +99,10 @@ pub record ChecksFile (file : List ℕ) (given left held written : Option (List 
 abbrev pub Adds : Option (List ℕ) → Option (List ℕ) → Type 0
 Adds held written = (text : List ℕ) × Appends held written text
 
--- what holds if the lines of a file end early; memory may run out before everything is read or written
-abbrev pub StopsInFile : Option (List ℕ) → Option (List ℕ) → Option (List ℕ) → Option (List ℕ) → ToolFault → Type 0
-StopsInFile given left held written Input = Keeps held written
-StopsInFile given left held written Output = StopsInOutput given left
-StopsInFile given left held written (Read ReadFault.OutOfMemory) = Adds held written
-StopsInFile given left held written (Read fault) = RefusesInput given left held written fault
+-- what holds if the lines of a file end early; memory may run out before all of them are written
+abbrev pub StopsInFile : List ℕ → Option (List ℕ) → Option (List ℕ) → ToolFault → Type 0
+StopsInFile bytes held written Input = ⊥
+StopsInFile bytes held written Output = GivesTree bytes
+StopsInFile bytes held written (Read ReadFault.OutOfMemory) = Adds held written
+StopsInFile bytes held written (Read fault) = Refuses bytes config_limits fault × Keeps held written
+StopsInFile bytes held written (HasComments place) = ⊥

@@ -5,6 +5,7 @@ use Rattle.conf_history.specs.declared.log.LogForm.{LogForm as HistoryForm}
 use Rattle.conf_history.specs.declared.log.LogForm.TheVariants as history
 use Rattle.conf_session.specs.declared.groups.Checkpoints.{Checkpoints}
 use Rattle.conf_session.specs.declared.groups.Checkpoints.TheVariants.{After, Asked}
+use Rattle.conf_words.specs.declared.invocation.Comments.{Comments}
 use Rattle.conf_words.specs.declared.invocation.Formatting.TheVariants as formatting
 use Rattle.conf_words.specs.declared.invocation.Grouping.{Grouping as AskedGrouping}
 use Rattle.conf_words.specs.declared.invocation.Grouping.TheVariants as asked
@@ -12,10 +13,14 @@ use Rattle.conf_words.specs.declared.invocation.Invocation.{Invocation}
 use Rattle.conf_words.specs.declared.invocation.Invocation.TheVariants.{Init, Import, Set, Delete, Checkpoint, Run, Export, Names, Get, Log, Verify, Salvage, Format, Check}
 use Rattle.conf_words.specs.declared.invocation.LogForm.{LogForm}
 use Rattle.conf_words.specs.declared.invocation.LogForm.TheVariants.{Lines, Records}
+use Rattle.conf_words.specs.declared.invocation.MissingStore.{MissingStore}
+use Rattle.conf_words.specs.declared.invocation.MissingStore.TheVariants as missing
 use Rattle.conf_words.specs.declared.invocation.Value.{Value}
 use Rattle.conf_words.specs.declared.invocation.Formatting.{Formatting}
 use Rattle.conf_tools.specs.StoreWords.{ExportsFromFolder, Inits, MakesChange, Reads, RunsOnFolder, Salvages, SaysLog, SaysNames, SaysSurvey, SaysValue}
-use Rattle.conf_tools.specs.TextWords.{FormatsFile, IsDelete, IsImport, IsSet, OfText, ReportsOnAll, RestylesAll, SaysChecked, SaysStyled, status_after, status_after_check}
+use Rattle.conf_tools.specs.TextWords.{ChecksRead, FormatsFile, FormatsRead, IsDelete, IsImport, IsSet, ReportsOnAll, RestylesAll, TakesText}
+use Rattle.conf_tools.specs.Tools.{IsTaken, Taken}
+use Rattle.conf_tools.specs.Statuses.{status_of}
 use Rattle.conf_tools.specs.Worlds.{Around, LeavesStreams, WorldModel}
 use Rattle.conf_tools.specs.declared.changes.Change.{Change}
 use Rattle.conf_tools.specs.declared.changes.Change.TheVariants as change
@@ -25,7 +30,8 @@ use Rattle.conf_tools.specs.declared.program.Status.TheVariants.{Done}
 use Rattle.conf_tools.specs.declared.stores.Grouping.{Grouping}
 use Rattle.conf_tools.specs.declared.stores.Grouping.TheVariants.{Single, Grouped}
 use Rattle.conf_tools.specs.declared.texts.ToolFault.{ToolFault}
-use Rattle.conf_tools.specs.declared.texts.ToolFault.TheVariants.{Input}
+use Rattle.conf_tools.specs.declared.world.Access.{Access}
+use Rattle.conf_tools.specs.declared.world.Access.TheVariants.{Changing, Making}
 
 -- ---- what the words say, as the crates below take it
 
@@ -37,6 +43,11 @@ abbrev pub grouping_of : AskedGrouping → Grouping
 grouping_of asked.Single = Single
 grouping_of (asked.Grouped checkpoint_after) = Grouped (checkpoints_of checkpoint_after)
 
+-- for what the folder of an import is opened
+abbrev pub access_of : MissingStore → Access
+access_of missing.Refused = Changing
+access_of missing.Made = Making
+
 abbrev pub log_form_of : LogForm → HistoryForm
 log_form_of Lines = history.Lines
 log_form_of Records = history.Records
@@ -45,25 +56,37 @@ log_form_of Records = history.Records
 
 -- the input was written in the one style, or why not
 pub record FormatsText (given left held written : Option (List ℕ)) (status : Status) : Type 0 where
-  pub result : Result (Unit {0}) ToolFault
-  pub ends : status ≡ status_after result
-  pub does : SaysStyled result given left held written
+  pub read : Taken
+  pub takes : IsTaken read given left
+  pub writes : FormatsRead read held written status
 
 -- the findings of the input were written, or why not
 pub record ChecksText (given left held written : Option (List ℕ)) (status : Status) : Type 0 where
-  pub result : Result ℕ ToolFault
-  pub ends : status ≡ status_after_check result
-  pub does : SaysChecked result given left held written
+  pub read : Taken
+  pub takes : IsTaken read given left
+  pub writes : ChecksRead read held written status
 
 -- ---- the words
 
+module _ {W D F P : Type 0} (world : WorldModel W D F P) (disk : DiskModel D) where
+  -- the change that imports these bytes was made
+  pub record ImportsBytes (access : Access) (folder name bytes : List ℕ) (old new : W) (status : Status) : Type 0 where
+    pub change : Result Change ToolFault
+    pub is : IsImport name bytes change
+    pub makes : MakesChange world disk access folder change old new status
+
+  -- the same of a text that was read; where none was, no folder is looked at
+  abbrev pub ImportsRead : Access → List ℕ → List ℕ → Taken → W → W → Status → Type 0
+  ImportsRead access folder name (Ok bytes) old new status = ImportsBytes access folder name bytes.items old new status
+  ImportsRead access folder name (Err fault) old new status = (new ≡ old) × (status ≡ status_of fault)
+
 module _ {W D F P : Type 0} (world : WorldModel W D F P) (disk : DiskModel D) (remaining : F → Option (List ℕ)) where
   -- `import`: a text is read, of a file or of the input for `-`, and then the change is made
-  pub record Imports (folder name file : List ℕ) (old new : Around W) (status : Status) : Type 0 where
-    pub read : W
-    pub change : Result Change ToolFault
-    pub is : OfText world remaining file (IsImport name change) (change ≡ Err Input) old.world read old.input new.input
-    pub makes : MakesChange world disk folder change read new.world status
+  pub record Imports (access : Access) (folder name file : List ℕ) (old new : Around W) (status : Status) : Type 0 where
+    pub read : Taken
+    pub seen : W
+    pub takes : TakesText world remaining file read old.world seen old.input new.input
+    pub imports : ImportsRead world disk access folder name read seen new.world status
     pub output : new.output ≡ old.output
 
 module _ {W D F P : Type 0} (world : WorldModel W D F P) (disk : DiskModel D) where
@@ -72,14 +95,14 @@ module _ {W D F P : Type 0} (world : WorldModel W D F P) (disk : DiskModel D) wh
       : Type 0 where
     pub change : Result Change ToolFault
     pub is : IsSet name pointer value change old.input new.input
-    pub makes : MakesChange world disk folder change old.world new.world status
+    pub makes : MakesChange world disk Changing folder change old.world new.world status
     pub output : new.output ≡ old.output
 
   -- `delete`
   pub record Deletes (folder name pointer : List ℕ) (old new : Around W) (status : Status) : Type 0 where
     pub change : Result Change ToolFault
     pub is : IsDelete name pointer change
-    pub makes : MakesChange world disk folder change old.world new.world status
+    pub makes : MakesChange world disk Changing folder change old.world new.world status
     pub streams : LeavesStreams old new
 
 module _ {W D F P : Type 0} (world : WorldModel W D F P) (remaining : F → Option (List ℕ)) where
@@ -91,8 +114,9 @@ module _ {W D F P : Type 0} (world : WorldModel W D F P) (remaining : F → Opti
 
 module _ {W D F P : Type 0} (world : WorldModel W D F P) (remaining : F → Option (List ℕ)) where
   -- files were replaced
-  pub record Restyles (files : List (List ℕ)) (old new : Around W) (status : Status) : Type 0 where
-    pub does : RestylesAll world remaining files Done old.world new.world status
+  pub record Restyles (comments : Comments) (files : List (List ℕ)) (old new : Around W) (status : Status)
+      : Type 0 where
+    pub does : RestylesAll world remaining comments files Done old.world new.world status
     pub streams : LeavesStreams old new
 
   -- `format`
@@ -100,7 +124,7 @@ module _ {W D F P : Type 0} (world : WorldModel W D F P) (remaining : F → Opti
   FormatsAll formatting.Write [] old new status =
       FormatsText old.input new.input old.output new.output status × (new.world ≡ old.world)
   FormatsAll formatting.Write (file ∷ files) old new status = FormatsFile world remaining file old new status
-  FormatsAll formatting.InPlace files old new status = Restyles files old new status
+  FormatsAll (formatting.InPlace comments) files old new status = Restyles comments files old new status
   FormatsAll formatting.Check [] old new status =
       ReportsOnAll world remaining Name (codes "-" ∷ []) Done old new status
   FormatsAll formatting.Check (file ∷ files) old new status =
@@ -119,14 +143,14 @@ module _ {W D F P : Type 0} (world : WorldModel W D F P) (disk : DiskModel D) (r
   abbrev pub Performs : Invocation → Around W → Around W → Status → Type 0
   Performs (Init folder) old new status =
       Inits world disk folder.now old.world new.world status × LeavesStreams old new
-  Performs (Import folder name file) old new status =
-      Imports world disk remaining folder.now name.now file.now old new status
-  Performs (Set folder name pointer value) old new status =
+  Performs (Import folder name file absent reporting) old new status =
+      Imports world disk remaining (access_of absent) folder.now name.now file.now old new status
+  Performs (Set folder name pointer value reporting) old new status =
       Sets world disk folder.now name.now pointer.now value old new status
   Performs (Delete folder name pointer) old new status =
       Deletes world disk folder.now name.now pointer.now old new status
   Performs (Checkpoint folder) old new status =
-      MakesChange world disk folder.now (Ok change.Checkpoint) old.world new.world status × LeavesStreams old new
+      MakesChange world disk Changing folder.now (Ok change.Checkpoint) old.world new.world status × LeavesStreams old new
   Performs (Run folder grouping) old new status =
       RunsOnFolder world disk folder.now (grouping_of grouping) old new status
   Performs (Export folder name) old new status =
@@ -140,7 +164,7 @@ module _ {W D F P : Type 0} (world : WorldModel W D F P) (disk : DiskModel D) (r
   Performs (Salvage folder new_folder) old new status =
       Salvages world disk remaining folder.now new_folder.now old.world new.world old.output new.output status
       × (new.input ≡ old.input)
-  Performs (Format formatting files) old new status =
+  Performs (Format formatting files reporting) old new status =
       FormatsAll world remaining formatting (map (λ file. file.now) files.items) old new status
-  Performs (Check files) old new status =
+  Performs (Check files reporting) old new status =
       ChecksAll world remaining (map (λ file. file.now) files.items) old new status

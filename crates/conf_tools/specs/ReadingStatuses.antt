@@ -18,7 +18,7 @@ status_of_history fault = Refused
 abbrev pub status_of_reading : ReadingFault → Status
 status_of_reading (Folder FolderFault.Device) = Device
 status_of_reading (Folder FolderFault.Locked) = Device
-status_of_reading (Folder FolderFault.OutOfMemory) = Refused
+status_of_reading (Folder fault) = Refused
 status_of_reading (History fault) = status_of_history fault
 status_of_reading (Value fault) = Refused
 status_of_reading (Salvage (SalvageFault.History fault)) = status_of_history fault

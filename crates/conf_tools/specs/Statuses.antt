@@ -12,7 +12,7 @@ use Rattle.conf_tools.specs.declared.stores.StoreToolFault.TheVariants.{Folder a
 use Rattle.conf_tools.specs.declared.program.Status.{Status}
 use Rattle.conf_tools.specs.declared.program.Status.TheVariants.{Done, Found, Refused, WrongWords, Device}
 use Rattle.conf_tools.specs.declared.texts.ToolFault.{ToolFault}
-use Rattle.conf_tools.specs.declared.texts.ToolFault.TheVariants.{Input, Output, Read}
+use Rattle.conf_tools.specs.declared.texts.ToolFault.TheVariants.{Input, Output, Read, Comments}
 
 -- the number of a status
 abbrev pub code_of : Status → ℕ
@@ -31,12 +31,13 @@ abbrev pub status_of : ToolFault → Status
 status_of Input = Device
 status_of Output = Device
 status_of (Read fault) = Refused
+status_of (Comments place) = Refused
 
 -- the status after a fault of a word on a store
 abbrev pub status_of_store : StoreToolFault → Status
 status_of_store (InFolder FolderFault.Device) = Device
 status_of_store (InFolder FolderFault.Locked) = Device
-status_of_store (InFolder FolderFault.OutOfMemory) = Refused
+status_of_store (InFolder fault) = Refused
 status_of_store (Open OpenFault.Device) = Device
 status_of_store (Open fault) = Refused
 status_of_store (Session SessionFaults.Read) = Device

@@ -37,7 +37,7 @@ use Rattle.conf_tools.specs.declared.surveys.Soundness.{Soundness}
 use Rattle.conf_tools.specs.declared.surveys.Soundness.TheVariants.{Whole, Damaged}
 use Rattle.conf_tools.specs.declared.texts.ToolFault.{ToolFault}
 use Rattle.conf_tools.specs.declared.world.Access.{Access}
-use Rattle.conf_tools.specs.declared.world.Access.TheVariants.{Changing, Reading}
+use Rattle.conf_tools.specs.declared.world.Access.TheVariants.{Making, New, Reading}
 
 -- ---- statuses
 
@@ -45,6 +45,11 @@ use Rattle.conf_tools.specs.declared.world.Access.TheVariants.{Changing, Reading
 abbrev pub status_at_end : {A D : Type 0} → Result A (D × StoreToolFault) → Status
 status_at_end (Ok done) = Done
 status_at_end (Err refused) = status_of_store refused.1
+
+-- the status of a change
+abbrev pub status_after_change : Result (Unit {0}) StoreToolFault → Status
+status_after_change (Ok done) = Done
+status_after_change (Err fault) = status_of_store fault
 
 -- the status of what was read of a store's file
 abbrev pub status_after_reading : {A : Type 0} → Result A ReadingFault → Status
@@ -85,7 +90,7 @@ module _ {W D F P : Type 0} (world : WorldModel W D F P) (disk : DiskModel D) wh
   pub record MakesIn (folder : List ℕ) (old new : W) (status : Status) : Type 0 where
     pub first : D
     pub opened : W
-    pub opens : world.opened Changing folder old (Ok first) opened
+    pub opens : world.opened New folder old (Ok first) opened
     pub result : Result D (D × StoreToolFault)
     pub gives_back : world.given_back (disk_handed_back result) opened new
     pub ends : status ≡ status_at_end result
@@ -102,7 +107,7 @@ module _ {W D F P : Type 0} (world : WorldModel W D F P) (disk : DiskModel D) wh
 
   -- an empty store in a folder
   abbrev pub MakesInFolder : List ℕ → W → W → Status → Type 0
-  MakesInFolder folder old new status = CannotUse Changing folder old new status ⊎ MakesIn folder old new status
+  MakesInFolder folder old new status = CannotUse New folder old new status ⊎ MakesIn folder old new status
 
   -- the folder was made, or was there
   pub record MakesFolder (folder : List ℕ) (old new : W) (status : Status) : Type 0 where
@@ -115,10 +120,10 @@ module _ {W D F P : Type 0} (world : WorldModel W D F P) (disk : DiskModel D) wh
   Inits folder old new status = CannotMakeFolder folder old new status ⊎ MakesFolder folder old new status
 
   -- The change was made of the store on the disk of the folder, or why not; and the disk was given back.
-  pub record ChangesIn (folder : List ℕ) (change : Change) (old new : W) (status : Status) : Type 0 where
+  pub record ChangesIn (access : Access) (folder : List ℕ) (change : Change) (old new : W) (status : Status) : Type 0 where
     pub first : D
     pub opened : W
-    pub opens : world.opened Changing folder old (Ok first) opened
+    pub opens : world.opened access folder old (Ok first) opened
     pub result : Result D (D × StoreToolFault)
     pub gives_back : world.given_back (disk_handed_back result) opened new
     pub ends : status ≡ status_at_end result
@@ -127,20 +132,20 @@ module _ {W D F P : Type 0} (world : WorldModel W D F P) (disk : DiskModel D) wh
     pub survives : disk.honest → ChangeSurvives disk first change result
 
   -- a change of the store in a folder
-  abbrev pub ChangesInFolder : List ℕ → Change → W → W → Status → Type 0
-  ChangesInFolder folder change old new status =
-      CannotUse Changing folder old new status ⊎ ChangesIn folder change old new status
+  abbrev pub ChangesInFolder : Access → List ℕ → Change → W → W → Status → Type 0
+  ChangesInFolder access folder change old new status =
+      CannotUse access folder old new status ⊎ ChangesIn access folder change old new status
 
   -- the same; where there is no change to make, no folder is looked at
-  abbrev pub MakesChange : List ℕ → Result Change ToolFault → W → W → Status → Type 0
-  MakesChange folder (Ok change) old new status = ChangesInFolder folder change old new status
-  MakesChange folder (Err fault) old new status = (new ≡ old) × (status ≡ status_of fault)
+  abbrev pub MakesChange : Access → List ℕ → Result Change ToolFault → W → W → Status → Type 0
+  MakesChange access folder (Ok change) old new status = ChangesInFolder access folder change old new status
+  MakesChange access folder (Err fault) old new status = (new ≡ old) × (status ≡ status_of fault)
 
   -- A session ran on the disk of the folder, and the disk was given back.
   pub record RunsIn (folder : List ℕ) (grouping : Grouping) (old new : Around W) (status : Status) : Type 0 where
     pub first : D
     pub opened : W
-    pub opens : world.opened Changing folder old.world (Ok first) opened
+    pub opens : world.opened Making folder old.world (Ok first) opened
     pub result : Result (D × Tally) (D × StoreToolFault)
     pub gives_back : world.given_back (disk_back result) opened new.world
     pub ends : status ≡ status_at_end result
@@ -150,7 +155,7 @@ module _ {W D F P : Type 0} (world : WorldModel W D F P) (disk : DiskModel D) wh
 
   -- the disk was not handed out, and nothing was read or written
   pub record CannotRun (folder : List ℕ) (old new : Around W) (status : Status) : Type 0 where
-    pub cannot : CannotUse Changing folder old.world new.world status
+    pub cannot : CannotUse Making folder old.world new.world status
     pub streams : LeavesStreams old new
 
   -- `run`
@@ -258,13 +263,13 @@ module _ {W D F P : Type 0} (world : WorldModel W D F P) where
       world.made_folder folder old (Err fault) new
       ⊎ ((made : W) × world.made_folder folder old (Ok tt) made × world.opened_store folder made (Err fault) new)
       ⊎ ((made : W) × (seen : W) × world.made_folder folder old (Ok tt) made
-      × world.opened_store folder made (Ok None) seen × world.opened Changing folder seen (Err fault) new)
+      × world.opened_store folder made (Ok None) seen × world.opened New folder seen (Err fault) new)
 
   -- The disk of a folder that is to hold a new store: it is made if it is missing, and has no store.
   abbrev pub OpensNew : List ℕ → W → Result D ReadingFault → W → Type 0
   OpensNew folder old (Ok first) new =
       (made : W) × (seen : W) × world.made_folder folder old (Ok tt) made
-      × world.opened_store folder made (Ok None) seen × world.opened Changing folder seen (Ok first) new
+      × world.opened_store folder made (Ok None) seen × world.opened New folder seen (Ok first) new
   OpensNew folder old (Err (Salvage NewStoreExists)) new =
       (made : W) × (file : F) × world.made_folder folder old (Ok tt) made
       × world.opened_store folder made (Ok (Some file)) new

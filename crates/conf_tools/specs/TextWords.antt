@@ -5,6 +5,7 @@ use Rattle.conf_files.specs.declared.replace.ReplaceFault.{ReplaceFault}
 use Rattle.conf_files.specs.declared.replace.ReplaceFault.TheVariants as replacing
 use Rattle.conf_state.specs.Commands.{command_of, delete_at, set_at, single, text_of}
 use Rattle.conf_words.specs.Escapes.{escaped}
+use Rattle.conf_words.specs.declared.invocation.Comments.{Comments}
 use Rattle.conf_words.specs.declared.invocation.Value.{Value}
 use Rattle.conf_words.specs.declared.invocation.Value.TheVariants.{Text, Yaml}
 use Rattle.yaml_config.specs.Kept.{IsFirstFault, own_limits}
@@ -12,9 +13,9 @@ use Rattle.yaml_config.specs.Limits.{config_limits}
 use Rattle.yaml_events.specs.declared.read_fault.ReadFault.TheVariants.{OutOfMemory}
 use Rattle.yaml_grammar.specs.Trees.{Tree, text}
 use Rattle.yaml_tree.specs.Reading.{IsRead, Refuses}
-use Rattle.conf_tools.specs.FileTexts.{ChecksFile, Lists, Restyles, StopsInFile, StopsInReading}
+use Rattle.conf_tools.specs.FileTexts.{ChecksFile, Lists, Restyles, StopsInFile, StopsRestyling}
 use Rattle.conf_tools.specs.Statuses.{status_of, worst}
-use Rattle.conf_tools.specs.Tools.{Checks, Formats, HasRead, ReadsAtMost, Stops, most_input}
+use Rattle.conf_tools.specs.Tools.{Checks, Formats, IsTaken, Stops, Taken}
 use Rattle.conf_tools.specs.Worlds.{Around, WorldModel}
 use Rattle.conf_tools.specs.declared.changes.Change.{Change}
 use Rattle.conf_tools.specs.declared.changes.Change.TheVariants.{Import, Perform}
@@ -51,34 +52,30 @@ status_after_check (Err fault) = status_of fault
 -- ---- the text of a file, or of the input
 
 module _ {W D F P : Type 0} (world : WorldModel W D F P) (remaining : F → Option (List ℕ)) where
-  -- what was read of a file that was opened, of which `says` holds; or the file was not opened
-  abbrev pub OfOpened : (Option (List ℕ) → Option (List ℕ) → Type 0) → Type 0 → Option F → Type 0
-  OfOpened says unread (Some file) = (left : Option (List ℕ)) × says (remaining file) left
-  OfOpened says unread None = unread
+  -- this was read of a file that was opened; or the file was not opened
+  abbrev pub TakesOpened : Taken → Option F → Type 0
+  TakesOpened read (Some file) = (left : Option (List ℕ)) × IsTaken read (remaining file) left
+  TakesOpened read None = read ≡ Err Input
 
   -- the same of the file at a path
-  pub record OfFile (path : List ℕ) (says : Option (List ℕ) → Option (List ℕ) → Type 0) (unread : Type 0) (old new : W)
-      : Type 0 where
+  pub record TakesFile (path : List ℕ) (read : Taken) (old new : W) : Type 0 where
     pub file : Option F
     pub opens : world.opened_file path old file new
-    pub does : OfOpened says unread file
+    pub takes : TakesOpened read file
 
-  -- What was read is the input for `-`, and else the file at the path. What it gave, and has left, is as `says`.
-  abbrev pub OfText : List ℕ → (Option (List ℕ) → Option (List ℕ) → Type 0) → Type 0 → W → W
-      → Option (List ℕ) → Option (List ℕ) → Type 0
-  OfText path says unread old new given left =
-      ((path ≡ codes "-") × (new ≡ old) × says given left)
-      ⊎ ((path ≢ codes "-") × (left ≡ given) × OfFile path says unread old new)
+  -- What was read is the input for `-`, and else the file at the path.
+  abbrev pub TakesText : List ℕ → Taken → W → W → Option (List ℕ) → Option (List ℕ) → Type 0
+  TakesText path read old new given left =
+      ((path ≡ codes "-") × (new ≡ old) × IsTaken read given left)
+      ⊎ ((path ≢ codes "-") × (left ≡ given) × TakesFile path read old new)
 
 -- ---- changes that are made ready
 
--- the change imports the bytes that were read, under a name; or reading failed, or memory ran out
-abbrev pub IsImport : List ℕ → Result Change ToolFault → Option (List ℕ) → Option (List ℕ) → Type 0
-IsImport name (Ok (Import kept bytes)) given left =
-    (text_of kept ≡ chars name) × HasRead given left bytes.items most_input
-IsImport name (Ok change) given left = ⊥
-IsImport name (Err fault) given left =
-    ((fault ≡ Input) ⊎ (fault ≡ Read OutOfMemory)) × ReadsAtMost given left most_input
+-- the change imports these bytes under a name; or memory ran out
+abbrev pub IsImport : List ℕ → List ℕ → Result Change ToolFault → Type 0
+IsImport name bytes (Ok (Import kept imported)) = (text_of kept ≡ chars name) × (imported.now ≡ bytes)
+IsImport name bytes (Ok change) = ⊥
+IsImport name bytes (Err fault) = fault ≡ Read OutOfMemory
 
 -- the change sets a tree at a pointer of the configuration under a name
 abbrev pub SetsAt : List ℕ → List ℕ → Tree → Change → Type 0
@@ -107,11 +104,17 @@ SetsBytes name pointer bytes (Ok change) =
     (tree : Tree) × IsRead bytes config_limits tree × SetsAt name pointer tree change
 SetsBytes name pointer bytes (Err fault) = RefusesBytes bytes fault
 
--- The change sets what the bytes that were read give; or they were not read.
-abbrev pub SetsInput : List ℕ → List ℕ → Option (List ℕ) → Option (List ℕ) → Result Change ToolFault → Type 0
-SetsInput name pointer given left change =
-    ((bytes : List ℕ) × HasRead given left bytes most_input × SetsBytes name pointer bytes change)
-    ⊎ (((change ≡ Err Input) ⊎ (change ≡ Err (Read OutOfMemory))) × ReadsAtMost given left most_input)
+-- the change sets what the bytes give that were read; or they were not read
+abbrev pub SetsTaken : List ℕ → List ℕ → Taken → Result Change ToolFault → Type 0
+SetsTaken name pointer (Ok bytes) change = SetsBytes name pointer bytes.items change
+SetsTaken name pointer (Err fault) change = change ≡ Err fault
+
+-- the change sets what the input gives
+pub record SetsInput (name pointer : List ℕ) (given left : Option (List ℕ)) (change : Result Change ToolFault)
+    : Type 0 where
+  pub read : Taken
+  pub takes : IsTaken read given left
+  pub sets : SetsTaken name pointer read change
 
 -- the change sets what a word gives as a text of YAML, or the input for `-`
 abbrev pub SetsWord : List ℕ → List ℕ → List ℕ → Result Change ToolFault → Option (List ℕ) → Option (List ℕ) → Type 0
@@ -135,24 +138,40 @@ IsDelete name pointer (Err fault) = fault ≡ Read OutOfMemory
 -- ---- texts in the one style, and findings
 
 -- the text was written in the one style, or why not
-pub record SaysStyled (result : Result (Unit {0}) ToolFault) (given left held written : Option (List ℕ)) : Type 0 where
-  pub done : OnOk result (Formats given left held written)
-  pub stops : IfErr result (Stops given left held written)
+pub record SaysStyled (result : Result (Unit {0}) ToolFault) (bytes : List ℕ) (held written : Option (List ℕ)) : Type 0 where
+  pub done : OnOk result (Formats bytes held written)
+  pub stops : IfErr result (Stops bytes held written)
 
--- the findings of the input were written, or why not
-pub record SaysChecked (result : Result ℕ ToolFault) (given left held written : Option (List ℕ)) : Type 0 where
-  pub done : IfOk result (Checks given left held written)
-  pub stops : IfErr result (Stops given left held written)
+-- the same of a text that was read; where none was, nothing was written
+abbrev pub FormatsRead : Taken → Option (List ℕ) → Option (List ℕ) → Status → Type 0
+FormatsRead (Ok bytes) held written status =
+    (result : Result (Unit {0}) ToolFault) × SaysStyled result bytes.items held written × (status ≡ status_after result)
+FormatsRead (Err fault) held written status = (written ≡ held) × (status ≡ status_of fault)
+
+-- the findings of the text were written, or why not
+pub record SaysChecked (result : Result ℕ ToolFault) (bytes : List ℕ) (held written : Option (List ℕ)) : Type 0 where
+  pub done : IfOk result (Checks bytes held written)
+  pub stops : IfErr result (Stops bytes held written)
+
+-- the same of a text that was read
+abbrev pub ChecksRead : Taken → Option (List ℕ) → Option (List ℕ) → Status → Type 0
+ChecksRead (Ok bytes) held written status =
+    (result : Result ℕ ToolFault) × SaysChecked result bytes.items held written × (status ≡ status_after_check result)
+ChecksRead (Err fault) held written status = (written ≡ held) × (status ≡ status_of fault)
 
 -- what a report on a file says, whose name is shown so
-abbrev pub SaysReport : Report → List ℕ → Result Status ToolFault → Option (List ℕ) → Option (List ℕ)
-    → Option (List ℕ) → Option (List ℕ) → Type 0
-SaysReport Findings name (Ok status) given left held written =
-    (count : ℕ) × ChecksFile name given left held written count × (status ≡ status_of_count count)
-SaysReport Findings name (Err fault) given left held written = StopsInFile given left held written fault
-SaysReport Name name (Ok status) given left held written =
-    (changes : Bool) × Lists name given left held written changes × (status ≡ status_of_change changes)
-SaysReport Name name (Err fault) given left held written = Stops given left held written fault
+abbrev pub SaysReport : Report → List ℕ → Result Status ToolFault → List ℕ → Option (List ℕ) → Option (List ℕ) → Type 0
+SaysReport Findings name (Ok status) bytes held written =
+    (count : ℕ) × ChecksFile name bytes held written count × (status ≡ status_of_count count)
+SaysReport Findings name (Err fault) bytes held written = StopsInFile bytes held written fault
+SaysReport Name name (Ok status) bytes held written =
+    (changes : Bool) × Lists name bytes held written changes × (status ≡ status_of_change changes)
+SaysReport Name name (Err fault) bytes held written = Stops bytes held written fault
+
+-- the same of a text that was read
+abbrev pub ReportsOnRead : Report → List ℕ → Taken → Result Status ToolFault → Option (List ℕ) → Option (List ℕ) → Type 0
+ReportsOnRead report name (Ok bytes) result held written = SaysReport report name result bytes.items held written
+ReportsOnRead report name (Err fault) result held written = (result ≡ Err fault) × (written ≡ held)
 
 -- the name of a file as it is shown
 abbrev pub shown_name : List ℕ → List ℕ
@@ -176,17 +195,16 @@ IfSo false first second = second
 module _ {W D F P : Type 0} (world : WorldModel W D F P) (remaining : F → Option (List ℕ)) where
   -- the text of the file, or the input for `-`, was written in the one style
   pub record FormatsFile (path : List ℕ) (old new : Around W) (status : Status) : Type 0 where
-    pub result : Result (Unit {0}) ToolFault
-    pub ends : status ≡ status_after result
-    pub does : OfText world remaining path
-        (λ given left. SaysStyled result given left old.output new.output)
-        ((result ≡ Err Input) × (new.output ≡ old.output)) old.world new.world old.input new.input
+    pub read : Taken
+    pub takes : TakesText world remaining path read old.world new.world old.input new.input
+    pub writes : FormatsRead read old.output new.output status
 
   -- a report on one file, or on the input for `-`
-  abbrev pub ReportsOn : Report → List ℕ → Around W → Around W → Result Status ToolFault → Type 0
-  ReportsOn report path old new result = OfText world remaining path
-      (λ given left. SaysReport report (shown_name path) result given left old.output new.output)
-      ((result ≡ Err Input) × (new.output ≡ old.output)) old.world new.world old.input new.input
+  pub record ReportsOn (report : Report) (path : List ℕ) (old new : Around W) (result : Result Status ToolFault)
+      : Type 0 where
+    pub read : Taken
+    pub takes : TakesText world remaining path read old.world new.world old.input new.input
+    pub says : ReportsOnRead report (shown_name path) read result old.output new.output
 
   -- A report on each file in turn, where this is the worst status before them. After one that the writer failed to take
   -- there is none.
@@ -219,24 +237,38 @@ module _ {W D F P : Type 0} (world : WorldModel W D F P) where
       × (result ≡ replaced_or_not ended)
   ReplacesAt place (Err fault) old new result = (new ≡ old) × (result ≡ Err fault)
 
+-- what may take the place of a text, or why there is nothing
+pub record SaysRestyled (comments : Comments) (bytes : List ℕ) (restyled : Result Restyled ToolFault) : Type 0 where
+  pub done : IfOk restyled (Restyles comments bytes)
+  pub stops : IfErr restyled (StopsRestyling comments bytes)
+
+module _ {W D F P : Type 0} (world : WorldModel W D F P) where
+  -- What was made of a file of which this was read. If it has comments, it was replaced only where these are dropped.
+  abbrev pub ReplacesRead : Comments → P → Taken → W → W → Status → Type 0
+  ReplacesRead comments place (Ok bytes) old new status =
+      (restyled : Result Restyled ToolFault) × SaysRestyled comments bytes.items restyled
+      × (result : Result (Unit {0}) ToolFault) × ReplacesAt world place restyled old new result
+      × (status ≡ status_after result)
+  ReplacesRead comments place (Err fault) old new status = (new ≡ old) × (status ≡ status_of fault)
+
 module _ {W D F P : Type 0} (world : WorldModel W D F P) (remaining : F → Option (List ℕ)) where
   -- what was made of a file that was opened to be replaced
-  abbrev pub RestylesOpened : Result (F × P) ReplaceFault → W → W → Result (Unit {0}) ToolFault → Type 0
-  RestylesOpened (Err fault) old new result = (new ≡ old) × (result ≡ Err (unopened fault))
-  RestylesOpened (Ok (file, place)) old new result =
-      (restyled : Result Restyled ToolFault) × (left : Option (List ℕ)) × ReplacesAt world place restyled old new result
-      × IfOk restyled (Restyles (remaining file) left) × IfErr restyled (StopsInReading (remaining file) left)
+  abbrev pub RestylesOpened : Comments → Result (F × P) ReplaceFault → W → W → Status → Type 0
+  RestylesOpened comments (Err fault) old new status = (new ≡ old) × (status ≡ status_of (unopened fault))
+  RestylesOpened comments (Ok (file, place)) old new status =
+      (read : Taken) × (left : Option (List ℕ)) × IsTaken read (remaining file) left
+      × ReplacesRead world comments place read old new status
 
   -- one file, which is replaced if its text is another one in the one style
-  pub record RestylesFile (path : List ℕ) (old new : W) (result : Result (Unit {0}) ToolFault) : Type 0 where
+  pub record RestylesFile (comments : Comments) (path : List ℕ) (old new : W) (status : Status) : Type 0 where
     pub found : Result (F × P) ReplaceFault
     pub seen : W
     pub opens : world.opened_to_replace path old found seen
-    pub does : RestylesOpened found seen new result
+    pub does : RestylesOpened comments found seen new status
 
   -- each file in turn, where this is the worst status before them
-  abbrev pub RestylesAll : List (List ℕ) → Status → W → W → Status → Type 0
-  RestylesAll [] so_far old new status = (new ≡ old) × (status ≡ so_far)
-  RestylesAll (path ∷ paths) so_far old new status =
-      (now : W) × (result : Result (Unit {0}) ToolFault) × RestylesFile path old now result
-      × RestylesAll paths (worst so_far (status_after result)) now new status
+  abbrev pub RestylesAll : Comments → List (List ℕ) → Status → W → W → Status → Type 0
+  RestylesAll comments [] so_far old new status = (new ≡ old) × (status ≡ so_far)
+  RestylesAll comments (path ∷ paths) so_far old new status =
+      (now : W) × (of_file : Status) × RestylesFile comments path old now of_file
+      × RestylesAll comments paths (worst so_far of_file) now new status

@@ -1,17 +1,20 @@
 -- What a tool has read from its reader, and what it has written to its writer. The bytes of a reader or a writer are
 -- known, or nothing is said of them (`None`).
-use Rattle.std.specs.Prelude.{◌≡◌, ℕ, ◌+◌, ◌<◌, ◌≤◌, List, [], ◌∷◌, ◌++◌, Option, length, codes, decimal, encode_utf8_all}
+use Rattle.std.specs.Prelude.{◌≡◌, ◌⊎◌, ℕ, ◌+◌, ◌<◌, ◌≤◌, List, [], ◌∷◌, ◌++◌, Option, Result, Vec, IfOk, IfErr, length, codes, decimal, encode_utf8_all}
+use Rattle.std.specs.declared.alloc.Global.{Global}
 use Rattle.std.specs.Io.KnownBytes.{Consumes, IsAtEnd, Keeps, Appends}
 use Rattle.yaml_grammar.specs.Style.{style_text}
 use Rattle.yaml_grammar.specs.Trees.{Tree}
 use Rattle.yaml_tree.specs.Reading.{IsRead, Refuses}
-use Rattle.yaml_events.specs.declared.read_fault.ReadFault.{ReadFault}
+use Rattle.yaml_events.specs.declared.read_fault.ReadFault.TheVariants.{OutOfMemory}
 use Rattle.yaml_style.specs.Checking.{IsChecked}
 use Rattle.yaml_config.specs.Limits.{config_limits}
 use Rattle.yaml_style.specs.Findings.{name_of}
 use Rattle.yaml_style.specs.declared.finding.Finding.{Finding}
 use Rattle.conf_tools.specs.declared.texts.ToolFault.{ToolFault}
-use Rattle.conf_tools.specs.declared.texts.ToolFault.TheVariants.{Input, Output, Read}
+use Rattle.conf_tools.specs.declared.texts.ToolFault.TheVariants.{Input, Output, Read, Comments}
+
+-- ---- what was read
 
 -- the bytes that the reader gave up to its end, or the first `most` of them
 pub record HasRead (given left : Option (List ℕ)) (bytes : List ℕ) (most : ℕ) : Type 0 where
@@ -29,12 +32,26 @@ pub record ReadsAtMost (given left : Option (List ℕ)) (most : ℕ) : Type 0 wh
 abbrev pub most_input : ℕ
 most_input = config_limits.bytes + 1
 
--- the reader's bytes, to its end, give a tree, and its text in the one style was written
-pub record Formats (given left held written : Option (List ℕ)) : Type 0 where
-  pub bytes : List ℕ
+-- what came of reading a text
+abbrev pub Taken : Type 0
+Taken = Result (Vec ℕ Global) ToolFault
+
+-- A text that was read: its bytes to the end, unless they are more than a text may have; or reading failed, or memory
+-- ran out.
+pub record IsTaken (read : Taken) (given left : Option (List ℕ)) : Type 0 where
+  pub ok : IfOk read (λ text. HasRead given left text.items most_input)
+  pub faults : IfErr read (λ fault. (fault ≡ Input) ⊎ (fault ≡ Read OutOfMemory))
+  pub bounded : ReadsAtMost given left most_input
+
+-- ---- what was written of it
+
+-- the bytes give a tree
+abbrev pub GivesTree : List ℕ → Type 0
+GivesTree bytes = (tree : Tree) × IsRead bytes config_limits tree
+
+-- the bytes give a tree, and its text in the one style was written
+pub record Formats (bytes : List ℕ) (held written : Option (List ℕ)) : Type 0 where
   pub tree : Tree
-  pub taken : Consumes given left bytes
-  pub at_end : IsAtEnd left
   pub reads : IsRead bytes config_limits tree
   pub writes : Appends held written (encode_utf8_all (style_text tree))
 
@@ -47,34 +64,16 @@ abbrev pub report : List Finding → List ℕ
 report [] = []
 report (f ∷ fs) = report_line f ++ report fs
 
--- the reader's bytes, to its end, give a tree, and the lines of their findings were written; count is their number
-pub record Checks (given left held written : Option (List ℕ)) (count : ℕ) : Type 0 where
-  pub bytes : List ℕ
+-- the bytes give a tree, and the lines of their findings were written; count is their number
+pub record Checks (bytes : List ℕ) (held written : Option (List ℕ)) (count : ℕ) : Type 0 where
   pub found : List Finding
-  pub taken : Consumes given left bytes
-  pub at_end : IsAtEnd left
   pub checked : IsChecked bytes found
   pub counts : count ≡ length found
   pub writes : Appends held written (report found)
 
--- the bytes that were read are refused, and nothing was written
-pub record RefusesInput (given left held written : Option (List ℕ)) (fault : ReadFault) : Type 0 where
-  pub bytes : List ℕ
-  pub read : HasRead given left bytes most_input
-  pub refuses : Refuses bytes config_limits fault
-  pub keeps : Keeps held written
-
--- the reader's bytes give a tree, and the writer failed
-pub record StopsInOutput (given left : Option (List ℕ)) : Type 0 where
-  pub bytes : List ℕ
-  pub tree : Tree
-  pub taken : Consumes given left bytes
-  pub at_end : IsAtEnd left
-  pub reads : IsRead bytes config_limits tree
-
--- what holds if a tool ends with a fault; memory may run out before everything is read
-abbrev pub Stops : Option (List ℕ) → Option (List ℕ) → Option (List ℕ) → Option (List ℕ) → ToolFault → Type 0
-Stops given left held written Input = Keeps held written
-Stops given left held written Output = StopsInOutput given left
-Stops given left held written (Read ReadFault.OutOfMemory) = Keeps held written
-Stops given left held written (Read fault) = RefusesInput given left held written fault
+-- what holds if a tool ends with a fault: the bytes are refused and nothing was written, or the writer failed
+abbrev pub Stops : List ℕ → Option (List ℕ) → Option (List ℕ) → ToolFault → Type 0
+Stops bytes held written Input = ⊥
+Stops bytes held written Output = GivesTree bytes
+Stops bytes held written (Read fault) = Refuses bytes config_limits fault × Keeps held written
+Stops bytes held written (Comments place) = ⊥

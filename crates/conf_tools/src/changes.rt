@@ -19,9 +19,9 @@ use std::io::Write;
 
 /// One change of a store.
 #[derive(Drop)]
-pub enum Change {
+pub enum Change<'t> {
     /// Reads a text, and puts its tree under a name, as [`Store::import`].
-    Import { name: String, text: Vec<u8> },
+    Import { name: String, text: &'t [u8] },
     /// Performs a command, as [`Store::apply`].
     Perform(Command),
     /// Makes the file as short as a base of the state, as [`Store::checkpoint`].
@@ -32,10 +32,10 @@ pub enum Change {
 ///
 /// # Errors
 /// Those of the call of the store. Each but `Device` leaves the store and the disk as they were.
-fn make<D: Disk>(store: &mut Store<D>, change: Change) -> Result<(), StoreFault>
+fn make<D: Disk>(store: &mut Store<D>, change: Change<'_>) -> Result<(), StoreFault>
     ensures reopen { IsErrOf result StoreFault.Reopen ↔ (store.old.reopen ≡ true) }
-    ensures ok { OnOk result (Makes store.old change store.new) }
-    ensures refused { IfErr result (RefusesChange store.old change store.new) }
+    ensures ok { OnOk result (Makes store.old change.entry store.new) }
+    ensures refused { IfErr result (RefusesChange store.old change.entry store.new) }
     ensures unchanged { IfErr result (λ fault.
         fault ≢ StoreFault.Device → store.new ≡ store.old) }
     ensures any_moment { D.model.honest → store.old.reopen ≡ false →
@@ -47,7 +47,7 @@ fn make<D: Disk>(store: &mut Store<D>, change: Change) -> Result<(), StoreFault>
 {
     one_state_is_flushed();
     match change {
-        Change::Import { name, text } => match store.import(&name, &text) {
+        Change::Import { name, text } => match store.import(&name, text) {
             Ok(_) => Ok(()),
             Err(fault) => Err(fault),
         },
@@ -72,14 +72,14 @@ fn make<D: Disk>(store: &mut Store<D>, change: Change) -> Result<(), StoreFault>
 pub fn change_store<D: Disk + Drop, E: Write>(
     alloc: Global,
     disk: D,
-    change: Change,
+    change: Change<'_>,
     errors: &mut E,
 ) -> Result<D, (D, StoreToolFault)>
-    ensures made { IfOk result (ChangesOn D.model disk change) }
+    ensures made { IfOk result (ChangesOn D.model disk change.entry) }
     ensures refused { IfErr result (λ r.
-        CannotChange D.model disk change r.0 r.1) }
+        CannotChange D.model disk change.entry r.0 r.1) }
     // No crash loses a change that was made, or keeps one that was refused.
-    ensures crashes { D.model.honest → ChangeSurvives D.model disk change result }
+    ensures crashes { D.model.honest → ChangeSurvives D.model disk change.entry result }
     // Nothing is written to `errors` if no bytes are dropped.
     ensures quiet { D.model.honest → HasNoRest (bytes_under (D.model.folder disk) Name.Store)
         → Keeps (E.contents errors.old) (E.contents errors.new) }

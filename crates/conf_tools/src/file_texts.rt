@@ -1,14 +1,16 @@
-// The tools for the text of a file that was named, over any reader and writer.
+// The tools for the text of a file that was named, over any writer.
 ghost use Rattle.std.specs.Prelude.{◌≡◌, ◌⊎◌, ◌++◌, IfErr, IfOk, OnOk, codes, true};
 ghost use Rattle.std.specs.Io.KnownBytes.{Appends, Keeps};
-ghost use Rattle.conf_tools.specs.FileTexts.{Adds, ChecksFile, Lists, Restyles, StopsInFile, StopsInReading, file_line, file_report, name_line, words_of};
-ghost use Rattle.conf_tools.specs.Tools.{ReadsAtMost, Stops, most_input};
+ghost use Rattle.conf_tools.specs.FileTexts.{Adds, ChecksFile, Lists, MayLose, Restyles, StopsInFile, StopsRestyling, file_line, file_report, name_line, words_of};
+ghost use Rattle.conf_tools.specs.Tools.{Stops};
+ghost use Rattle.yaml_refusals.specs.Comments.{HasNoComment};
 
-use crate::input::read_up_to;
-use crate::texts::{MOST_INPUT, ToolFault, write_whole};
+use crate::texts::{ToolFault, write_whole};
+use conf_words::Comments;
 use itoa::Buffer;
 use std::alloc::{AllocError, Global};
-use std::io::{Read, Write};
+use std::io::Write;
+use yaml_refusals::first_comment;
 use yaml_style::{Finding, Rule, check};
 use yaml_tree::{Limits, ReadFault, format_one};
 
@@ -21,50 +23,70 @@ pub enum Restyled {
     Changed(String),
 }
 
-/// Reads a text from `reader` to its end, and returns what its tree is in the one style. It reads at most one byte more
-/// than the 4,194,304 that a text may have.
+/// Returns what the tree of a text is in the one style. Where that is another text, comments are lost.
 ///
 /// # Errors
 ///
-/// - [`ToolFault::Input`] if the reader fails.
 /// - [`ToolFault::Read`] if the text is refused, or memory runs out.
-pub fn restyle<R: Read>(alloc: Global, reader: &mut R) -> Result<Restyled, ToolFault>
-    ensures ok { IfOk result (Restyles (R.remaining reader.old) (R.remaining reader.new)) }
-    ensures stops { IfErr result (StopsInReading (R.remaining reader.old) (R.remaining reader.new)) }
-    // Whatever it returns, at most 4,194,305 bytes of the input were read.
-    ensures bounded { ReadsAtMost (R.remaining reader.old) (R.remaining reader.new) most_input }
+/// - [`ToolFault::Comments`] if it is another text and has comments, and these are to be refused.
+pub fn restyle(alloc: Global, text: &[u8], comments: Comments) -> Result<Restyled, ToolFault>
+    ensures ok { IfOk result (Restyles comments text.now) }
+    ensures stops { IfErr result (StopsRestyling comments text.now) }
 {
-    let bytes = read_up_to(alloc, reader, MOST_INPUT)?;
-    match format_one(alloc, &bytes, &Limits::CONFIGURATION) {
-        Ok(text) if text.as_bytes() == bytes.as_slice() => Ok(Restyled::Same),
-        Ok(text) => Ok(Restyled::Changed(text)),
+    let styled = match format_one(alloc, text, &Limits::CONFIGURATION) {
+        Ok(styled) => styled,
+        Err(fault) => return Err(ToolFault::Read(fault)),
+    };
+    if styled.as_bytes() == text {
+        return Ok(Restyled::Same);
+    }
+    match allow_loss(alloc, text, comments) {
+        Ok(()) => Ok(Restyled::Changed(styled)),
+        Err(fault) => Err(fault),
+    }
+}
+
+/// Refuses a text that has comments, if these are to be refused.
+fn allow_loss(alloc: Global, text: &[u8], comments: Comments) -> Result<(), ToolFault>
+    ensures ok { OnOk result (MayLose comments text.now) }
+    ensures stops { IfErr result (StopsRestyling comments text.now) }
+{
+    match comments {
+        Comments::Dropped => Ok(()),
+        Comments::Refused => refuse_comments(alloc, text),
+    }
+}
+
+/// Refuses a text that has comments.
+fn refuse_comments(alloc: Global, text: &[u8]) -> Result<(), ToolFault>
+    ensures ok { OnOk result (HasNoComment text.now) }
+    ensures stops { IfErr result (StopsRestyling Comments.Refused text.now) }
+{
+    match first_comment(alloc, text) {
+        Ok(None) => Ok(()),
+        Ok(Some(place)) => Err(ToolFault::Comments(place)),
         Err(fault) => Err(ToolFault::Read(fault)),
     }
 }
 
-/// Reads a text from `reader` to its end, and returns whether its tree has another text in the one style. If so, it
-/// writes the file's name and a line feed to `writer`. It reads at most one byte more than the 4,194,304 that a text
-/// may have.
+/// Returns whether the tree of a text has another text in the one style. If so, it writes the file's name and a line feed
+/// to `writer`.
 ///
 /// # Errors
 ///
-/// - [`ToolFault::Input`] if the reader fails. Nothing is written.
 /// - [`ToolFault::Read`] if the text is refused, or memory runs out. Nothing is written.
 /// - [`ToolFault::Output`] if the writer fails. Some of the name may be written.
-pub fn list_changed<R: Read, W: Write>(
+pub fn list_changed<W: Write>(
     alloc: Global,
     file: &str,
-    reader: &mut R,
+    text: &[u8],
     writer: &mut W,
 ) -> Result<bool, ToolFault>
-    ensures ok { IfOk result (Lists file.now (R.remaining reader.old) (R.remaining reader.new)
+    ensures ok { IfOk result (Lists file.now text.now
         (W.contents writer.old) (W.contents writer.new)) }
-    ensures stops { IfErr result (Stops (R.remaining reader.old) (R.remaining reader.new)
-        (W.contents writer.old) (W.contents writer.new)) }
-    // Whatever it returns, at most 4,194,305 bytes of the input were read.
-    ensures bounded { ReadsAtMost (R.remaining reader.old) (R.remaining reader.new) most_input }
+    ensures stops { IfErr result (Stops text.now (W.contents writer.old) (W.contents writer.new)) }
 {
-    match restyle(alloc, reader) {
+    match restyle(alloc, text, Comments::Dropped) {
         Ok(Restyled::Same) => Ok(false),
         Ok(Restyled::Changed(_)) => match write_name(alloc, writer, file) {
             Ok(()) => Ok(true),
@@ -88,32 +110,27 @@ fn write_name<W: Write>(alloc: Global, writer: &mut W, file: &str) -> Result<(),
     write_whole(writer, &line)
 }
 
-/// Reads a text from `reader` to its end, and writes a line to `writer` for each of its findings, in the order of
-/// [`check`]. The line has the file's name, a colon, the number of the line, from 1, a colon and a space, the rule's
-/// name, a space, and words for the rule, as `web.yaml:3: S1 the line ends in a space or TAB`. Returns how many
-/// findings there are. It reads at most one byte more than the 4,194,304 that a text may have.
+/// Writes a line to `writer` for each finding of a text, in the order of [`check`]. The line has the file's name, a colon,
+/// the number of the line, from 1, a colon and a space, the rule's name, a space, and words for the rule, as
+/// `web.yaml:3: S1 the line ends in a space or TAB`. Returns how many findings there are.
 ///
 /// # Errors
 ///
-/// - [`ToolFault::Input`] if the reader fails. Nothing is written.
 /// - [`ToolFault::Read`] if the text is refused, when nothing is written, or memory runs out, when some of the lines
 ///   may be written.
 /// - [`ToolFault::Output`] if the writer fails. Some of the lines may be written.
-pub fn check_file<R: Read, W: Write>(
+pub fn check_file<W: Write>(
     alloc: Global,
     file: &str,
-    reader: &mut R,
+    text: &[u8],
     writer: &mut W,
 ) -> Result<u64, ToolFault>
-    ensures ok { IfOk result (ChecksFile file.now (R.remaining reader.old) (R.remaining reader.new)
+    ensures ok { IfOk result (ChecksFile file.now text.now
         (W.contents writer.old) (W.contents writer.new)) }
-    ensures stops { IfErr result (StopsInFile (R.remaining reader.old) (R.remaining reader.new)
+    ensures stops { IfErr result (StopsInFile text.now
         (W.contents writer.old) (W.contents writer.new)) }
-    // Whatever it returns, at most 4,194,305 bytes of the input were read.
-    ensures bounded { ReadsAtMost (R.remaining reader.old) (R.remaining reader.new) most_input }
 {
-    let bytes = read_up_to(alloc, reader, MOST_INPUT)?;
-    let findings = match check(alloc, &bytes) {
+    let findings = match check(alloc, text) {
         Ok(findings) => findings,
         Err(refused) => return Err(ToolFault::Read(refused)),
     };

@@ -2,18 +2,19 @@
 ghost use Rattle.std.specs.Prelude.{◌≡◌, Err, map};
 ghost use Rattle.conf_tools.specs.Performs.{ChecksAll, ChecksText, FormatsAll, FormatsText};
 ghost use Rattle.conf_tools.specs.Statuses.{status_of, worst};
-ghost use Rattle.conf_tools.specs.TextWords.{FormatsFile, OfText, ReplacesAt, ReportsOn, ReportsOnAll, RestylesAll, RestylesFile, SaysReport, SaysStyled, replaced_or_not, shown_name, status_after, status_after_check, status_of_change, status_of_count, status_of_report, stops_all, unopened};
+ghost use Rattle.conf_tools.specs.TextWords.{ChecksRead, FormatsFile, FormatsRead, ReplacesAt, ReplacesRead, ReportsOn, ReportsOnAll, ReportsOnRead, RestylesAll, RestylesFile, SaysReport, TakesText, replaced_or_not, shown_name, status_after, status_after_check, status_of_change, status_of_count, status_of_report, stops_all, unopened};
 ghost use Rattle.conf_tools.specs.Worlds.{around};
 
 use crate::file_texts::{Restyled, check_file, list_changed, restyle};
-use crate::program::{Status, write_fault};
-use crate::texts::{ToolFault, check_text, format_text};
+use crate::program::{Status, status_of};
+use crate::reporter::{Origin, Reporter};
+use crate::texts::{ToolFault, check_text, format_text, read_text};
 use crate::world::World;
 use conf_files::ReplaceFault;
-use conf_words::{Formatting, STANDARD_INPUT, escaped};
+use conf_words::{Comments, Formatting, STANDARD_INPUT, escaped};
 use std::alloc::{AllocError, Global};
 use std::io::{Read, Write};
-use yaml_tree::ReadFault;
+use yaml_refusals::first_comment;
 
 /// What `format --check` and `check` write of a file.
 #[derive(Clone, Copy, Debug, PartialEq, Eq)]
@@ -28,7 +29,7 @@ pub enum Report {
 /// `output`; any number are replaced, or named where they would change.
 pub(crate) fn format_files<A: World, R: Read, W: Write, E: Write>(
     world: &mut A,
-    alloc: Global,
+    reporter: Reporter,
     formatting: Formatting,
     files: &[&str],
     input: &mut R,
@@ -40,17 +41,19 @@ pub(crate) fn format_files<A: World, R: Read, W: Write, E: Write>(
         (around world.new (R.remaining input.new) (W.contents output.new)) result }
 {
     match (formatting, files) {
-        (Formatting::Write, []) => format_input(alloc, input, output, errors),
+        (Formatting::Write, []) => format_input(reporter, input, output, errors),
         (Formatting::Write, [file, ..]) => {
-            format_file(world, alloc, file, input, output, errors)
+            format_file(world, reporter, file, input, output, errors)
         }
-        (Formatting::InPlace, files) => replace_files(world, alloc, files, errors),
+        (Formatting::InPlace { comments }, files) => {
+            replace_files(world, reporter, comments, files, errors)
+        }
         (Formatting::Check, []) => {
             let files = [STANDARD_INPUT];
-            try_files(world, alloc, Report::Name, &files, input, output, errors)
+            try_files(world, reporter, Report::Name, &files, input, output, errors)
         }
         (Formatting::Check, files) => {
-            try_files(world, alloc, Report::Name, files, input, output, errors)
+            try_files(world, reporter, Report::Name, files, input, output, errors)
         }
     }
 }
@@ -58,7 +61,7 @@ pub(crate) fn format_files<A: World, R: Read, W: Write, E: Write>(
 /// Writes where the texts of files depart from the one style, or that of `input` if there are none.
 pub(crate) fn check_files<A: World, R: Read, W: Write, E: Write>(
     world: &mut A,
-    alloc: Global,
+    reporter: Reporter,
     files: &[&str],
     input: &mut R,
     output: &mut W,
@@ -69,14 +72,44 @@ pub(crate) fn check_files<A: World, R: Read, W: Write, E: Write>(
         (around world.new (R.remaining input.new) (W.contents output.new)) result }
 {
     match files {
-        [] => check_input(alloc, input, output, errors),
-        files => try_files(world, alloc, Report::Findings, files, input, output, errors),
+        [] => check_input(reporter, input, output, errors),
+        files => try_files(
+            world,
+            reporter,
+            Report::Findings,
+            files,
+            input,
+            output,
+            errors,
+        ),
+    }
+}
+
+/// Reads the text of a file, or of `input` for `-`.
+///
+/// # Errors
+/// `Input` if it can't be read, and memory that runs out.
+pub(crate) fn read_named<A: World, R: Read>(
+    world: &mut A,
+    alloc: Global,
+    file: &str,
+    input: &mut R,
+) -> Result<Vec<u8>, ToolFault>
+    ensures { TakesText A.model A.File.remaining file.now result world.old world.new
+        (R.remaining input.old) (R.remaining input.new) }
+{
+    if file == STANDARD_INPUT {
+        return read_text(alloc, input);
+    }
+    match world.open_file(file) {
+        Some(mut opened) => read_text(alloc, &mut opened),
+        None => Err(ToolFault::Input),
     }
 }
 
 /// Writes the text of `input` in the one style.
 fn format_input<R: Read, W: Write, E: Write>(
-    alloc: Global,
+    reporter: Reporter,
     input: &mut R,
     output: &mut W,
     errors: &mut E,
@@ -84,23 +117,79 @@ fn format_input<R: Read, W: Write, E: Write>(
     ensures { FormatsText (R.remaining input.old) (R.remaining input.new)
         (W.contents output.old) (W.contents output.new) result }
 {
-    let ended = format_text(alloc, input, output);
-    tell_text(errors, ended)
+    let read = read_text(reporter.alloc, input);
+    format_read(reporter, Origin::Input, read, output, errors)
 }
 
-/// Writes why a text was not written, if that is so, and returns the status.
-fn tell_text<E: Write>(errors: &mut E, ended: Result<(), ToolFault>) -> Status
+/// Writes the text of a file, or of `input` for `-`, in the one style.
+fn format_file<A: World, R: Read, W: Write, E: Write>(
+    world: &mut A,
+    reporter: Reporter,
+    file: &str,
+    input: &mut R,
+    output: &mut W,
+    errors: &mut E,
+) -> Status
+    ensures { FormatsFile A.model A.File.remaining file.now
+        (around world.old (R.remaining input.old) (W.contents output.old))
+        (around world.new (R.remaining input.new) (W.contents output.new)) result }
+{
+    let read = read_named(world, reporter.alloc, file, input);
+    format_read(reporter, Origin::Named(file), read, output, errors)
+}
+
+/// Writes a text that was read in the one style, or why it was not read.
+fn format_read<W: Write, E: Write>(
+    reporter: Reporter,
+    origin: Origin<'_>,
+    read: Result<Vec<u8>, ToolFault>,
+    output: &mut W,
+    errors: &mut E,
+) -> Status
+    ensures { FormatsRead read (W.contents output.old) (W.contents output.new) result }
+{
+    match read {
+        Ok(text) => {
+            let ended = format_text(reporter.alloc, &text, output);
+            tell_written(reporter, errors, origin, &text, &ended);
+            status_after(ended)
+        }
+        Err(fault) => {
+            reporter.tell_fault(errors, origin, b"", fault);
+            status_of(fault)
+        }
+    }
+}
+
+/// Writes why nothing was written of a text, or not all, if that is so. A failure of the output is not one of the file.
+fn tell_written<T, E: Write>(
+    reporter: Reporter,
+    errors: &mut E,
+    origin: Origin<'_>,
+    text: &[u8],
+    ended: &Result<T, ToolFault>,
+) {
+    match ended {
+        Err(ToolFault::Output) => {
+            reporter.tell_fault(errors, Origin::Input, text, ToolFault::Output);
+        }
+        ended => reporter.tell(errors, origin, text, ended),
+    }
+}
+
+/// The status of what was done with a text.
+fn status_after(ended: Result<(), ToolFault>) -> Status
     ensures { result ≡ status_after ended }
 {
     match ended {
         Ok(()) => Status::Done,
-        Err(fault) => write_fault(errors, fault),
+        Err(fault) => status_of(fault),
     }
 }
 
 /// Writes where the text of `input` departs from the one style.
 fn check_input<R: Read, W: Write, E: Write>(
-    alloc: Global,
+    reporter: Reporter,
     input: &mut R,
     output: &mut W,
     errors: &mut E,
@@ -108,17 +197,39 @@ fn check_input<R: Read, W: Write, E: Write>(
     ensures { ChecksText (R.remaining input.old) (R.remaining input.new)
         (W.contents output.old) (W.contents output.new) result }
 {
-    let ended = check_text(alloc, input, output);
-    tell_count(errors, ended)
+    let read = read_text(reporter.alloc, input);
+    check_read(reporter, read, output, errors)
 }
 
-/// Writes why findings were not written, if that is so, and returns the status.
-fn tell_count<E: Write>(errors: &mut E, ended: Result<u64, ToolFault>) -> Status
+/// Writes where a text that was read of standard input departs from the one style, or why it was not read.
+fn check_read<W: Write, E: Write>(
+    reporter: Reporter,
+    read: Result<Vec<u8>, ToolFault>,
+    output: &mut W,
+    errors: &mut E,
+) -> Status
+    ensures { ChecksRead read (W.contents output.old) (W.contents output.new) result }
+{
+    match read {
+        Ok(text) => {
+            let ended = check_text(reporter.alloc, &text, output);
+            reporter.tell(errors, Origin::Input, &text, &ended);
+            status_after_check(ended)
+        }
+        Err(fault) => {
+            reporter.tell_fault(errors, Origin::Input, b"", fault);
+            status_of(fault)
+        }
+    }
+}
+
+/// The status of a report on standard input.
+fn status_after_check(ended: Result<u64, ToolFault>) -> Status
     ensures { result ≡ status_after_check ended }
 {
     match ended {
         Ok(count) => status_of_count(count),
-        Err(fault) => write_fault(errors, fault),
+        Err(fault) => status_of(fault),
     }
 }
 
@@ -144,88 +255,73 @@ fn status_of_change(is_other: bool) -> Status
     }
 }
 
-/// Writes the text of a file, or of `input` for `-`, in the one style.
-fn format_file<A: World, R: Read, W: Write, E: Write>(
-    world: &mut A,
-    alloc: Global,
-    file: &str,
-    input: &mut R,
-    output: &mut W,
-    errors: &mut E,
-) -> Status
-    ensures { FormatsFile A.model A.File.remaining file.now
-        (around world.old (R.remaining input.old) (W.contents output.old))
-        (around world.new (R.remaining input.new) (W.contents output.new)) result }
-{
-    let ended = format_named(world, alloc, file, input, output);
-    tell_named(alloc, errors, file, ended)
-}
-
-/// Writes why the text of a file was not written, if that is so, and returns the status.
-fn tell_named<E: Write>(
-    alloc: Global,
-    errors: &mut E,
-    file: &str,
-    ended: Result<(), ToolFault>,
-) -> Status
-    ensures { result ≡ status_after ended }
-{
-    match ended {
-        Ok(()) => Status::Done,
-        Err(ToolFault::Output) => write_fault(errors, ToolFault::Output),
-        Err(fault) => write_file_fault(alloc, errors, file, fault),
-    }
-}
-
-fn format_named<A: World, R: Read, W: Write>(
-    world: &mut A,
-    alloc: Global,
-    file: &str,
-    input: &mut R,
-    output: &mut W,
-) -> Result<(), ToolFault>
-    ensures { OfText A.model A.File.remaining file.now
-        (λ given left. SaysStyled result given left (W.contents output.old) (W.contents output.new))
-        ((result ≡ Err ToolFault.Input) × (W.contents output.new ≡ W.contents output.old))
-        world.old world.new (R.remaining input.old) (R.remaining input.new) }
-{
-    if file == STANDARD_INPUT {
-        return format_text(alloc, input, output);
-    }
-    match world.open_file(file) {
-        Some(mut opened) => format_text(alloc, &mut opened, output),
-        None => Err(ToolFault::Input),
-    }
-}
-
 /// Replaces each file whose text is another one in the one style.
 fn replace_files<A: World, E: Write>(
     world: &mut A,
-    alloc: Global,
+    reporter: Reporter,
+    comments: Comments,
     files: &[&str],
     errors: &mut E,
 ) -> Status
-    ensures { RestylesAll A.model A.File.remaining (map (λ file. file.now) files.now) Status.Done
-        world.old world.new result }
+    ensures { RestylesAll A.model A.File.remaining comments (map (λ file. file.now) files.now)
+        Status.Done world.old world.new result }
 {
     let mut status = Status::Done;
     for file in files {
-        let ended = restyle_file(world, alloc, file);
-        status = worst(status, tell_file(alloc, errors, file, ended));
+        status = worst(
+            status,
+            restyle_file(world, reporter, comments, file, errors),
+        );
     }
     status
 }
 
 /// Replaces a file by its text in the one style, if that is another one.
-fn restyle_file<A: World>(world: &mut A, alloc: Global, file: &str) -> Result<(), ToolFault>
-    ensures { RestylesFile A.model A.File.remaining file.now world.old world.new result }
+fn restyle_file<A: World, E: Write>(
+    world: &mut A,
+    reporter: Reporter,
+    comments: Comments,
+    file: &str,
+    errors: &mut E,
+) -> Status
+    ensures { RestylesFile A.model A.File.remaining comments file.now world.old world.new result }
 {
-    match world.open_to_replace(alloc, file) {
+    match world.open_to_replace(reporter.alloc, file) {
         Ok((mut opened, place)) => {
-            let restyled = restyle(alloc, &mut opened);
-            replace_by(world, alloc, place, restyled)
+            let read = read_text(reporter.alloc, &mut opened);
+            replace_read(world, reporter, comments, file, read, place, errors)
         }
-        Err(fault) => Err(unopened(fault)),
+        Err(fault) => {
+            let fault = unopened(fault);
+            reporter.tell_fault(errors, Origin::Named(file), b"", fault);
+            status_of(fault)
+        }
+    }
+}
+
+/// Puts a text that was read, in the one style, in the place of its file, or writes why it was not read.
+fn replace_read<A: World, E: Write>(
+    world: &mut A,
+    reporter: Reporter,
+    comments: Comments,
+    file: &str,
+    read: Result<Vec<u8>, ToolFault>,
+    place: A::Place,
+    errors: &mut E,
+) -> Status
+    ensures { ReplacesRead A.model comments place read world.old world.new result }
+{
+    match read {
+        Ok(text) => {
+            let restyled = restyle(reporter.alloc, &text, comments);
+            let ended = replace_by(world, reporter.alloc, place, restyled);
+            reporter.tell(errors, Origin::Named(file), &text, &ended);
+            status_after(ended)
+        }
+        Err(fault) => {
+            reporter.tell_fault(errors, Origin::Named(file), b"", fault);
+            status_of(fault)
+        }
     }
 }
 
@@ -268,25 +364,10 @@ fn replaced_or_not(ended: Result<(), ReplaceFault>) -> Result<(), ToolFault>
     }
 }
 
-/// Writes why a file was not replaced, if it was not, and returns the status.
-fn tell_file<E: Write>(
-    alloc: Global,
-    errors: &mut E,
-    file: &str,
-    ended: Result<(), ToolFault>,
-) -> Status
-    ensures { result ≡ status_after ended }
-{
-    match ended {
-        Ok(()) => Status::Done,
-        Err(fault) => write_file_fault(alloc, errors, file, fault),
-    }
-}
-
 /// Reports on each file. Every file is tried, unless the writer fails.
 fn try_files<A: World, R: Read, W: Write, E: Write>(
     world: &mut A,
-    alloc: Global,
+    reporter: Reporter,
     report: Report,
     files: &[&str],
     input: &mut R,
@@ -299,11 +380,11 @@ fn try_files<A: World, R: Read, W: Write, E: Write>(
 {
     let mut status = Status::Done;
     for file in files {
-        let ended = try_file(world, alloc, report, file, input, output);
+        let ended = try_file(world, reporter, report, file, input, output, errors);
         if stops_all(&ended) {
-            return write_fault(errors, ToolFault::Output);
+            return Status::Device;
         }
-        status = worst(status, tell_report(alloc, errors, file, ended));
+        status = worst(status, status_of_report(ended));
     }
     status
 }
@@ -318,77 +399,110 @@ fn stops_all(ended: &Result<Status, ToolFault>) -> bool
     }
 }
 
-/// Writes why there is no report on a file, if there is none, and returns the status.
-fn tell_report<E: Write>(
-    alloc: Global,
-    errors: &mut E,
-    file: &str,
-    ended: Result<Status, ToolFault>,
-) -> Status
+/// The status of a report on a file.
+fn status_of_report(ended: Result<Status, ToolFault>) -> Status
     ensures { result ≡ status_of_report ended }
 {
     match ended {
         Ok(status) => status,
-        Err(fault) => write_file_fault(alloc, errors, file, fault),
+        Err(fault) => status_of(fault),
     }
 }
 
-/// Reports on a file, or on `input` for `-`.
-fn try_file<A: World, R: Read, W: Write>(
+/// Reports on a file, or on `input` for `-`, or writes why there is no report.
+fn try_file<A: World, R: Read, W: Write, E: Write>(
     world: &mut A,
-    alloc: Global,
+    reporter: Reporter,
     report: Report,
     file: &str,
     input: &mut R,
     output: &mut W,
+    errors: &mut E,
 ) -> Result<Status, ToolFault>
     ensures { ReportsOn A.model A.File.remaining report file.now
         (around world.old (R.remaining input.old) (W.contents output.old))
         (around world.new (R.remaining input.new) (W.contents output.new)) result }
 {
-    if file == STANDARD_INPUT {
-        return try_text(alloc, report, file, input, output);
+    let read = read_named(world, reporter.alloc, file, input);
+    report_on_read(reporter, report, file, read, output, errors)
+}
+
+/// Reports on a text that was read of a file, or writes why there is no report.
+fn report_on_read<W: Write, E: Write>(
+    reporter: Reporter,
+    report: Report,
+    file: &str,
+    read: Result<Vec<u8>, ToolFault>,
+    output: &mut W,
+    errors: &mut E,
+) -> Result<Status, ToolFault>
+    ensures { ReportsOnRead report (shown_name file.now) read result
+        (W.contents output.old) (W.contents output.new) }
+{
+    match read {
+        Ok(text) => {
+            let ended = report_on(reporter.alloc, report, file, &text, output);
+            tell_written(reporter, errors, Origin::Named(file), &text, &ended);
+            tell_comments(reporter, errors, report, file, &text, &ended);
+            ended
+        }
+        Err(fault) => {
+            reporter.tell_fault(errors, Origin::Named(file), b"", fault);
+            Err(fault)
+        }
     }
-    match world.open_file(file) {
-        Some(mut opened) => try_text(alloc, report, file, &mut opened, output),
-        None => Err(ToolFault::Input),
+}
+
+/// Writes where a text that was named has comments, if it has: it is not replaced without being asked to.
+fn tell_comments<E: Write>(
+    reporter: Reporter,
+    errors: &mut E,
+    report: Report,
+    file: &str,
+    text: &[u8],
+    ended: &Result<Status, ToolFault>,
+) {
+    let (Report::Name, Ok(Status::Found)) = (report, ended) else {
+        return;
+    };
+    if let Ok(Some(place)) = first_comment(reporter.alloc, text) {
+        let fault = ToolFault::Comments(place);
+        reporter.tell_fault(errors, Origin::Named(file), text, fault);
     }
 }
 
 /// Reports on the text of a file, whose name is shown [`escaped`].
-fn try_text<R: Read, W: Write>(
+fn report_on<W: Write>(
     alloc: Global,
     report: Report,
     file: &str,
-    reader: &mut R,
+    text: &[u8],
     output: &mut W,
 ) -> Result<Status, ToolFault>
-    ensures { SaysReport report (shown_name file.now) result
-        (R.remaining reader.old) (R.remaining reader.new)
+    ensures { SaysReport report (shown_name file.now) result text.now
         (W.contents output.old) (W.contents output.new) }
 {
     let name = escaped(alloc, file)?;
-    report_on(alloc, report, &name, reader, output)
+    report_under(alloc, report, &name, text, output)
 }
 
 /// Reports on the text of a file, which is shown under this name.
-fn report_on<R: Read, W: Write>(
+fn report_under<W: Write>(
     alloc: Global,
     report: Report,
     name: &str,
-    reader: &mut R,
+    text: &[u8],
     output: &mut W,
 ) -> Result<Status, ToolFault>
-    ensures { SaysReport report name.now result
-        (R.remaining reader.old) (R.remaining reader.new)
+    ensures { SaysReport report name.now result text.now
         (W.contents output.old) (W.contents output.new) }
 {
     match report {
-        Report::Findings => match check_file(alloc, name, reader, output) {
+        Report::Findings => match check_file(alloc, name, text, output) {
             Ok(count) => Ok(status_of_count(count)),
             Err(fault) => Err(fault),
         },
-        Report::Name => match list_changed(alloc, name, reader, output) {
+        Report::Name => match list_changed(alloc, name, text, output) {
             Ok(is_other) => Ok(status_of_change(is_other)),
             Err(fault) => Err(fault),
         },
@@ -404,27 +518,4 @@ fn worst(one: Status, other: Status) -> Status
     } else {
         one
     }
-}
-
-/// Writes in one line why a file was not read or replaced, with the place if there is one, and returns the status. The
-/// name of the file is shown [`escaped`], or as `FILE` if there is no memory for that.
-fn write_file_fault<E: Write>(alloc: Global, errors: &mut E, file: &str, fault: ToolFault) -> Status
-    ensures { result ≡ status_of fault }
-{
-    write_file_line(alloc, errors, file, fault);
-    match fault {
-        ToolFault::Input | ToolFault::Output => Status::Device,
-        ToolFault::Read(_) => Status::Refused,
-    }
-}
-
-fn write_file_line<E: Write>(alloc: Global, errors: &mut E, file: &str, fault: ToolFault) {
-    let name = escaped(alloc, file).ok();
-    let name = name.as_deref().unwrap_or("FILE");
-    let _ = match fault {
-        ToolFault::Read(ReadFault::Syntax { line, column, why }) => {
-            writeln!(errors, "{name}:{line}:{column}: Syntax {why:?}")
-        }
-        _ => writeln!(errors, "{name}: {fault}"),
-    };
 }

@@ -1,7 +1,8 @@
 // The files and folders of the system.
 use crate::world::{Access, World};
-use conf_files::{Place, ReplaceFault, open_to_replace, replace_file};
-use conf_folder::{FolderDisk, FolderFault, make_folder, open_store_file};
+use conf_files::{Cause, Place, ReplaceFault, open_input, open_to_replace, replace_file};
+use conf_folder::{FolderDisk, FolderError, FolderFault, NewFolder, make_folder, open_store_file};
+use conf_words::Reporting;
 use std::alloc::Global;
 use std::fs::File;
 use std::rt::Files;
@@ -10,12 +11,67 @@ use std::rt::Files;
 #[derive(Drop)]
 pub struct Host<'r, F> {
     rt: &'r F,
+    /// How much is said of a text that is refused, where the words ask for no more.
+    reporting: Reporting,
+    /// The folder that was made last, until a disk of it is given back, or could not be opened.
+    made: Option<NewFolder>,
+    /// Why the call that failed last did.
+    cause: Option<Cause>,
 }
 
 impl<'r, F: Files<File = File>> Host<'r, F> {
-    /// The files and folders that `rt` opens.
-    pub fn new(rt: &'r F) -> Host<'r, F> {
-        Host { rt }
+    /// The files and folders that `rt` opens. Of a refused text so much is said, where the words ask for no more.
+    pub fn new(rt: &'r F, reporting: Reporting) -> Host<'r, F> {
+        Host {
+            rt,
+            reporting,
+            made: None,
+            cause: None,
+        }
+    }
+
+    /// Keeps the cause of a call that failed.
+    fn keep<T>(&mut self, done: Result<T, FolderError>) -> Result<T, FolderFault> {
+        match done {
+            Ok(value) => Ok(value),
+            Err(error) => {
+                self.cause = error.cause;
+                Err(error.fault)
+            }
+        }
+    }
+
+    /// Keeps the cause of a call that failed on a file that was to be replaced.
+    fn keep_of_file<T>(&mut self, done: Result<T, Cause>) -> Result<T, ReplaceFault> {
+        match done {
+            Ok(value) => Ok(value),
+            Err(cause) => {
+                self.cause = Some(cause);
+                Err(ReplaceFault::from(cause))
+            }
+        }
+    }
+
+    /// Hands out a disk that was opened. If none was, a folder that was made for it is removed.
+    fn hand_out(
+        &mut self,
+        opened: Result<FolderDisk<'r, F>, FolderError>,
+    ) -> Result<FolderDisk<'r, F>, FolderFault> {
+        match opened {
+            Ok(disk) => Ok(disk),
+            Err(error) => {
+                self.leave_nothing();
+                self.cause = error.cause;
+                Err(error.fault)
+            }
+        }
+    }
+
+    /// Removes the folder that was made last, if nothing is in it.
+    fn leave_nothing(&mut self) {
+        if let Some(made) = self.made.take() {
+            made.remove_if_empty(self.rt);
+        }
     }
 }
 
@@ -36,8 +92,18 @@ impl<'r, F: Files<File = File>> World for Host<'r, F> {
       replaced = λ place bytes old result new. Unit {0};
     } };
 
-    fn make_folder(&mut self, folder: &str) -> Result<(), FolderFault> {
-        make_folder(self.rt, folder)
+    fn reporting(&self) -> Reporting {
+        self.reporting
+    }
+
+    fn cause(&self) -> Option<Cause> {
+        self.cause
+    }
+
+    fn make_folder(&mut self, alloc: Global, folder: &str) -> Result<(), FolderFault> {
+        let made = make_folder(self.rt, alloc, folder);
+        self.made = self.keep(made)?;
+        Ok(())
     }
 
     fn open(
@@ -46,24 +112,32 @@ impl<'r, F: Files<File = File>> World for Host<'r, F> {
         access: Access,
         folder: &str,
     ) -> Result<FolderDisk<'r, F>, FolderFault> {
-        match (FolderDisk::new(self.rt, alloc, folder), access) {
-            (Err(FolderFault::Device), Access::Reading) => {
+        let opened = match access {
+            Access::Changing => FolderDisk::of_store(self.rt, alloc, folder),
+            Access::Making | Access::Reading => FolderDisk::new(self.rt, alloc, folder),
+            Access::New => FolderDisk::for_new_store(self.rt, alloc, folder, None),
+        };
+        let opened = match (opened, access) {
+            (Err(error), Access::Reading) if error.fault == FolderFault::Device => {
                 FolderDisk::for_reading(self.rt, alloc, folder)
             }
             (opened, _) => opened,
-        }
+        };
+        self.hand_out(opened)
     }
 
     fn give_back(&mut self, disk: FolderDisk<'r, F>) {
+        self.cause = disk.cause();
         disk.release();
+        self.leave_nothing();
     }
 
     fn open_store(&mut self, alloc: Global, folder: &str) -> Result<Option<File>, FolderFault> {
-        open_store_file(self.rt, alloc, folder)
+        self.keep(open_store_file(self.rt, alloc, folder))
     }
 
     fn open_file(&mut self, path: &str) -> Option<File> {
-        File::open(self.rt, path).ok()
+        self.keep_of_file(open_input(self.rt, path)).ok()
     }
 
     fn open_to_replace(
@@ -71,10 +145,10 @@ impl<'r, F: Files<File = File>> World for Host<'r, F> {
         alloc: Global,
         path: &str,
     ) -> Result<(File, Place), ReplaceFault> {
-        open_to_replace(self.rt, alloc, path)
+        self.keep_of_file(open_to_replace(self.rt, alloc, path))
     }
 
     fn replace(&mut self, alloc: Global, place: Place, bytes: &[u8]) -> Result<(), ReplaceFault> {
-        replace_file(self.rt, alloc, &place, bytes)
+        self.keep_of_file(replace_file(self.rt, alloc, &place, bytes))
     }
 }

@@ -1,9 +1,9 @@
 //! What the program `confstore` does, over any streams and any [`World`] of folders and files: [`perform`] does what an
 //! invocation asks for, and returns the status. [`Host`] is the world of the system.
 //!
-//! The tools are there without the words, too. [`format_text`] writes a text's tree in the one style, and
-//! [`check_text`] reports where a text departs from it. For the text of a file that was named, [`restyle`] returns what
-//! it is in the one style, [`list_changed`] writes the name if that is another text, and [`check_file`] reports as
+//! The tools are there without the words, too. [`read_text`] reads a text. [`format_text`] writes its tree in the one
+//! style, and [`check_text`] reports where it departs from that. For the text of a file that was named, [`restyle`] returns
+//! what it is in the one style, [`list_changed`] writes the name if that is another text, and [`check_file`] reports as
 //! `FILE:LINE: S1`. [`run_store`] performs a session of commands, and [`export_text`] gives the text of one configuration.
 //! [`change_store`] makes a single change, and [`make_store`] an empty store. The store may be on any disk. Each of these
 //! says on a writer for errors how many bytes opening dropped. [`calls_hold`] says what these calls keep over any crashes.
@@ -24,6 +24,7 @@ mod read_words;
 mod reading_fault;
 mod reads;
 mod report;
+mod reporter;
 mod rest;
 mod stores;
 mod surveys;
@@ -43,5 +44,5 @@ pub use reads::{write_names, write_value};
 pub use stores::{Grouping, StoreToolFault, run_store};
 pub use surveys::{Soundness, write_findings, write_survey};
 pub use tail::{KEPT, Tail, TailReader};
-pub use texts::{ToolFault, check_text, format_text};
+pub use texts::{ToolFault, check_text, format_text, read_text};
 pub use world::{Access, World};

@@ -6,13 +6,14 @@ ghost use Rattle.conf_tools.specs.Statuses.{ShowsUnparsed, code_of, status_of, s
 ghost use Rattle.conf_tools.specs.StoreWords.{ExportsFromFolder, RunsOnFolder, WritesFound, WritesWhole, status_at_end};
 ghost use Rattle.conf_tools.specs.Worlds.{around};
 
-use crate::change_words::{change_folder, delete_of, import_of, init_folder, set_of};
+use crate::change_words::{Import, change_folder, delete_of, import_text, init_folder, set_of};
 use crate::changes::Change;
 use crate::exports::export_text;
-use crate::file_words::{check_files, format_files};
+use crate::file_words::{check_files, format_files, read_named};
 use crate::read_words::{
     Asked, log_form_of, open_file, save_file, tell_log, tell_names, tell_survey, tell_value,
 };
+use crate::reporter::Reporter;
 use crate::rest::write_rest;
 use crate::stores::{Grouping, StoreToolFault, run_store};
 use crate::tail::{Tail, TailReader};
@@ -22,7 +23,7 @@ use conf_folder::FolderFault;
 use conf_session::{Checkpoints, SessionFault, Tally};
 use conf_state::StoreFault;
 use conf_store::OpenFault;
-use conf_words::{Invocation, Unparsed};
+use conf_words::{Invocation, Reporting, Unparsed};
 use std::alloc::{AllocError, Global};
 use std::io;
 use std::io::{ErrorKind, Read, Write};
@@ -60,7 +61,8 @@ impl Status {
 ///
 /// It is `Done` if all was done. It is `Refused` if a text or a store is refused or memory ran out, `Found` if something
 /// was found in a text, and `Device` if reading or writing failed, or a folder is missing or locked. A fault is written
-/// to `errors` in one line; if that write fails, it is ignored. Commands that are refused inside a session leave the
+/// to `errors` in one line; if that write fails, it is ignored. Where a text of a file is refused, the line has the place,
+/// and others explain it where the invocation or the world asks for that. Commands that are refused inside a session leave the
 /// status `Done`. So do bytes after the last closing line of its input; if they are not blank, one line to `errors` says
 /// that they were not performed, and the likely cause. Another line there says how many bytes after the last whole record
 /// of a store were dropped, if there were any.
@@ -81,17 +83,32 @@ pub fn perform<A: World, R: Read, W: Write, E: Write>(
 {
     match invocation {
         Invocation::Init { folder } => init_folder(world, alloc, folder, errors),
-        Invocation::Import { folder, name, file } => {
-            let change = import_of(world, alloc, name, file, input);
-            change_folder(world, alloc, folder, change, errors)
+        Invocation::Import {
+            folder,
+            name,
+            file,
+            missing,
+            reporting,
+        } => {
+            let reporter = reporter_of(world, alloc, reporting);
+            let read = read_named(world, alloc, file, input);
+            let asked = Import {
+                folder,
+                name,
+                file,
+                missing,
+            };
+            import_text(world, reporter, asked, read, errors)
         }
         Invocation::Set {
             folder,
             name,
             pointer,
             value,
+            reporting,
         } => {
-            let change = set_of(alloc, name, pointer, value, input);
+            let reporter = reporter_of(world, alloc, reporting);
+            let change = set_of(reporter, name, pointer, value, input, errors);
             change_folder(world, alloc, folder, change, errors)
         }
         Invocation::Delete {
@@ -99,7 +116,8 @@ pub fn perform<A: World, R: Read, W: Write, E: Write>(
             name,
             pointer,
         } => {
-            let change = delete_of(alloc, name, pointer);
+            let reporter = reporter_of(world, alloc, Reporting::Brief);
+            let change = delete_of(reporter, name, pointer, errors);
             change_folder(world, alloc, folder, change, errors)
         }
         Invocation::Checkpoint { folder } => {
@@ -151,11 +169,28 @@ pub fn perform<A: World, R: Read, W: Write, E: Write>(
             let file = open_file(world, alloc, folder);
             save_file(world, alloc, file, new, output, errors)
         }
-        Invocation::Format { formatting, files } => {
-            format_files(world, alloc, formatting, &files, input, output, errors)
+        Invocation::Format {
+            formatting,
+            files,
+            reporting,
+        } => {
+            let reporter = reporter_of(world, alloc, reporting);
+            format_files(world, reporter, formatting, &files, input, output, errors)
         }
-        Invocation::Check { files } => check_files(world, alloc, &files, input, output, errors),
+        Invocation::Check { files, reporting } => {
+            let reporter = reporter_of(world, alloc, reporting);
+            check_files(world, reporter, &files, input, output, errors)
+        }
     }
+}
+
+/// Who writes why texts are refused: as much as the words or the world ask for.
+fn reporter_of<A: World>(world: &A, alloc: Global, asked: Reporting) -> Reporter {
+    let reporting = match asked {
+        Reporting::Brief => world.reporting(),
+        Reporting::Explained => Reporting::Explained,
+    };
+    Reporter { alloc, reporting }
 }
 
 /// Performs the commands of `input` on the store in a folder. One line to `errors` says if bytes at the end of the input
@@ -173,7 +208,7 @@ fn run_folder<A: World, R: Read, W: Write, E: Write>(
         (around world.old (R.remaining input.old.inner) (W.contents output.old))
         (around world.new (R.remaining input.new.inner) (W.contents output.new)) result }
 {
-    match world.open(alloc, Access::Changing, folder) {
+    match world.open(alloc, Access::Making, folder) {
         Ok(disk) => {
             let ended = run_store(alloc, disk, grouping, input, output, errors);
             end_session(world, ended, &input.tail, errors)
@@ -287,9 +322,16 @@ pub(crate) fn write_fault<E: Write>(errors: &mut E, fault: ToolFault) -> Status
     ensures { result ≡ status_of fault }
 {
     let _ = writeln!(errors, "confstore: {fault}");
+    status_of(fault)
+}
+
+/// The status of a fault of a text.
+pub(crate) fn status_of(fault: ToolFault) -> Status
+    ensures { result ≡ status_of fault }
+{
     match fault {
         ToolFault::Input | ToolFault::Output => Status::Device,
-        ToolFault::Read(_) => Status::Refused,
+        ToolFault::Read(_) | ToolFault::Comments(_) => Status::Refused,
     }
 }
 
@@ -298,6 +340,13 @@ pub(crate) fn write_store_fault<E: Write>(errors: &mut E, fault: StoreToolFault)
     ensures { result ≡ status_of_store fault }
 {
     let _ = writeln!(errors, "confstore: {fault}");
+    status_of_store(fault)
+}
+
+/// The status of a fault of a store.
+pub(crate) fn status_of_store(fault: StoreToolFault) -> Status
+    ensures { result ≡ status_of_store fault }
+{
     match fault {
         StoreToolFault::Folder(FolderFault::Device | FolderFault::Locked)
         | StoreToolFault::Open(OpenFault::Device) => Status::Device,

@@ -244,7 +244,7 @@ fn write_saved<A: World, W: Write, E: Write>(
 fn open_new<A: World>(world: &mut A, alloc: Global, folder: &str) -> Result<A::Disk, ReadingFault>
     ensures { OpensNew A.model folder.now world.old result world.new }
 {
-    if let Err(fault) = world.make_folder(folder) {
+    if let Err(fault) = world.make_folder(alloc, folder) {
         return Err(ReadingFault::Folder(fault));
     }
     match world.open_store(alloc, folder) {
@@ -252,7 +252,7 @@ fn open_new<A: World>(world: &mut A, alloc: Global, folder: &str) -> Result<A::D
         Ok(Some(_)) => return Err(ReadingFault::Salvage(SalvageFault::StoreExists)),
         Err(fault) => return Err(ReadingFault::Folder(fault)),
     }
-    match world.open(alloc, Access::Changing, folder) {
+    match world.open(alloc, Access::New, folder) {
         Ok(disk) => Ok(disk),
         Err(fault) => Err(ReadingFault::Folder(fault)),
     }

@@ -1,13 +1,14 @@
 // The tools for texts, over any reader and writer.
 ghost use Rattle.std.specs.Prelude.{◌≡◌, IfErr, IfOk, OnOk};
 ghost use Rattle.std.specs.Io.KnownBytes.{Appends};
-ghost use Rattle.conf_tools.specs.Tools.{Checks, Formats, ReadsAtMost, Stops, most_input};
+ghost use Rattle.conf_tools.specs.Tools.{Checks, Formats, IsTaken, Stops};
 
 use crate::input::read_up_to;
 use crate::report::report;
 use std::alloc::{AllocError, Global};
 use std::io::{Read, Write};
 use thiserror::Error;
+use yaml_refusals::Place;
 use yaml_style::check;
 use yaml_tree::{Limits, ReadFault, format_one};
 
@@ -26,6 +27,9 @@ pub enum ToolFault {
     /// The text was refused, or memory ran out. Nothing was written.
     #[error("{}", .0.brief())]
     Read(ReadFault),
+    /// The text has comments, of which the first is here. Nothing was written.
+    #[error("Comments")]
+    Comments(Place),
 }
 
 impl From<AllocError> for ToolFault {
@@ -39,59 +43,50 @@ impl From<AllocError> for ToolFault {
     }
 }
 
-/// Reads a text from `reader` to its end, and writes its tree in the one style to `writer`. It reads at most one
-/// byte more than the 4,194,304 that a text may have.
+/// Reads a text from `reader` to its end. Of one that is too long it reads one byte more than the 4,194,304 that a text may
+/// have.
 ///
 /// # Errors
 ///
-/// - [`ToolFault::Input`] if the reader fails. Nothing is written.
+/// - [`ToolFault::Input`] if the reader fails.
+/// - [`ToolFault::Read`] with `OutOfMemory` if there is no memory for the text.
+pub fn read_text<R: Read>(alloc: Global, reader: &mut R) -> Result<Vec<u8>, ToolFault>
+    ensures { IsTaken result (R.remaining reader.old) (R.remaining reader.new) }
+{
+    read_up_to(alloc, reader, MOST_INPUT)
+}
+
+/// Writes the tree of a text in the one style to `writer`.
+///
+/// # Errors
+///
 /// - [`ToolFault::Read`] if the text is refused, or memory runs out. Nothing is written.
 /// - [`ToolFault::Output`] if the writer fails. Some of the text may be written.
-pub fn format_text<R: Read, W: Write>(
-    alloc: Global,
-    reader: &mut R,
-    writer: &mut W,
-) -> Result<(), ToolFault>
-    ensures ok { OnOk result (Formats (R.remaining reader.old) (R.remaining reader.new)
-        (W.contents writer.old) (W.contents writer.new)) }
-    ensures stops { IfErr result (Stops (R.remaining reader.old) (R.remaining reader.new)
-        (W.contents writer.old) (W.contents writer.new)) }
-    // Whatever it returns, at most 4,194,305 bytes of the input were read.
-    ensures bounded { ReadsAtMost (R.remaining reader.old) (R.remaining reader.new) most_input }
+pub fn format_text<W: Write>(alloc: Global, text: &[u8], writer: &mut W) -> Result<(), ToolFault>
+    ensures ok { OnOk result (Formats text.now (W.contents writer.old) (W.contents writer.new)) }
+    ensures stops { IfErr result (Stops text.now (W.contents writer.old) (W.contents writer.new)) }
 {
-    let bytes = read_up_to(alloc, reader, MOST_INPUT)?;
-    let text = match format_one(alloc, &bytes, &Limits::CONFIGURATION) {
-        Ok(text) => text,
+    let styled = match format_one(alloc, text, &Limits::CONFIGURATION) {
+        Ok(styled) => styled,
         Err(fault) => return Err(ToolFault::Read(fault)),
     };
-    write_whole(writer, text.as_bytes())?;
+    write_whole(writer, styled.as_bytes())?;
     Ok(())
 }
 
-/// Reads a text from `reader` to its end, and writes a line to `writer` for each of its findings, in the order of
-/// [`check`]. The line has the rule's name, a space, and the number of the line, from 1. Returns how many findings
-/// there are. It reads at most one byte more than the 4,194,304 that a text may have. The lines are held in memory and
-/// written at once. They have at most some 50 MB, since a text has at most two findings more than bytes.
+/// Writes a line to `writer` for each finding of a text, in the order of [`check`]. The line has the rule's name, a space,
+/// and the number of the line, from 1. Returns how many findings there are. The lines are held in memory and written at
+/// once. They have at most some 50 MB, since a text has at most two findings more than bytes.
 ///
 /// # Errors
 ///
-/// - [`ToolFault::Input`] if the reader fails. Nothing is written.
 /// - [`ToolFault::Read`] if the text is refused, or memory runs out. Nothing is written.
 /// - [`ToolFault::Output`] if the writer fails. Some of the lines may be written.
-pub fn check_text<R: Read, W: Write>(
-    alloc: Global,
-    reader: &mut R,
-    writer: &mut W,
-) -> Result<u64, ToolFault>
-    ensures ok { IfOk result (Checks (R.remaining reader.old) (R.remaining reader.new)
-        (W.contents writer.old) (W.contents writer.new)) }
-    ensures stops { IfErr result (Stops (R.remaining reader.old) (R.remaining reader.new)
-        (W.contents writer.old) (W.contents writer.new)) }
-    // Whatever it returns, at most 4,194,305 bytes of the input were read.
-    ensures bounded { ReadsAtMost (R.remaining reader.old) (R.remaining reader.new) most_input }
+pub fn check_text<W: Write>(alloc: Global, text: &[u8], writer: &mut W) -> Result<u64, ToolFault>
+    ensures ok { IfOk result (Checks text.now (W.contents writer.old) (W.contents writer.new)) }
+    ensures stops { IfErr result (Stops text.now (W.contents writer.old) (W.contents writer.new)) }
 {
-    let bytes = read_up_to(alloc, reader, MOST_INPUT)?;
-    let findings = match check(alloc, &bytes) {
+    let findings = match check(alloc, text) {
         Ok(findings) => findings,
         Err(refused) => return Err(ToolFault::Read(refused)),
     };

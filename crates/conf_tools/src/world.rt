@@ -2,16 +2,21 @@
 ghost use Rattle.conf_tools.specs.Worlds.{WorldModel};
 
 use conf_disk::Disk;
-use conf_files::ReplaceFault;
+use conf_files::{Cause, ReplaceFault};
 use conf_folder::FolderFault;
+use conf_words::Reporting;
 use std::alloc::Global;
 use std::io::Read;
 
 /// For what a folder is opened.
 #[derive(Clone, Copy, Debug, PartialEq, Eq)]
 pub enum Access {
-    /// To change the store in it.
+    /// To change the store in it. A folder without a store is refused, and stays as it is.
     Changing,
+    /// To change the store in it, or one that is made there.
+    Making,
+    /// To make a store in it. A folder with a store is refused, and stays as it is.
+    New,
     /// To read the store in it, which is opened as for changes. Where nothing can be written, it is read as it stands.
     Reading,
 }
@@ -33,17 +38,24 @@ pub trait World {
     /// What contracts see of it: how each call, its result, and the worlds before and after it go together.
     ghost model: { WorldModel Self Self.Disk Self.File Self.Place };
 
+    /// How much is said of a text that is refused, where the words ask for no more. Nothing is claimed of it.
+    fn reporting(&self) -> Reporting;
+
+    /// Why the call that failed last did, if the system said so. Nothing is claimed of it.
+    fn cause(&self) -> Option<Cause>;
+
     /// Makes a folder. Whatever is at the path stays as it is.
     ///
     /// # Errors
     /// `Device` if it can't be made.
-    fn make_folder(&mut self, folder: &str) -> Result<(), FolderFault>
+    fn make_folder(&mut self, alloc: Global, folder: &str) -> Result<(), FolderFault>
         ensures { model.made_folder folder.now self.old result self.new };
 
     /// Hands out the disk of a folder.
     ///
     /// # Errors
-    /// `Device` if there is no folder or it can't be used, `Locked` if another run holds it, and `OutOfMemory`.
+    /// `Device` if there is no folder or it can't be used, `Locked` if another run holds it, and `OutOfMemory`. `NotAStore` if
+    /// a store is wanted and there is none, and `StoreExists` if there is one and none is wanted.
     fn open(
         &mut self,
         alloc: Global,

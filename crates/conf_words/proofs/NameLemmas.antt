@@ -8,6 +8,7 @@ use Rattle.std.proofs.lemmas.Cmp.{nat_list_eq_equiv}
 use Rattle.std.proofs.lemmas.List.Elements.{All-nil, All-cons}
 use Rattle.std.specs.Cmp.Lexicographic.{pointwise}
 use Rattle.conf_words.specs.Invocations.{FilesFit}
+use Rattle.conf_words.specs.declared.invocation.Comments.{Comments}
 use Rattle.conf_words.specs.declared.invocation.Formatting.TheVariants.{InPlace}
 
 both_false : (a b : Bool) → (a || b) ≡ false → (a ≡ false) × (b ≡ false)
@@ -29,6 +30,6 @@ some_named [] some = absurd (both_ways true (sym some) refl)
 some_named (file ∷ files) some = omega arith
 
 -- what is said of files among which standard input was sought
-pub fits_if_none : {X : Type 0} (found : Bool) (why : X) (files : List (Bor (List ℕ))) → found ≡ list_any (λ file. pointwise nat_eq file.now (codes "-")) files → false ≡ (length files == 0) → IfNone (then_some found why) (FilesFit InPlace (map (λ file. file.now) files))
-fits_if_none true why files is some = tt
-fits_if_none false why files is some = (some_named files some, All-list_any_false (codes "-") files (sym is))
+pub fits_if_none : {X : Type 0} (comments : Comments) (found : Bool) (why : X) (files : List (Bor (List ℕ))) → found ≡ list_any (λ file. pointwise nat_eq file.now (codes "-")) files → false ≡ (length files == 0) → IfNone (then_some found why) (FilesFit (InPlace comments) (map (λ file. file.now) files))
+fits_if_none comments true why files is some = tt
+fits_if_none comments false why files is some = (some_named files some, All-list_any_false (codes "-") files (sym is))

@@ -8,10 +8,10 @@ use Rattle.conf_words.specs.declared.invocation.Formatting.TheVariants.{Write, I
 -- Files of these names may be formatted so: at most one is written, and standard input is not replaced.
 abbrev pub FilesFit : Formatting → List (List ℕ) → Type 0
 FilesFit Write files = length files ≤ 1
-FilesFit InPlace files = (1 ≤ length files) × All (λ file. file ≢ codes "-") files
+FilesFit (InPlace comments) files = (1 ≤ length files) × All (λ file. file ≢ codes "-") files
 FilesFit Check files = Unit {0}
 
 -- The files of `format` fit what it does with them. Nothing is said of other invocations.
 abbrev pub HasFittingFiles : Invocation → Type 0
-HasFittingFiles (Format formatting files) = FilesFit formatting (map (λ file. file.now) files.items)
+HasFittingFiles (Format formatting files reporting) = FilesFit formatting (map (λ file. file.now) files.items)
 HasFittingFiles _ = Unit {0}

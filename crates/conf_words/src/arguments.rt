@@ -1,5 +1,6 @@
 // The arguments that several words take.
-use clap::{Arg, ArgAction};
+use crate::invocation::Reporting;
+use clap::{Arg, ArgAction, ArgMatches};
 use std::alloc::Global;
 
 /// The argument that names the folder of a store.
@@ -27,6 +28,11 @@ pub(crate) const FILE: &str = "FILE";
 /// The flag that has a text read, or records written, as YAML.
 pub(crate) const YAML: &str = "yaml";
 
+/// The flag that has more said of a text that is refused.
+const EXPLAIN: &str = "explain";
+
+const EXPLAIN_HELP: &str = "Shows the line at fault of a refused text, and says what to do";
+
 /// The argument that names the folder of a store.
 pub(crate) fn folder_arg<'a>(alloc: Global) -> Arg<'a> {
     Arg::new(alloc, FOLDER).required(true).help(FOLDER_HELP)
@@ -48,4 +54,18 @@ pub(crate) fn flag_arg<'a>(alloc: Global, name: &'a str, help: &'a str) -> Arg<'
         .long(name)
         .action(ArgAction::SetTrue)
         .help(help)
+}
+
+/// The flag that has more said of a text that is refused.
+pub(crate) fn explain_arg<'a>(alloc: Global) -> Arg<'a> {
+    flag_arg(alloc, EXPLAIN, EXPLAIN_HELP)
+}
+
+/// How much the words have said of a text that is refused.
+pub(crate) fn reporting_of(words: &ArgMatches<'_>) -> Reporting {
+    if words.get_flag(EXPLAIN) {
+        Reporting::Explained
+    } else {
+        Reporting::Brief
+    }
 }

@@ -3,9 +3,12 @@ ghost use Rattle.std.specs.Prelude.{IfSome};
 ghost use Rattle.conf_words.specs.Invocations.{HasFittingFiles};
 
 use crate::arguments::{
-    FILE, FOLDER, NAME, POINTER, WHOLE, YAML, flag_arg, folder_arg, name_arg, whole_pointer_arg,
+    FILE, FOLDER, NAME, POINTER, WHOLE, YAML, explain_arg, flag_arg, folder_arg, name_arg,
+    reporting_of, whole_pointer_arg,
 };
-use crate::invocation::{Grouping, Invocation, STANDARD_INPUT, Value};
+use crate::invocation::{Grouping, Invocation, MissingStore, STANDARD_INPUT, Value};
+use crate::refusal::refused;
+use crate::unparsed::Unparsed;
 use clap::{Arg, ArgMatches, Command, value_parser};
 use std::alloc::{AllocError, Global};
 
@@ -30,13 +33,25 @@ pub(crate) fn init_invocation<'w>(words: &ArgMatches<'w>) -> Option<Invocation<'
 }
 
 const IMPORT_HELP: &str = "\
-A configuration that has the name is replaced. Nothing is printed where it is done.
+A configuration that has the name is replaced. Nothing is printed where it is done. Comments and
+quotes are not kept, and `3` is written `\"3\"`. A folder without a store is refused (NotAStore), and
+stays as it is, unless --init is given.
+
+A text that is refused is reported on standard error with its file, `-` for standard input, as
+`web.yaml:501:1: KeyTwice \"key250\" (first at 17:1)`. With --explain, or where standard error is a
+terminal, the line of the text follows, with a mark under the place, and what to do.
 
 Examples:
   confstore import store web web.yaml
+  confstore import --init store web web.yaml
   printf 'port: 80\\n' | confstore import store web";
 
 const TEXT_FILE_HELP: &str = "The file of the text; standard input if it is left out or `-`";
+
+/// The word of `import` that has a store made where there is none.
+const INIT: &str = "init";
+
+const IMPORT_INIT_HELP: &str = "Makes a store in the folder, if it has none";
 
 pub(crate) fn import_arguments<'a>(
     alloc: Global,
@@ -44,6 +59,8 @@ pub(crate) fn import_arguments<'a>(
 ) -> Result<Command<'a>, AllocError> {
     import
         .after_help(IMPORT_HELP)
+        .arg(flag_arg(alloc, INIT, IMPORT_INIT_HELP))?
+        .arg(explain_arg(alloc))?
         .arg(folder_arg(alloc))?
         .arg(name_arg(alloc))?
         .arg(Arg::new(alloc, FILE).help(TEXT_FILE_HELP))
@@ -56,13 +73,24 @@ pub(crate) fn import_invocation<'w>(words: &ArgMatches<'w>) -> Option<Invocation
         folder: words.get_str(FOLDER)?,
         name: words.get_str(NAME)?,
         file: words.get_str(FILE).unwrap_or(STANDARD_INPUT),
+        missing: missing_of(words),
+        reporting: reporting_of(words),
     })
+}
+
+fn missing_of(words: &ArgMatches<'_>) -> MissingStore {
+    if words.get_flag(INIT) {
+        MissingStore::Made
+    } else {
+        MissingStore::Refused
+    }
 }
 
 const SET_HELP: &str = "\
 VALUE is the text itself. With `--yaml` it is read as a YAML text, so that a list or a mapping can be
-set; then `-` stands for standard input. The pointer \"\" stands for the whole configuration. Nothing
-is printed where it is done.
+set; then `-` stands for standard input. The pointer \"\" needs --whole: it stands for the whole
+configuration. Nothing is printed where it is done. A YAML text that is refused is reported on standard error, as
+`VALUE:1:8: KeyTwice \"a\" (first at 1:2)`, or with `-` for standard input.
 
 Examples:
   confstore set store web /port 80
@@ -76,6 +104,11 @@ const VALUE: &str = "VALUE";
 
 const VALUE_HELP: &str = "The value; after `--` if it begins with `-` and is no number";
 
+/// The word of `set` and `delete` that allows the empty pointer, which stands for the whole configuration.
+const ALLOW_WHOLE: &str = "whole";
+
+const ALLOW_WHOLE_HELP: &str = "Allows the pointer \"\", which stands for the whole configuration";
+
 const SET_YAML_HELP: &str = "Reads VALUE, or standard input if that is `-`, as a YAML text";
 
 pub(crate) fn set_arguments<'a>(
@@ -88,6 +121,8 @@ pub(crate) fn set_arguments<'a>(
         .help(VALUE_HELP);
     set.after_help(SET_HELP)
         .arg(flag_arg(alloc, YAML, SET_YAML_HELP))?
+        .arg(flag_arg(alloc, ALLOW_WHOLE, ALLOW_WHOLE_HELP))?
+        .arg(explain_arg(alloc))?
         .arg(folder_arg(alloc))?
         .arg(name_arg(alloc))?
         .arg(Arg::new(alloc, POINTER).required(true).help(POINTER_HELP))?
@@ -102,7 +137,20 @@ pub(crate) fn set_invocation<'w>(words: &ArgMatches<'w>) -> Option<Invocation<'w
         name: words.get_str(NAME)?,
         pointer: words.get_str(POINTER)?,
         value: value_of(words)?,
+        reporting: reporting_of(words),
     })
+}
+
+/// Tests the pointer of `set` or `delete`: it is empty exactly if the words say that the whole configuration is meant. So a
+/// variable of a shell that is not set removes nothing.
+pub(crate) fn test_pointer(alloc: Global, words: &ArgMatches<'_>) -> Result<(), Unparsed> {
+    match (words.get_str(POINTER), words.get_flag(ALLOW_WHOLE)) {
+        (Some(""), false) => Err(refused(alloc, "an empty POINTER needs --whole")),
+        (Some(pointer), true) if !pointer.is_empty() => {
+            Err(refused(alloc, "--whole needs the POINTER \"\""))
+        }
+        _ => Ok(()),
+    }
 }
 
 fn value_of<'w>(words: &ArgMatches<'w>) -> Option<Value<'w>> {
@@ -115,7 +163,8 @@ fn value_of<'w>(words: &ArgMatches<'w>) -> Option<Value<'w>> {
 }
 
 const DELETE_HELP: &str = "\
-Nothing is printed where it is done.
+Nothing is printed where it is done. Without POINTER the whole configuration is removed; the pointer
+\"\" needs --whole.
 
 Examples:
   confstore delete store web /tags/0
@@ -127,6 +176,7 @@ pub(crate) fn delete_arguments<'a>(
 ) -> Result<Command<'a>, AllocError> {
     delete
         .after_help(DELETE_HELP)
+        .arg(flag_arg(alloc, ALLOW_WHOLE, ALLOW_WHOLE_HELP))?
         .arg(folder_arg(alloc))?
         .arg(name_arg(alloc))?
         .arg(whole_pointer_arg(alloc))

@@ -17,16 +17,20 @@ pub enum Invocation<'w> {
         folder: &'w str,
         name: &'w str,
         file: &'w str,
+        missing: MissingStore,
+        reporting: Reporting,
     },
-    /// Sets the value at a JSON Pointer of a configuration.
+    /// Sets the value at a JSON Pointer of a configuration. The pointer is empty only if the words say that the whole
+    /// configuration is meant.
     Set {
         folder: &'w str,
         name: &'w str,
         pointer: &'w str,
         value: Value<'w>,
+        reporting: Reporting,
     },
-    /// Removes what is at a JSON Pointer of a configuration. The pointer is empty if the words leave it out: then the
-    /// configuration is removed.
+    /// Removes what is at a JSON Pointer of a configuration. The pointer is empty if the words leave it out, or say that
+    /// the whole configuration is meant: then the configuration is removed.
     Delete {
         folder: &'w str,
         name: &'w str,
@@ -79,10 +83,12 @@ pub enum Invocation<'w> {
     Format {
         formatting: Formatting,
         files: Vec<&'w str>,
+        reporting: Reporting,
     },
     /// Writes where the texts of the files depart from the one style, or that of standard input if there are none.
     Check {
         files: Vec<&'w str>,
+        reporting: Reporting,
     },
 }
 
@@ -129,7 +135,34 @@ pub enum Formatting {
     /// It writes the text of one to standard output. There is at most one.
     Write,
     /// It replaces each that would change. There is at least one, and none is [`STANDARD_INPUT`].
-    InPlace,
+    InPlace { comments: Comments },
     /// It names each that would change.
     Check,
+}
+
+/// What is done where the folder has no store.
+#[derive(Clone, Copy, Debug, PartialEq, Eq)]
+pub enum MissingStore {
+    /// It stays so, and the word is refused.
+    Refused,
+    /// An empty store is made first.
+    Made,
+}
+
+/// What is done with a file that has comments, which its text in the one style has not.
+#[derive(Clone, Copy, Debug, PartialEq, Eq)]
+pub enum Comments {
+    /// The file is refused, and stays as it is.
+    Refused,
+    /// The file is replaced, and its comments are lost.
+    Dropped,
+}
+
+/// How much is said of a text that is refused.
+#[derive(Clone, Copy, Debug, PartialEq, Eq)]
+pub enum Reporting {
+    /// One line: the place and the reason.
+    Brief,
+    /// That line, the line of the text with a mark under the place, and what to do.
+    Explained,
 }

@@ -16,7 +16,10 @@ mod words;
 
 pub use escapes::escaped;
 pub use folder_word::FolderWord;
-pub use invocation::{Formatting, Grouping, Invocation, LogForm, STANDARD_INPUT, Value, ValueForm};
+pub use invocation::{
+    Comments, Formatting, Grouping, Invocation, LogForm, MissingStore, Reporting, STANDARD_INPUT,
+    Value, ValueForm,
+};
 pub use subcommand::Subcommand;
 pub use unparsed::Unparsed;
 pub use words::parse;

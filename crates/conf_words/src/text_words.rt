@@ -2,8 +2,8 @@
 ghost use Rattle.std.specs.Prelude.{IfNone, IfOk, map};
 ghost use Rattle.conf_words.specs.Invocations.{FilesFit, HasFittingFiles};
 
-use crate::arguments::{FILE, flag_arg};
-use crate::invocation::{Formatting, Invocation, STANDARD_INPUT};
+use crate::arguments::{FILE, explain_arg, flag_arg, reporting_of};
+use crate::invocation::{Comments, Formatting, Invocation, STANDARD_INPUT};
 use crate::refusal::{OTHER, refused};
 use crate::unparsed::Unparsed;
 use clap::{Arg, ArgMatches, Command};
@@ -23,10 +23,16 @@ fn files_of<'m, 'w>(words: &'m ArgMatches<'w>) -> &'m [&'w str] {
 
 const FORMAT_HELP: &str = "\
 One FILE, or standard input, is written to standard output. More FILEs need -i or --check. Each FILE
-is tried, and the status is the worst. With -i a FILE that stands in the one style is not touched.
-Another is replaced whole: where the power fails, it is the old one or the new one. It keeps its mode,
-and its owner where the system allows it. A text that is refused is left as it is, and reported
-on standard error, as `web.yaml:3:7: Syntax Flow`.
+is tried, and the status is the worst. Comments and quotes are not kept, and `3` is written `\"3\"`.
+
+With -i a FILE that stands in the one style is not touched. Another is replaced whole: where the power
+fails, it is the old one or the new one. It keeps its mode, and its owner where the system allows it.
+A FILE with comments is refused, as `web.yaml:3:13: Comments`, unless --drop-comments is given.
+
+A FILE that is refused is left as it is, and reported on standard error, as
+`web.yaml:501:1: KeyTwice \"key250\" (first at 17:1)`. With --explain, or where standard error is a
+terminal, the line of the text follows, with a mark under the place, and what to do. Name standard
+input `-` to have it reported so.
 
 With --check the status is 1 where a FILE would change.
 
@@ -40,6 +46,11 @@ const IN_PLACE: &str = "in-place";
 
 const IN_PLACE_HELP: &str = "Replaces each FILE that would change by its text in the one style";
 
+/// The word of `format` that has files replaced that have comments. It needs [`IN_PLACE`].
+const DROP_COMMENTS: &str = "drop-comments";
+
+const DROP_COMMENTS_HELP: &str = "Replaces a FILE with comments too, which are lost";
+
 /// The word of `format` that has the files named that would change.
 const ONLY_CHECK: &str = "check";
 
@@ -52,11 +63,14 @@ pub(crate) fn format_arguments<'a>(
     let in_place = flag_arg(alloc, IN_PLACE, IN_PLACE_HELP)
         .short('i')
         .requires_arg(FILE)?;
+    let drop_comments = flag_arg(alloc, DROP_COMMENTS, DROP_COMMENTS_HELP).requires_arg(IN_PLACE)?;
     let only_check = flag_arg(alloc, ONLY_CHECK, ONLY_CHECK_HELP).conflicts_with(IN_PLACE)?;
     format
         .after_help(FORMAT_HELP)
         .arg(in_place)?
+        .arg(drop_comments)?
         .arg(only_check)?
+        .arg(explain_arg(alloc))?
         .arg(files_arg(alloc))
 }
 
@@ -72,6 +86,7 @@ pub(crate) fn format_invocation<'w>(
         None => Ok(Invocation::Format {
             formatting,
             files: Vec::from_slice(alloc, files)?,
+            reporting: reporting_of(words),
         }),
     }
 }
@@ -82,8 +97,8 @@ fn why_not(formatting: Formatting, files: &[&str]) -> Option<&'static str>
 {
     match formatting {
         Formatting::Write => (files.len() > 1).then_some("more than one FILE needs -i or --check"),
-        Formatting::InPlace if files.is_empty() => Some(OTHER),
-        Formatting::InPlace => {
+        Formatting::InPlace { .. } if files.is_empty() => Some(OTHER),
+        Formatting::InPlace { .. } => {
             files
                 .contains(&STANDARD_INPUT)
                 .then_some("standard input can't be replaced")
@@ -94,11 +109,21 @@ fn why_not(formatting: Formatting, files: &[&str]) -> Option<&'static str>
 
 fn formatting_of(words: &ArgMatches<'_>) -> Formatting {
     if words.get_flag(IN_PLACE) {
-        Formatting::InPlace
+        Formatting::InPlace {
+            comments: comments_of(words),
+        }
     } else if words.get_flag(ONLY_CHECK) {
         Formatting::Check
     } else {
         Formatting::Write
+    }
+}
+
+fn comments_of(words: &ArgMatches<'_>) -> Comments {
+    if words.get_flag(DROP_COMMENTS) {
+        Comments::Dropped
+    } else {
+        Comments::Refused
     }
 }
 
@@ -109,10 +134,13 @@ standard input without a FILE as `S1 3`, the rule and the number of the line, fr
   S2  the line ends in CR LF or CR, or it is the last line and has no break
   S3  the line has more than 120 characters
   S4  the text is not what `confstore format` writes for it, and first differs from that on this line
+The one style keeps no comments and no quotes, and `3` is written `\"3\"` in it.
 
-A refused text is reported on standard error, as `web.yaml:3:7: Syntax Flow`. Each FILE is tried.
-The status is 0 where nothing is found. It is 1 where something is, or a text is refused, and 3 where
-a FILE can't be read.
+A FILE that is refused is reported on standard error, as
+`web.yaml:501:1: KeyTwice \"key250\" (first at 17:1)`. With --explain, or where standard error is a
+terminal, the line of the text follows, with a mark under the place, and what to do. Name standard
+input `-` to have it reported so. Each FILE is tried. The status is 0 where nothing is found. It is 1
+where something is, or a text is refused, and 3 where a FILE can't be read.
 
 Examples:
   confstore check *.yaml
@@ -122,7 +150,10 @@ pub(crate) fn check_arguments<'a>(
     alloc: Global,
     check: Command<'a>,
 ) -> Result<Command<'a>, AllocError> {
-    check.after_help(CHECK_HELP).arg(files_arg(alloc))
+    check
+        .after_help(CHECK_HELP)
+        .arg(explain_arg(alloc))?
+        .arg(files_arg(alloc))
 }
 
 pub(crate) fn check_invocation<'w>(
@@ -133,5 +164,6 @@ pub(crate) fn check_invocation<'w>(
 {
     Ok(Invocation::Check {
         files: Vec::from_slice(alloc, files_of(words))?,
+        reporting: reporting_of(words),
     })
 }

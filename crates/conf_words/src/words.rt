@@ -5,7 +5,7 @@ ghost use Rattle.conf_words.specs.Invocations.{HasFittingFiles};
 use crate::change_words::{
     checkpoint_arguments, checkpoint_invocation, delete_arguments, delete_invocation,
     import_arguments, import_invocation, init_arguments, init_invocation, run_arguments,
-    run_invocation, set_arguments, set_invocation,
+    run_invocation, set_arguments, set_invocation, test_pointer,
 };
 use crate::invocation::Invocation;
 use crate::read_words::{
@@ -143,8 +143,14 @@ fn invocation_of<'w>(alloc: Global, matches: &ArgMatches<'w>) -> Result<Invocati
     let asked = match Subcommand::named(name) {
         Some(Subcommand::Init) => init_invocation(words),
         Some(Subcommand::Import) => import_invocation(words),
-        Some(Subcommand::Set) => set_invocation(words),
-        Some(Subcommand::Delete) => delete_invocation(words),
+        Some(Subcommand::Set) => {
+            test_pointer(alloc, words)?;
+            set_invocation(words)
+        }
+        Some(Subcommand::Delete) => {
+            test_pointer(alloc, words)?;
+            delete_invocation(words)
+        }
         Some(Subcommand::Checkpoint) => checkpoint_invocation(words),
         Some(Subcommand::Run) => run_invocation(words),
         Some(Subcommand::Export) => export_invocation(words),

@@ -12,10 +12,10 @@ mod pipe;
 
 use crate::pipe::{Errors, Output};
 use conf_tools::{Host, TailReader, ToolFault, perform, refuse_words, show_unparsed};
-use conf_words::{Subcommand, parse};
+use conf_words::{Reporting, Subcommand, parse};
 use std::cell::Cell;
 use std::fs::{File, OpenOptions};
-use std::io::Write;
+use std::io::{IsTerminal, Write};
 use std::os::fd::AsFd;
 use std::process::ExitCode;
 use std::{env, io};
@@ -101,7 +101,12 @@ fn main(rt: HostRuntime) -> ExitCode {
         _ => &is_closed,
     };
     let mut errors = Errors::new(errors, is_silent);
-    let mut host = Host::new(&rt);
+    let reporting = if stderr.is_terminal() {
+        Reporting::Explained
+    } else {
+        Reporting::Brief
+    };
+    let mut host = Host::new(&rt, reporting);
     let status = match parse(alloc, &words) {
         Ok(asked) => perform(
             &mut host,

@@ -6,5 +6,5 @@ use Rattle.conf_tools.proofs.WordLemmas.{one_replaced}
 use Rattle.conf_tools.proofs.file_words.replace_files.Goals as goal
 
 pub loop-file-preserved : goal.loop-file-preserved
-loop-file-preserved g c = rw (c.worst-status.ensures, c.tell_file.ensures)
-    (one_replaced g.A.World.model g.A.File.Read.remaining _ _ _ _ (ap (map (λ file. file.now)) (drop_more _ _ _ c.loop-file-test.true)) _ _ _ _ c.loop-file.invariant c.restyle_file-ended.result c.restyle_file-ended.ensures)
+loop-file-preserved g c = rw (c.worst-status.ensures)
+    (one_replaced g.A.World.model g.A.File.Read.remaining c.args.comments _ _ _ _ (ap (map (λ file. file.now)) (drop_more _ _ _ c.loop-file-test.true)) _ _ _ _ c.loop-file.invariant c.restyle_file.result c.restyle_file.ensures)

@@ -1,5 +1,5 @@
 -- What was found, and the status of that.
-use Rattle.conf_tools.proofs.file_words.report_on.Goals as goal
+use Rattle.conf_tools.proofs.file_words.report_under.Goals as goal
 
 pub returns-in-Ok : goal.returns-in-Ok
 returns-in-Ok g c = rw (c.in-Findings.is) (c.in-Ok.count, c.in-Ok.ensures.ok, c.status_of_count.ensures)
