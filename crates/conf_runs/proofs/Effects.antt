@@ -7,12 +7,14 @@ use Rattle.conf_history.specs.declared.fault.HistoryFault.TheVariants as history
 use Rattle.conf_history.specs.declared.fault.SalvageFault.TheVariants as salvage
 use Rattle.conf_words.specs.declared.invocation.Invocation.{Invocation}
 use Rattle.conf_words.specs.declared.invocation.Invocation.TheVariants.{Init, Import, Set, Delete, Checkpoint, Run, Export, Names, Get, Log, Verify, Salvage, Format, Check}
+use Rattle.conf_words.specs.declared.invocation.Comments.{Comments}
 use Rattle.conf_words.specs.declared.invocation.Formatting.{Formatting}
 use Rattle.conf_words.specs.declared.invocation.Formatting.TheVariants as formatting
-use Rattle.conf_tools.specs.Performs.{FormatsAll, ChecksAll, Performs, grouping_of}
+use Rattle.conf_tools.specs.Performs.{FormatsAll, ChecksAll, ImportsRead, Performs, access_of, grouping_of}
+use Rattle.conf_tools.specs.Tools.{Taken}
 use Rattle.conf_tools.specs.ProgramCalls.{Call, changing, disk_before, disk_behind, exporting, running}
 use Rattle.conf_tools.specs.StoreWords.{ChangesInFolder, ExportsFromFolder, Inits, MakesChange, MakesInFolder, OpensFile, OpensNew, RunsOnFolder, SavesFound, SavesInFolder, status_at_end}
-use Rattle.conf_tools.specs.TextWords.{IfSo, OfText, ReplacesAt, ReportsOnAll, RestylesAll, RestylesOpened, stops_all, status_after, status_of_report}
+use Rattle.conf_tools.specs.TextWords.{IfSo, ReplacesAt, ReplacesRead, ReportsOnAll, RestylesAll, RestylesOpened, TakesText, stops_all, status_of_report}
 use Rattle.conf_tools.specs.Statuses.{worst}
 use Rattle.conf_tools.specs.Worlds.{Around, WorldModel}
 use Rattle.conf_tools.specs.declared.changes.Change.{Change}
@@ -27,8 +29,10 @@ use Rattle.conf_tools.specs.declared.reading_fault.ReadingFault.{ReadingFault}
 use Rattle.conf_tools.specs.declared.reading_fault.ReadingFault.TheVariants as reading
 use Rattle.conf_tools.specs.declared.stores.Grouping.{Grouping}
 use Rattle.conf_tools.specs.declared.texts.ToolFault.{ToolFault}
+use Rattle.conf_tools.specs.declared.world.Access.{Access}
+use Rattle.conf_tools.specs.declared.world.Access.TheVariants.{Changing}
 use Rattle.conf_runs.specs.Folders.{IsDiskOf, KeepsFolders, LeavesNoMore}
-use Rattle.conf_runs.specs.Runs.{asked_for, call_of, changed_in, exported_from, folder_of, initialised, made_in, ran_in, salvages}
+use Rattle.conf_runs.specs.Runs.{asked_for, call_of, changed_in, exported_from, folder_of, imported, initialised, made_in, ran_in, salvages}
 
 module _ {W D F P : Type 0} (world : WorldModel W D F P) (disk : DiskModel D) (remaining : F → Option (List ℕ))
     (honest : disk.honest) (leaves : W → List ℕ → Image → Type 0) (keeps : KeepsFolders world disk leaves) where
@@ -77,16 +81,23 @@ module _ {W D F P : Type 0} (world : WorldModel W D F P) (disk : DiskModel D) (r
   of-init folder old new status (inr makes) =
       after old makes.made new (keeps.made folder old makes.made _ makes.makes) (of-making folder makes.made new status makes.then)
 
-  of-change : (folder : List ℕ) (change : Change) (old new : W) (status : Status) (does : ChangesInFolder world disk folder change old new status)
+  of-change : (access : Access) (folder : List ℕ) (change : Change) (old new : W) (status : Status) (does : ChangesInFolder world disk access folder change old new status)
       → Effect old new status (Some folder) (changed_in world disk honest change does)
-  of-change folder change old new status (inl cannot) = nothing (Some folder) (keeps.no_disk _ folder old new cannot.fault cannot.opens)
-  of-change folder change old new status (inr changes) =
+  of-change access folder change old new status (inl cannot) = nothing (Some folder) (keeps.no_disk _ folder old new cannot.fault cannot.opens)
+  of-change access folder change old new status (inr changes) =
       on_disk folder old _ (stays old) (keeps.disks _ folder old changes.opened new changes.first _ changes.opens changes.gives_back) changes.ends
 
-  of-asked : (folder : List ℕ) (change : Result Change ToolFault) (old new : W) (status : Status) (does : MakesChange world disk folder change old new status)
-      → Effect old new status (Some folder) (asked_for world disk honest folder change old new status does)
-  of-asked folder (Ok change) old new status does = of-change folder change old new status does
-  of-asked folder (Err fault) old new status does = nothing (Some folder) (same old new does.0)
+  of-asked : (access : Access) (folder : List ℕ) (change : Result Change ToolFault) (old new : W) (status : Status)
+      (does : MakesChange world disk access folder change old new status)
+      → Effect old new status (Some folder) (asked_for world disk honest access folder change old new status does)
+  of-asked access folder (Ok change) old new status does = of-change access folder change old new status does
+  of-asked access folder (Err fault) old new status does = nothing (Some folder) (same old new does.0)
+
+  of-import : (access : Access) (folder name : List ℕ) (read : Taken) (old new : W) (status : Status)
+      (does : ImportsRead world disk access folder name read old new status)
+      → Effect old new status (Some folder) (imported world disk honest access folder name read old new status does)
+  of-import access folder name (Ok bytes) old new status does = of-asked access folder does.change old new status does.makes
+  of-import access folder name (Err fault) old new status does = nothing (Some folder) (same old new does.0)
 
   of-run : (folder : List ℕ) (grouping : Grouping) (old new : Around W) (status : Status) (does : RunsOnFolder world disk folder grouping old new status)
       → Effect old.world new.world status (Some folder) (ran_in world disk honest grouping old new does)
@@ -159,10 +170,10 @@ module _ {W D F P : Type 0} (world : WorldModel W D F P) (disk : DiskModel D) (r
 
   -- ---- words on texts
 
-  of-text : (path : List ℕ) (says : Option (List ℕ) → Option (List ℕ) → Type 0) (unread : Type 0) (old new : W) (given left : Option (List ℕ))
-      → OfText world remaining path says unread old new given left → Steady old new
-  of-text path says unread old new given left (inl input) = same old new input.1
-  of-text path says unread old new given left (inr file) = keeps.files path old new _ file.2.opens
+  of-text : (path : List ℕ) (read : Taken) (old new : W) (given left : Option (List ℕ))
+      → TakesText world remaining path read old new given left → Steady old new
+  of-text path read old new given left (inl input) = same old new input.1
+  of-text path read old new given left (inr file) = keeps.files path old new _ file.2.opens
 
   -- after one report, the others
   of-rest : (old now new : Around W) (stops : Bool) (ends others : Type 0) → (others → Steady now.world new.world)
@@ -174,7 +185,7 @@ module _ {W D F P : Type 0} (world : WorldModel W D F P) (disk : DiskModel D) (r
       → ReportsOnAll world remaining report paths so_far old new status → Steady old.world new.world
   of-reports report [] so_far old new status does = same old.world new.world (ap (λ (a : Around W). a.world) does.0)
   of-reports report (path ∷ paths) so_far old new status (now, result, one, rest) =
-      then old.world now.world new.world (of-text path _ _ old.world now.world old.input now.input one)
+      then old.world now.world new.world (of-text path one.read old.world now.world old.input now.input one.takes)
       (of-rest old now new (stops_all result) _ _ (of-reports report paths (worst so_far (status_of_report result)) now new status) rest)
 
   of-replacing : (place : P) (restyled : Result Restyled ToolFault) (old new : W) (result : Result (Unit {0}) ToolFault)
@@ -183,24 +194,29 @@ module _ {W D F P : Type 0} (world : WorldModel W D F P) (disk : DiskModel D) (r
   of-replacing place (Ok (Changed styled)) old new result (ended, replaced, is) = keeps.replaced place _ old new ended replaced
   of-replacing place (Err fault) old new result does = same old new does.0
 
-  of-restyling : (found : Result (F × P) ReplaceFault) (old new : W) (result : Result (Unit {0}) ToolFault)
-      → RestylesOpened world remaining found old new result → Steady old new
-  of-restyling (Ok (file, place)) old new result (restyled, left, does, ok, stops) = of-replacing place restyled old new result does
-  of-restyling (Err fault) old new result does = same old new does.0
+  of-replaced : (comments : Comments) (place : P) (read : Taken) (old new : W) (status : Status)
+      → ReplacesRead world comments place read old new status → Steady old new
+  of-replaced comments place (Ok bytes) old new status (restyled, says, result, does, ends) = of-replacing place restyled old new result does
+  of-replaced comments place (Err fault) old new status does = same old new does.0
 
-  of-restyles : (paths : List (List ℕ)) (so_far : Status) (old new : W) (status : Status)
-      → RestylesAll world remaining paths so_far old new status → Steady old new
-  of-restyles [] so_far old new status does = same old new does.0
-  of-restyles (path ∷ paths) so_far old new status (now, result, one, rest) =
+  of-restyling : (comments : Comments) (found : Result (F × P) ReplaceFault) (old new : W) (status : Status)
+      → RestylesOpened world remaining comments found old new status → Steady old new
+  of-restyling comments (Ok (file, place)) old new status (read, left, takes, does) = of-replaced comments place read old new status does
+  of-restyling comments (Err fault) old new status does = same old new does.0
+
+  of-restyles : (comments : Comments) (paths : List (List ℕ)) (so_far : Status) (old new : W) (status : Status)
+      → RestylesAll world remaining comments paths so_far old new status → Steady old new
+  of-restyles comments [] so_far old new status does = same old new does.0
+  of-restyles comments (path ∷ paths) so_far old new status (now, of_file, one, rest) =
       then old now new
-      (then old one.seen now (keeps.places path old one.seen _ one.opens) (of-restyling one.found one.seen now result one.does))
-      (of-restyles paths (worst so_far (status_after result)) now new status rest)
+      (then old one.seen now (keeps.places path old one.seen _ one.opens) (of-restyling comments one.found one.seen now of_file one.does))
+      (of-restyles comments paths (worst so_far of_file) now new status rest)
 
   of-formatting : (formatting : Formatting) (paths : List (List ℕ)) (old new : Around W) (status : Status)
       → FormatsAll world remaining formatting paths old new status → Steady old.world new.world
   of-formatting formatting.Write [] old new status does = same old.world new.world does.1
-  of-formatting formatting.Write (path ∷ paths) old new status does = of-text path _ _ old.world new.world old.input new.input does.does
-  of-formatting formatting.InPlace paths old new status does = of-restyles paths _ old.world new.world status does.does
+  of-formatting formatting.Write (path ∷ paths) old new status does = of-text path does.read old.world new.world old.input new.input does.takes
+  of-formatting (formatting.InPlace comments) paths old new status does = of-restyles comments paths Done old.world new.world status does.does
   of-formatting formatting.Check [] old new status does = of-reports Name (codes "-" ∷ []) Done old new status does
   of-formatting formatting.Check (path ∷ paths) old new status does = of-reports Name (path ∷ paths) Done old new status does
 
@@ -216,12 +232,12 @@ module _ {W D F P : Type 0} (world : WorldModel W D F P) (disk : DiskModel D) (r
       → salvages invocation ≡ false
       → Effect old.world new.world status (folder_of invocation) (call_of world disk remaining honest invocation old new status does)
   effect (Init folder) old new status does no_salvage = of-init folder.now old.world new.world status does.0
-  effect (Import folder name file) old new status does no_salvage =
-      after old.world does.read new.world (of-text file.now _ _ old.world does.read old.input new.input does.is)
-      (of-asked folder.now does.change does.read new.world status does.makes)
-  effect (Set folder name pointer value) old new status does no_salvage = of-asked folder.now does.change old.world new.world status does.makes
-  effect (Delete folder name pointer) old new status does no_salvage = of-asked folder.now does.change old.world new.world status does.makes
-  effect (Checkpoint folder) old new status does no_salvage = of-change folder.now change.Checkpoint old.world new.world status does.0
+  effect (Import folder name file absent reporting) old new status does no_salvage =
+      after old.world does.seen new.world (of-text file.now does.read old.world does.seen old.input new.input does.takes)
+      (of-import (access_of absent) folder.now name.now does.read does.seen new.world status does.imports)
+  effect (Set folder name pointer value reporting) old new status does no_salvage = of-asked Changing folder.now does.change old.world new.world status does.makes
+  effect (Delete folder name pointer) old new status does no_salvage = of-asked Changing folder.now does.change old.world new.world status does.makes
+  effect (Checkpoint folder) old new status does no_salvage = of-change Changing folder.now change.Checkpoint old.world new.world status does.0
   effect (Run folder grouping) old new status does no_salvage = of-run folder.now (grouping_of grouping) old new status does
   effect (Export folder name) old new status does no_salvage =
       of-export folder.now name.now old.world new.world old.output new.output status does.0
@@ -230,9 +246,9 @@ module _ {W D F P : Type 0} (world : WorldModel W D F P) (disk : DiskModel D) (r
       nothing None (of-open folder.now old.world does.0.file new.world does.0.opens)
   effect (Log folder at form) old new status does no_salvage = nothing None (of-open folder.now old.world does.0.file new.world does.0.opens)
   effect (Verify folder) old new status does no_salvage = nothing None (of-open folder.now old.world does.0.file new.world does.0.opens)
-  effect (Format formatting files) old new status does no_salvage = nothing None (of-formatting formatting _ old new status does)
+  effect (Format formatting files reporting) old new status does no_salvage = nothing None (of-formatting formatting _ old new status does)
   effect (Salvage folder new_folder) old new status does no_salvage = cc
-  effect (Check files) old new status does no_salvage = nothing None (of-checking _ old new status does)
+  effect (Check files reporting) old new status does no_salvage = nothing None (of-checking _ old new status does)
 
   -- what is done to one folder leaves another as it was
   beside : (path : List ℕ) (old new : W) {status : Status} {folder : Option (List ℕ)} {call : Option (Call disk)}
@@ -252,10 +268,10 @@ module _ {W D F P : Type 0} (world : WorldModel W D F P) (disk : DiskModel D) (r
       (λ same. is_other (ap Some (sym same))) is)
   spares path (Init folder) old new status does is_other image is =
       beside path old.world new.world (effect (Init folder) old new status does refl) is_other image is
-  spares path (Import folder name file) old new status does is_other image is =
-      beside path old.world new.world (effect (Import folder name file) old new status does refl) is_other image is
-  spares path (Set folder name pointer value) old new status does is_other image is =
-      beside path old.world new.world (effect (Set folder name pointer value) old new status does refl) is_other image is
+  spares path (Import folder name file absent reporting) old new status does is_other image is =
+      beside path old.world new.world (effect (Import folder name file absent reporting) old new status does refl) is_other image is
+  spares path (Set folder name pointer value reporting) old new status does is_other image is =
+      beside path old.world new.world (effect (Set folder name pointer value reporting) old new status does refl) is_other image is
   spares path (Delete folder name pointer) old new status does is_other image is =
       beside path old.world new.world (effect (Delete folder name pointer) old new status does refl) is_other image is
   spares path (Checkpoint folder) old new status does is_other image is =
@@ -272,7 +288,7 @@ module _ {W D F P : Type 0} (world : WorldModel W D F P) (disk : DiskModel D) (r
       beside path old.world new.world (effect (Log folder at form) old new status does refl) is_other image is
   spares path (Verify folder) old new status does is_other image is =
       beside path old.world new.world (effect (Verify folder) old new status does refl) is_other image is
-  spares path (Format formatting files) old new status does is_other image is =
-      beside path old.world new.world (effect (Format formatting files) old new status does refl) is_other image is
-  spares path (Check files) old new status does is_other image is =
-      beside path old.world new.world (effect (Check files) old new status does refl) is_other image is
+  spares path (Format formatting files reporting) old new status does is_other image is =
+      beside path old.world new.world (effect (Format formatting files reporting) old new status does refl) is_other image is
+  spares path (Check files reporting) old new status does is_other image is =
+      beside path old.world new.world (effect (Check files reporting) old new status does refl) is_other image is

@@ -12,6 +12,8 @@ use Rattle.conf_tools.specs.declared.stores.StoreToolFault.TheVariants.{Folder a
 pub not-done : (fault : StoreToolFault) → Done ≡ status_of_store fault → ⊥
 not-done (InFolder folder.Device) is = cc
 not-done (InFolder folder.Locked) is = cc
+not-done (InFolder folder.NotAStore) is = cc
+not-done (InFolder folder.StoreExists) is = cc
 not-done (InFolder folder.OutOfMemory) is = cc
 not-done (Open open_fault.NotAStore) is = cc
 not-done (Open (open_fault.Damaged number)) is = cc

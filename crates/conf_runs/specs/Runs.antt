@@ -12,10 +12,11 @@ use Rattle.conf_words.specs.declared.invocation.Invocation.{Invocation}
 use Rattle.conf_words.specs.declared.invocation.Invocation.TheVariants.{Init, Import, Set, Delete, Checkpoint, Run, Export, Salvage}
 use Rattle.conf_tools.specs.Changes.{Performs as ChangePerforms}
 use Rattle.conf_tools.specs.Exports.{disk_back, disk_handed_back}
-use Rattle.conf_tools.specs.Performs.{Performs, grouping_of}
+use Rattle.conf_tools.specs.Performs.{ImportsRead, Performs, access_of, grouping_of}
 use Rattle.conf_tools.specs.ProgramCalls.{Call, Ending as CallEnding, accepted, answered, changing, disk_before, disk_behind, exporting, running}
 use Rattle.conf_tools.specs.ProgramCalls as call
 use Rattle.conf_tools.specs.StoreWords.{ChangesInFolder, ExportsFromFolder, Inits, MakesChange, MakesInFolder, RunsOnFolder}
+use Rattle.conf_tools.specs.Tools.{Taken}
 use Rattle.conf_tools.specs.Worlds.{Around, WorldModel}
 use Rattle.conf_tools.specs.declared.changes.Change.{Change}
 use Rattle.conf_tools.specs.declared.changes.Change.TheVariants as change
@@ -23,6 +24,8 @@ use Rattle.conf_tools.specs.declared.program.Status.{Status}
 use Rattle.conf_tools.specs.declared.program.Status.TheVariants.{Done}
 use Rattle.conf_tools.specs.declared.stores.Grouping.{Grouping}
 use Rattle.conf_tools.specs.declared.texts.ToolFault.{ToolFault}
+use Rattle.conf_tools.specs.declared.world.Access.{Access}
+use Rattle.conf_tools.specs.declared.world.Access.TheVariants.{Changing}
 use Rattle.conf_runs.specs.Folders.{KeepsFolders}
 
 -- ---- the folder of a run
@@ -30,8 +33,8 @@ use Rattle.conf_runs.specs.Folders.{KeepsFolders}
 -- the folder whose disk a run takes, if its words name one
 abbrev pub folder_of : Invocation → Option (List ℕ)
 folder_of (Init folder) = Some folder.now
-folder_of (Import folder name file) = Some folder.now
-folder_of (Set folder name pointer value) = Some folder.now
+folder_of (Import folder name file absent reporting) = Some folder.now
+folder_of (Set folder name pointer value reporting) = Some folder.now
 folder_of (Delete folder name pointer) = Some folder.now
 folder_of (Checkpoint folder) = Some folder.now
 folder_of (Run folder grouping) = Some folder.now
@@ -63,15 +66,21 @@ module _ {W D F P : Type 0} (world : WorldModel W D F P) (disk : DiskModel D) (h
   initialised (inl cannot) = None
   initialised (inr makes) = made_in makes.then
 
-  abbrev pub changed_in : {folder : List ℕ} (change : Change) {old new : W} {status : Status}
-      → ChangesInFolder world disk folder change old new status → Option (Call disk)
+  abbrev pub changed_in : {access : Access} {folder : List ℕ} (change : Change) {old new : W} {status : Status}
+      → ChangesInFolder world disk access folder change old new status → Option (Call disk)
   changed_in change (inl cannot) = None
   changed_in change (inr changes) = Some (changing change changes.first changes.result (changes.survives honest))
 
-  abbrev pub asked_for : (folder : List ℕ) (change : Result Change ToolFault) (old new : W) (status : Status)
-      → MakesChange world disk folder change old new status → Option (Call disk)
-  asked_for folder (Ok change) old new status makes = changed_in change makes
-  asked_for folder (Err fault) old new status makes = None
+  abbrev pub asked_for : (access : Access) (folder : List ℕ) (change : Result Change ToolFault) (old new : W)
+      (status : Status) → MakesChange world disk access folder change old new status → Option (Call disk)
+  asked_for access folder (Ok change) old new status makes = changed_in change makes
+  asked_for access folder (Err fault) old new status makes = None
+
+  abbrev pub imported : (access : Access) (folder name : List ℕ) (read : Taken) (old new : W) (status : Status)
+      → ImportsRead world disk access folder name read old new status → Option (Call disk)
+  imported access folder name (Ok bytes) old new status does =
+      asked_for access folder does.change old new status does.makes
+  imported access folder name (Err fault) old new status does = None
 
   abbrev pub ran_in : {folder : List ℕ} (grouping : Grouping) (old new : Around W) {status : Status}
       → RunsOnFolder world disk folder grouping old new status → Option (Call disk)
@@ -90,12 +99,12 @@ module _ {W D F P : Type 0} (world : WorldModel W D F P) (disk : DiskModel D) (r
   abbrev pub call_of : (invocation : Invocation) (old new : Around W) (status : Status)
       → Performs world disk remaining invocation old new status → Option (Call disk)
   call_of (Init folder) old new status does = initialised world disk honest does.0
-  call_of (Import folder name file) old new status does =
-      asked_for world disk honest folder.now does.change does.read new.world status does.makes
-  call_of (Set folder name pointer value) old new status does =
-      asked_for world disk honest folder.now does.change old.world new.world status does.makes
+  call_of (Import folder name file absent reporting) old new status does =
+      imported world disk honest (access_of absent) folder.now name.now does.read does.seen new.world status does.imports
+  call_of (Set folder name pointer value reporting) old new status does =
+      asked_for world disk honest Changing folder.now does.change old.world new.world status does.makes
   call_of (Delete folder name pointer) old new status does =
-      asked_for world disk honest folder.now does.change old.world new.world status does.makes
+      asked_for world disk honest Changing folder.now does.change old.world new.world status does.makes
   call_of (Checkpoint folder) old new status does = changed_in world disk honest change.Checkpoint does.0
   call_of (Run folder grouping) old new status does = ran_in world disk honest (grouping_of grouping) old new does
   call_of (Export folder name) old new status does = exported_from world disk honest does.0
