@@ -10,8 +10,8 @@ use Rattle.conf_state.specs.declared.fault.StoreFault.{StoreFault}
 use Rattle.conf_state.specs.declared.fault.StoreFault.TheVariants as store
 use Rattle.conf_history.specs.Histories.{IsSurvey, RefusesSurvey}
 use Rattle.conf_history.specs.declared.fault.HistoryFault.TheVariants.{OutOfMemory}
-use Rattle.conf_history.specs.declared.place.NoRecord.{NoRecord}
-use Rattle.conf_history.specs.declared.place.NoRecord.TheVariants.{NotARecord, WrongNumber, Refused}
+use Rattle.conf_store.specs.declared.records.NoRecord.{NoRecord}
+use Rattle.conf_store.specs.declared.records.NoRecord.TheVariants.{NotARecord, WrongNumber, Refused}
 use Rattle.conf_history.specs.declared.survey.Bad.{Bad}
 use Rattle.conf_history.specs.declared.survey.Findings.{Findings}
 use Rattle.conf_tools.specs.declared.reading_fault.ReadingFault.{ReadingFault}
