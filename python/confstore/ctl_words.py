@@ -72,9 +72,9 @@ IMPORT = Word(
     (INIT, EXPLAIN),
     (FOLDER, NAME, FILE),
     (
-        "A configuration that has the name is replaced. Nothing is printed where it is done. Comments and quotes are not"
-        " kept, and `3` is written `\"3\"`. A folder without a store is refused (NotAStore), and stays as it is, unless"
-        " `--init` is given.",
+        "A configuration that has the name is replaced. Nothing is printed where it is done. Comments and quotes are"
+        " not kept, and `3` is written `\"3\"`. A folder without a store is refused (NotAStore), and stays as it is,"
+        " unless `--init` is given.",
     ),
     (
         "confstorectl import store web web.yaml",
@@ -104,8 +104,8 @@ DELETE = Word(
     (WHOLE,),
     (FOLDER, NAME, WHOLE_POINTER),
     (
-        "Nothing is printed where it is done. Without POINTER the whole configuration is removed; the pointer \"\" needs"
-        " `--whole`.",
+        "Nothing is printed where it is done. Without POINTER the whole configuration is removed; the pointer \"\""
+        " needs `--whole`.",
     ),
     (
         "confstorectl delete store web /tags/0",
