@@ -27,6 +27,7 @@ from confstore.ctl import perform_words
 from confstore.ctl_asked import Asked, Help, Version, asked_of
 from confstore.ctl_faults import Fault, shown
 from confstore.ctl_help import help_of, help_of_all
+from confstore.ctl_program import Ended, Source
 from confstore.ctl_sockets import Command, Connection, Place, SessionReply, line_of, place_of
 from confstore.ctl_words import COMMON, WORDS
 from confstore.other import Cutter
@@ -134,6 +135,30 @@ class Faults(unittest.TestCase):
     def test_what_a_line_shows(self) -> None:
         self.assertEqual(shown("a\x1b[1m\n\\\u202e\x85ä"), "a\\u{1b}[1m\\n\\\\\\u{202e}\\u{85}ä")
         self.assertEqual(Fault("Syntax 3:7 Flow").line, "confstorectl: Syntax 3:7 Flow")
+
+
+class Told(unittest.TestCase):
+    """What confstorectl makes of the lines of the program."""
+
+    def test_a_text_is_named(self) -> None:
+        ended = Ended(1, b"", b'-:2:1: KeyTwice "a" (first at 1:1)\n2 | a: -: x\n  | ^\nhelp: drop one\n')
+        lines = 'web.yaml:2:1: KeyTwice "a" (first at 1:1)\n2 | a: -: x\n  | ^\nhelp: drop one\n'
+        self.assertEqual(ended.lines(Source("web.yaml")), lines)
+        self.assertEqual(ended.lines(), ended.errors.decode())
+        self.assertEqual(Ended(1, b"", b"-: TooLong (x)\n").lines(Source("a\nb")), "a\\nb: TooLong (x)\n")
+
+    def test_the_cause_follows(self) -> None:
+        ended = Ended(3, b"", b"confstore: Device\nstore.yaml: No space left on device\n")
+        self.assertRegex(ended.lines(), r"\Aconfstorectl: Device: [^\n]+\nstore.yaml: No space left on device\n\Z")
+        self.assertEqual(Ended(0, b"x", b"").lines(), "")
+
+    def test_which_run_was_locked(self) -> None:
+        locked = b"confstore: Locked\n"
+        for errors in (locked, locked + b"store.lock: another run holds its lock\n", b"confstore: the last\n" + locked):
+            self.assertTrue(Ended(3, b"", errors).was_locked)
+            self.assertFalse(Ended(0, b"", errors).was_locked)
+        for errors in (b"", b"confstore: Device\nconfstore: Locked: x\n", b"-: confstore: Locked\n"):
+            self.assertFalse(Ended(3, b"", errors).was_locked)
 
 
 class Lines(unittest.TestCase):
@@ -424,6 +449,16 @@ class Programs(StoreTest):
             process = self.process("watch", self.folder, *words, stderr=subprocess.PIPE)
             self.assertRegex(process.communicate(timeout=PATIENCE)[1], rb"\Aconfstorectl: %s: .*\n\Z" % name)
             self.assertEqual(process.returncode, 1)
+
+    def test_a_batch_makes_no_store(self) -> None:
+        words = ["batch", self.folder, os.path.join(self.top, "edits.yaml")]
+        with open(words[-1], "w", encoding="utf-8") as edits:
+            edits.write("[{import: web, text: x}]\n")
+        process = self.process(*words, stderr=subprocess.PIPE)
+        self.assertRegex(process.communicate(timeout=PATIENCE)[1], rb"\Aconfstorectl: NotAStore: .*\n\Z")
+        self.assertEqual((process.returncode, os.listdir(self.folder)), (1, []))
+        self.store().close()
+        self.assertEqual(self.process(*words).wait(PATIENCE), 0)
 
     def test_no_program(self) -> None:
         with mock.patch.dict(os.environ, {"CONFSTORE": os.path.join(self.top, "none")}):
