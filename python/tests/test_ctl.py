@@ -273,7 +273,8 @@ class SocketTest(StoreTest):
     def perform(self, *words: str) -> tuple[int, bytes, str]:
         """The status of words that go to the socket, and what they wrote."""
         output, errors = io.BytesIO(), io.StringIO()
-        with mock.patch("confstore.ctl.write", output.write), mock.patch("confstore.ctl.write_error", errors.write):
+        streams: dict[str, Any] = {"write": output.write, "write_error": errors.write, "is_error_terminal": lambda: False}
+        with mock.patch.multiple("confstore.ctl", **streams):
             status = perform_words(["--socket", self.path, *words])
         return status, output.getvalue(), errors.getvalue()
 
@@ -301,6 +302,40 @@ class Sockets(SocketTest):
     def test_a_node_fails(self) -> None:
         self.listen(b'{"failed": "OtherHistory"}\n')
         self.assertEqual(self.fault("set", self.folder, "web", "/a", "b"), (3, "Failed OtherHistory"))
+
+    def test_a_refused_text_is_named_by_its_file(self) -> None:
+        file = os.path.join(self.top, "web.yaml")
+        with open(file, "w", encoding="utf-8") as text:
+            text.write("a: 1\na: 2\n")
+        for answer in (b"---\nrefused: KeyTwice\n...\n", b'{"refused": "KeyTwice"}\n'):
+            for option, shown_lines in (("--init", []), ("--explain", ["2 | a: 2", "  | ^"])):
+                self.listen(answer)
+                status, output, errors = self.perform("import", option, self.folder, "web", file)
+                first, *others = errors.splitlines()
+                self.assertEqual((status, output, first), (1, b"", f'{file}:2:1: KeyTwice "a" (first at 1:1)'))
+                self.assertEqual(others[:-1], shown_lines)
+                os.remove(self.path)
+
+    def test_a_refused_text_without_a_program(self) -> None:
+        file = os.path.join(self.top, "web.yaml")
+        with open(file, "w", encoding="utf-8") as text:
+            text.write("a: 1\na: 2\n")
+        self.listen(b"---\nrefused: KeyTwice\n...\n")
+        with mock.patch.dict(os.environ, {"CONFSTORE": os.path.join(self.top, "none")}):
+            self.assertEqual(self.fault("import", self.folder, "web", file), (1, "KeyTwice"))
+
+    def test_another_refusal_of_an_import(self) -> None:
+        file = os.path.join(self.top, "web.yaml")
+        with open(file, "w", encoding="utf-8") as text:
+            text.write("a: 1\n")
+        for name in ("StoreFull", "TooDeep"):
+            self.listen(b"---\nrefused: %s\n...\n" % name.encode())
+            self.assertEqual(self.fault("import", self.folder, "web", file), (1, name))
+            os.remove(self.path)
+
+    def test_a_text_that_can_not_be_read(self) -> None:
+        status, _, errors = self.perform("import", self.folder, "web", self.top)
+        self.assertEqual((status, errors), (3, f"{self.top}: Input\n{self.top}: Is a directory\n"))
 
     def test_a_node_has_no_checkpoint(self) -> None:
         self.listen(b'{"refused": "BadCommand"}\n')
