@@ -578,6 +578,9 @@ LINES = [
     ("import store app fil", "import store app file.yaml"),
     ("watch sto", "watch store"),
     ("help ver", "help verify"),
+    ("import --ini", "import --init"),
+    ("delete --who", "delete --whole"),
+    ("set --yaml --exp", "set --yaml --explain"),
 ]
 
 
