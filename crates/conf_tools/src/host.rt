@@ -15,7 +15,9 @@ pub struct Host<'r, F> {
     reporting: Reporting,
     /// The folder that was made last, until a disk of it is given back, or could not be opened.
     made: Option<NewFolder>,
-    /// Why the call that failed last did.
+    /// The path that the last call on a folder was given.
+    folder: Option<String>,
+    /// Why the call on a folder that failed last did.
     cause: Option<Cause>,
 }
 
@@ -26,8 +28,14 @@ impl<'r, F: Files<File = File>> Host<'r, F> {
             rt,
             reporting,
             made: None,
+            folder: None,
             cause: None,
         }
+    }
+
+    /// Begins a call on the folder at a path.
+    fn begin(&mut self, alloc: Global, folder: &str) {
+        self.folder = String::from_str(alloc, folder).ok();
     }
 
     /// Keeps the cause of a call that failed.
@@ -37,17 +45,6 @@ impl<'r, F: Files<File = File>> Host<'r, F> {
             Err(error) => {
                 self.cause = error.cause;
                 Err(error.fault)
-            }
-        }
-    }
-
-    /// Keeps the cause of a call that failed on a file that was to be replaced.
-    fn keep_of_file<T>(&mut self, done: Result<T, Cause>) -> Result<T, ReplaceFault> {
-        match done {
-            Ok(value) => Ok(value),
-            Err(cause) => {
-                self.cause = Some(cause);
-                Err(ReplaceFault::from(cause))
             }
         }
     }
@@ -96,11 +93,15 @@ impl<'r, F: Files<File = File>> World for Host<'r, F> {
         self.reporting
     }
 
-    fn cause(&self) -> Option<Cause> {
-        self.cause
+    fn cause(&self) -> Option<(Cause, &str)> {
+        match (self.cause, &self.folder) {
+            (Some(cause), Some(folder)) => Some((cause, folder.as_str())),
+            _ => None,
+        }
     }
 
     fn make_folder(&mut self, alloc: Global, folder: &str) -> Result<(), FolderFault> {
+        self.begin(alloc, folder);
         let made = make_folder(self.rt, alloc, folder);
         self.made = self.keep(made)?;
         Ok(())
@@ -112,6 +113,7 @@ impl<'r, F: Files<File = File>> World for Host<'r, F> {
         access: Access,
         folder: &str,
     ) -> Result<FolderDisk<'r, F>, FolderFault> {
+        self.begin(alloc, folder);
         let opened = match access {
             Access::Changing => FolderDisk::of_store(self.rt, alloc, folder),
             Access::Making | Access::Reading => FolderDisk::new(self.rt, alloc, folder),
@@ -126,6 +128,17 @@ impl<'r, F: Files<File = File>> World for Host<'r, F> {
         self.hand_out(opened)
     }
 
+    fn open_saved(
+        &mut self,
+        alloc: Global,
+        like: &File,
+        folder: &str,
+    ) -> Result<FolderDisk<'r, F>, FolderFault> {
+        self.begin(alloc, folder);
+        let opened = FolderDisk::for_new_store(self.rt, alloc, folder, Some(like));
+        self.hand_out(opened)
+    }
+
     fn give_back(&mut self, disk: FolderDisk<'r, F>) {
         self.cause = disk.cause();
         disk.release();
@@ -133,11 +146,12 @@ impl<'r, F: Files<File = File>> World for Host<'r, F> {
     }
 
     fn open_store(&mut self, alloc: Global, folder: &str) -> Result<Option<File>, FolderFault> {
+        self.begin(alloc, folder);
         self.keep(open_store_file(self.rt, alloc, folder))
     }
 
     fn open_file(&mut self, path: &str) -> Option<File> {
-        self.keep_of_file(open_input(self.rt, path)).ok()
+        open_input(self.rt, path).ok()
     }
 
     fn open_to_replace(
@@ -145,10 +159,10 @@ impl<'r, F: Files<File = File>> World for Host<'r, F> {
         alloc: Global,
         path: &str,
     ) -> Result<(File, Place), ReplaceFault> {
-        self.keep_of_file(open_to_replace(self.rt, alloc, path))
+        open_to_replace(self.rt, alloc, path).map_err(ReplaceFault::from)
     }
 
     fn replace(&mut self, alloc: Global, place: Place, bytes: &[u8]) -> Result<(), ReplaceFault> {
-        self.keep_of_file(replace_file(self.rt, alloc, &place, bytes))
+        replace_file(self.rt, alloc, &place, bytes).map_err(ReplaceFault::from)
     }
 }

@@ -23,7 +23,7 @@ use conf_folder::FolderFault;
 use conf_session::{Checkpoints, SessionFault, Tally};
 use conf_state::StoreFault;
 use conf_store::OpenFault;
-use conf_words::{Invocation, Reporting, Unparsed};
+use conf_words::{Invocation, Reporting, Unparsed, escaped};
 use std::alloc::{AllocError, Global};
 use std::io;
 use std::io::{ErrorKind, Read, Write};
@@ -67,9 +67,41 @@ impl Status {
 /// that they were not performed, and the likely cause. Another line there says how many bytes after the last whole record
 /// of a store were dropped, if there were any.
 ///
+/// Where a folder could not be used, a line after the fault says why, as `store.yaml: No space left on device`.
+///
 /// Each disk that the world hands out is given back to it before this returns, and before anything is written to `output`
 /// but the answers of a session.
 pub fn perform<A: World, R: Read, W: Write, E: Write>(
+    world: &mut A,
+    alloc: Global,
+    invocation: Invocation<'_>,
+    input: &mut TailReader<R>,
+    output: &mut W,
+    errors: &mut E,
+) -> Status
+    ensures { Performs A.model A.Disk.model A.File.remaining invocation.entry
+        (around world.old (R.remaining input.old.inner) (W.contents output.old))
+        (around world.new (R.remaining input.new.inner) (W.contents output.new)) result }
+{
+    let status = perform_word(world, alloc, invocation, input, output, errors);
+    if status == Status::Device {
+        write_cause(world, alloc, errors);
+    }
+    status
+}
+
+/// Writes why a folder could not be used, if that is known.
+fn write_cause<A: World, E: Write>(world: &A, alloc: Global, errors: &mut E) {
+    if let Some((cause, folder)) = world.cause() {
+        let shown = escaped(alloc, folder).ok();
+        let shown = shown.as_deref().unwrap_or("FOLDER");
+        let cause = cause.shown(shown);
+        let _ = writeln!(errors, "{cause}");
+    }
+}
+
+/// Does what an invocation asks for, as [`perform`] does, but for the cause of a fault.
+fn perform_word<A: World, R: Read, W: Write, E: Write>(
     world: &mut A,
     alloc: Global,
     invocation: Invocation<'_>,

@@ -9,7 +9,7 @@ use crate::program::Status;
 use crate::reading_fault::ReadingFault;
 use crate::reads::{write_names, write_value};
 use crate::surveys::{Soundness, write_findings, write_survey};
-use crate::world::{Access, World};
+use crate::world::World;
 use conf_folder::FolderFault;
 use conf_history::{Findings, HistoryFault, LogForm, SalvageFault, salvage, write_log};
 use conf_words::{FolderWord, ValueForm};
@@ -194,18 +194,18 @@ pub(crate) fn save_file<A: World, W: Write, E: Write>(
 }
 
 /// Makes a store in a new folder, of what a store's file says before its first bad piece.
-fn save_in_folder<A: World, R: Read, W: Write, E: Write>(
+fn save_in_folder<A: World, W: Write, E: Write>(
     world: &mut A,
     alloc: Global,
-    file: &mut R,
+    file: &mut A::File,
     new: &str,
     output: &mut W,
     errors: &mut E,
 ) -> Status
-    ensures { SavesInFolder A.model A.Disk.model new.now (R.remaining file.old)
+    ensures { SavesInFolder A.model A.Disk.model new.now (A.File.remaining file.old)
         world.old world.new (W.contents output.old) (W.contents output.new) result }
 {
-    match open_new(world, alloc, new) {
+    match open_new(world, alloc, file, new) {
         Ok(disk) => {
             let saved = salvage(alloc, file, disk);
             write_saved(world, alloc, saved, output, errors)
@@ -239,9 +239,14 @@ fn write_saved<A: World, W: Write, E: Write>(
     }
 }
 
-/// The disk of a folder that is to hold a new store. A missing folder is made. One that has a `store.yaml` stays as it
-/// is.
-fn open_new<A: World>(world: &mut A, alloc: Global, folder: &str) -> Result<A::Disk, ReadingFault>
+/// The disk of a folder that is to hold a new store, which takes after the file of another one. A missing folder is made.
+/// One that has a `store.yaml` stays as it is.
+fn open_new<A: World>(
+    world: &mut A,
+    alloc: Global,
+    like: &A::File,
+    folder: &str,
+) -> Result<A::Disk, ReadingFault>
     ensures { OpensNew A.model folder.now world.old result world.new }
 {
     if let Err(fault) = world.make_folder(alloc, folder) {
@@ -252,7 +257,7 @@ fn open_new<A: World>(world: &mut A, alloc: Global, folder: &str) -> Result<A::D
         Ok(Some(_)) => return Err(ReadingFault::Salvage(SalvageFault::StoreExists)),
         Err(fault) => return Err(ReadingFault::Folder(fault)),
     }
-    match world.open(alloc, Access::New, folder) {
+    match world.open_saved(alloc, like, folder) {
         Ok(disk) => Ok(disk),
         Err(fault) => Err(ReadingFault::Folder(fault)),
     }

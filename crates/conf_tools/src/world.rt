@@ -41,8 +41,9 @@ pub trait World {
     /// How much is said of a text that is refused, where the words ask for no more. Nothing is claimed of it.
     fn reporting(&self) -> Reporting;
 
-    /// Why the call that failed last did, if the system said so. Nothing is claimed of it.
-    fn cause(&self) -> Option<Cause>;
+    /// Why the call on a folder that failed last did, if the system said so, with the path that the call was given. Nothing
+    /// is claimed of it.
+    fn cause(&self) -> Option<(Cause, &str)>;
 
     /// Makes a folder. Whatever is at the path stays as it is.
     ///
@@ -63,6 +64,19 @@ pub trait World {
         folder: &str,
     ) -> Result<Self::Disk, FolderFault>
         ensures { model.opened access folder.now self.old result self.new };
+
+    /// Hands out the disk of a folder in which a new store is to be made, as [`open`](World::open) does. The new store has
+    /// the owner, the group and the mode of `like`, the file of another store, as far as the system allows it.
+    ///
+    /// # Errors
+    /// Those of [`open`](World::open), where no store is wanted.
+    fn open_saved(
+        &mut self,
+        alloc: Global,
+        like: &Self::File,
+        folder: &str,
+    ) -> Result<Self::Disk, FolderFault>
+        ensures { model.opened Access.New folder.now self.old result self.new };
 
     /// Lets go of a disk that was handed out.
     fn give_back(&mut self, disk: Self::Disk)

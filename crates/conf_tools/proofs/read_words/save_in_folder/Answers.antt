@@ -10,7 +10,7 @@ returns-in-Ok g c = inr (record {
   result = c.salvage-saved.result;
   gives_back = c.write_saved.ensures.back;
   writes = c.write_saved.ensures.writes;
-  left = g.R.Read.remaining c.salvage-saved.new.reader;
+  left = g.A.File.Read.remaining c.salvage-saved.new.reader;
   saved = c.salvage-saved.ensures.saved;
   refused = c.salvage-saved.ensures.refused;
 })
