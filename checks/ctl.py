@@ -112,14 +112,21 @@ class Done(NamedTuple):
 
     def told(self, program: str) -> list[str]:
         """Its lines on standard error: of one that begins with the program the fault's name alone, without what is said
-        of it, and the others as they are, as `web.yaml:2:1: KeyTwice ..`. Of wrong words that is the status alone."""
+        of it, and the others as they are, as `web.yaml:2:1: KeyTwice ..`, but not why a FILE can't be read. Of wrong
+        words that is the status alone."""
         begin = f"{program}: "
-        lines = [] if self.status == 2 else self.errors.splitlines()
+        all_lines = [] if self.status == 2 else self.errors.splitlines()
+        lines = [line for line, before in zip(all_lines, ["", *all_lines]) if not is_cause_of_input(line, before)]
         return [line[len(begin) :].partition(": ")[0] if line.startswith(begin) else line for line in lines]
 
     def fault(self, program: str) -> list[str]:
         """The faults that it names after the program."""
         return [name for name in self.told(program) if f"{program}: {name}" in self.errors]
+
+
+def is_cause_of_input(line: str, before: str) -> bool:
+    """Whether a line says why the file of the line before it can't be read."""
+    return before.endswith(": Input") and line.startswith(before[: -len("Input")])
 
 
 def done(words: Sequence[str], given: bytes = b"", **more: Any) -> Done:

@@ -4,6 +4,7 @@ from __future__ import annotations
 
 import errno
 import os
+import stat
 
 from .ctl_faults import Fault
 
@@ -62,6 +63,8 @@ def read_text(file: str) -> bytes:
         return _read_all(STANDARD_INPUT)
     opened = os.open(file, os.O_RDONLY | os.O_CLOEXEC)
     try:
+        if stat.S_ISDIR(os.fstat(opened).st_mode):
+            raise IsADirectoryError(errno.EISDIR, "it is a folder")
         return _read_all(opened)
     finally:
         os.close(opened)

@@ -335,7 +335,7 @@ class Sockets(SocketTest):
 
     def test_a_text_that_can_not_be_read(self) -> None:
         status, _, errors = self.perform("import", self.folder, "web", self.top)
-        self.assertEqual((status, errors), (3, f"{self.top}: Input\n{self.top}: Is a directory\n"))
+        self.assertEqual((status, errors), (3, f"{self.top}: Input\n{self.top}: it is a folder\n"))
 
     def test_a_node_has_no_checkpoint(self) -> None:
         self.listen(b'{"refused": "BadCommand"}\n')
