@@ -55,6 +55,11 @@ LINES = [
     ("format --in", "format --in-place"),
     ("format -i fil", "format -i file.yaml"),
     ("check fil", "check file.yaml"),
+    ("import --ini", "import --init"),
+    ("set --who", "set --whole"),
+    ("delete --who", "delete --whole"),
+    ("check --exp", "check --explain"),
+    ("format -i --dro", "format -i --drop-comments"),
 ]
 
 # How many seconds a shell may take to start, and to say what its words are.

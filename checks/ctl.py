@@ -3,9 +3,10 @@
 
 - **Words.** Each row of `lib/ctl_rows.py` is done four times, on stores of their own: by confstore, by confstorectl
   without a server, through the socket of `clients/serve.py`, and through a node of a replicated store. The status, the
-  output and the name of the fault are those of confstore, and in the end so is the store's file, byte by byte. (A
-  node's store has its own marks, and a node takes neither a checkpoint nor the words that look into the file.)
-- **Streams** that are closed, full, or that nobody reads.
+  output, the name of the fault and the other lines on standard error are those of confstore, and in the end so is the
+  store's file, byte by byte. (A node's store has its own marks, and a node takes neither a checkpoint nor the words
+  that look into the file.) A folder without a store gets none.
+- **Streams** that are closed, full, or that nobody reads, and a terminal, where more is said of a refused text.
 - **Waiting** for a store that is locked, and for a server that is not there; and which socket is taken.
 - **Clients.** Sixteen of them append 50 texts each to one list: it has all of them, those of each in their order. So
   do four without a server, which wait for each other.
@@ -27,6 +28,7 @@ import contextlib
 import importlib.util
 import os
 import pickle
+import pty
 import re
 import shutil
 import signal
@@ -108,11 +110,23 @@ class Done(NamedTuple):
     output: bytes
     errors: str
 
-    def fault(self, program: str) -> list[str]:
-        """The faults on its lines, without what is said of them: of wrong words that is the status alone."""
+    def told(self, program: str) -> list[str]:
+        """Its lines on standard error: of one that begins with the program the fault's name alone, without what is said
+        of it, and the others as they are, as `web.yaml:2:1: KeyTwice ..`, but not why a FILE can't be read. Of wrong
+        words that is the status alone."""
         begin = f"{program}: "
-        lines = [line[len(begin) :] for line in self.errors.splitlines() if line.startswith(begin)]
-        return [] if self.status == 2 else [line.partition(": ")[0] for line in lines]
+        all_lines = [] if self.status == 2 else self.errors.splitlines()
+        lines = [line for line, before in zip(all_lines, ["", *all_lines]) if not is_cause_of_input(line, before)]
+        return [line[len(begin) :].partition(": ")[0] if line.startswith(begin) else line for line in lines]
+
+    def fault(self, program: str) -> list[str]:
+        """The faults that it names after the program."""
+        return [name for name in self.told(program) if f"{program}: {name}" in self.errors]
+
+
+def is_cause_of_input(line: str, before: str) -> bool:
+    """Whether a line says why the file of the line before it can't be read."""
+    return before.endswith(": Input") and line.startswith(before[: -len("Input")])
 
 
 def done(words: Sequence[str], given: bytes = b"", **more: Any) -> Done:
@@ -185,7 +199,7 @@ class Side:
         self.results = [self.do_one(*one) for one in todo] if self.program == "confstore" else do_forked(todo)
 
     def do_one(self, words: list[str], given: bytes) -> Done:
-        return batch_by_session(self.folder, given) if words[1] == "batch" else done(words, given)
+        return batch_by_session(words, given) if words[1] == "batch" else done(words, given)
 
 
 def do_forked(todo: Sequence[tuple[list[str], bytes]]) -> list[Done]:
@@ -196,9 +210,12 @@ def do_forked(todo: Sequence[tuple[list[str], bytes]]) -> list[Done]:
     return [Done(*result) for result in pickle.loads(driven.output)]
 
 
-def batch_by_session(folder: str, text: bytes) -> Done:
+def batch_by_session(words: Sequence[str], text: bytes) -> Done:
     """What confstore does of a batch that is valid YAML: in a session, since it has no such word."""
-    listed = done([PROGRAM, "format"], text)
+    options, (folder, *file) = [], [word for word in words[2:] if word != "--explain"]
+    if "--explain" in words:
+        options.append("--explain")
+    listed = done([PROGRAM, "format", *options, *(file or ["-"])], text)
     if listed.status:
         return listed
     indented = b"".join(b"  " + line for line in listed.output.splitlines(keepends=True))
@@ -214,15 +231,17 @@ def compare(side: Side, model: Side, rows: Sequence[Row], failures: Failures) ->
         name = f"{side.name}: {' '.join(row.words)[:80]}"
         failures.expect(f"{name}: status", found.status, wanted.status)
         failures.expect(f"{name}: output", found.output, wanted.output)
-        faults = [found.fault("confstorectl"), wanted.fault("confstore")]
-        if row.words[0] == "batch":  # a session does not say where
-            faults = [[fault.split()[0] for fault in said] for said in faults]
-        failures.expect(f"{name}: fault", *faults)
+        told, of_model = found.told("confstorectl"), wanted.told("confstore")
+        if row.words[0] == "batch":  # a session does not say where in the text of an import
+            told = [line.split()[0] if re.match(r"Syntax \d", line) else line for line in told]
+        failures.expect(f"{name}: what is told", told, of_model)
 
 
 def fill(top: str) -> None:
     """The files that rows name."""
     write_file(os.path.join(top, "web.yaml"), b"a: 1\nb: [x, y]\n")
+    write_file(os.path.join(top, "twice.yaml"), b"a: 1\nb:\n  c: 2\n  \"c\": 3\n")
+    write_file(os.path.join(top, "a b\n\\.yaml"), b"a: [1,\n")
     write_file(os.path.join(top, "long.yaml"), b"? " + b"k" * 3_000 + b"\n: v\n")
     write_file(os.path.join(top, "too-long.yaml"), b"#" * 4_194_305)
     write_file(os.path.join(top, "deep.yaml"), b"[" * 129 + b"]" * 129)
@@ -248,6 +267,7 @@ def node_on(top: str, folder: str) -> Iterator[str]:
 
 def try_words(top: str, failures: Failures) -> None:
     fill(top)
+    os.mkdir(os.path.join(top, "empty"))
     model = Side(top, "model", "confstore", [PROGRAM])
     alone = Side(top, "alone", "confstorectl", [])
     served = Side(top, "served", "confstorectl", [])
@@ -269,6 +289,7 @@ def try_words(top: str, failures: Failures) -> None:
     files = [read_file(os.path.join(side.folder, "store.yaml")) for side in (model, alone, served)]
     failures.expect("the file without a server", files[1] == files[0], True)
     failures.expect("the file of the server", files[2] == files[0], True)
+    failures.expect("the folder without a store", os.listdir(os.path.join(top, "empty")), [])
 
 
 # ---- streams, waiting, sockets
@@ -277,6 +298,17 @@ def try_words(top: str, failures: Failures) -> None:
 def through_shell(line: str, folder: str, program: str) -> Done:
     """What a line of a shell says, with $CTL for the program and $S for the store."""
     return done(["bash", "-o", "pipefail", "-c", line], environment={"CTL": program, "S": folder})
+
+
+def on_terminal(words: Sequence[str]) -> bytes:
+    """What a program writes to standard error where that is a terminal."""
+    shown, end = pty.openpty()
+    try:
+        subprocess.run(words, stderr=end, stdout=subprocess.DEVNULL, check=False, env=ENVIRONMENT, timeout=PATIENCE)
+        return os.read(shown, 65_536)
+    finally:
+        os.close(shown)
+        os.close(end)
 
 
 def try_streams(top: str, failures: Failures) -> None:
@@ -291,10 +323,18 @@ def try_streams(top: str, failures: Failures) -> None:
             wanted, found = (through_shell(line, folder, program) for program in (PROGRAM, by_socket))
             failures.expect(f"streams: {line}", (found.status, found.output), (wanted.status, wanted.output))
             failures.expect(f"the fault of {line}", found.fault("confstorectl"), wanted.fault("confstore"))
-        closed = through_shell("$CTL import $S web <&-", folder, by_socket)
-        failures.expect("closed input", (closed.status, closed.fault("confstorectl")), (3, ["Input"]))
+        for line in ("$CTL import $S web <&-", "$CTL set $S web /a - --yaml <&-"):
+            wanted, found = (through_shell(line, folder, program) for program in (PROGRAM, by_socket))
+            failures.expect(f"closed input: {line}", (wanted.status, found.status), (3, 3))
+            failures.expect(f"what is told of {line}", found.told("confstorectl"), wanted.told("confstore"))
         closed = through_shell("$CTL get $S web 2>&-", folder, by_socket)
         failures.expect("closed errors", (closed.status, closed.output), (0, b'port: "80"\n'))
+        write_file(os.path.join(top, "twice.yaml"), b"a: 1\na: 2\n")
+        words = ["import", folder, "web", os.path.join(top, "twice.yaml")]
+        shown = on_terminal([PROGRAM, "format", words[-1]])
+        failures.expect("a terminal is told more", b"help: " in shown, True)
+        failures.expect("on a terminal", on_terminal([*CTL, "--socket", at, *words]), shown)
+    failures.expect("on a terminal without a server", on_terminal([*CTL, *words]), shown)
 
 
 def try_waiting(top: str, failures: Failures) -> None:
@@ -343,7 +383,7 @@ def try_finding(folder: str, at: str, failures: Failures) -> None:
             left.bind("confstore.sock")
     finally:
         os.chdir(here)
-    failures.expect("one that was left", ctl("set", other, "web", "", "y").status, 0)
+    failures.expect("one that was left", ctl("set", "--whole", other, "web", "", "y").status, 0)
     failures.expect("what was set there", ctl("get", other, "web").output, b'"y"\n')
 
 
@@ -545,6 +585,9 @@ LINES = [
     ("import store app fil", "import store app file.yaml"),
     ("watch sto", "watch store"),
     ("help ver", "help verify"),
+    ("import --ini", "import --init"),
+    ("delete --who", "delete --whole"),
+    ("set --yaml --exp", "set --yaml --explain"),
 ]
 
 

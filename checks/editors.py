@@ -37,8 +37,17 @@ LINES: list[Line] = [
     ("web.yaml:3: S1 the line ends in a space or TAB", ("web.yaml", 3, 0, "S1 the line ends in a space or TAB")),
     ("web.yaml:12:7: Syntax Flow", ("web.yaml", 12, 7, "Syntax Flow")),
     ("a b.yaml:1: S4", ("a b.yaml", 1, 0, "S4")),
-    ("a b.yaml: KeyTwice", ("a b.yaml", 0, 0, "KeyTwice")),
+    ("a b.yaml: Comments", ("a b.yaml", 0, 0, "Comments")),
+    ("a b.yaml: TooLong (more than 9 bytes)", ("a b.yaml", 0, 0, "TooLong (more than 9 bytes)")),
+    ('web.yaml:5:1: KeyTwice "a: b" (first at 1:3)', ("web.yaml", 5, 1, 'KeyTwice "a: b" (first at 1:3)')),
+    (
+        "web.yaml:2:4: Syntax Key (a `: ` in a value without quotes: quote the value)",
+        ("web.yaml", 2, 4, "Syntax Key (a `: ` in a value without quotes: quote the value)"),
+    ),
 ]
+
+# Lines that explain one of these, and are none for VS Code, whose tasks run in a terminal.
+EXPLAINING = ["5 | a:1: b", "12 | name: Input", "   | ^", "help: drop one, or give it another key", "help: close it"]
 
 # How long anything here may take, in seconds.
 PATIENCE = 60
@@ -60,9 +69,9 @@ SAID = (
     "b d.yml:2: S1 the line ends in a space or TAB",
     "b d.yml:2: S4 the text first differs from the one style here",
     "deep/er/c.yaml:2: S1 the line ends in a space or TAB",
-    "flow.yaml:2:8: Syntax Flow",
+    "flow.yaml:2:8: Syntax Flow (nothing between two commas: drop one)",
     "two\\nlines.yaml:2: S1 the line ends in a space or TAB",  # escaped as docs/FAULTS.md has it
-    "two.yaml: Documents",
+    "two.yaml:2:1: Documents (the second of 2 begins here)",
 )
 
 
@@ -83,7 +92,7 @@ def lines_of(top: str, failures: Failures) -> list[Line]:
     failures.expect("the status of check", done.returncode, 1)
     own = [line for line in done.stdout.decode().splitlines() if ": S1" in line]
     failures.expect("the program's lines", [line.split(" ")[0] for line in own], ["own.yaml:2:"])
-    failures.expect("the program's faults", done.stderr, b"twice.yaml: KeyTwice\n")
+    failures.expect("the program's faults", done.stderr, b'twice.yaml:2:1: KeyTwice "a" (first at 1:1)\n')
     return LINES + [(line, ("own.yaml", 2, 0, line.split(": ", 1)[1])) for line in own]
 
 
@@ -137,10 +146,10 @@ def by_emacs(top: str, lines: Sequence[Line], failures: Failures) -> list[tuple[
     return [(name, int(line), int(column)) for name, line, column in found]
 
 
-def by_code(lines: Sequence[Line]) -> list[Place | None]:
+def by_code(lines: Sequence[str]) -> list[Place | None]:
     """What the patterns for VS Code find in the lines, of which each takes the first that fits."""
     patterns = [matcher["pattern"] for matcher in json.loads(block_of("json"))["tasks"][0]["problemMatcher"]]
-    return [found_by(patterns, line) for line, _ in lines]
+    return [found_by(patterns, line) for line in lines]
 
 
 def found_by(patterns: Sequence[Mapping[str, Any]], line: str) -> Place | None:
@@ -158,7 +167,8 @@ def found_by(patterns: Sequence[Mapping[str, Any]], line: str) -> Place | None:
 def try_editors(top: str, failures: Failures) -> None:
     lines = lines_of(top, failures)
     wanted = [place for _, place in lines]
-    failures.expect("VS Code", by_code(lines), wanted)
+    failures.expect("VS Code", by_code([line for line, _ in lines]), wanted)
+    failures.expect("VS Code, lines that explain", by_code(EXPLAINING), [None] * len(EXPLAINING))
     if shutil.which("vim"):
         failures.expect("Vim", by_vim(top, lines), wanted)
     else:

@@ -4,7 +4,7 @@
 The library and the ways in which a call goes wrong are those of fail_calls.py. The first file is named by a link. Each
 time a file is its old text or its new one, whole, with its mode, and the link stays. The status and the message tell
 what was done: status 0 and no message where both files are new; else status 3, and a line for each file that was not
-read or not replaced. Every file that is not named is new. One that is named as `Input` is old. One that is named as
+read or not replaced, with the cause in a second line where one is known. Every file that is not named is new. One that is named as `Input` is old. One that is named as
 `Output` is old, or new where the rename was made but failed, or its folder could not be synced then.
 
 No new file is left beside them, but where the process was ended, the removal failed too, or the file was made by a call
@@ -24,6 +24,7 @@ from __future__ import annotations
 
 import itertools
 import os
+import re
 import shutil
 import stat
 import subprocess
@@ -50,6 +51,10 @@ CHANGES = [
     "create .confstore-0.tmp", "write .confstore-0.tmp", "fchmod .confstore-0.tmp", "fsync .confstore-0.tmp",
     "rename .confstore-0.tmp", "fsync folder",
 ] * 2
+
+
+# A line that says of a file, or of the program, what went wrong.
+FAULT = re.compile(r"(.+): (Input|Output|OutOfMemory)")
 
 
 class Call:
@@ -140,19 +145,37 @@ def try_fault(top: str, library: str, call: Call, kind: Kind) -> tuple[Failures,
         failures.expect(f"{name}: ending", (status, said), (ENDED, b""))
         expect_files(name, folder, [], failures, names)
     else:
-        expect_told(name, folder, status, said, call, failures)
+        expect_told(name, folder, status, said, call, kind, failures)
         may_be_left = kind.later or call.name == "unlink" or (call.name == "create" and kind.done == "whole")
         failures.expect(f"{name}: left over", left_over(folder) if not may_be_left else [], [])
     failures.expect(f"{name}: run again", run(folder), (0, b""))
     expect_files(f"{name}: run again", folder, [], failures)
     shutil.rmtree(folder)
-    return failures, "ended" if kind.answer == "exit" else "done" if status == 0 else said.decode().split()[-1]
+    return failures, "ended" if kind.answer == "exit" else "done" if status == 0 else list(told_of(said).values())[-1]
 
 
-def expect_told(name: str, folder: str, status: int, said: bytes, call: Call, failures: Failures) -> None:
+def told_of(said: bytes) -> dict[str, str]:
+    """What went wrong with each file that standard error names, in that order."""
+    found = map(FAULT.fullmatch, said.decode().splitlines())
+    return {fault[1]: fault[2] for fault in found if fault}
+
+
+def is_cause(line: str, before: str, kind: Kind) -> bool:
+    """Whether a line says why the file of the line before it was not read or not replaced: the file itself, its folder,
+    or the new file could not be used."""
+    fault = FAULT.fullmatch(before)
+    reason = os.strerror(kind.error) if kind.error else "failed to write whole buffer"
+    subjects = ("", "its folder: ", "a new file beside it: ")
+    return fault is not None and line in {f"{fault[1]}: {subject}{reason}" for subject in subjects}
+
+
+def expect_told(
+    name: str, folder: str, status: int, said: bytes, call: Call, kind: Kind, failures: Failures
+) -> None:
     """What a run that came to its end says of the files is so."""
-    lines = said.decode().splitlines()
-    told = dict(line.split(": ") for line in lines)
+    lines, told = said.decode().splitlines(), told_of(said)
+    causes = [pair for pair in zip(lines, ["", *lines]) if not FAULT.fullmatch(pair[0])]
+    failures.expect(f"{name}: the causes {causes}", all(is_cause(*pair, kind) for pair in causes), True)
     failures.expect(f"{name}: the status of {lines}", status, 3 if told else 0)
     failures.expect(f"{name}: what is told of each file", set(told) <= {given for given, *_ in FILES}, True)
     failures.expect(f"{name}: why", set(told.values()) <= {"Input", "Output"}, True)
@@ -169,7 +192,8 @@ def try_allocations(top: str, failures: Failures) -> None:
         folder = new_folder(top, name)
         status, said = run(folder, LD_PRELOAD=library, REFUSE_ALLOCATION=str(number), REFUSED_FILE=mark)
         was_refused = os.path.exists(mark)
-        told = dict(line.split(": ") for line in said.decode().splitlines())
+        told = told_of(said)
+        failures.expect(f"{name}: the lines {said!r}", len(said.splitlines()), len(told))
         named = [given for given, *_ in FILES] if "confstore" in told else list(told)
         failures.expect(f"{name}: status", status, 1 if told else 0)
         failures.expect(f"{name}: {told}", set(told.values()) <= {"OutOfMemory"}, True)

@@ -63,6 +63,11 @@ def new_store(top: Path, name: str) -> Path:
     return folder
 
 
+def change(program: str, folder: Path, value: str, user: str | None = None) -> int:
+    """The status of a change of `a`."""
+    return run(program, "set", "--whole", str(folder), "a", "", value, user=user)[0]
+
+
 def value_of(folder: Path) -> str:
     return run(PROGRAM, "get", str(folder), "a")[1]
 
@@ -83,7 +88,7 @@ def lock_modes(top: Path, failures: Failures) -> None:
                 lock.touch()
                 lock.chmod(left)
             for turn in ("first", "second"):
-                failures.expect(f"{folder.name}: the {turn} run", run(PROGRAM, "set", str(folder), "a", "", "p")[0], 0)
+                failures.expect(f"{folder.name}: the {turn} run", change(PROGRAM, folder, "p"), 0)
             failures.expect(f"{folder.name}: mode", stat.S_IMODE(lock.stat().st_mode) & 0o777, wanted)
 
 
@@ -98,20 +103,20 @@ def locks_of_others(top: Path, failures: Failures) -> None:
             os.chown(path, nobody.pw_uid, nobody.pw_gid)
         if left == "root's run":
             failures.expect("a run of root", run(program, "get", str(folder), "a"), (0, "x\n"))
-            failures.expect("a change of root", run(program, "set", str(folder), "a", "", "p")[0], 0)
+            failures.expect("a change of root", change(program, folder, "p"), 0)
         else:
             (folder / "store.lock").touch(0o644)
-        failures.expect(f"the owner after {left}", run(program, "set", str(folder), "a", "", "q", user=NOBODY)[0], 0)
+        failures.expect(f"the owner after {left}", change(program, folder, "q", user=NOBODY), 0)
         failures.expect(f"the owner of store.lock after {left}", (folder / "store.lock").stat().st_uid, nobody.pw_uid)
     folder = new_store(top, "of root")
-    run(program, "set", str(folder), "a", "", "p")
+    change(program, folder, "p")
     opened = subprocess.run(["cat", str(folder / "store.lock")], user=NOBODY, capture_output=True, check=False)
     failures.expect("a reader opens store.lock", opened.returncode, 1)
-    failures.expect("a reader changes the store", run(program, "set", str(folder), "a", "", "r", user=NOBODY)[0], 3)
+    failures.expect("a reader changes the store", change(program, folder, "r", user=NOBODY), 3)
     failures.expect("a reader exports", run(program, "export", str(folder), "a", user=NOBODY), (0, "p\n"))
     held = os.open(folder, os.O_RDONLY)
     fcntl.flock(held, fcntl.LOCK_SH)
-    failures.expect("a change beside a reader's lock", run(program, "set", str(folder), "a", "", "q")[0], 0)
+    failures.expect("a change beside a reader's lock", change(program, folder, "q"), 0)
     os.close(held)
 
 
@@ -146,7 +151,7 @@ def try_list(folder: Path, program: str, way: str, failures: Failures) -> None:
                 read = subprocess.run(["cat", str(folder / file)], user=user, group=pwd.getpwnam(user).pw_gid,
                                       extra_groups=[], capture_output=True, check=False)
                 failures.expect(f"{name}: {user} reads {file}", read.returncode, wanted)
-        changed = run(program, "set", str(folder), "a", "", "p", user=NOBODY)[0]
+        changed = change(program, folder, "p", user=NOBODY)
         failures.expect(f"{name}: {NOBODY} changes the store", changed, 0)
 
 
@@ -283,7 +288,7 @@ def changes_beside_new_stores(top: Path, failures: Failures) -> None:
         folder = top / f"beside {number}"
         folder.mkdir()
         making = subprocess.Popen([PROGRAM, "run", str(folder)], stdin=subprocess.PIPE, stdout=subprocess.PIPE)
-        words = ["set", str(folder), "a", "", "p"]
+        words = ["set", "--whole", str(folder), "a", "", "p"]
         changes = [subprocess.Popen([PROGRAM, *words], stderr=subprocess.PIPE, text=True) for _ in range(4)]
         said = [change.communicate(timeout=SECONDS)[1].partition("\n")[0] for change in changes]
         failures.expect(f"{folder.name}: {said}", set(said) <= refusals, True)

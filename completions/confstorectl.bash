@@ -6,7 +6,10 @@ _confstorectl_words='import set delete batch checkpoint export names get log ver
 
 _confstorectl_options() {
     case $1 in
-    set) echo '--yaml --socket --wait --help' ;;
+    import) echo '--init --explain --socket --wait --help' ;;
+    set) echo '--yaml --whole --explain --socket --wait --help' ;;
+    delete) echo '--whole --socket --wait --help' ;;
+    batch) echo '--explain --socket --wait --help' ;;
     names) echo '--at --socket --wait --help' ;;
     get) echo '--raw --at --socket --wait --help' ;;
     log) echo '--yaml --at --socket --wait --help' ;;

@@ -65,8 +65,20 @@ complete -c confstorectl -l socket -r -F -d 'The socket of the server or the nod
 complete -c confstorectl -l wait -x -d 'Tries again for so many seconds while another run holds the store'
 complete -c confstorectl -l help -d 'Says what the word does'
 complete -c confstorectl -n '__confstorectl_at -1' -l version -d 'Writes the version'
+complete -c confstorectl -n '__confstorectl_is import' -l init \
+    -d 'Makes a store in the folder, if it has none'
+complete -c confstorectl -n '__confstorectl_is import' -l explain \
+    -d 'Shows the line at fault of a refused text, and says what to do'
 complete -c confstorectl -n '__confstorectl_is set' -l yaml \
     -d 'Reads VALUE, or standard input if that is `-`, as a YAML text'
+complete -c confstorectl -n '__confstorectl_is set' -l whole \
+    -d 'Allows the pointer "", which stands for the whole configuration'
+complete -c confstorectl -n '__confstorectl_is set' -l explain \
+    -d 'Shows the line at fault of a refused text, and says what to do'
+complete -c confstorectl -n '__confstorectl_is delete' -l whole \
+    -d 'Allows the pointer "", which stands for the whole configuration'
+complete -c confstorectl -n '__confstorectl_is batch' -l explain \
+    -d 'Shows the line at fault of a refused text, and says what to do'
 complete -c confstorectl -n '__confstorectl_is names' -l at -x \
     -d 'Reads the store as it was after command number N'
 complete -c confstorectl -n '__confstorectl_is get' -l raw \

@@ -317,8 +317,8 @@ def roff_option(option: Option, words: str = "") -> str:
 
 def roff_options() -> Iterator[str]:
     for option in OPTIONS:
-        words = [word.name for word in ALL if option in word.options]
-        yield roff_option(option, f"Of {' and '.join(f'`{word}`' for word in words)}: " if words else "")
+        words = ", ".join(f"`{word.name}`" for word in ALL if option in word.options)
+        yield roff_option(option, f"Of {' and '.join(words.rsplit(', ', 1))}: " if words else "")
     yield roff_option(VERSION)
 
 

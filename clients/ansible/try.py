@@ -168,14 +168,15 @@ def try_wishes(failures: Failures) -> None:
 
 
 def try_names(failures: Failures) -> None:
-    """The names of docs/FAULTS.md are those of the module."""
+    """The names of docs/FAULTS.md are those of the module. `Comments` is only refused in a file of `format -i`."""
     page = read_file(os.path.join(TOP, "docs", "FAULTS.md")).decode()
     tables = {
         part.split("\n", 1)[0].strip(): re.findall(r"(?m)^\| (`[A-Z].*?`) \|", part) for part in page.split("\n## ")
     }
     found = {title: set(re.findall(r"`(\w+)`", " ".join(rows))) for title, rows in tables.items()}
     reasons = set(faults.REASONS)
-    failures.expect("refusals", found["Of a text"] - reasons | found["Of a command"], set(faults.REFUSALS))
+    refusals = (found["Of a text"] | found["Of a command"]) - reasons - {"Comments"}
+    failures.expect("refusals", refusals, set(faults.REFUSALS))
     failures.expect("reasons", found["Of a text"] & reasons, reasons)
     ends = found["Of a store and of the program"] - {"TooLong", "Reopen"}
     failures.expect("ends", ends, set(faults.ENDS))
@@ -280,7 +281,9 @@ REFUSED: list[tuple[Result, str, Any, str]] = [
     ({"name": "web", "text": "a: 1\nb: 2\nc: [d,,e]\n"}, "Syntax", {"line": 3, "column": 7, "reason": "Flow"},
      "the text for 'web', at line 3, column 7: Syntax Flow: a bracket is not closed, or an entry in it is malformed. "
      "What to do: close it, or put a comma."),
-    ({"name": "web", "text": "a: b\na: c\n"}, "KeyTwice", None, "the text for 'web': KeyTwice: "),
+    ({"name": "web", "text": "a: b\na: c\n"}, "KeyTwice", {"line": 2, "column": 1, "reason": ""},
+     "the text for 'web', at line 2, column 1: KeyTwice: "),
+    ({"name": "web", "text": "#" * 4_194_305}, "TooLong", None, "the text for 'web': TooLong: "),
     ({"name": "web", "path": "/no/where", "value": "x"}, "NoSuchPlace", None, "'/no/where' of 'web': NoSuchPlace: "),
     ({"name": "none", "path": "/a", "value": "x"}, "NoConfig", None, "'/a' of 'none': NoConfig: "),
     ({"name": "Web", "value": "x"}, "BadName", None, "the name 'Web': BadName: "),

@@ -18,7 +18,7 @@ extern char **environ;
 
 /* How many bytes are read at once, and how many of standard error are kept. */
 #define PART 65536
-#define ERRORS_KEPT 1024
+#define ERRORS_KEPT 8192
 
 /* How many milliseconds a program may take to be gone after it closed its output. */
 #define GOING 5000
@@ -169,8 +169,8 @@ static bool take_errors(struct confstore *store) {
     return true;
 }
 
-/* What the last line of standard error names. */
-static enum confstore_status named_end(const struct confstore *store) {
+/* What a line of standard error names, if it names why a session ended. */
+static enum confstore_status named_by(const char *line, size_t length) {
     static const struct {
         const char *name;
         enum confstore_status status;
@@ -186,19 +186,29 @@ static enum confstore_status named_end(const struct confstore *store) {
         {"Output", CONFSTORE_OUTPUT_FAILED},
     };
     static const char START[] = "confstore: ";
-    size_t end = store->error_length;
-    if (end > 0 && store->error_text[end - 1] == '\n') end--;
-    size_t start = end;
-    while (start > 0 && store->error_text[start - 1] != '\n') start--;
-    if (end - start < sizeof START - 1 || memcmp(store->error_text + start, START, sizeof START - 1))
-        return CONFSTORE_ENDED;
-    start += sizeof START - 1;
+    const size_t begin = sizeof START - 1;
+    if (length < begin || memcmp(line, START, begin)) return CONFSTORE_ENDED;
+    line += begin;
+    length -= begin;
     for (size_t number = 0; number < sizeof NAMES / sizeof *NAMES; number++) {
-        size_t length = strlen(NAMES[number].name);
-        if (end - start < length || memcmp(store->error_text + start, NAMES[number].name, length)) continue;
-        if (end - start == length || strchr(" :", store->error_text[start + length])) return NAMES[number].status;
+        size_t named = strlen(NAMES[number].name);
+        if (length < named || memcmp(line, NAMES[number].name, named)) continue;
+        if (length == named || strchr(" :", line[named])) return NAMES[number].status;
     }
     return CONFSTORE_ENDED;
+}
+
+/* What the last line of standard error names that names an end. A line with the cause may come after it. */
+static enum confstore_status named_end(const struct confstore *store) {
+    enum confstore_status named = CONFSTORE_ENDED;
+    size_t end = store->error_length;
+    while (end > 0 && named == CONFSTORE_ENDED) {
+        size_t start = end;
+        while (start > 0 && store->error_text[start - 1] != '\n') start--;
+        named = named_by(store->error_text + start, end - start);
+        end = start > 0 ? start - 1 : 0;
+    }
+    return named;
 }
 
 /* Notes that the session is over, and why. */

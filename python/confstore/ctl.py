@@ -13,19 +13,20 @@ import signal
 if __name__ == "__main__":
     signal.signal(signal.SIGINT, signal.SIG_DFL)  # it ends this program as it ends confstore, without a trace
 
-import sys  # noqa: E402
+import os  # noqa: E402
+import sys
 import time
 from typing import Callable, Dict, List, Optional, Sequence
 
 from .commands import CHECKPOINT, NAMES, delete_of, get_of, import_of, is_name, set_of
 from .ctl_asked import Asked, Help, Version, asked_of
-from .ctl_faults import DEVICE, Fault
+from .ctl_faults import DEVICE, OF_TEXTS, Fault, TextFault, unread
 from .ctl_help import help_of, help_of_all
-from .ctl_program import edits_of, program_if_any, run, styled, tree_of
+from .ctl_program import Source, edits_of, program_if_any, run, styled, tree_of
 from .ctl_sockets import NO_SERVER, Command, Connection, Place, Reply, SessionReply, answer_of, place_of
-from .ctl_streams import ClosedPipe, hold_closed, read_text, write, write_error
+from .ctl_streams import ClosedPipe, hold_closed, is_error_terminal, read_text, write, write_error
 from .ctl_watch import watch
-from .ctl_words import AT, BATCH, IMPORT, LOOKING_BACK, RAW, READING, SET, WATCH, YAML_VALUE
+from .ctl_words import AT, BATCH, EXPLAIN, IMPORT, LOOKING_BACK, RAW, READING, SET, WATCH, YAML_VALUE
 from .session import LONGEST_COMMAND
 from .style import Tree, document
 
@@ -46,14 +47,33 @@ class Work:
     """A word that is to be done, with the text that it reads."""
 
     def __init__(self, asked: Asked) -> None:
+        if EXPLAIN in asked.word.options and is_error_terminal():
+            asked = asked.with_option(EXPLAIN)
         self.asked = asked
         self.text: Optional[bytes] = None
-        if asked.word in (IMPORT, BATCH):
-            self.text = read_text(asked.argument("FILE") or "-")
-        elif asked.word is SET and asked.has(YAML_VALUE):
-            value = asked.arguments["VALUE"]
-            self.text = read_text("-") if value == "-" else value.encode()
+        self.source = Source("-", asked.has(EXPLAIN))
         self._command: Optional[Command] = None
+        if asked.word in (IMPORT, BATCH):
+            self._take_file(asked.argument("FILE") or "-")
+        elif asked.word is SET and asked.has(YAML_VALUE):
+            self._take_value(asked.arguments["VALUE"])
+
+    def _take_file(self, file: str) -> None:
+        self.source = self.source._replace(name=file)
+        try:
+            self.text = read_text(file)
+        except OSError as error:
+            raise unread(file, error) from None
+
+    def _take_value(self, value: str) -> None:
+        if value != "-":
+            self.source = self.source._replace(name="VALUE")
+            self.text = value.encode()
+            return
+        try:
+            self.text = read_text(value)
+        except OSError as error:
+            raise Fault("Input", error.strerror) from None
 
     @property
     def place(self) -> Optional[Place]:
@@ -76,12 +96,14 @@ class Work:
     def by_program(self) -> int:
         """Has the program do it. The status."""
         if self.asked.word is BATCH:
+            if is_without_store(self.asked.folder):
+                raise Fault("NotAStore")
             ended = run(["run", "--", self.asked.folder], document(self.command))
         else:
             ended = run(self._words(), self.text, None)
         if ended.was_locked:
             raise Fault("Locked", None, True)
-        write_error(ended.lines())
+        write_error(ended.lines(self.source))
         if ended.output:
             answer_of(SessionReply(ended.output), self.command, program_if_any())
         return ended.status if ended.status >= 0 else BY_SIGNAL - ended.status
@@ -102,9 +124,28 @@ class Work:
     def by_socket(self, place: Place) -> int:
         """Asks the server. The status."""
         with Connection(place) as connection:
-            reply = answer_of(connection.ask(self.command), self.command, program_if_any())
+            answer = connection.ask(self.command)
+        try:
+            reply = answer_of(answer, self.command, program_if_any())
+        except Fault as fault:
+            raise self._with_place(fault) from None
         write(_OUTPUTS.get(self.asked.word.name, _nothing)(self, reply))
         return 0
+
+    def _with_place(self, fault: Fault) -> Fault:
+        """The fault of a text that a server refused, as the program tells of it, if there is one."""
+        if self.asked.word is not IMPORT or fault.kind not in OF_TEXTS or self.text is None or not program_if_any():
+            return fault
+        try:
+            styled(self.text, self.source)
+        except TextFault as told:
+            return told
+        return fault
+
+
+def is_without_store(folder: str) -> bool:
+    """Whether there is a folder, and no store in it."""
+    return os.path.isdir(folder) and not os.path.lexists(os.path.join(folder, "store.yaml"))
 
 
 # ---- the commands of the words
@@ -120,21 +161,21 @@ def _import_command(work: Work) -> Command:
     try:
         text = work.text.decode()
     except UnicodeDecodeError:
-        text = styled(work.text).decode()
+        text = styled(work.text, work.source).decode()
     if len(text) * LONGEST_CHARACTER > LONGEST_COMMAND:
-        text = styled(work.text).decode()
+        text = styled(work.text, work.source).decode()
     return import_of(name, text)
 
 
 def _set_command(work: Work) -> Command:
     given = work.asked.arguments
-    value: Tree = given["VALUE"] if work.text is None else tree_of(work.text)
+    value: Tree = given["VALUE"] if work.text is None else tree_of(work.text, work.source)
     return set_of(given["NAME"], given["POINTER"], value)
 
 
 def _batch_command(work: Work) -> Command:
     assert work.text is not None
-    return {"batch": edits_of(work.text)}
+    return {"batch": edits_of(work.text, work.source)}
 
 
 _COMMANDS: Dict[str, Callable[[Work], Command]] = {

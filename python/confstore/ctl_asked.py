@@ -6,7 +6,7 @@ import re
 from typing import Dict, List, NamedTuple, Sequence
 
 from .ctl_faults import Fault, shown
-from .ctl_words import AT, COMMON, FROM, HELP, SOCKET, VERSION, WAIT, WORDS, Option, Word
+from .ctl_words import AT, COMMON, FROM, HELP, SOCKET, VERSION, WAIT, WHOLE, WORDS, Option, Word
 
 _OPTIONS: Dict[str, Option] = {
     option.name: option for word in WORDS.values() for option in (*word.options, *COMMON, VERSION)
@@ -37,6 +37,10 @@ class Asked(NamedTuple):
 
     def has(self, option: Option) -> bool:
         return option.name in self.options
+
+    def with_option(self, option: Option) -> "Asked":
+        """This with an option more, which has no value."""
+        return self._replace(options={**self.options, option.name: ""})
 
     @property
     def socket(self) -> str:
@@ -130,7 +134,9 @@ def asked_of(words: Sequence[str]) -> "Asked | Help | Version":
     if HELP.name in cut.options:
         return Help(name)
     _check_options(word, cut.options)
-    return Asked(word, _arguments_of(word, cut.arguments[1:]), cut.options)
+    asked = Asked(word, _arguments_of(word, cut.arguments[1:]), cut.options)
+    _check_pointer(asked)
+    return asked
 
 
 def _help_of(words: Sequence[str]) -> Help:
@@ -166,3 +172,15 @@ def _check_options(word: Word, options: Dict[str, str]) -> None:
         raise wrong(f"{WAIT.name} wants a number of seconds, not {shown(seconds)}", word)
     if options.get(SOCKET.name) == "":
         raise wrong(f"{SOCKET.name} wants a path", word)
+
+
+def _check_pointer(asked: Asked) -> None:
+    """Raises `WrongWords` for an empty pointer of a change without the option that allows it, so that a variable of a
+    shell that is not set removes nothing, and for that option with another pointer."""
+    pointer = asked.arguments.get("POINTER")
+    if WHOLE not in asked.word.options or pointer is None:
+        return
+    if not pointer and not asked.has(WHOLE):
+        raise wrong(f"an empty POINTER needs {WHOLE.name}", asked.word)
+    if pointer and asked.has(WHOLE):
+        raise wrong(f'{WHOLE.name} needs the POINTER ""', asked.word)

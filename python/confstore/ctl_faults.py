@@ -43,6 +43,9 @@ _HINTS: Dict[str, str] = {
     "MissingProgram": "install confstore, or name it in CONFSTORE",
 }
 
+# The names of what is wrong with a text.
+OF_TEXTS = frozenset("TooLong NotUtf8 Syntax Documents KeyNotText KeyTwice TooDeep LargeInStyle".split())
+
 _HIDDEN = re.compile("[\0-\x1f\x7f-\x9f\u061c\u200e\u200f\u2028-\u202e\u2066-\u2069\\\\]")
 
 
@@ -79,9 +82,30 @@ class Fault(Exception):
 
     @property
     def line(self) -> str:
-        """The line for standard error."""
+        """The line for standard error, or lines of which the last one has no end."""
         about = self.about if self.about is not None else _HINTS.get(self.kind, "")
         return f"confstorectl: {self.name}" + (f": {about}" if about else "")
+
+
+class TextFault(Fault):
+    """A text came to nothing: the lines say of which file, where and why, as those of confstore do."""
+
+    def __init__(self, lines: str, status: int) -> None:
+        super().__init__(lines.partition("\n")[0])
+        self._lines, self._status = lines, status
+
+    @property
+    def status(self) -> int:
+        return self._status
+
+    @property
+    def line(self) -> str:
+        return self._lines.removesuffix("\n")
+
+
+def unread(file: str, error: OSError) -> TextFault:
+    """The fault of a file that can't be read."""
+    return TextFault(f"{shown(file)}: Input\n{shown(file)}: {error.strerror}\n", DEVICE)
 
 
 def hint_of(name: str) -> str:

@@ -3,11 +3,11 @@
 from __future__ import annotations
 
 import subprocess
-from typing import List, Optional, Sequence
+from typing import List, NamedTuple, Optional, Sequence
 
 import yaml
 
-from .ctl_faults import Fault, fault_of, hint_of
+from .ctl_faults import Fault, TextFault, fault_of, hint_of, shown
 from .faults import ConfstoreError, MissingProgram
 from .places import find_program
 from .style import Tree, from_text, to_text
@@ -15,7 +15,10 @@ from .style import Tree, from_text, to_text
 # What the program's lines begin with, and those of confstorectl.
 THEIRS, OURS = "confstore: ", "confstorectl: "
 
-LOCKED = b"confstore: Locked\n"
+LOCKED = b"confstore: Locked"
+
+# What the lines on a text of standard input begin with.
+INPUT = "-:"
 
 
 def program() -> str:
@@ -33,6 +36,13 @@ def program_if_any() -> Optional[str]:
         return None
 
 
+class Source(NamedTuple):
+    """Where a text comes from: what the lines on it name it by, and whether they are to explain why it is refused."""
+
+    name: str = "-"
+    is_explained: bool = False
+
+
 class Ended:
     """A run of the program that has ended: its status, what it wrote, and its lines on standard error."""
 
@@ -41,14 +51,17 @@ class Ended:
 
     @property
     def was_locked(self) -> bool:
-        return self.status != 0 and self.errors.endswith(LOCKED)
+        return self.status != 0 and LOCKED in self.errors.split(b"\n")
 
-    def lines(self) -> str:
-        """Its lines on standard error, as confstorectl says them."""
-        return "".join(_told(line) for line in self.errors.decode("utf-8", "replace").splitlines())
+    def lines(self, source: Source = Source()) -> str:
+        """Its lines on standard error, as confstorectl says them where this text was on standard input."""
+        lines = self.errors.decode("utf-8", "replace").removesuffix("\n").split("\n") if self.errors else []
+        return "".join(_told(line, source) for line in lines)
 
 
-def _told(line: str) -> str:
+def _told(line: str, source: Source) -> str:
+    if line.startswith(INPUT):
+        return f"{shown(source.name)}:{line[len(INPUT) :]}\n"
     if not line.startswith(THEIRS):
         return f"{line}\n"
     name = line[len(THEIRS) :]
@@ -69,25 +82,28 @@ def run(words: Sequence[str], given: Optional[bytes], output: "Optional[int]" = 
     return Ended(process.returncode, written or b"", errors)
 
 
-def styled(text: bytes) -> bytes:
+def styled(text: bytes, source: Source) -> bytes:
     """A YAML text in the one style. Raises the `Fault` of one that is refused."""
-    ended = run(["format"], text)
-    if ended.status != 0:
-        raise Fault(ended.errors.decode("utf-8", "replace").strip()[len(THEIRS) :])
-    return ended.output
+    ended = run(["format", *(["--explain"] if source.is_explained else []), "-"], text)
+    if ended.status == 0:
+        return ended.output
+    lines = ended.lines(source)
+    if not lines:
+        raise Fault("BadAnswer", f"the program ended with status {ended.status}, and did not say why")
+    raise TextFault(lines, ended.status)
 
 
-def tree_of(text: bytes) -> Tree:
+def tree_of(text: bytes, source: Source) -> Tree:
     """The tree of a YAML text. Raises the `Fault` of one that is refused."""
     try:
-        return from_text(styled(text))
+        return from_text(styled(text, source))
     except (ConfstoreError, yaml.YAMLError) as error:
         raise Fault("BadAnswer", f"what the program says of a text is no YAML: {error}") from None
 
 
-def edits_of(text: bytes) -> List[Tree]:
+def edits_of(text: bytes, source: Source) -> List[Tree]:
     """The edits of the text of a batch, as a session takes them. Raises a `Fault`."""
-    tree = tree_of(text)
+    tree = tree_of(text, source)
     if not isinstance(tree, list):
         raise Fault("BadCommand", "the text is no list of edits: see `confstorectl help batch`")
     return [_edit_of(edit) for edit in tree]

@@ -4,6 +4,7 @@ from __future__ import annotations
 
 import errno
 import os
+import stat
 
 from .ctl_faults import Fault
 
@@ -51,19 +52,22 @@ def write_error(line: str) -> None:
         pass
 
 
+def is_error_terminal() -> bool:
+    """Whether standard error is a terminal."""
+    return os.isatty(STANDARD_ERROR)
+
+
 def read_text(file: str) -> bytes:
-    """The bytes of a file, or of standard input for `-`; the first of them where they are more than a text may have.
-    Raises the fault `Input`."""
+    """The bytes of a file, or of standard input for `-`; the first of them where they are more than a text may have."""
+    if file == "-":
+        return _read_all(STANDARD_INPUT)
+    opened = os.open(file, os.O_RDONLY | os.O_CLOEXEC)
     try:
-        if file == "-":
-            return _read_all(STANDARD_INPUT)
-        opened = os.open(file, os.O_RDONLY | os.O_CLOEXEC)
-        try:
-            return _read_all(opened)
-        finally:
-            os.close(opened)
-    except OSError as error:
-        raise Fault("Input", error.strerror) from None
+        if stat.S_ISDIR(os.fstat(opened).st_mode):
+            raise IsADirectoryError(errno.EISDIR, "it is a folder")
+        return _read_all(opened)
+    finally:
+        os.close(opened)
 
 
 def _read_all(source: int) -> bytes:

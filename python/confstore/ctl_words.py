@@ -52,6 +52,9 @@ COMMON = (SOCKET, WAIT, HELP)
 AT = Option("--at", "Reads the store as it was after command number N", "N")
 FROM = Option("--from", "Begins with change number N, which may have been made already", "N")
 RAW = Option("--raw", "Writes a text as it is, with a line feed after it")
+INIT = Option("--init", "Makes a store in the folder, if it has none")
+WHOLE = Option("--whole", 'Allows the pointer "", which stands for the whole configuration')
+EXPLAIN = Option("--explain", "Shows the line at fault of a refused text, and says what to do")
 YAML_VALUE = Option("--yaml", "Reads VALUE, or standard input if that is `-`, as a YAML text")
 YAML_RECORDS = Option("--yaml", "Writes the records as they stand in store.yaml")
 
@@ -66,23 +69,28 @@ WATCHED_NAME = Argument("NAME", "The configuration; all of them if it is left ou
 IMPORT = Word(
     "import",
     "Reads a YAML text, and puts its tree under a name",
-    (),
+    (INIT, EXPLAIN),
     (FOLDER, NAME, FILE),
-    ("A configuration that has the name is replaced. Nothing is printed where it is done.",),
+    (
+        "A configuration that has the name is replaced. Nothing is printed where it is done. Comments and quotes are"
+        " not kept, and `3` is written `\"3\"`. A folder without a store is refused (NotAStore), and stays as it is,"
+        " unless `--init` is given.",
+    ),
     (
         "confstorectl import store web web.yaml",
+        "confstorectl import --init store web web.yaml",
         "printf 'port: 80\\n' | confstorectl import store web",
     ),
 )
 SET = Word(
     "set",
     "Sets the value at a JSON Pointer of a configuration",
-    (YAML_VALUE,),
+    (YAML_VALUE, WHOLE, EXPLAIN),
     (FOLDER, NAME, POINTER, VALUE),
     (
         "VALUE is the text itself. With `--yaml` it is read as a YAML text, so that a list or a mapping can be set;"
-        " then `-` stands for standard input. The pointer \"\" stands for the whole configuration, and the step `-` for"
-        " the place behind the last element of a list. Nothing is printed where it is done.",
+        " then `-` stands for standard input. The pointer \"\" needs `--whole`: it stands for the whole configuration."
+        " The step `-` stands for the place behind the last element of a list. Nothing is printed where it is done.",
     ),
     (
         "confstorectl set store web /port 80",
@@ -93,9 +101,12 @@ SET = Word(
 DELETE = Word(
     "delete",
     "Removes a configuration, or what is at a JSON Pointer of it",
-    (),
+    (WHOLE,),
     (FOLDER, NAME, WHOLE_POINTER),
-    ("Nothing is printed where it is done.",),
+    (
+        "Nothing is printed where it is done. Without POINTER the whole configuration is removed; the pointer \"\""
+        " needs `--whole`.",
+    ),
     (
         "confstorectl delete store web /tags/0",
         "confstorectl delete store web",
@@ -104,11 +115,12 @@ DELETE = Word(
 BATCH = Word(
     "batch",
     "Makes all edits of a list, or none of them",
-    (),
+    (EXPLAIN,),
     (FOLDER, FILE),
     (
         "The text is a YAML list. Each edit is a mapping with the keys `import` and `text`, or `import` and `tree`; or"
-        " `set`, `path` and `value`; or `delete` and `path`; in this order. Nothing is printed where it is done.",
+        " `set`, `path` and `value`; or `delete` and `path`; in this order. The path \"\" stands for the whole"
+        " configuration. Nothing is printed where it is done.",
     ),
     (
         "confstorectl batch store edits.yaml",
@@ -232,8 +244,12 @@ STATUSES = (
 )
 
 FAULTS = (
-    "A fault is one line on standard error, as `confstorectl: Locked: ..`: its name, and what to do where that isn't"
-    " plain. The names are those of confstore, and a few more."
+    "A fault is a line on standard error, as `confstorectl: Locked: ..`: its name, and what to do where that isn't"
+    " plain. The names are those of confstore, and a few more. Another line may say the cause, as"
+    " `store.yaml: No space left on device`. A text that is refused is named by its file, `-` for standard input, or"
+    " VALUE, as `web.yaml:501:1: KeyTwice \"key250\" (first at 17:1)`. With `--explain`, or where standard error is a"
+    " terminal, the line of the text follows, with a mark under the place, and what to do. Through a socket this needs"
+    " the program, which looks at the text."
 )
 
 # The faults that confstore does not have, each with its status and with what it says.

@@ -15,7 +15,7 @@ from .faults import AnswerCut, ConfstoreError, Disconnected, end_of, program_fau
 
 # How many bytes are read at once, and how many of standard error are kept.
 PART = 65_536
-ERRORS_KEPT = 4_096
+ERRORS_KEPT = 8_192
 
 # How many seconds a program may take to be gone after it closed its output.
 GOING = 5.0

@@ -13,7 +13,8 @@ from .runs import Run
 TIMEOUT = 60.0
 LONGEST = 16_777_216
 
-_PLACE = re.compile(rb"(?m)^-:(?:([0-9]+):([0-9]+):)? (\w+)(?: (\w+))?$")
+# The line of a refused text. What is known of it follows in parentheses or quotes, as the first place of a key.
+_PLACE = re.compile(rb"(?m)^-:(?:([0-9]+):([0-9]+):)? (\w+)(?: (\w+))?(?: .*)?$")
 
 
 class Place(NamedTuple):

@@ -27,6 +27,7 @@ from confstore.ctl import perform_words
 from confstore.ctl_asked import Asked, Help, Version, asked_of
 from confstore.ctl_faults import Fault, shown
 from confstore.ctl_help import help_of, help_of_all
+from confstore.ctl_program import Ended, Source
 from confstore.ctl_sockets import Command, Connection, Place, SessionReply, line_of, place_of
 from confstore.ctl_words import COMMON, WORDS
 from confstore.other import Cutter
@@ -52,6 +53,12 @@ class Words(unittest.TestCase):
             ("set s web /port -8.5e3", ("set", {**set_port, "VALUE": "-8.5e3"}, {})),
             ("set s web /port -- --yaml", ("set", {**set_port, "VALUE": "--yaml"}, {})),
             ("set s web /port ''", ("set", {**set_port, "VALUE": ""}, {})),
+            ("set --whole s web '' x", ("set", {**set_port, "POINTER": "", "VALUE": "x"}, {"--whole": ""})),
+            ("delete s web '' --whole", ("delete", {**set_port, "POINTER": ""}, {"--whole": ""})),
+            ("delete s --whole web", ("delete", {"FOLDER": "s", "NAME": "web"}, {"--whole": ""})),
+            ("get s web ''", ("get", {**set_port, "POINTER": ""}, {})),
+            ("import s web --init", ("import", {"FOLDER": "s", "NAME": "web"}, {"--init": ""})),
+            ("batch --explain s x", ("batch", {"FOLDER": "s", "FILE": "x"}, {"--explain": ""})),
             ("get s web", ("get", {"FOLDER": "s", "NAME": "web"}, {})),
             ("get s --raw web --at=5", ("get", {"FOLDER": "s", "NAME": "web"}, {"--raw": "", "--at": "5"})),
             ("--wait .5 names s", ("names", {"FOLDER": "s"}, {"--wait": ".5"})),
@@ -68,7 +75,8 @@ class Words(unittest.TestCase):
             "set s web /port -x", "get s web --raw=x", "get s web --raw --raw", "get s web --at", "get s web --at x",
             "get s web --at -1", "names s --at 18446744073709551616", "names s --raw", "names s --wait x",
             "names s --wait -1", "names s --wait inf", "names s --socket ''", "log s --from 1", "help nothing",
-            "help get set", "watch s --from ''",
+            "help get set", "watch s --from ''", "set s web '' x", "delete s web ''", "set --whole s web /port x",
+            "delete --whole s web /port", "get --whole s web", "delete --explain s web", "set --init s web /port x",
         ):  # fmt: skip
             with self.subTest(line):
                 with self.assertRaises(Fault) as caught:
@@ -127,6 +135,30 @@ class Faults(unittest.TestCase):
     def test_what_a_line_shows(self) -> None:
         self.assertEqual(shown("a\x1b[1m\n\\\u202e\x85ä"), "a\\u{1b}[1m\\n\\\\\\u{202e}\\u{85}ä")
         self.assertEqual(Fault("Syntax 3:7 Flow").line, "confstorectl: Syntax 3:7 Flow")
+
+
+class Told(unittest.TestCase):
+    """What confstorectl makes of the lines of the program."""
+
+    def test_a_text_is_named(self) -> None:
+        ended = Ended(1, b"", b'-:2:1: KeyTwice "a" (first at 1:1)\n2 | a: -: x\n  | ^\nhelp: drop one\n')
+        lines = 'web.yaml:2:1: KeyTwice "a" (first at 1:1)\n2 | a: -: x\n  | ^\nhelp: drop one\n'
+        self.assertEqual(ended.lines(Source("web.yaml")), lines)
+        self.assertEqual(ended.lines(), ended.errors.decode())
+        self.assertEqual(Ended(1, b"", b"-: TooLong (x)\n").lines(Source("a\nb")), "a\\nb: TooLong (x)\n")
+
+    def test_the_cause_follows(self) -> None:
+        ended = Ended(3, b"", b"confstore: Device\nstore.yaml: No space left on device\n")
+        self.assertRegex(ended.lines(), r"\Aconfstorectl: Device: [^\n]+\nstore.yaml: No space left on device\n\Z")
+        self.assertEqual(Ended(0, b"x", b"").lines(), "")
+
+    def test_which_run_was_locked(self) -> None:
+        locked = b"confstore: Locked\n"
+        for errors in (locked, locked + b"store.lock: another run holds its lock\n", b"confstore: the last\n" + locked):
+            self.assertTrue(Ended(3, b"", errors).was_locked)
+            self.assertFalse(Ended(0, b"", errors).was_locked)
+        for errors in (b"", b"confstore: Device\nconfstore: Locked: x\n", b"-: confstore: Locked\n"):
+            self.assertFalse(Ended(3, b"", errors).was_locked)
 
 
 class Lines(unittest.TestCase):
@@ -241,7 +273,8 @@ class SocketTest(StoreTest):
     def perform(self, *words: str) -> tuple[int, bytes, str]:
         """The status of words that go to the socket, and what they wrote."""
         output, errors = io.BytesIO(), io.StringIO()
-        with mock.patch("confstore.ctl.write", output.write), mock.patch("confstore.ctl.write_error", errors.write):
+        streams: dict[str, Any] = {"write": output.write, "write_error": errors.write, "is_error_terminal": lambda: False}
+        with mock.patch.multiple("confstore.ctl", **streams):
             status = perform_words(["--socket", self.path, *words])
         return status, output.getvalue(), errors.getvalue()
 
@@ -269,6 +302,40 @@ class Sockets(SocketTest):
     def test_a_node_fails(self) -> None:
         self.listen(b'{"failed": "OtherHistory"}\n')
         self.assertEqual(self.fault("set", self.folder, "web", "/a", "b"), (3, "Failed OtherHistory"))
+
+    def test_a_refused_text_is_named_by_its_file(self) -> None:
+        file = os.path.join(self.top, "web.yaml")
+        with open(file, "w", encoding="utf-8") as text:
+            text.write("a: 1\na: 2\n")
+        for answer in (b"---\nrefused: KeyTwice\n...\n", b'{"refused": "KeyTwice"}\n'):
+            for option, shown_lines in (("--init", []), ("--explain", ["2 | a: 2", "  | ^"])):
+                self.listen(answer)
+                status, output, errors = self.perform("import", option, self.folder, "web", file)
+                first, *others = errors.splitlines()
+                self.assertEqual((status, output, first), (1, b"", f'{file}:2:1: KeyTwice "a" (first at 1:1)'))
+                self.assertEqual(others[:-1], shown_lines)
+                os.remove(self.path)
+
+    def test_a_refused_text_without_a_program(self) -> None:
+        file = os.path.join(self.top, "web.yaml")
+        with open(file, "w", encoding="utf-8") as text:
+            text.write("a: 1\na: 2\n")
+        self.listen(b"---\nrefused: KeyTwice\n...\n")
+        with mock.patch.dict(os.environ, {"CONFSTORE": os.path.join(self.top, "none")}):
+            self.assertEqual(self.fault("import", self.folder, "web", file), (1, "KeyTwice"))
+
+    def test_another_refusal_of_an_import(self) -> None:
+        file = os.path.join(self.top, "web.yaml")
+        with open(file, "w", encoding="utf-8") as text:
+            text.write("a: 1\n")
+        for name in ("StoreFull", "TooDeep"):
+            self.listen(b"---\nrefused: %s\n...\n" % name.encode())
+            self.assertEqual(self.fault("import", self.folder, "web", file), (1, name))
+            os.remove(self.path)
+
+    def test_a_text_that_can_not_be_read(self) -> None:
+        status, _, errors = self.perform("import", self.folder, "web", self.top)
+        self.assertEqual((status, errors), (3, f"{self.top}: Input\n{self.top}: it is a folder\n"))
 
     def test_a_node_has_no_checkpoint(self) -> None:
         self.listen(b'{"refused": "BadCommand"}\n')
@@ -418,6 +485,16 @@ class Programs(StoreTest):
             self.assertRegex(process.communicate(timeout=PATIENCE)[1], rb"\Aconfstorectl: %s: .*\n\Z" % name)
             self.assertEqual(process.returncode, 1)
 
+    def test_a_batch_makes_no_store(self) -> None:
+        words = ["batch", self.folder, os.path.join(self.top, "edits.yaml")]
+        with open(words[-1], "w", encoding="utf-8") as edits:
+            edits.write("[{import: web, text: x}]\n")
+        process = self.process(*words, stderr=subprocess.PIPE)
+        self.assertRegex(process.communicate(timeout=PATIENCE)[1], rb"\Aconfstorectl: NotAStore: .*\n\Z")
+        self.assertEqual((process.returncode, os.listdir(self.folder)), (1, []))
+        self.store().close()
+        self.assertEqual(self.process(*words).wait(PATIENCE), 0)
+
     def test_no_program(self) -> None:
         with mock.patch.dict(os.environ, {"CONFSTORE": os.path.join(self.top, "none")}):
             process = self.process("names", self.folder, stderr=subprocess.PIPE)
@@ -429,9 +506,8 @@ class Programs(StoreTest):
         with open(path, "wb") as file:
             file.truncate(5_000_000)
         self.assertEqual(len(ctl_streams.read_text(path)), 4_194_305)
-        with self.assertRaises(Fault) as caught:
+        with self.assertRaises(IsADirectoryError):
             ctl_streams.read_text(self.folder)
-        self.assertEqual(caught.exception.name, "Input")
 
 
 if __name__ == "__main__":

@@ -274,7 +274,8 @@ class Limits(unittest.TestCase):
 
 class Names(unittest.TestCase):
     def test_each_refusal_is_an_exception(self) -> None:
-        """The names in the tables of docs/FAULTS.md on texts and commands, without the reasons of `Syntax`."""
+        """The names in the tables of docs/FAULTS.md on texts and commands, without the reasons of `Syntax`. `Comments`
+        is only refused in a file of `format -i`."""
         with open(os.path.join(TOP, "docs", "FAULTS.md"), encoding="utf-8") as source:
             parts = re.split(r"(?m)^## |^\| reason ", source.read())
         names: set[str] = set()
@@ -283,7 +284,7 @@ class Names(unittest.TestCase):
                 for cell in re.findall(r"(?m)^\| (`.*?) \|", part):
                     names |= set(re.findall(r"`(\w+)`", cell))
         self.assertGreater(len(names), 15)
-        self.assertEqual(names - set(confstore.faults.REFUSALS), set())
+        self.assertEqual(names - set(confstore.faults.REFUSALS), {"Comments"})
 
 
 class WrongAnswers(StoreTest):
@@ -334,6 +335,10 @@ class WrongAnswers(StoreTest):
     def test_much_on_standard_error(self) -> None:
         body = "heard()\nfor _ in range(1000): os.write(2, b'x' * 1000 + b'\\n')\n"
         body += "os.write(2, b'confstore: Device\\n')\nsys.exit(3)\n"
+        self.set_fault(confstore.Device, body)
+
+    def test_a_cause_in_a_second_line(self) -> None:
+        body = "heard()\nos.write(2, b'confstore: Device\\nstore.yaml: No space left on device\\n')\nsys.exit(3)\n"
         self.set_fault(confstore.Device, body)
 
     def test_old_programs(self) -> None:

@@ -166,6 +166,8 @@ class Sentences(StoreTest):
         fault = self.fault(lambda: store.import_text("a", "k: v\nl: [\n"))
         self.assertEqual(fault.place, (2, 4, "Flow"))
         self.assertIsNone(self.fault(lambda: store["none"]).place)
+        twice = self.fault(lambda: store.import_text("a", "k: v\nl:\n  k: v\n  k: w\n"))
+        self.assertEqual((twice.word, twice.place), ("KeyTwice", (4, 3, "")))
         with self.assertRaises(confstore.Syntax) as caught, store.batch() as batch:
             batch.import_text("a", "good")
             batch.import_text("b", "k: *alias\n")

@@ -16,7 +16,7 @@ from types import ModuleType
 from typing import IO, Any, Dict, List, NamedTuple, Optional
 
 from ansible_collections.confstore.store.plugins.module_utils.edits import Edit
-from ansible_collections.confstore.store.plugins.module_utils.faults import Fault, Place
+from ansible_collections.confstore.store.plugins.module_utils.faults import REFUSALS, Fault, Place
 from ansible_collections.confstore.store.plugins.module_utils.style import Tree, from_text, to_text
 
 package: Optional[ModuleType]
@@ -30,7 +30,10 @@ CLOSING = b"...\n"
 # How many bytes an answer may have.
 LONGEST_ANSWER = 67_108_864
 
-_FAULT = re.compile(r"(?m)^confstore: (\w+)(?: ([0-9]+):([0-9]+) (\w+))?")
+_FAULT = re.compile(r"(?m)^confstore: (\w+)")
+
+# The line of a refused text of standard input: its place, if there is one, the fault's name, and a reason of `Syntax`.
+_REFUSED = re.compile(r"(?m)^-:(?:([0-9]+):([0-9]+):)? (\w+)(?: (\w+))?")
 
 # The names of the package, and of a session's end, where a task has another one.
 _ENDS = {"CommandLong": "SessionLong", "InputFailed": "Input", "OutputFailed": "Output", "TooLong": "SessionLong"}
@@ -159,19 +162,20 @@ def run_words(target: Target, words: List[str], given: bytes = b"") -> bytes:
 def said(about: str, status: int, errors: bytes) -> Fault:
     """The fault of a program that has ended, by what it wrote to standard error."""
     text = errors.decode("utf-8", "replace")
-    found = None
-    for found in _FAULT.finditer(text):
-        pass
-    if found is None or status == 2:
+    refused = _REFUSED.search(text)
+    names = _FAULT.findall(text)
+    if refused is not None and refused[3] in REFUSALS:
+        place = Place(int(refused[1]), int(refused[2]), refused[4] or "") if refused[1] else None
+        return Fault(refused[3], about, place)
+    if not names or status == 2:
         return Fault("SessionEnded", f"{about} ended with status {status}: {text.strip()[:200]}")
-    place = Place(int(found[2]), int(found[3]), found[4]) if found[2] else None
-    return Fault(found[1], about, place)
+    return Fault(names[-1], about)
 
 
 def tree_of_text(target: Target, text: bytes, about: str) -> Tree:
     """The tree of a YAML text, as the program reads it. Raises `Fault` with the place where it is refused."""
     try:
-        styled = run_words(target, ["format"], text)
+        styled = run_words(target, ["format", "-"], text)
     except Fault as fault:
         if fault.place is None:
             raise Fault(fault.name, about) from None
