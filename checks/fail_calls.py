@@ -165,17 +165,23 @@ class Call:
         """Whether the next call appends to `store.yaml`."""
         return bool(self.following) and self.following[0].startswith("write store.yaml ")
 
+    def is_look_at_end(self) -> bool:
+        """Whether the call looks for `store.yaml` once all is answered, so that no `store.lock` is left without one."""
+        calls = ("close ", "statx proc ", "statx store.yaml ", "write store.lock ")
+        return self.name == "statx" and all(line.startswith(calls) for line in self.following)
+
     def is_last(self) -> bool:
-        """Whether only handles are closed after the call."""
-        return all(line.startswith("close ") for line in self.following)
+        """Whether the program does without each call after this one."""
+        return self.is_look_at_end() or all(line.startswith("close ") for line in self.following)
 
     def is_dispensable(self) -> bool:
         """Whether the program does without the call: a handle that is closed, the look whether there is a /proc, the
-        mode of `store.lock`, and the note that the device has all bytes."""
+        mode of `store.lock`, the look for a store at the end, and the note that the device has all bytes."""
         if self.is_of_note():
             return self.name == "write" and not self.is_append_next()
         is_mode_of_lock = (self.name, self.file) == ("fchmod", "store.lock")
-        return self.name == "close" or (self.file == "proc" and self.first) or is_mode_of_lock
+        is_look = (self.file == "proc" and self.first) or self.is_look_at_end()
+        return self.name == "close" or is_look or is_mode_of_lock
 
 
 class Trial:
@@ -341,7 +347,8 @@ def is_change(call: Call) -> bool:
 
 def is_cause(line: str, folder: str, call: Call, kind: Kind) -> bool:
     """Whether a line says why the call failed: of which file or folder, and the reason. Where all later calls fail, it
-    may be any of them. A new file takes the name `store.yaml` by more than one call."""
+    may be any of them. A new file takes the name `store.yaml` by more than one call, and the owner of the folder is
+    looked at for `store.lock`."""
     subject, _, reason = line.removesuffix("\n").rpartition(": ")
     if kind.answer == "zero":
         wanted = "nothing was written" if call.is_of_note() else "failed to write whole buffer"
@@ -350,7 +357,8 @@ def is_cause(line: str, folder: str, call: Call, kind: Kind) -> bool:
     else:
         wanted = os.strerror(kind.error)
     subject_of_call = folder if call.file in ("folder", "proc") else call.file
-    subjects = {subject_of_call, "store.yaml"} if call.name in ("link", "rename", "unlink") else {subject_of_call}
+    others = {"link": "store.yaml", "rename": "store.yaml", "unlink": "store.yaml", "fstat": "store.lock"}
+    subjects = {subject_of_call, others.get(call.name, subject_of_call)}
     return line.endswith("\n") and reason == wanted and (kind.later or subject in subjects)
 
 
