@@ -279,7 +279,8 @@ class Ends(ServerTest):
     def test_a_store_that_is_held(self) -> None:
         self.store()
         process = self.serve(errors=subprocess.PIPE)
-        self.assertEqual((process.wait(PATIENCE), errors_of(process)), (3, b"confstore: Locked\n"))
+        said = b"confstore: Locked\nstore.lock: another run holds its lock\n"
+        self.assertEqual((process.wait(PATIENCE), errors_of(process)), (3, said))
         self.assertFalse(os.path.exists(self.path))
 
     def test_a_new_session_after_many_bytes(self) -> None:
