@@ -15,7 +15,7 @@ use Rattle.tree_path.proofs.StepLaws.{child-put, put-put, put-child}
 
 -- ---- one step more, and one less
 
-Ok-same : {E : Type 0} (r : Result Tree E) (x y : Tree) → r ≡ Ok x → r ≡ Ok y → x ≡ y
+pub Ok-same : {E : Type 0} (r : Result Tree E) (x y : Tree) → r ≡ Ok x → r ≡ Ok y → x ≡ y
 Ok-same r x y p q = cc
 
 -- one step further down

@@ -8,6 +8,7 @@ use Rattle.yaml_grammar.specs.Trees.{distinct, members_distinct, has_key}
 use Rattle.yaml_data.specs.Seen.{Pair, tree_of, members_of}
 use Rattle.yaml_data.specs.TextBytes.{text_bytes}
 use Rattle.tree_path.specs.Steps.{key_place}
+use Rattle.tree_path.proofs.StepLaws.{option_map-Some}
 
 or_right : (a b : Bool) → b ≡ true → (a || b) ≡ true
 or_right true b is = refl
@@ -42,3 +43,18 @@ key_place-at key (p ∷ ps) (suc i) d differ within is =
           (has_key-at ps i d name (omega arith) (subst (λ k. same_text k (chars (text_bytes (get_or ps i d).0)) ≡ true) named is)))
       | false ↦ λ _. ap (option_map suc) (key_place-at key ps i d parts.1 (omega arith) is)
     ]) refl
+
+-- the pair at a key's place has the key
+pub key_place-same : (key : List ℕ) (ps : List Pair) (i : ℕ) (d : Pair) → key_place key ps ≡ Some i → same_text key (chars (text_bytes (get_or ps i d).0)) ≡ true
+key_place-same key [] i d is = cc
+key_place-same key (p ∷ ps) i d is =
+    let name = chars (text_bytes p.0) in
+    let P : Bool → Type 0 = λ b. same_text key name ≡ b → cond b (Some 0) (option_map suc (key_place key ps)) ≡ Some i
+    → same_text key (chars (text_bytes (get_or (p ∷ ps) i d).0)) ≡ true in
+    (elim (same_text key name) as P [
+      | true ↦ λ same e.
+          let z : 0 ≡ i = cc in subst (λ n. same_text key (chars (text_bytes (get_or (p ∷ ps) n d).0)) ≡ true) z same
+      | false ↦ λ _ e.
+          let o = option_map-Some suc (key_place key ps) i e in
+          subst (λ n. same_text key (chars (text_bytes (get_or (p ∷ ps) n d).0)) ≡ true) o.2 (key_place-same key ps o.0 d o.1)
+    ]) refl is

@@ -1,10 +1,11 @@
 pub mod Descents
 pub mod EditLaws
 pub mod Edits
+pub mod IndexLemmas
 pub mod KeyLemmas
 pub mod Numbers
 pub mod Places
-pub mod PrintLemmas
 pub mod StepLaws
 pub mod Steps
+pub mod TableLemmas
 pub mod Ways

@@ -207,7 +207,7 @@ parents-split path parents last split =
     ap parents_of split ∙ take_at parents (last ∷ []) (length (parents ++ last ∷ []) - 1) (omega (arith, long))
 
 -- a path that isn't empty is those before the last, and the last
-parents-more : (x y : List ℕ) (ys : List (List ℕ)) → parents_of (x ∷ y ∷ ys) ≡ x ∷ parents_of (y ∷ ys)
+pub parents-more : (x y : List ℕ) (ys : List (List ℕ)) → parents_of (x ∷ y ∷ ys) ≡ x ∷ parents_of (y ∷ ys)
 parents-more x y ys =
     let here : length (x ∷ y ∷ ys) - 1 ≡ suc (length ys) = omega arith in
     let below : length (y ∷ ys) - 1 ≡ length ys = omega arith in

@@ -1,3 +1,3 @@
 pub mod Paths
-pub mod Prints
 pub mod Steps
+pub mod Tables

@@ -1,20 +1,19 @@
 // The value at a path, and the edits of a tree there. An edit goes down to the parent of its place and back up in
 // loops, so the call stack doesn't grow with the path. On the way down each value is taken out of its parent, and what
 // is above it is kept in the place that this leaves free.
-ghost use Rattle.std.specs.Prelude.{◌≡◌, ◌⊎◌, ◌<◌, true, IfOk, IfErr, OnOk, OnErr, Ok, Err, length};
+ghost use Rattle.std.specs.Prelude.{◌≡◌, ◌⊎◌, ◌<◌, true, IfOk, IfErr, IfSome, OnOk, OnErr, Ok, Err, length};
 ghost use Rattle.std.specs.Str.{chars};
 ghost use Rattle.std.specs.Vec.{vec_len, vec_capacity};
 ghost use Rattle.yaml_grammar.specs.Trees.{Tree as Meant, distinct, sequence, mapping};
 ghost use Rattle.yaml_data.specs.Seen.{tree_of, elements_of, members_of};
 ghost use Rattle.tree_path.specs.Paths.{at_step, at, put, cut, set, delete, child, key_in};
-ghost use Rattle.tree_path.specs.Prints.{KnowsKeys};
 ghost use Rattle.tree_path.specs.Steps.{ArePlaces, Knows, KnowsWay, Lowered, Rebuilt, key_place};
+ghost use Rattle.tree_path.specs.Tables.{Indexes};
 ghost use Rattle.json_pointer.specs.Tokens.{texts};
 
-use crate::key_index::KeyIndex;
-use crate::key_prints::only_key;
+use crate::key_index::{KeyIndex, table_at};
 use crate::place::{self, Miss};
-use crate::step_places::{Known, KnownKeys, StepPlaces};
+use crate::step_places::{Known, StepPlaces};
 use json_pointer::{Path, PathFault};
 use std::alloc::{AllocError, Global};
 use std::borrow::CowStr;
@@ -36,21 +35,19 @@ pub fn at<'t>(tree: &'t Tree, path: &Path) -> Result<&'t Tree, PathFault>
     value_at(tree, path.tokens())
 }
 
-/// The same as [`at`] in a tree in whose mappings no key comes twice. A key is looked up where the index knows its
-/// place, and isn't searched for where it is known as missing. It takes no memory.
-pub fn at_by<'t>(tree: &'t Tree, path: &Path, keys: KnownKeys<'_>) -> Result<&'t Tree, PathFault>
+/// The same as [`at`] in a tree in whose mappings no key comes twice. A key is looked up where the index knows the keys
+/// of its mapping. It takes no memory.
+pub fn at_by<'t>(
+    tree: &'t Tree,
+    path: &Path,
+    index: Option<&KeyIndex>,
+) -> Result<&'t Tree, PathFault>
     requires distinct { distinct (tree_of tree.now) ≡ true }
-    requires keys { KnowsKeys keys (tree_of tree.now) }
+    requires index { IfSome index (λ index. Indexes index.now (tree_of tree.now)) }
     ensures ok { IfOk result (λ value. at (tree_of tree.now) path.now ≡ Ok (tree_of value.now)) }
     ensures refused { IfErr result (λ fault. at (tree_of tree.now) path.now ≡ Err fault) }
 {
-    if let Some(key) = only_key(path) {
-        return match place::outermost_child(keys, tree, key) {
-            Ok(child) => Ok(child),
-            Err(miss) => Err(miss.at_step(1)),
-        };
-    }
-    value_by(tree, path.tokens(), keys.index)
+    value_by(tree, path.tokens(), index)
 }
 
 /// Puts a value at a path, in place. Every step but the last leads to a value that is there, as in [`at`]. At the last
@@ -151,14 +148,16 @@ fn value_by<'t>(
     tokens: &[CowStr<'_>],
     index: Option<&KeyIndex>,
 ) -> Result<&'t Tree, PathFault>
-    requires { distinct (tree_of tree.now) ≡ true }
+    requires distinct { distinct (tree_of tree.now) ≡ true }
+    requires index { IfSome index (λ index. Indexes index.now (tree_of tree.now)) }
     ensures ok { IfOk result (λ value. at (tree_of tree.now) (texts tokens.now)
         ≡ Ok (tree_of value.now)) }
     ensures refused { IfErr result (λ fault. at (tree_of tree.now) (texts tokens.now) ≡ Err fault) }
 {
     let mut value = tree;
     for (passed, token) in tokens.iter().enumerate() {
-        value = match place::child_by(index, value, token.as_str()) {
+        let table = table_at(index, &tokens[..passed]);
+        value = match place::child_by(table, value, token.as_str()) {
             Ok(child) => child,
             Err(miss) => return Err(miss.at_step(passed + 1)),
         };

@@ -1,12 +1,23 @@
 // Where the keys of a wide mapping are, so that an edit need not walk along it.
-ghost use Rattle.std.specs.Prelude.{◌≡◌, true, Some, IfSome};
+ghost use Rattle.std.specs.Prelude.{◌≡◌, ◌<◌, ◌⊎◌, ◌++◌, ℕ, true, List, [], ◌∷◌, Ok, Some, None, IfOk, IfSome, length};
+ghost use Rattle.std.specs.Cow.{cow_str_bytes};
+ghost use Rattle.std.specs.List.{remove};
 ghost use Rattle.std.specs.Str.{chars};
-ghost use Rattle.yaml_grammar.specs.Trees.{members_distinct};
-ghost use Rattle.yaml_data.specs.Seen.{members_of};
-ghost use Rattle.tree_path.specs.Steps.{key_place};
+ghost use Rattle.yaml_grammar.specs.Texts.{same_text};
+ghost use Rattle.yaml_grammar.specs.Trees.{Members, Tree as Meant, mapping};
+ghost use Rattle.yaml_data.specs.Seen.{members_of, tree_of};
+ghost use Rattle.yaml_data.specs.TextBytes.{text_bytes};
+ghost use Rattle.json_pointer.specs.Tokens.{texts};
+ghost use Rattle.tree_path.specs.declared.key_table.KeyTable.{KeyTable};
+ghost use Rattle.tree_path.specs.declared.key_index.Reach.{Reach};
+ghost use Rattle.tree_path.specs.Paths.{at, set, delete};
+ghost use Rattle.tree_path.specs.Steps.{ArePlaces};
+ghost use Rattle.tree_path.specs.Tables.{Indexes, Lists, ListsIn, Reaches, steps_of};
 
 use crate::edit::value_at;
-use crate::step_places::StepPlaces;
+use crate::key_table::KeyTable;
+use crate::place::{self, WIDE};
+use crate::step_places::{Known, StepPlaces};
 use json_pointer::Path;
 use std::alloc::{AllocError, Global};
 use std::borrow::CowStr;
@@ -15,252 +26,283 @@ use yaml_data::{Text, Tree};
 /// How many walks along wide mappings come before an index is made, which takes longer than a walk.
 const WALKS: u32 = 4;
 
-/// The most keys of one bucket that are looked at.
-const LOOKS: usize = 32;
-
-/// Where the keys of one wide mapping are. What it says is a hint: the key at a place is compared before the place is
-/// used. So a hint that is wrong or missing costs a walk along the mapping, and never changes an answer.
-///
-/// Keys have numbers, which grow with their places. A removed key's number isn't given again, so the place of a key is
-/// its number less the count of removed numbers below.
+/// Where the keys of one wide mapping of a tree are, and which there are. An index may know nothing: before some walks
+/// along wide mappings, after an edit at the mapping or above it, and where memory runs out.
 #[derive(Debug, Drop)]
 pub struct KeyIndex {
     /// The steps that lead to the mapping.
     steps: Vec<Text>,
+    /// The keys of the mapping, if they are known.
+    table: Option<KeyTable>,
     /// How many walks along wide mappings there were since the index was made.
     walks: u32,
-    /// For each bucket one more than the number of its newest key; 0 if it has none. It is empty where nothing is known.
-    newest: Vec<u32>,
-    /// For each number one more than that of the key before it in its bucket; 0 for the first.
-    before: Vec<u32>,
-    /// The removed numbers, in order.
-    removed: Vec<u32>,
 }
 
-/// Where an edit is made, seen from a mapping.
+/// Where an edit is made, seen from the mapping of an index.
 #[derive(Clone, Copy)]
-enum Reach {
-    /// At the mapping or above it.
+pub(crate) enum Reach {
+    /// At the mapping or above it, or so that it may be found by other steps then.
     Around,
     /// At a key of the mapping.
     Key,
-    /// Below a key of the mapping, or elsewhere.
+    /// Below a key of the mapping.
+    Below,
+    /// Elsewhere.
     Apart,
 }
 
 impl KeyIndex {
-    /// The index of no mapping. It takes no memory.
-    pub fn new(alloc: Global) -> KeyIndex {
+    /// An index that knows nothing. It takes no memory.
+    pub fn new(alloc: Global) -> KeyIndex
+        ensures { (t : Meant) → Indexes result t }
+    {
         KeyIndex {
             steps: Vec::new(alloc),
+            table: None,
             walks: 0,
-            newest: Vec::new(alloc),
-            before: Vec::new(alloc),
-            removed: Vec::new(alloc),
         }
     }
 
     /// The index of the mapping to which the steps lead.
     fn of_mapping(
         alloc: Global,
-        steps: &[CowStr<'_>],
+        tokens: &[CowStr<'_>],
         pairs: &[(Text, Tree)],
-    ) -> Result<KeyIndex, AllocError> {
-        let mut index = KeyIndex::new(alloc);
-        index.newest.resize(pairs.len().saturating_mul(2), 0)?;
-        index.before.reserve_exact(pairs.len())?;
-        for step in steps {
-            index.steps.push(Text::new(alloc, step.as_str())?)?;
-        }
-        for (key, _) in pairs {
-            index.add(key.as_str())?;
-        }
-        Ok(index)
-    }
-
-    /// The place of a key among the pairs of a mapping in which keys differ; `None` if the index doesn't know it.
-    pub(crate) fn find(&self, pairs: &[(Text, Tree)], key: &str) -> Option<usize>
-        requires { members_distinct (members_of pairs.now) ≡ true }
-        ensures { IfSome result (λ place. key_place (chars key.now) pairs.now ≡ Some place) }
+    ) -> Result<KeyIndex, AllocError>
+        requires { 0 < length pairs.now }
+        ensures { IfOk result (λ index. (t : Meant)
+            → at t (texts tokens.now) ≡ Ok (mapping (members_of pairs.now)) → Indexes index t) }
     {
-        let mut after = *self.newest.get(self.bucket(key)?)?;
-        for _ in 0..LOOKS {
-            let number = after.checked_sub(1)?;
-            let place = self.place_of(number);
-            if is_at(pairs, place, key) {
-                return Some(place);
-            }
-            after = *self.before.get(number as usize)?;
-        }
-        None
+        let table = KeyTable::of_pairs(alloc, pairs)?;
+        let steps = texts_of(alloc, tokens)?;
+        Ok(KeyIndex {
+            steps,
+            table: Some(table),
+            walks: 0,
+        })
     }
 
-    /// Whether it is the index of a mapping. Then there were some walks along wide mappings.
-    pub fn is_made(&self) -> bool {
-        !self.newest.is_empty()
+    /// What is known of the keys of the value to which the tokens lead.
+    pub(crate) fn table_at(&self, tokens: &[CowStr<'_>]) -> Option<&KeyTable>
+        ensures { IfSome result (λ table. (t u : Meant) → Indexes self.now t
+            → at t (texts tokens.now) ≡ Ok u → ListsIn table.now u) }
+    {
+        if !are_steps(&self.steps, tokens) {
+            return None;
+        }
+        self.table.as_ref()
     }
 
     /// Counts a walk along a wide mapping, from a search for the steps of a path. After some walks the index becomes
     /// that of this mapping, if there is memory.
-    pub fn count_walk(&mut self, alloc: Global, tree: &Tree, path: &Path, places: &StepPlaces) {
-        let Some(steps) = places.walked.and_then(|passed| path.tokens().get(..passed)) else {
+    pub fn count_walk(&mut self, alloc: Global, tree: &Tree, path: &Path, places: &StepPlaces)
+        ensures { Indexes self.old (tree_of tree.now) → Indexes self.new (tree_of tree.now) }
+    {
+        let Some(passed) = places.walked else {
             return;
         };
-        if self.is_made() && places.last.is_none() && matches!(self.reach(path), Reach::Key) {
+        let Some(steps) = path.tokens().get(..passed) else {
             return;
-        }
+        };
         self.walks = self.walks.saturating_add(1);
         if self.walks < WALKS {
             return;
         }
-        let Ok(Tree::Map(pairs)) = value_at(tree, steps) else {
-            return;
-        };
-        let Ok(index) = KeyIndex::of_mapping(alloc, steps, pairs) else {
-            return;
-        };
-        *self = index;
+        if let Some(index) = index_of(alloc, tree, steps) {
+            *self = index;
+        }
     }
 
-    /// Takes note of a value that was set at a path, where the places of the path's steps were these.
-    pub fn note_set(&mut self, path: &Path, places: &StepPlaces) {
-        match self.reach(path) {
+    /// Takes note of a value that is set at a path, where the places of the path's steps are these. The tree is that
+    /// before the edit.
+    pub fn note_set(&mut self, tree: &Tree, path: &Path, places: &StepPlaces)
+        requires steps { 0 < length path.now }
+        requires places { ArePlaces places.now (tree_of tree.now) path.now }
+        requires index { Indexes self.old (tree_of tree.now) }
+        ensures { (v u : Meant) → set (tree_of tree.now) path.now v ≡ Ok u → Indexes self.new u }
+    {
+        let tokens = path.tokens();
+        match self.reach(tree, tokens, places) {
             Reach::Around => self.forget(),
             Reach::Key => {
-                if let (None, Some(key)) = (places.last, path.tokens().last()) {
-                    self.note_new(key.as_str());
+                if places.last.is_some() {
+                    return;
                 }
+                self.note_new(last_of(tokens));
             }
+            Reach::Below => {}
             Reach::Apart => {}
         }
     }
 
-    /// Takes note of a value that was removed at a path, where the places of the path's steps were these.
-    pub fn note_delete(&mut self, path: &Path, places: &StepPlaces) {
-        match self.reach(path) {
+    /// Takes note of a value that is removed at a path, where the places of the path's steps are these. The tree is
+    /// that before the edit.
+    pub fn note_delete(&mut self, tree: &Tree, path: &Path, places: &StepPlaces)
+        requires steps { 0 < length path.now }
+        requires places { ArePlaces places.now (tree_of tree.now) path.now }
+        requires index { Indexes self.old (tree_of tree.now) }
+        ensures { (u : Meant) → delete (tree_of tree.now) path.now ≡ Ok u → Indexes self.new u }
+    {
+        match self.reach(tree, path.tokens(), places) {
             Reach::Around => self.forget(),
             Reach::Key => {
-                if let (Some(place), Some(key)) = (places.last, path.tokens().last()) {
-                    self.note_removed(place, key.as_str());
+                if let Some(place) = places.last {
+                    self.note_removed(place);
                 }
             }
+            Reach::Below => {}
             Reach::Apart => {}
         }
     }
 
-    /// Takes note of a new last key. An index that is too full, or for which memory runs out, knows nothing then.
-    fn note_new(&mut self, key: &str) {
-        if self.before.len() >= self.newest.len() || self.add(key).is_err() {
-            self.forget();
-        }
-    }
-
-    /// Takes note of a removed key, which was at this place. An index of which much was removed, or for which memory
-    /// runs out, knows nothing then.
-    fn note_removed(&mut self, place: usize, key: &str) {
-        let number = self.number_at(place);
-        if number.saturating_add(1) == self.before.len() {
-            self.remove_newest(key);
-            return;
-        }
-        if self.remove(number).is_err() || self.removed.len() > self.before.len() / 2 {
-            self.forget();
-        }
-    }
-
-    /// Adds a new last key.
-    fn add(&mut self, key: &str) -> Result<(), AllocError> {
-        let Some(bucket) = self.bucket(key) else {
-            return Ok(());
-        };
-        let Some(newest) = self.newest.get_mut(bucket) else {
-            return Ok(());
-        };
-        self.before.push(*newest)?;
-        *newest = u32::try_from(self.before.len()).unwrap_or(u32::MAX);
-        Ok(())
-    }
-
-    /// Removes the key with the greatest number, which the next new key then gets.
-    fn remove_newest(&mut self, key: &str) {
-        let Some(bucket) = self.bucket(key) else {
+    /// Takes note of a new last key. An index whose table is worn then, or for which memory runs out, knows nothing.
+    fn note_new(&mut self, key: &str)
+        requires { IfSome self.old.table (λ table. 0 < length table.newest.items) }
+        ensures steps { self.new.steps ≡ self.old.steps }
+        ensures table { IfSome self.new.table (λ new. (old : KeyTable) × (self.old.table ≡ Some old)
+            × ((keys : List (List ℕ)) → Lists old keys → Lists new (keys ++ chars key.now ∷ []))) }
+    {
+        let Some(mut table) = self.table.take() else {
             return;
         };
-        let Some(before) = self.before.pop() else {
+        if table.add(key).is_ok() && !table.is_worn() {
+            self.table = Some(table);
+        }
+    }
+
+    /// Takes note of a removed key, which was at this place. An index whose table is worn then, or for which memory
+    /// runs out, knows nothing.
+    fn note_removed(&mut self, place: usize)
+        ensures steps { self.new.steps ≡ self.old.steps }
+        ensures table { IfSome self.new.table (λ new. (old : KeyTable) × (self.old.table ≡ Some old)
+            × ((keys : List (List ℕ)) → Lists old keys → place < length keys
+            → Lists new (remove keys place))) }
+    {
+        let Some(mut table) = self.table.take() else {
             return;
         };
-        if let Some(newest) = self.newest.get_mut(bucket) {
-            *newest = before;
+        if table.remove(place).is_ok() && !table.is_worn() {
+            self.table = Some(table);
         }
     }
 
-    /// Removes the key with a number.
-    fn remove(&mut self, number: usize) -> Result<(), AllocError> {
-        let number = u32::try_from(number).unwrap_or(u32::MAX);
-        let place = self.removed.partition_point(|other| *other < number);
-        self.removed.insert(place, number)?;
-        Ok(())
-    }
-
-    /// Forgets where keys are.
-    fn forget(&mut self) {
-        self.newest.clear();
-        self.before.clear();
-        self.removed.clear();
-    }
-
-    /// The place of the key with a number.
-    fn place_of(&self, number: u32) -> usize {
-        let removed = self.removed.partition_point(|other| *other < number);
-        (number as usize).saturating_sub(removed)
-    }
-
-    /// The number of the key at a place.
-    fn number_at(&self, place: usize) -> usize {
-        let mut number = place;
-        for removed in &self.removed {
-            if *removed as usize > number {
-                break;
-            }
-            number = number.saturating_add(1);
-        }
-        number
-    }
-
-    /// The bucket of a key; `None` if there are no buckets.
-    fn bucket(&self, key: &str) -> Option<usize> {
-        let mut hash: u64 = 0xcbf2_9ce4_8422_2325;
-        for byte in key.as_bytes() {
-            hash = (hash ^ u64::from(*byte)).wrapping_mul(0x0000_0100_0000_01b3);
-        }
-        (hash as usize).checked_rem(self.newest.len())
+    /// Forgets the keys.
+    fn forget(&mut self)
+        ensures { self.new.table ≡ None }
+    {
+        self.table = None;
     }
 
     /// Where an edit at a path is made, seen from the mapping.
-    fn reach(&self, path: &Path) -> Reach {
-        let tokens = path.tokens();
-        for (step, token) in self.steps.iter().zip(tokens) {
-            if step.as_str() != token.as_str() {
-                return Reach::Apart;
+    fn reach(&self, tree: &Tree, tokens: &[CowStr<'_>], places: &StepPlaces) -> Reach
+        requires some { 0 < length tokens.now }
+        requires places { ArePlaces places.now (tree_of tree.now) (texts tokens.now) }
+        ensures { Reaches result (tree_of tree.now) (steps_of self.now.steps.items)
+            (texts tokens.now) }
+    {
+        let known = Known::Found(places);
+        let mut node = tree;
+        for (passed, step) in self.steps.iter().enumerate() {
+            let token = &tokens[passed];
+            if !is_same(step, token) {
+                return reach_beside(node);
             }
-        }
-        if tokens.len() <= self.steps.len() {
-            return Reach::Around;
+            if passed + 1 == tokens.len() {
+                return Reach::Around;
+            }
+            match known.step_place(passed, node, token.as_str()) {
+                Ok(place) => node = place::child_in(node, place),
+                Err(_) => return Reach::Around,
+            }
         }
         if tokens.len() - 1 == self.steps.len() {
             return Reach::Key;
         }
-        Reach::Apart
+        Reach::Below
     }
 }
 
-/// Whether the pair at a place has this key.
-fn is_at(pairs: &[(Text, Tree)], place: usize, key: &str) -> bool
-    requires { members_distinct (members_of pairs.now) ≡ true }
-    ensures { result ≡ true → key_place (chars key.now) pairs.now ≡ Some place }
+/// The index of the wide mapping to which the tokens lead; `None` if they lead to none, or memory runs out.
+fn index_of(alloc: Global, tree: &Tree, tokens: &[CowStr<'_>]) -> Option<KeyIndex>
+    ensures { IfSome result (λ index. Indexes index (tree_of tree.now)) }
 {
-    if place >= pairs.len() {
+    let Ok(Tree::Map(pairs)) = value_at(tree, tokens) else {
+        return None;
+    };
+    if pairs.len() < WIDE {
+        return None;
+    }
+    match KeyIndex::of_mapping(alloc, tokens, pairs) {
+        Ok(index) => Some(index),
+        Err(_) => None,
+    }
+}
+
+/// What an index says of the keys of the value to which the tokens lead, if there is an index.
+pub(crate) fn table_at<'k>(
+    index: Option<&'k KeyIndex>,
+    tokens: &[CowStr<'_>],
+) -> Option<&'k KeyTable>
+    ensures { IfSome result (λ table. (t u : Meant)
+        → IfSome index.entry (λ index. Indexes index.now t)
+        → at t (texts tokens.now) ≡ Ok u → ListsIn table.now u) }
+{
+    match index {
+        Some(index) => index.table_at(tokens),
+        None => None,
+    }
+}
+
+/// Where an edit is made that leaves the steps of an index at this value. In a sequence it may move what comes after.
+fn reach_beside(tree: &Tree) -> Reach
+    ensures { (result ≡ Reach.Around)
+        ⊎ ((result ≡ Reach.Apart) × ((ms : Members) × (tree_of tree.now ≡ mapping ms))) }
+{
+    match tree {
+        Tree::Map(_) => Reach::Apart,
+        _ => Reach::Around,
+    }
+}
+
+/// Whether the tokens are these steps.
+fn are_steps(steps: &[Text], tokens: &[CowStr<'_>]) -> bool
+    ensures { result ≡ true → steps_of steps.now ≡ texts tokens.now }
+{
+    if steps.len() != tokens.len() {
         return false;
     }
-    pairs[place].0.as_str() == key
+    for (place, step) in steps.iter().enumerate() {
+        if !is_same(step, &tokens[place]) {
+            return false;
+        }
+    }
+    true
+}
+
+/// Whether a step and a token are the same text.
+fn is_same(step: &Text, token: &CowStr<'_>) -> bool
+    ensures { result ≡ same_text (chars (text_bytes step.now)) (chars (cow_str_bytes token.now)) }
+{
+    token.as_str() == step.as_str()
+}
+
+/// The last of some tokens.
+fn last_of<'t>(tokens: &'t [CowStr<'_>]) -> &'t str
+    requires { 0 < length tokens.now }
+    ensures { (before : List (List ℕ)) (key : List ℕ)
+        → texts tokens.now ≡ before ++ key ∷ [] → chars result.now ≡ key }
+{
+    let (last, _) = tokens.split_last().unwrap();
+    last.as_str()
+}
+
+/// Copies of tokens.
+fn texts_of(alloc: Global, tokens: &[CowStr<'_>]) -> Result<Vec<Text>, AllocError>
+    ensures { IfOk result (λ steps. steps_of steps.items ≡ texts tokens.now) }
+{
+    let mut steps = Vec::with_capacity(alloc, tokens.len())?;
+    for (place, token) in tokens.iter().enumerate() {
+        steps.push(Text::new(alloc, token.as_str())?)?;
+    }
+    Ok(steps)
 }

@@ -4,7 +4,7 @@
 
 mod edit;
 mod key_index;
-mod key_prints;
+mod key_table;
 mod laws;
 mod place;
 mod step_places;
@@ -12,7 +12,6 @@ mod step_places;
 pub use edit::{at, at_by, delete, delete_planned, set, set_planned};
 pub use json_pointer::{Path, PathFault, text_is_read_back};
 pub use key_index::KeyIndex;
-pub use key_prints::KeyPrints;
 pub use laws::{keys_stay_distinct, set_is_found};
 pub use place::{Miss, child, child_at, child_in, key_in, step_place};
-pub use step_places::{Known, KnownKeys, StepPlaces};
+pub use step_places::{Known, StepPlaces};

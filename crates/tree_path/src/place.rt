@@ -1,14 +1,13 @@
 // One step of a path: the value that it leads to.
-ghost use Rattle.std.specs.Prelude.{◌≡◌, true, ℕ, List, IfOk, IfErr, Ok, Err, option_map};
+ghost use Rattle.std.specs.Prelude.{◌≡◌, true, ℕ, List, IfOk, IfErr, IfSome, Ok, Err, option_map};
 ghost use Rattle.std.specs.Str.{chars};
 ghost use Rattle.yaml_grammar.specs.Trees.{sequence, mapping, distinct, members_distinct};
 ghost use Rattle.yaml_data.specs.Seen.{tree_of, elements_of, members_of};
 ghost use Rattle.tree_path.specs.Paths.{child, put, refusal, key_in};
-ghost use Rattle.tree_path.specs.Prints.{KnowsKeys};
 ghost use Rattle.tree_path.specs.Steps.{number_of, as_usize, index_below, step_place, key_place as place_of};
+ghost use Rattle.tree_path.specs.Tables.{Lists, ListsIn, keys_of};
 
-use crate::key_index::KeyIndex;
-use crate::step_places::KnownKeys;
+use crate::key_table::KeyTable;
 use json_pointer::PathFault;
 use std::mem;
 use yaml_data::{Text, Tree};
@@ -80,24 +79,23 @@ pub fn key_place(pairs: &[(Text, Tree)], key: &str) -> Option<usize>
     None
 }
 
-/// The same as [`key_place`], by an index where there is one. A walk along a wide mapping is noted in `walked`, with the
-/// number of steps that lead to it.
+/// The same as [`key_place`], by the table of the keys where there is one. A walk along a wide mapping is noted in
+/// `walked`, with the number of steps that lead to it.
 fn key_place_by(
-    index: Option<&KeyIndex>,
+    table: Option<&KeyTable>,
     pairs: &[(Text, Tree)],
     key: &str,
     passed: usize,
     walked: &mut Option<usize>,
 ) -> Option<usize>
-    requires { members_distinct (members_of pairs.now) ≡ true }
+    requires distinct { members_distinct (members_of pairs.now) ≡ true }
+    requires table { IfSome table (λ table. Lists table.now (keys_of (members_of pairs.now))) }
     ensures { result ≡ place_of (chars key.now) pairs.now }
 {
+    if let Some(table) = table {
+        return table.find(pairs, key);
+    }
     if pairs.len() >= WIDE {
-        if let Some(index) = index
-            && let Some(place) = index.find(pairs, key)
-        {
-            return Some(place);
-        }
         *walked = Some(passed);
     }
     key_place(pairs, key)
@@ -124,87 +122,43 @@ pub fn step_place(tree: &Tree, token: &str) -> Result<usize, Miss>
     }
 }
 
-/// The same as [`key_in`], by an index where there is one. A walk along a wide mapping is noted in `walked`, with the
-/// number of steps that lead to it.
+/// The same as [`key_in`], by the table of the tree's keys where there is one. A walk along a wide mapping is noted in
+/// `walked`, with the number of steps that lead to it.
 pub(crate) fn key_in_by(
-    index: Option<&KeyIndex>,
+    table: Option<&KeyTable>,
     tree: &Tree,
     key: &str,
     passed: usize,
     walked: &mut Option<usize>,
 ) -> Option<usize>
-    requires { distinct (tree_of tree.now) ≡ true }
+    requires distinct { distinct (tree_of tree.now) ≡ true }
+    requires table { IfSome table (λ table. ListsIn table.now (tree_of tree.now)) }
     ensures { result ≡ key_in (tree_of tree.now) (chars key.now) }
 {
     match tree {
-        Tree::Map(pairs) => key_place_by(index, pairs, key, passed, walked),
+        Tree::Map(pairs) => key_place_by(table, pairs, key, passed, walked),
         _ => None,
     }
 }
 
-/// The same as [`step_place`], by an index where there is one. A walk along a wide mapping is noted in `walked`, with
-/// the number of steps that lead to it.
+/// The same as [`step_place`], by the table of the tree's keys where there is one. A walk along a wide mapping is noted
+/// in `walked`, with the number of steps that lead to it.
 pub(crate) fn step_place_by(
-    index: Option<&KeyIndex>,
+    table: Option<&KeyTable>,
     tree: &Tree,
     token: &str,
     passed: usize,
     walked: &mut Option<usize>,
 ) -> Result<usize, Miss>
-    requires { distinct (tree_of tree.now) ≡ true }
+    requires distinct { distinct (tree_of tree.now) ≡ true }
+    requires table { IfSome table (λ table. ListsIn table.now (tree_of tree.now)) }
     ensures { result ≡ step_place (tree_of tree.now) (chars token.now) }
 {
     match tree {
         Tree::Text(_) => Err(Miss::Absent),
         Tree::Seq(items) => element_index(token, items.len()),
-        Tree::Map(pairs) => key_place_by(index, pairs, token, passed, walked).ok_or(Miss::Absent),
+        Tree::Map(pairs) => key_place_by(table, pairs, token, passed, walked).ok_or(Miss::Absent),
     }
-}
-
-/// The same as [`key_in`] in the outermost mapping, by what is known of its keys. A walk along a wide mapping is noted
-/// in `walked`, with no steps that lead to it.
-pub(crate) fn outermost_key_in(
-    keys: KnownKeys<'_>,
-    tree: &Tree,
-    key: &str,
-    walked: &mut Option<usize>,
-) -> Option<usize>
-    requires distinct { distinct (tree_of tree.now) ≡ true }
-    requires keys { KnowsKeys keys (tree_of tree.now) }
-    ensures { result ≡ key_in (tree_of tree.now) (chars key.now) }
-{
-    match tree {
-        Tree::Map(pairs) => outermost_key_place(keys, pairs, key, walked),
-        _ => None,
-    }
-}
-
-/// The same as [`key_place`] in the outermost mapping. The index is asked first, since a key that is there has prints.
-fn outermost_key_place(
-    keys: KnownKeys<'_>,
-    pairs: &[(Text, Tree)],
-    key: &str,
-    walked: &mut Option<usize>,
-) -> Option<usize>
-    requires distinct { members_distinct (members_of pairs.now) ≡ true }
-    requires keys { KnowsKeys keys (mapping (members_of pairs.now)) }
-    ensures { result ≡ place_of (chars key.now) pairs.now }
-{
-    if pairs.len() < WIDE {
-        return key_place(pairs, key);
-    }
-    if let Some(index) = keys.index
-        && let Some(place) = index.find(pairs, key)
-    {
-        return Some(place);
-    }
-    if let Some(prints) = keys.prints
-        && prints.lack(key)
-    {
-        return None;
-    }
-    *walked = Some(0);
-    key_place(pairs, key)
 }
 
 /// The value at the place of a step, as [`step_place`] returns it.
@@ -230,39 +184,20 @@ pub fn child<'t>(tree: &'t Tree, token: &str) -> Result<&'t Tree, Miss>
     child_at(tree, token, key_in(tree, token))
 }
 
-/// The same as [`child`], by an index where there is one.
+/// The same as [`child`], by the table of the tree's keys where there is one.
 pub(crate) fn child_by<'t>(
-    index: Option<&KeyIndex>,
-    tree: &'t Tree,
-    token: &str,
-) -> Result<&'t Tree, Miss>
-    requires { distinct (tree_of tree.now) ≡ true }
-    ensures ok { IfOk result (λ value. child (tree_of tree.now) (chars token.now)
-        ≡ Ok (tree_of value.now)) }
-    ensures missed { IfErr result (λ miss. child (tree_of tree.now) (chars token.now) ≡ Err miss) }
-{
-    let mut walked = None;
-    child_at(tree, token, key_in_by(index, tree, token, 0, &mut walked))
-}
-
-/// The same as [`child`] of the whole tree, by what is known of its keys.
-pub(crate) fn outermost_child<'t>(
-    keys: KnownKeys<'_>,
+    table: Option<&KeyTable>,
     tree: &'t Tree,
     token: &str,
 ) -> Result<&'t Tree, Miss>
     requires distinct { distinct (tree_of tree.now) ≡ true }
-    requires keys { KnowsKeys keys (tree_of tree.now) }
+    requires table { IfSome table (λ table. ListsIn table.now (tree_of tree.now)) }
     ensures ok { IfOk result (λ value. child (tree_of tree.now) (chars token.now)
         ≡ Ok (tree_of value.now)) }
     ensures missed { IfErr result (λ miss. child (tree_of tree.now) (chars token.now) ≡ Err miss) }
 {
     let mut walked = None;
-    child_at(
-        tree,
-        token,
-        outermost_key_in(keys, tree, token, &mut walked),
-    )
+    child_at(tree, token, key_in_by(table, tree, token, 0, &mut walked))
 }
 
 /// The value to which a step leads, where the place of its token as a key is known, as [`key_in`] returns it. The misses

@@ -1,15 +1,14 @@
 // Where the steps of a path lead, kept so that an edit need not search for them again.
-ghost use Rattle.std.specs.Prelude.{◌≡◌, ◌⊎◌, [], ◌∷◌, true, Err, IfOk, IfErr};
+ghost use Rattle.std.specs.Prelude.{◌≡◌, ◌⊎◌, true, Err, IfOk, IfErr, IfSome};
 ghost use Rattle.std.specs.Str.{chars};
 ghost use Rattle.yaml_grammar.specs.Trees.{Tree as Meant, distinct};
 ghost use Rattle.yaml_data.specs.Seen.{tree_of};
 ghost use Rattle.tree_path.specs.Paths.{at, key_in};
-ghost use Rattle.tree_path.specs.Prints.{KnowsKeys};
 ghost use Rattle.tree_path.specs.Steps.{ArePlaces, KnowsLast, KnowsStep, parents_of, step_place};
+ghost use Rattle.tree_path.specs.Tables.{Indexes};
 
-use crate::key_index::KeyIndex;
-use crate::key_prints::{KeyPrints, only_key};
-use crate::place::{self, Miss, key_in, key_in_by, outermost_key_in, step_place_by};
+use crate::key_index::{KeyIndex, table_at};
+use crate::place::{self, Miss, key_in, key_in_by, step_place_by};
 use json_pointer::{Path, PathFault};
 use std::alloc::Global;
 use yaml_data::Tree;
@@ -27,9 +26,8 @@ pub struct StepPlaces {
 }
 
 impl StepPlaces {
-    /// Finds the places of a path's steps in a tree in whose mappings no key comes twice. Each key is compared with
-    /// those of its mapping once, or looked up where the index knows its place. A key of the outermost mapping that is
-    /// known as missing isn't compared.
+    /// Finds the places of a path's steps in a tree in whose mappings no key comes twice. Each key is looked up where
+    /// the index knows the keys of its mapping, and else compared with those of its mapping once.
     ///
     /// # Errors
     ///
@@ -39,43 +37,10 @@ impl StepPlaces {
         alloc: Global,
         tree: &Tree,
         path: &Path,
-        keys: KnownKeys<'_>,
-    ) -> Result<StepPlaces, PathFault>
-        requires distinct { distinct (tree_of tree.now) ≡ true }
-        requires keys { KnowsKeys keys (tree_of tree.now) }
-        ensures ok { IfOk result (λ places. ArePlaces places (tree_of tree.now) path.now) }
-        ensures refused { IfErr result (λ fault. (fault ≡ PathFault.OutOfMemory)
-            ⊎ (at (tree_of tree.now) (parents_of path.now) ≡ Err fault)) }
-    {
-        if let Some(key) = only_key(path) {
-            return Ok(StepPlaces::of_key(alloc, tree, key, keys));
-        }
-        StepPlaces::search(alloc, tree, path, keys.index)
-    }
-
-    /// The place of the only step of a path.
-    fn of_key(alloc: Global, tree: &Tree, key: &str, keys: KnownKeys<'_>) -> StepPlaces
-        requires distinct { distinct (tree_of tree.now) ≡ true }
-        requires keys { KnowsKeys keys (tree_of tree.now) }
-        ensures { ArePlaces result (tree_of tree.now) (chars key.now ∷ []) }
-    {
-        let mut walked = None;
-        let last = outermost_key_in(keys, tree, key, &mut walked);
-        StepPlaces {
-            parents: Vec::new(alloc),
-            last,
-            walked,
-        }
-    }
-
-    /// Finds the places as [`StepPlaces::find`] does, where nothing is known of missing keys.
-    fn search(
-        alloc: Global,
-        tree: &Tree,
-        path: &Path,
         index: Option<&KeyIndex>,
     ) -> Result<StepPlaces, PathFault>
-        requires { distinct (tree_of tree.now) ≡ true }
+        requires distinct { distinct (tree_of tree.now) ≡ true }
+        requires index { IfSome index (λ index. Indexes index.now (tree_of tree.now)) }
         ensures ok { IfOk result (λ places. ArePlaces places (tree_of tree.now) path.now) }
         ensures refused { IfErr result (λ fault. (fault ≡ PathFault.OutOfMemory)
             ⊎ (at (tree_of tree.now) (parents_of path.now) ≡ Err fault)) }
@@ -91,29 +56,22 @@ impl StepPlaces {
         let mut node = tree;
         let mut walked = None;
         for (passed, token) in tokens.iter().enumerate() {
-            let place = match step_place_by(index, node, token.as_str(), passed, &mut walked) {
+            let table = table_at(index, &tokens[..passed]);
+            let place = match step_place_by(table, node, token.as_str(), passed, &mut walked) {
                 Ok(place) => place,
                 Err(miss) => return Err(miss.at_step(passed + 1)),
             };
             parents.push(place)?;
             node = place::child_in(node, place);
         }
-        let last = key_in_by(index, node, last.as_str(), tokens.len(), &mut walked);
+        let table = table_at(index, tokens);
+        let last = key_in_by(table, node, last.as_str(), tokens.len(), &mut walked);
         Ok(StepPlaces {
             parents,
             last,
             walked,
         })
     }
-}
-
-/// What is known of the keys of a tree.
-#[derive(Clone, Copy)]
-pub struct KnownKeys<'k> {
-    /// Where the keys of a wide mapping are.
-    pub index: Option<&'k KeyIndex>,
-    /// The prints of the keys of the tree's outermost mapping.
-    pub prints: Option<&'k KeyPrints>,
 }
 
 /// What is known of the places to which the steps of a path lead.

@@ -9,13 +9,13 @@ ghost use Rattle.yaml_config.specs.Kept.{IsKept, IsFirstFault, own_limits, limit
 ghost use Rattle.yaml_data.specs.Seen.{tree_of};
 ghost use Rattle.yaml_writer.specs.Sizes.{element_size, indented};
 ghost use Rattle.tree_path.specs.Paths.{at};
-ghost use Rattle.tree_path.specs.Prints.{Covers, KnowsKeys};
+ghost use Rattle.tree_path.specs.Tables.{Indexes};
 
 use crate::change::Slot;
 use crate::limits::Limits;
 use std::alloc::{AllocError, Global};
 use std::marker::Model;
-use tree_path::{KeyIndex, KeyPrints, KnownKeys, Path, PathFault, at_by};
+use tree_path::{KeyIndex, Path, PathFault, at_by};
 use yaml_data::{Text, Tree, has_distinct_keys};
 use yaml_events::ReadFault;
 use yaml_writer::{Size, style_len};
@@ -31,10 +31,8 @@ pub struct Config {
     tree: Tree,
     length: u64,
     lines: Option<u64>,
-    /// Where the keys of the wide mapping are in which keys were last searched for: a hint, of which nothing is known.
+    /// Where the keys of the wide mapping are in which keys were last searched for.
     index: Option<Box<KeyIndex>>,
-    /// The prints of the keys of the outermost mapping.
-    prints: Option<Box<KeyPrints>>,
 }
 
 impl Model for Config {
@@ -51,14 +49,14 @@ impl Model for Config {
     ghost use Rattle.yaml_config.specs.Kept.{IsKept};
     ghost use Rattle.yaml_data.specs.Seen.{tree_of};
     ghost use Rattle.yaml_writer.specs.Sizes.{indented};
-    ghost use Rattle.tree_path.specs.Prints.{Covers};
+    ghost use Rattle.tree_path.specs.Tables.{Indexes};
 
     ghost view = { λ c. c.tree };
 
     ghost invariant = { λ c. IsKept (tree_of c.tree)
         × (c.length ≡ byte_len (style_text (tree_of c.tree)))
         × IfSome c.lines (λ lines. lines ≡ indented (tree_of c.tree))
-        × IfSome c.prints (λ prints. Covers prints.value (tree_of c.tree)) };
+        × IfSome c.index (λ index. Indexes index.value (tree_of c.tree)) };
 }
 
 impl Config {
@@ -146,7 +144,6 @@ impl Config {
             length,
             lines: None,
             index: None,
-            prints: None,
         }
     }
 
@@ -163,7 +160,6 @@ impl Config {
             length,
             lines: Some(element.lines as u64),
             index: None,
-            prints: None,
         }
     }
 
@@ -176,7 +172,6 @@ impl Config {
             length: EMPTY_LENGTH,
             lines: Some(0),
             index: None,
-            prints: None,
         }
     }
 
@@ -194,7 +189,7 @@ impl Config {
         ensures ok { IfOk result (λ value. at (tree_of self.now) path.now ≡ Ok (tree_of value.now)) }
         ensures refused { IfErr result (λ fault. at (tree_of self.now) path.now ≡ Err fault) }
     {
-        at_by(self.tree(), path, self.known_keys())
+        at_by(self.tree(), path, self.index())
     }
 
     /// The tree, taken out of the configuration, so that it can be changed.
@@ -243,79 +238,33 @@ impl Config {
             length: self.length,
             lines: self.lines,
             index: None,
-            prints: None,
         })
     }
 
-    /// What is known of the keys of the tree.
-    pub(crate) fn known_keys(&self) -> KnownKeys<'_>
-        ensures { KnowsKeys result (tree_of self.now) }
+    /// The index of a wide mapping, if there is one.
+    pub(crate) fn index(&self) -> Option<&KeyIndex>
+        ensures { IfSome result (λ index. Indexes index.now (tree_of self.now)) }
     {
-        let index = match &self.index {
+        match &self.index {
             Some(index) => Some(&**index),
             None => None,
-        };
-        let prints = match &self.prints {
-            Some(prints) => Some(&**prints),
-            None => None,
-        };
-        KnownKeys { index, prints }
+        }
     }
 
     /// The index of a wide mapping, taken out of the configuration.
     pub(crate) fn take_index(&mut self) -> Option<Box<KeyIndex>>
-        ensures { self.new ≡ self.old }
+        ensures same { self.new ≡ self.old }
+        ensures index { IfSome result (λ index. Indexes index.value (tree_of self.old)) }
     {
         self.index.take()
     }
 
     /// Puts an index of a wide mapping in.
     pub(crate) fn put_index(&mut self, index: Option<Box<KeyIndex>>)
+        requires { IfSome index (λ index. Indexes index.value (tree_of self.old)) }
         ensures { self.new ≡ self.old }
     {
         self.index = index;
-    }
-
-    /// The prints of the keys of the outermost mapping, taken out of the configuration.
-    pub(crate) fn take_prints(&mut self) -> Option<Box<KeyPrints>>
-        ensures same { self.new ≡ self.old }
-        ensures prints { IfSome result (λ prints. Covers prints.value (tree_of self.old)) }
-    {
-        self.prints.take()
-    }
-
-    /// Puts prints of the keys of the outermost mapping in.
-    pub(crate) fn put_prints(&mut self, prints: Option<Box<KeyPrints>>)
-        requires { IfSome prints (λ prints. Covers prints.value (tree_of self.old)) }
-        ensures { self.new ≡ self.old }
-    {
-        self.prints = prints;
-    }
-
-    /// Makes the prints of the keys of the outermost mapping, or makes them anew where there are too few for the keys.
-    /// There are none if memory runs out, or the mapping isn't wide.
-    pub(crate) fn renew_prints(&mut self, alloc: Global)
-        ensures { self.new ≡ self.old }
-    {
-        if let Some(prints) = &self.prints
-            && !prints.are_crowded(&self.tree)
-        {
-            return;
-        }
-        self.prints = prints_of(alloc, &self.tree);
-    }
-}
-
-/// The prints of the keys of a tree that is a wide mapping; `None` if it is none, or memory runs out.
-fn prints_of(alloc: Global, tree: &Tree) -> Option<Box<KeyPrints>>
-    ensures { IfSome result (λ prints. Covers prints.value (tree_of tree.now)) }
-{
-    let Some(prints) = KeyPrints::of_tree(alloc, tree) else {
-        return None;
-    };
-    match Box::new(alloc, prints) {
-        Ok(prints) => Some(prints),
-        Err(_) => None,
     }
 }
 

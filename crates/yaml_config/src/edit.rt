@@ -6,8 +6,8 @@ ghost use Rattle.yaml_grammar.specs.Trees.{Tree as Meant, depth, distinct};
 ghost use Rattle.yaml_grammar.specs.Style.{style_text};
 ghost use Rattle.yaml_data.specs.Seen.{tree_of};
 ghost use Rattle.yaml_config.specs.Changes.{Changes};
-ghost use Rattle.tree_path.specs.Prints.{Covers};
 ghost use Rattle.tree_path.specs.Steps.{ArePlaces};
+ghost use Rattle.tree_path.specs.Tables.{Indexes};
 ghost use Rattle.yaml_config.specs.Edits.{tree_after_edit};
 ghost use Rattle.yaml_config.specs.Limits.{config_limits};
 ghost use Rattle.json_pointer.specs.declared.fault.PathFault.{PathFault};
@@ -18,7 +18,7 @@ use crate::limits::Limits;
 use crate::measure::{Plan, plan_delete, plan_set_sized};
 use std::alloc::Global;
 use std::mem;
-use tree_path::{KeyIndex, KeyPrints, Path, PathFault, StepPlaces, delete_planned, set_planned};
+use tree_path::{KeyIndex, Path, PathFault, StepPlaces, delete_planned, set_planned};
 use yaml_data::Tree;
 
 /// An edit of a configuration, at a path that is not empty (RFC 6901). It can be planned before anything changes, and
@@ -93,54 +93,34 @@ impl Edit {
         ensures unchanged { OnErr result (tree_of config.new ≡ tree_of config.old) }
     {
         let index = with_walk(config.take_index(), alloc, config.tree(), path, places);
-        let index = self.noted_in(index, path, places);
-        let wants_prints = is_made(&index) && is_walk_for_new_key(places);
-        let prints = self.prints_after(config.take_prints(), path, places);
+        let index = self.noted_in(index, config.tree(), path, places);
         self.edit_config(alloc, config, path, places, bytes)?;
         config.put_index(index);
-        config.put_prints(prints);
-        if wants_prints {
-            config.renew_prints(alloc);
-        }
         Ok(())
     }
 
-    /// The index of a wide mapping, as it is after the edit.
+    /// The index of a wide mapping of this tree, as it is after the edit.
     fn noted_in(
         &self,
         index: Option<Box<KeyIndex>>,
+        tree: &Tree,
         path: &Path,
         places: &StepPlaces,
-    ) -> Option<Box<KeyIndex>> {
-        let mut index = index?;
-        match self {
-            Edit::Set(_) => index.note_set(path, places),
-            Edit::Delete => index.note_delete(path, places),
-        }
-        Some(index)
-    }
-
-    /// The prints of the keys of the outermost mapping, as they are after the edit.
-    fn prints_after(
-        &self,
-        prints: Option<Box<KeyPrints>>,
-        path: &Path,
-        places: &StepPlaces,
-    ) -> Option<Box<KeyPrints>>
-        requires { 0 < length path.now }
-        ensures { (t new : Meant) → ArePlaces places.now t path.now
-            → IfSome prints (λ prints. Covers prints.value t)
-            → tree_after_edit self.now t path.now ≡ Ok new
-            → IfSome result (λ prints. Covers prints.value new) }
+    ) -> Option<Box<KeyIndex>>
+        requires steps { 0 < length path.now }
+        requires places { ArePlaces places.now (tree_of tree.now) path.now }
+        requires index { IfSome index (λ index. Indexes index.value (tree_of tree.now)) }
+        ensures { (new : Meant) → tree_after_edit self.now (tree_of tree.now) path.now ≡ Ok new
+            → IfSome result (λ index. Indexes index.value new) }
     {
-        let Some(mut prints) = prints else {
+        let Some(mut index) = index else {
             return None;
         };
         match self {
-            Edit::Set(_) => prints.note_set(path, places),
-            Edit::Delete => prints.note_delete(path),
+            Edit::Set(_) => index.note_set(tree, path, places),
+            Edit::Delete => index.note_delete(tree, path, places),
         }
-        Some(prints)
+        Some(index)
     }
 
     /// Makes the edit that was planned, as [`Edit::perform`] does, in a configuration that has no index.
@@ -213,19 +193,6 @@ impl Edit {
     }
 }
 
-/// Whether there is an index of a wide mapping, so that keys were searched for several times.
-fn is_made(index: &Option<Box<KeyIndex>>) -> bool {
-    match index {
-        Some(index) => index.is_made(),
-        None => false,
-    }
-}
-
-/// Whether a search for the step of a path walked along the outermost mapping, and the mapping has no such key.
-fn is_walk_for_new_key(places: &StepPlaces) -> bool {
-    places.parents.is_empty() && places.last.is_none() && places.walked.is_some()
-}
-
 /// The index, after a search for the steps of a path: it is made or replaced if there were some walks along wide
 /// mappings and there is memory.
 fn with_walk(
@@ -234,14 +201,27 @@ fn with_walk(
     tree: &Tree,
     path: &Path,
     places: &StepPlaces,
-) -> Option<Box<KeyIndex>> {
+) -> Option<Box<KeyIndex>>
+    requires { IfSome index (λ index. Indexes index.value (tree_of tree.now)) }
+    ensures { IfSome result (λ index. Indexes index.value (tree_of tree.now)) }
+{
     if places.walked.is_none() {
         return index;
     }
     let mut index = match index {
         Some(index) => index,
-        None => Box::new(alloc, KeyIndex::new(alloc)).ok()?,
+        None => new_index(alloc)?,
     };
     index.count_walk(alloc, tree, path, places);
     Some(index)
+}
+
+/// An index that knows nothing; `None` if memory runs out.
+fn new_index(alloc: Global) -> Option<Box<KeyIndex>>
+    ensures { IfSome result (λ index. (t : Meant) → Indexes index.value t) }
+{
+    match Box::new(alloc, KeyIndex::new(alloc)) {
+        Ok(index) => Some(index),
+        Err(_) => None,
+    }
 }

@@ -83,7 +83,7 @@ pub(crate) fn plan_set_sized(
         ⊎ (set (tree_of config.now) path.now (tree_of value.now) ≡ Err fault)) }
 {
     let tree = config.tree();
-    let places = StepPlaces::find(alloc, tree, path, config.known_keys())?;
+    let places = StepPlaces::find(alloc, tree, path, config.index())?;
     let change = set_change(tree, path.tokens(), Known::Found(&places), value, element)?;
     Ok(Plan { change, places })
 }
@@ -106,7 +106,7 @@ pub fn plan_delete(alloc: Global, config: &Config, path: &Path) -> Result<Plan, 
         ⊎ (delete (tree_of config.now) path.now ≡ Err fault)) }
 {
     let tree = config.tree();
-    let places = StepPlaces::find(alloc, tree, path, config.known_keys())?;
+    let places = StepPlaces::find(alloc, tree, path, config.index())?;
     let change = delete_change(tree, path.tokens(), Known::Found(&places))?;
     Ok(Plan { change, places })
 }

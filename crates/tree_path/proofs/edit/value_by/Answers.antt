@@ -1,10 +1,12 @@
-use Rattle.std.proofs.Common.{Err, sym, ap, ◌∙◌}
+use Rattle.std.proofs.Common.{Err, take, sym, ap, ◌∙◌}
 use Rattle.std.specs.Cow.{cow_str_bytes}
 use Rattle.std.specs.Str.{chars}
 use Rattle.yaml_data.specs.Seen.{tree_of}
+use Rattle.json_pointer.specs.Tokens.{texts}
 use Rattle.tree_path.specs.Paths.{child}
 use Rattle.tree_path.proofs.Descents.{at_from-turn, at_from-missed}
 use Rattle.tree_path.proofs.EditLaws.{child-distinct}
+use Rattle.tree_path.proofs.IndexLemmas.{table-known}
 use Rattle.tree_path.proofs.edit.value_by.Goals as goal
 
 pub returns-in-Err-clause-refused : goal.returns-in-Err-clause-refused
@@ -24,3 +26,8 @@ loop-passed-preserved c =
           c.loop-passed-test.true c.index-tokens-passed.is c.loop-passed.invariant.0 found,
       child-distinct node next (chars (cow_str_bytes token)) c.loop-passed.invariant.1 found,
     )
+
+pub child_by-requires-clause-table : goal.child_by-requires-clause-table
+child_by-requires-clause-table c =
+    table-known c.table_at-table.result c.args.index (tree_of c.args.tree.now) (tree_of c.loop-passed.value.now)
+    (texts (take c.loop-passed.passed c.args.tokens.now)) c.table_at-table.ensures c.requires.index c.loop-passed.invariant.0

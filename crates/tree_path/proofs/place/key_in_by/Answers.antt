@@ -1,10 +1,11 @@
-use Rattle.std.proofs.Common.{◌≡◌, true, sym, ap, subst, ◌∙◌}
+use Rattle.std.proofs.Common.{◌≡◌, true, IfSome, sym, ap, subst, ◌∙◌}
 use Rattle.std.specs.Str.{chars}
 use Rattle.yaml_grammar.specs.Trees.{distinct, members_distinct}
 use Rattle.yaml_data.specs.Seen.{tree_of, members_of}
 use Rattle.yaml_data.proofs.SeenLemmas.{tree_of-Map}
 use Rattle.tree_path.specs.Paths.{key_in}
 use Rattle.tree_path.specs.Steps.{key_place}
+use Rattle.tree_path.specs.Tables.{Lists, ListsIn, keys_of}
 use Rattle.tree_path.proofs.Places.{place_of-pairs}
 use Rattle.tree_path.proofs.place.key_in_by.Goals as goal
 
@@ -15,8 +16,14 @@ returns-in-Map c =
     c.key_place_by.ensures ∙ ap (key_place key) c.deref.ensures.value ∙ sym (place_of-pairs v.items key)
     ∙ sym (ap (λ t. key_in t key) (ap tree_of c.in-Map.is ∙ tree_of-Map v))
 
-pub key_place_by-requires : goal.key_place_by-requires
-key_place_by-requires c =
+pub key_place_by-requires-clause-distinct : goal.key_place_by-requires-clause-distinct
+key_place_by-requires-clause-distinct c =
     let v = c.in-Map.pairs in
     subst (λ ps. members_distinct (members_of ps) ≡ true) (sym c.deref.ensures.value)
-    (ap distinct (sym (ap tree_of c.in-Map.is ∙ tree_of-Map v)) ∙ c.requires)
+    (ap distinct (sym (ap tree_of c.in-Map.is ∙ tree_of-Map v)) ∙ c.requires.distinct)
+
+pub key_place_by-requires-clause-table : goal.key_place_by-requires-clause-table
+key_place_by-requires-clause-table c =
+    let v = c.in-Map.pairs in
+    subst (λ ps. IfSome c.args.table (λ table. Lists table.now (keys_of (members_of ps)))) (sym c.deref.ensures.value)
+    (subst (λ t. IfSome c.args.table (λ table. ListsIn table.now t)) (ap tree_of c.in-Map.is ∙ tree_of-Map v) c.requires.table)

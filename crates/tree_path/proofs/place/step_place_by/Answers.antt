@@ -1,10 +1,11 @@
-use Rattle.std.proofs.Common.{◌≡◌, true, sym, ap, subst, ◌∙◌}
+use Rattle.std.proofs.Common.{◌≡◌, true, IfSome, sym, ap, subst, ◌∙◌}
 use Rattle.std.specs.Str.{chars}
 use Rattle.yaml_grammar.specs.Trees.{distinct, members_distinct}
 use Rattle.yaml_data.specs.Seen.{tree_of, members_of}
 use Rattle.yaml_data.proofs.SeenLemmas.{tree_of-Text, tree_of-Seq, tree_of-Map}
 use Rattle.tree_path.specs.Paths.{present}
 use Rattle.tree_path.specs.Steps.{key_place, step_place}
+use Rattle.tree_path.specs.Tables.{Lists, ListsIn, keys_of}
 use Rattle.tree_path.proofs.Steps.{index-counted}
 use Rattle.tree_path.proofs.Ways.{ok_or-present, step_place-Text, step_place-Seq, step_place-Map}
 use Rattle.tree_path.proofs.place.step_place_by.Goals as goal
@@ -28,8 +29,14 @@ returns-in-Map c =
     c.ok_or.ensures.value ∙ ok_or-present c.key_place_by.result ∙ ap present (c.key_place_by.ensures ∙ ap (key_place token) c.deref.ensures.value)
     ∙ sym (ap (λ t. step_place t token) (ap tree_of c.in-Map.is ∙ tree_of-Map v) ∙ step_place-Map v.items token)
 
-pub key_place_by-requires : goal.key_place_by-requires
-key_place_by-requires c =
+pub key_place_by-requires-clause-distinct : goal.key_place_by-requires-clause-distinct
+key_place_by-requires-clause-distinct c =
     let v = c.in-Map.pairs in
     subst (λ ps. members_distinct (members_of ps) ≡ true) (sym c.deref.ensures.value)
-    (ap distinct (sym (ap tree_of c.in-Map.is ∙ tree_of-Map v)) ∙ c.requires)
+    (ap distinct (sym (ap tree_of c.in-Map.is ∙ tree_of-Map v)) ∙ c.requires.distinct)
+
+pub key_place_by-requires-clause-table : goal.key_place_by-requires-clause-table
+key_place_by-requires-clause-table c =
+    let v = c.in-Map.pairs in
+    subst (λ ps. IfSome c.args.table (λ table. Lists table.now (keys_of (members_of ps)))) (sym c.deref.ensures.value)
+    (subst (λ t. IfSome c.args.table (λ table. ListsIn table.now t)) (ap tree_of c.in-Map.is ∙ tree_of-Map v) c.requires.table)

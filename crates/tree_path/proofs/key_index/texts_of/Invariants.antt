@@ -1,0 +1,7 @@
+use Rattle.std.proofs.Common.{◌≡◌, take}
+use Rattle.json_pointer.specs.Tokens.{texts}
+use Rattle.tree_path.specs.Tables.{steps_of}
+use Rattle.tree_path.proofs.key_index.texts_of.Given as goal
+
+abbrev pub invariant-loop-place : goal.invariant-loop-place
+invariant-loop-place l = steps_of l.steps.items ≡ texts (take l.place l.tokens)
