@@ -1,0 +1,29 @@
+-- The plain form presents each tree, and where no text has two meanings it reads as that tree.
+use Rattle.std.proofs.Common.{refl}
+use Rattle.yaml_grammar.specs.Streams.{stream_events}
+use Rattle.yaml_recognizers.specs.StyleLaws.{CanReadAs}
+use Rattle.yaml_recognizers.proofs.OneStyle.StyleRead.{Unambiguous}
+use Rattle.yaml_forms.specs.PlainForm.{plain_text}
+use Rattle.yaml_forms.specs.PlainLaws.{PlainPresents, PlainReads}
+use Rattle.yaml_forms.proofs.JsonRead.{read_once}
+use Rattle.yaml_forms.proofs.PlainPresented.{presentation_of}
+use Rattle.yaml_forms.proofs.PlainSpelled.{presentation_spelled}
+use Rattle.yaml_forms.proofs.PlainFits.{presentation_fits}
+use Rattle.yaml_forms.proofs.PlainMeant.{presentation_meant}
+use Rattle.yaml_forms.proofs.PlainTexts.{plain_is_text}
+
+-- the plain form has a presentation that means the tree
+pub plain_presented : PlainPresents
+plain_presented t h =
+    record {
+      text = plain_is_text t h;
+      events = stream_events (presentation_of t);
+      reads = record { presentation = presentation_of t; presents = record { fits = presentation_fits t h; spells = presentation_spelled t }; means = refl };
+      tree = presentation_meant t h;
+    }
+
+-- so if no text has two meanings, it reads as the tree
+pub plain_read : Unambiguous → PlainReads
+plain_read one t limits good short =
+    let can : CanReadAs (plain_text t) t = plain_presented t good.texts in
+    record { short = short; events = can.events; reads = read_once one (plain_text t) t can; tree = can.tree; good = good }

@@ -1,0 +1,5 @@
+use Rattle.std.proofs.lemmas.Result.{on_ok_weaker}
+use Rattle.yaml_forms.proofs.json_string.write_escape.Goals as goal
+
+pub returns : goal.returns
+returns g c = on_ok_weaker c.put_char-2.result (g.met.S.Sink.takes_both _ _ _ _ _ c.in_ok-put_char.ensures) c.put_char-2.ensures

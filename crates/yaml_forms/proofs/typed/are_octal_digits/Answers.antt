@@ -1,0 +1,8 @@
+use Rattle.std.proofs.Common.{not, ◌&&◌, ap, ◌∙◌}
+use Rattle.std.specs.List.{list_all}
+use Rattle.yaml_forms.specs.CoreScalars.{octal_digit}
+use Rattle.yaml_forms.proofs.typed.are_octal_digits.Goals as goal
+
+pub returns-then-not-is_empty : goal.returns-then-not-is_empty
+returns-then-not-is_empty c =
+    c.have_only_octal_digits.ensures ∙ ap (λ empty. not empty && list_all octal_digit c.args.bytes.now) c.if-not-is_empty.ensures

@@ -1,0 +1,36 @@
+// Laws of JSON texts and of the plain form: each is YAML, and gives the tree that it was made of.
+//
+// A law is a function that does nothing, takes nothing and always returns. What it ensures holds of all values, and
+// is cited where a proof needs it.
+ghost use Rattle.yaml_forms.specs.JsonLaws.{JsonLinePresents, JsonLineReads, JsonPresents, JsonReads};
+ghost use Rattle.yaml_forms.specs.PlainLaws.{PlainPresents, PlainReads};
+
+use yaml_recognizers::texts::unambiguous;
+
+/// The JSON text of each tree of texts is a text that can be read as that tree. It has a presentation that fits (YAML
+/// 1.2.2, 7.3.1 and 7.4) and means the tree's events. The same holds with a line feed after it.
+pub fn json_presents()
+    ensures alone { JsonPresents }
+    ensures line { JsonLinePresents }
+{}
+
+/// The JSON text of each good tree gives that tree, alone and with a line feed after it, within every limit of length
+/// that the text keeps.
+pub fn json_reads()
+    ensures alone { JsonReads }
+    ensures line { JsonLineReads }
+{
+    unambiguous();
+}
+
+/// The plain form of each tree of texts is a text that can be read as that tree.
+pub fn plain_presents()
+    ensures { PlainPresents }
+{}
+
+/// The plain form of each good tree gives that tree, within every limit of length that the text keeps.
+pub fn plain_reads()
+    ensures { PlainReads }
+{
+    unambiguous();
+}
