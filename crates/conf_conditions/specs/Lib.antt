@@ -1,0 +1,2 @@
+pub mod SameTrees
+pub mod Conditions

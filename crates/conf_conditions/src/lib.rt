@@ -1,0 +1,16 @@
+//! Conditions on the state of a store, for changes that are made only if nobody came between.
+//!
+//! [`check`] judges conditions in order. A caller does so right before a command, on the state that the command finds,
+//! and performs the command only if all of them hold.
+#![tactic(auto)]
+
+mod checking;
+mod condition;
+mod fault;
+mod laws;
+mod same_tree;
+
+pub use checking::check;
+pub use condition::Condition;
+pub use fault::ConditionFault;
+pub use laws::{conditions_hold, same_trees_are_equal};
