@@ -11,7 +11,7 @@ ghost use Rattle.conf_record.specs.RecordsRead.{values, if_good, edit_from, edit
 ghost use Rattle.conf_record.specs.Reading.{AreKept, AreKeptElements, KeepsTree, edit_seen, command_and_number};
 
 use crate::edit_members::{EditMembers, members_from};
-use crate::fields::{is_same, keys_are, last_value, number_from, text_in};
+use crate::fields::{is_same, keys_are, last_value, number_from, split_first, text_in};
 use crate::parts::part;
 use conf_state::{Command, Edit, good_name};
 use json_pointer::is_pointer;
@@ -51,17 +51,6 @@ fn split_number(pairs: Vec<(Text, Tree)>) -> Option<(u64, Vec<(Text, Tree)>)>
     let digits = text_in(value)?;
     let number = number_from(&digits)?;
     Some((number, rest))
-}
-
-/// The first pair, and those after it.
-fn split_first(mut pairs: Vec<(Text, Tree)>) -> Option<((Text, Tree), Vec<(Text, Tree)>)>
-    ensures { MatchOption result (pairs.items ≡ []) (λ v. pairs.items ≡ v.0 ∷ v.1.items) }
-{
-    if pairs.is_empty() {
-        return None;
-    }
-    let first = pairs.remove(0);
-    Some((first, pairs))
 }
 
 /// The command of the pairs after the number; `None` if they are no command's.

@@ -106,9 +106,20 @@ pub(crate) fn next_pairs(pairs: &mut IntoIter<(Text, Tree)>) -> Option<Vec<(Text
     }
 }
 
+/// The first pair, and those after it; `None` if there is none. It takes no memory.
+pub fn split_first(mut pairs: Vec<(Text, Tree)>) -> Option<((Text, Tree), Vec<(Text, Tree)>)>
+    ensures { MatchOption result (pairs.items ≡ []) (λ v. pairs.items ≡ v.0 ∷ v.1.items) }
+{
+    if pairs.is_empty() {
+        return None;
+    }
+    let first = pairs.remove(0);
+    Some((first, pairs))
+}
+
 /// The number whose decimal text this is: `0`, or digits without a leading zero, at most 18,446,744,073,709,551,615.
-/// Returns `None` for any other text.
-pub(crate) fn number_from(digits: &str) -> Option<u64>
+/// Returns `None` for any other text. It takes no memory.
+pub fn number_from(digits: &str) -> Option<u64>
     ensures read { result ≡ number_from_digits (chars digits.now) }
     ensures spelled { IfSome result (λ number. digits.now ≡ encode_utf8_all (decimal number)) }
 {

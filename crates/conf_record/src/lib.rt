@@ -36,7 +36,9 @@ pub use conf_state::{Command, Edit, Names, State, good_name, step};
 pub use documents::{documents_are_read, documents_close};
 pub use edit_lines::{Place, cut_edit, cut_element};
 pub use edit_members::{EditMembers, members_from};
-pub use fields::{is_same, keys_are, last_text, last_value, next_text, next_value};
+pub use fields::{
+    is_same, keys_are, last_text, last_value, next_text, next_value, number_from, split_first,
+};
 pub use laws::records_read;
 pub use parts::part;
 pub use read::{read_base, read_record};

@@ -3,12 +3,11 @@ ghost use Rattle.std.specs.Prelude.{◌≡◌, ◌≤◌, OnOk};
 ghost use Rattle.yaml_config.specs.Kept.{IsKept};
 ghost use Rattle.yaml_data.specs.Seen.{tree_of};
 ghost use Rattle.yaml_grammar.specs.Style.{value_at};
-ghost use Rattle.yaml_grammar.specs.Texts.{byte_len};
 
+use conf_state::value_length;
 use std::alloc::AllocError;
 use std::convert::Infallible;
-use yaml_config::Slot;
-use yaml_tree::{ByteCount, Config, Sink, Tree, lengths_follow_indentation, write_value};
+use yaml_tree::{ByteCount, Config, Sink, write_value};
 
 /// The indentation of the members of an edit in a batch.
 pub(crate) const EDIT_INDENT: u64 = 4;
@@ -34,22 +33,5 @@ impl RecordSink for String {
 impl RecordSink for ByteCount {
     fn put_value(&mut self, value: &Config, indent: u64) -> Result<(), Infallible> {
         self.put_spaces(value_length(value, indent))
-    }
-}
-
-/// How many bytes a configuration has as the value after the `:` of its key, whose line is indented by `indent` spaces.
-/// A text at the margin is as long as by itself, after a space.
-fn value_length(value: &Config, indent: u64) -> u64
-    requires { indent ≤ EDIT_INDENT }
-    ensures length { result ≡ byte_len (value_at (tree_of value.now) indent) }
-    ensures kept { IsKept (tree_of value.now) }
-{
-    lengths_follow_indentation();
-    match value.tree() {
-        Tree::Text(_) if indent == 0 => 1 + value.style_length(),
-        _ => {
-            let size = value.size(Slot::Value);
-            (size.bytes + u128::from(indent) * size.lines) as u64
-        }
     }
 }

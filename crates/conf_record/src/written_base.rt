@@ -9,11 +9,11 @@ use crate::comparison::{Comparison, Differs};
 use crate::documents::documents_are_read;
 use crate::fields::number_from;
 use crate::miss::Miss;
-use crate::parts::part;
 use crate::tree_lines::TreeLines;
 use conf_state::State;
 use std::alloc::Global;
 use std::str;
+use yaml_config::Slot;
 use yaml_tree::{Config, ReadFault, Text, Tree};
 
 /// The state whose base the bytes are, if they are the very text that [`base_text`](crate::base_text) writes for it.
@@ -92,8 +92,16 @@ fn guessed_pairs(alloc: Global, lines: &str) -> Result<Vec<(Text, Tree)>, Miss> 
 /// The configuration of a tree, with its size, if it is within the limits of one.
 fn checked(alloc: Global, tree: Tree) -> Result<Config, Miss> {
     match Config::new(alloc, tree) {
-        Ok(config) => Ok(part(config.into_tree())),
+        Ok(config) => Ok(with_size_known(config)),
         Err((_, ReadFault::OutOfMemory)) => Err(Miss::OutOfMemory),
         Err(_) => Err(Miss::OtherForm),
     }
+}
+
+/// The same configuration, whose size is known from then on. It is counted only if it wasn't known.
+fn with_size_known(config: Config) -> Config
+    ensures { result ≡ config }
+{
+    let size = config.size(Slot::Element);
+    Config::with_size(config.into_tree(), size)
 }

@@ -22,6 +22,7 @@ mod room;
 mod state;
 mod steps;
 
+pub use base::value_length;
 pub use command::{Command, Edit};
 pub use fault::StoreFault;
 pub use laws::{accepted_commands_are_counted, runs_are_joined, steps_are_counted_or_refused};

@@ -78,7 +78,7 @@ pub fn create_store<D: Disk + Drop>(
     held_store_is_left();
     held_store_is_the_only_one();
     let mut disk = disk;
-    match find_none(alloc, &mut disk) {
+    match find_no_store(alloc, &mut disk) {
         Ok(()) => {}
         Err(fault) => return Err((disk, fault)),
     }
@@ -93,7 +93,7 @@ pub fn create_store<D: Disk + Drop>(
 ///
 /// # Errors
 /// `StoreExists` if there is one: nothing has changed. `Device` and `OutOfMemory`: both files read as before.
-fn find_none<D: Disk>(alloc: Global, disk: &mut D) -> Result<(), CreateFault>
+pub fn find_no_store<D: Disk>(alloc: Global, disk: &mut D) -> Result<(), CreateFault>
     ensures missing { D.model.honest → OnOk result (bytes_under (D.model.folder disk.old) Name.Store ≡ None) }
     ensures holds { D.model.honest → OnOk result (HoldsStore (D.model.folder disk.new) None) }
     ensures exists { D.model.honest → result ≡ Err CreateFault.StoreExists →

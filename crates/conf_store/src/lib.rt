@@ -36,7 +36,8 @@ mod slicing;
 mod staging;
 mod store;
 
-pub use creating::{CreateFault, create_store};
+pub use base_file::replace_store;
+pub use creating::{CreateFault, create_store, find_no_store};
 pub use fault::OpenFault;
 pub use importing::import_command;
 pub use laws::{

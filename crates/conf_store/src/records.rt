@@ -57,6 +57,7 @@ pub enum OnRefusal {
 ///
 /// # Errors
 /// `Bad` with `NotARecord` or `WrongNumber`. `OutOfMemory`.
+#[inline(always)]
 pub fn next_command(alloc: Global, state: &State, piece: &[u8]) -> Result<Command, RecordFault>
     ensures ok { IfOk result (λ command.
         IsRecord piece.now (command_of command) (state.now.count + 1)) }
@@ -86,6 +87,7 @@ fn is_next(count: u64, number: u64) -> bool
 ///
 /// # Errors
 /// `Bad` with `Refused`. `OutOfMemory`. What becomes of the state says `on_refusal`.
+#[inline(always)]
 pub fn replay_command(
     alloc: Global,
     state: &mut State,
@@ -107,6 +109,7 @@ pub fn replay_command(
 }
 
 /// Performs a command whose record is there.
+#[inline(always)]
 fn perform(
     alloc: Global,
     state: &mut State,

@@ -11,3 +11,4 @@ pub mod Readings
 pub mod CutLines
 pub mod NodesInBytes
 pub mod PieceReads
+pub mod OutputLemmas

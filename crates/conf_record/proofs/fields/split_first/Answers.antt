@@ -2,7 +2,7 @@ use Rattle.std.proofs.Common.{◌≡◌, List, [], ◌∷◌, length, get_or, ve
 use Rattle.std.proofs.lemmas.Bool.{eqb-true, eqb-false}
 use Rattle.std.specs.List.{remove}
 use Rattle.yaml_data.specs.Seen.{Pair}
-use Rattle.conf_record.proofs.command_reader.split_first.Goals as goal
+use Rattle.conf_record.proofs.fields.split_first.Goals as goal
 
 none_there : (ps : List Pair) → length ps ≡ 0 → ps ≡ []
 none_there [] e = refl
