@@ -1,5 +1,5 @@
 -- What a piece asks for is answered: no fault of a request is one that ends a session.
-use Rattle.std.proofs.Common.{◌≡◌, ◌≢◌, ⊎_elim, refl, ap, ◌∙◌}
+use Rattle.std.proofs.Common.{◌≡◌, ◌≢◌, ⊎_elim, refl, sym, ap, ◌∙◌}
 use Rattle.std.specs.Prelude.{ℕ, suc, ◌+◌, Bool, true, false, nat_le, nat_lt, if◌then◌else◌, List, [], ◌∷◌, Option, Some, None, Result, Ok, Err, is_some, is_ok}
 use Rattle.yaml_grammar.specs.Texts.{byte_len}
 use Rattle.yaml_grammar.specs.Style.{style_text}
@@ -25,9 +25,13 @@ use Rattle.conf_store.specs.Calls.{outcome, room_for, tree_named}
 use Rattle.conf_store.specs.Imports.{RefusesText}
 use Rattle.conf_session.specs.declared.fault.SessionFault.{SessionFault}
 use Rattle.conf_session.specs.declared.words.Refusal.{Refusal}
-use Rattle.conf_session.specs.Said.{Part, import_text, plain, Said, single_part, batch_of_parts, get_at, export_of, all_names, checkpoint_now, nothing}
-use Rattle.conf_session.specs.Requests.{Request, changing, unread, getting, exporting, naming, checkpointing, bad, RefusesPart, MeansRequest, Asks}
-use Rattle.conf_session.specs.Answers.{Stored, longest, answer, answered, path_answered, read_answered, refused_answer, answer_or_refusal, value_at_path}
+use Rattle.conf_conditions.specs.Conditions.{Condition, first_fault}
+use Rattle.conf_conditions.specs.declared.fault.ConditionFault.{ConditionFault}
+use Rattle.conf_conditions.specs.declared.fault.ConditionFault.TheVariants as condition
+use Rattle.conf_conditions.proofs.ConditionLemmas.{IsTold, told-first}
+use Rattle.conf_session.specs.Said.{Part, import_text, plain, Said, single_part, batch_of_parts, get_at, export_of, all_names, checkpoint_now, conditional, nothing}
+use Rattle.conf_session.specs.Requests.{Request, changing, unread, getting, exporting, naming, checkpointing, if_met, bad, RefusesPart, MeansRequest, Asks}
+use Rattle.conf_session.specs.Answers.{Stored, longest, answer, answered, path_answered, read_answered, refused_answer, answer_or_refusal, value_at_path, condition_answered, unless_failed}
 
 -- ---- results whose fault is answered
 
@@ -233,6 +237,22 @@ change-answer-some now command =
 at-request : (now : Stored) (request asked : Request) → request ≡ asked → is_some (answer now asked) ≡ true → is_some (answer now request) ≡ true
 at-request now request asked is some = ap (λ r. is_some (answer now r)) is ∙ some
 
+-- a condition that fails is answered, since its path is never refused for memory
+pub condition-told : (fault : ConditionFault) → IsTold fault → is_ok (condition_answered fault) ≡ true
+unfolding is_path_answered
+condition-told condition.Unmet told = refl
+condition-told condition.BadName told = refl
+condition-told (condition.Path why) told = ap is_path_answered (sym told.1) ∙ path_of-answered told.0
+condition-told condition.OutOfMemory told = absurd told
+
+conditional-answer : (now : Stored) (conditions : List Condition) (met : Request) → is_some (answer now met) ≡ true → is_some (answer now (if_met conditions met)) ≡ true
+conditional-answer now conditions met some = by (first_fault now.state conditions) refl
+  where
+    by : (failed : Option ConditionFault) → first_fault now.state conditions ≡ failed
+        → is_some (unless_failed failed (answer now met) (λ fault. refused_answer (condition_answered fault))) ≡ true
+    by None is = some
+    by (Some fault) is = some-answer (condition_answered fault) (condition-told fault (told-first now.state conditions fault is))
+
 said-answer : (now : Stored) (said : Said) (request : Request) → MeansRequest said request → is_some (answer now request) ≡ true
 said-answer now (single_part (import_text name source)) request means =
     ⊎_elim (λ read. at-request now request (changing read.0) read.2 (change-answer-some now read.0))
@@ -245,6 +265,8 @@ said-answer now (get_at name p) request means = at-request now request (getting 
 said-answer now (export_of name) request means = at-request now request (exporting name) means (result-answer _ (tree_named now.state name) (named-answered now.state name))
 said-answer now all_names request means = at-request now request naming means refl
 said-answer now checkpoint_now request means = at-request now request checkpointing means refl
+said-answer now (conditional conditions said) request means =
+    at-request now request (if_met conditions means.0) means.2 (conditional-answer now conditions means.0 (said-answer now said means.0 means.1))
 said-answer now nothing request means = at-request now request bad means refl
 
 -- each request that a piece asks for has an answer

@@ -33,8 +33,10 @@ use Rattle.conf_state.proofs.RunLaws.{and_then-Ok, step-one}
 use Rattle.conf_record.proofs.SizeLemmas.{size, scalar_most, value_size}
 use Rattle.yaml_writer.proofs.ByteLemmas.{byte_len-encoded}
 use Rattle.conf_store.specs.Calls.{outcome, room_for, tree_named}
-use Rattle.conf_session.specs.Requests.{Request, changing, unread, getting, exporting, naming, checkpointing, bad}
-use Rattle.conf_session.specs.Answers.{Stored, longest, one, text_elements, answered, refused_answer, answer_or_refusal, value_at_path, change_answer, document_bytes, answer_bytes, answer_limit}
+use Rattle.conf_conditions.specs.Conditions.{first_fault}
+use Rattle.conf_conditions.specs.declared.fault.ConditionFault.{ConditionFault}
+use Rattle.conf_session.specs.Requests.{Request, changing, unread, getting, exporting, naming, checkpointing, if_met, bad}
+use Rattle.conf_session.specs.Answers.{Stored, longest, one, text_elements, answered, refused_answer, answer_or_refusal, value_at_path, change_answer, document_bytes, answer, answer_bytes, answer_limit, condition_answered, unless_failed}
 use Rattle.conf_session.specs.declared.fault.SessionFault.{SessionFault}
 use Rattle.conf_session.specs.declared.words.Refusal.{Refusal}
 use Rattle.conf_session.specs.declared.words.Refusal.TheVariants as why
@@ -275,4 +277,10 @@ answer-short now naming kept =
     let names = sequence (text_elements (names_of now.state.configs)) in
     omega (arith, document-length (codes "names") names, names-value-length now.state.configs kept.configs, entries-short now.state kept)
 answer-short now checkpointing kept = count-answer-short now.state.count kept.numbered
+answer-short now (if_met conditions request) kept = by (first_fault now.state conditions) (answer-short now request kept)
+  where
+    by : (failed : Option ConditionFault) → length (answer_bytes now request) ≤ answer_limit
+        → length (document_bytes (unless_failed failed (answer now request) (λ fault. refused_answer (condition_answered fault)))) ≤ answer_limit
+    by None short = short
+    by (Some fault) short = refused-short (condition_answered fault)
 answer-short now bad kept = refusal-short why.BadCommand

@@ -3,6 +3,8 @@ pub mod LengthLemmas
 pub mod RefusalLemmas
 pub mod AnsweredLemmas
 pub mod RequestLemmas
+pub mod ConditionalLemmas
+pub mod SaidConditionLemmas
 pub mod PassedLemmas
 pub mod ReadLemmas
 pub mod SessionLemmas
@@ -12,7 +14,6 @@ pub mod SaidLemmas
 pub mod LinesPresented
 pub mod CommandLineLemmas
 pub mod PartLemmas
-pub mod OutputLemmas
 pub mod TurnLemmas
 pub mod TendLemmas
 pub mod GatherLemmas

@@ -1,6 +1,6 @@
 -- One request after others.
 use Rattle.std.proofs.Common.{◌≡◌, refl, sym, ◌∙◌, ap, subst, arith, ◌≤◌, append_assoc, length-append}
-use Rattle.std.specs.Prelude.{ℕ, ◌+◌, ◌-◌, suc, Bool, true, false, if◌then◌else◌, List, [], ◌∷◌, ◌++◌, length, take, Option, Result, Ok, Err, is_ok}
+use Rattle.std.specs.Prelude.{ℕ, ◌+◌, ◌-◌, suc, Bool, true, false, if◌then◌else◌, List, [], ◌∷◌, ◌++◌, length, take, Option, Some, None, Result, Ok, Err, is_ok}
 use Rattle.std.proofs.lemmas.List.{append-nil}
 use Rattle.std.proofs.lemmas.List.Elements.{All-push}
 use Rattle.yaml_grammar.specs.Closings.{ClosesOnce}
@@ -21,9 +21,11 @@ use Rattle.conf_state.proofs.RefusalLemmas.{accepted-room}
 use Rattle.conf_store.proofs.StepLemmas.{accepted-anyway}
 use Rattle.conf_store.proofs.MeaningLemmas.{after-done, after-joined}
 use Rattle.conf_store.proofs.HeldLemmas.{prefix-longer}
+use Rattle.conf_conditions.specs.Conditions.{first_fault}
+use Rattle.conf_conditions.specs.declared.fault.ConditionFault.{ConditionFault}
 use Rattle.conf_session.specs.Said.{piece_limit}
-use Rattle.conf_session.specs.Requests.{Request, Asks, AllAsk, changing, unread, getting, exporting, naming, checkpointing, bad}
-use Rattle.conf_session.specs.Answers.{Stored, longest, syncs, flushed_after, waiting_after, acknowledged, AllAreAcknowledged, answer_bytes, output, stored_after, stored_after_all, file_after, file_after_all, staged_after, staged_after_all, accepted_commands, accepted_command, accepted_by, stored_after_change, refused_of, refusals, is_refused, value_at_path}
+use Rattle.conf_session.specs.Requests.{Request, Asks, AllAsk, changing, unread, getting, exporting, naming, checkpointing, if_met, bad}
+use Rattle.conf_session.specs.Answers.{Stored, longest, syncs, flushed_after, waiting_after, acknowledged, AllAreAcknowledged, answer_bytes, output, stored_after, stored_after_all, file_after, file_after_all, staged_after, staged_after_all, accepted_commands, accepted_command, accepted_by, stored_after_change, refused_of, refusals, is_refused, value_at_path, unless_failed}
 use Rattle.conf_session.specs.Runs.{stored_of, ArePieces, AfterAtLeast}
 use Rattle.conf_session.specs.Replies.{LeavesPrefixes, Performs, PerformsAll}
 
@@ -99,6 +101,11 @@ few-accepted now (getting name path) = omega arith
 few-accepted now (exporting name) = omega arith
 few-accepted now naming = omega arith
 few-accepted now checkpointing = omega arith
+few-accepted now (if_met conditions r) = by (first_fault now.state conditions) (few-accepted now r)
+  where
+    by : (failed : Option ConditionFault) → length (accepted_command now r) ≤ 1 → length (unless_failed failed (accepted_command now r) (λ fault. [])) ≤ 1
+    by None few = few
+    by (Some fault) few = omega arith
 few-accepted now bad = omega arith
 
 -- a request is refused once at most
@@ -109,6 +116,11 @@ few-refused now (getting name path) = one-refused (value_at_path now.state name 
 few-refused now (exporting name) = one-refused (tree_named now.state name)
 few-refused now naming = omega arith
 few-refused now checkpointing = omega arith
+few-refused now (if_met conditions r) = by (first_fault now.state conditions) (few-refused now r)
+  where
+    by : (failed : Option ConditionFault) → refused_of now r ≤ 1 → unless_failed failed (refused_of now r) (λ fault. 1) ≤ 1
+    by None few = few
+    by (Some fault) few = omega arith
 few-refused now bad = omega arith
 
 -- ---- the states after them
@@ -124,6 +136,12 @@ leads-one now (getting name path) = refl
 leads-one now (exporting name) = refl
 leads-one now naming = refl
 leads-one now checkpointing = refl
+leads-one now (if_met conditions r) = by (first_fault now.state conditions) (leads-one now r)
+  where
+    by : (failed : Option ConditionFault) → after now.state (accepted_command now r) ≡ Ok (stored_after now r).state
+        → after now.state (unless_failed failed (accepted_command now r) (λ fault. [])) ≡ Ok (unless_failed failed (stored_after now r) (λ fault. now)).state
+    by None leads = leads
+    by (Some fault) leads = refl
 leads-one now bad = refl
 
 -- the accepted commands lead to the state that is stored after the requests
@@ -158,6 +176,12 @@ quiet-one now (getting name path) quiet = refl
 quiet-one now (exporting name) quiet = refl
 quiet-one now naming quiet = refl
 quiet-one now checkpointing quiet = refl
+quiet-one now (if_met conditions r) quiet = by (first_fault now.state conditions) (quiet-one now r) quiet
+  where
+    by : (failed : Option ConditionFault) → (syncs true now r ≡ false → accepted_command now r ≡ []) → unless_failed failed (syncs true now r) (λ fault. false) ≡ false
+        → unless_failed failed (accepted_command now r) (λ fault. []) ≡ []
+    by None met e = met e
+    by (Some fault) met e = refl
 quiet-one now bad quiet = refl
 
 -- where none waits and each command is flushed at once, none ever does

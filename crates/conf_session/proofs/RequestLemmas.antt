@@ -36,7 +36,7 @@ use Rattle.conf_store.proofs.HeldLemmas.{prefix-longer}
 use Rattle.conf_session.specs.Said.{import_text, single_part}
 use Rattle.conf_session.specs.declared.fault.SessionFault.{SessionFault}
 use Rattle.conf_session.specs.declared.fault.SessionFault.TheVariants as fault
-use Rattle.conf_session.specs.Requests.{MeansRequest, Request, changing, unread, getting, exporting, naming, checkpointing, bad}
+use Rattle.conf_session.specs.Requests.{MeansRequest, Request, changing, unread, getting, exporting, naming, checkpointing, if_met, bad}
 use Rattle.conf_session.specs.Answers.{Stored, longest, one, change_answer, stored_after_change, stored_after, file_after_change, accepted_by, accepted_command, is_refused, answered, refused_answer, document_bytes}
 use Rattle.conf_session.specs.Runs.{stored_of}
 use Rattle.conf_session.specs.Replies.{OnlyReads, LeavesPrefixes, MeansPrefixes, Performs, Replies, Did, DidAsked, CountsFailures, Handles, refused_as}
@@ -102,7 +102,7 @@ all-after flushed s end waiting command file leads done means =
 -- ---- what waits after a command
 
 -- the commands that wait, where none is added
-still : (folder : Folder) (flushed s : Contents) (waiting : List Command) → HasFlushed folder flushed waiting s → HasFlushed folder flushed (waiting ++ []) s
+pub still : (folder : Folder) (flushed s : Contents) (waiting : List Command) → HasFlushed folder flushed waiting s → HasFlushed folder flushed (waiting ++ []) s
 still folder flushed s waiting has = subst (λ (l : List Command). HasFlushed folder flushed l s) (sym (append-nil waiting)) has
 
 accepted-waits : (at_once : Bool) (folder : Folder) (flushed s : Contents) (more : List Command) → HasFlushed folder (if at_once then s else flushed) (if at_once then [] else more) s
@@ -144,7 +144,7 @@ module _ {D : Type 0} (model : DiskModel D) where
 
 module _ (at_once : Bool) {D : Type 0} (model : DiskModel D) where
   -- a store that is as it was
-  unchanged : (store : StoreView D) → store.reopen ≡ false → (more : List Command) → ((image : Image) → model.honest → model.left store.disk (model.moment store.disk) image → IsImage (model.folder store.disk) image)
+  pub unchanged : (store : StoreView D) → store.reopen ≡ false → (more : List Command) → ((image : Image) → model.honest → model.left store.disk (model.moment store.disk) image → IsImage (model.folder store.disk) image)
       → (model.honest → store.reopen ≡ false → LeavesPrefixes (model.folder store.disk) store.state)
       → model.honest → (flushed : Contents) (waiting : List Command) → HasFlushed (model.folder store.disk) flushed waiting store.state
       → LeavesOnly model store.disk store.disk (λ image. AfterPrefix flushed (waiting ++ more) image.store)
@@ -157,6 +157,7 @@ module _ (at_once : Bool) {D : Type 0} (model : DiskModel D) where
       → (model.honest → store.reopen ≡ false → LeavesPrefixes (model.folder store.disk) store.state) → Performs at_once model store store request
   only-read store off (changing command) is only means = absurd is
   only-read store off checkpointing is only means = absurd is
+  only-read store off (if_met conditions request) is only means = absurd is
   only-read store off (unread f) is only means = record { state = refl; stored = λ on. refl; reads = λ h on. refl; stages = λ h on. refl; any_moment = unchanged store off [] only means; waits = λ h on flushed waiting. still (model.folder store.disk) flushed store.state waiting }
   only-read store off (getting name path) is only means = record { state = refl; stored = λ on. refl; reads = λ h on. refl; stages = λ h on. refl; any_moment = unchanged store off [] only means; waits = λ h on flushed waiting. still (model.folder store.disk) flushed store.state waiting }
   only-read store off (exporting name) is only means = record { state = refl; stored = λ on. refl; reads = λ h on. refl; stages = λ h on. refl; any_moment = unchanged store off [] only means; waits = λ h on flushed waiting. still (model.folder store.disk) flushed store.state waiting }
@@ -262,7 +263,7 @@ module _ (at_once : Bool) {D : Type 0} (model : DiskModel D) where
   -- ---- where the store stays as it is
 
   module _ (store : StoreView D) (means : MeansPrefixes model store) (Asked : Request → Type 0) where
-    handles-same : (r : Result Reply SessionFault) → OnlyMemory r → (store.reopen ≡ false → DidAsked at_once model store store Asked r) → Handles at_once model store store Asked r
+    pub handles-same : (r : Result Reply SessionFault) → OnlyMemory r → (store.reopen ≡ false → DidAsked at_once model store store Asked r) → Handles at_once model store store Asked r
     handles-same r memory did = record {
       did = did;
       failures = record { cause = λ e. absurd (no-device r memory e); risen = omega arith };

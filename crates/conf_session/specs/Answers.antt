@@ -23,7 +23,10 @@ use Rattle.conf_session.specs.declared.fault.SessionFault.{SessionFault}
 use Rattle.conf_session.specs.declared.fault.SessionFault.TheVariants as fault
 use Rattle.conf_session.specs.declared.words.Refusal.{Refusal}
 use Rattle.conf_session.specs.declared.words.Refusal.TheVariants as refused
-use Rattle.conf_session.specs.Requests.{Request, changing, unread, getting, exporting, naming, checkpointing, bad, Asks}
+use Rattle.conf_conditions.specs.Conditions.{Condition, AllHold, FailsFirst, first_fault}
+use Rattle.conf_conditions.specs.declared.fault.ConditionFault.{ConditionFault}
+use Rattle.conf_conditions.specs.declared.fault.ConditionFault.TheVariants as condition
+use Rattle.conf_session.specs.Requests.{Request, changing, unread, getting, exporting, naming, checkpointing, if_met, bad, Asks}
 
 -- ---- refusals: which one answers a fault, and its word, which is the innermost fault's own name, or `BadCommand`
 
@@ -63,6 +66,13 @@ answered store.Reopen = Err fault.Reopen
 answered store.Device = Err fault.Device
 answered store.OutOfMemory = Err fault.OutOfMemory
 
+-- the first condition that does not hold
+abbrev pub condition_answered : ConditionFault → Result Refusal SessionFault
+condition_answered condition.Unmet = Ok refused.Unmet
+condition_answered condition.BadName = Ok refused.BadName
+condition_answered (condition.Path why) = path_answered why
+condition_answered condition.OutOfMemory = Err fault.OutOfMemory
+
 abbrev pub word : Refusal → List ℕ
 word refused.BadCommand = codes "BadCommand"
 word refused.EmptyBatch = codes "EmptyBatch"
@@ -84,6 +94,7 @@ word refused.StoreFull = codes "StoreFull"
 word refused.RecordLong = codes "RecordLong"
 word refused.JournalLong = codes "JournalLong"
 word refused.CountFull = codes "CountFull"
+word refused.Unmet = codes "Unmet"
 
 -- ---- one answer: a mapping of one key
 
@@ -129,6 +140,11 @@ longest now = max now.size (unwrap_or now.staged 0)
 abbrev pub change_answer : Result Contents StoreFault → Option Tree
 change_answer r = answer_or_refusal (λ (new : Contents). one (codes "ok") (text (decimal new.count))) r
 
+-- one thing where no condition fails, and another where one does
+abbrev pub unless_failed : {A : Type 0} → Option ConditionFault → A → (ConditionFault → A) → A
+unless_failed None met unmet = met
+unless_failed (Some fault) met unmet = unmet fault
+
 -- The answer to a request, as the tree that is written in the one style. Only a fault that ends a session has none.
 abbrev pub answer : Stored → Request → Option Tree
 answer now (changing command) = change_answer (outcome (longest now) now.state command)
@@ -138,6 +154,9 @@ answer now (exporting name) =
     answer_or_refusal (λ t. one (codes "text") (text (style_text t))) (tree_named now.state name)
 answer now naming = Some (one (codes "names") (sequence (text_elements (names_of now.state.configs))))
 answer now checkpointing = Some (one (codes "ok") (text (decimal now.state.count)))
+answer now (if_met conditions request) =
+    unless_failed (first_fault now.state conditions) (answer now request)
+    (λ fault. refused_answer (condition_answered fault))
 answer now bad = Some (refusal (word refused.BadCommand))
 
 -- the document of an answer, in bytes
@@ -174,10 +193,13 @@ stored_after_change now command (Ok new) = record {
 stored_after_change now command (Err fault) = now
 
 -- An accepted command gives the next state, and adds the length of its record to both files. A checkpoint leaves the
--- state, and the file is as long as its base; one that runs is given up. All else leaves all.
+-- state, and the file is as long as its base; one that runs is given up. All else leaves all, and so does a request one
+-- of whose conditions fails.
 abbrev pub stored_after : Stored → Request → Stored
 stored_after now (changing command) = stored_after_change now command (outcome (longest now) now.state command)
 stored_after now checkpointing = record { state = now.state; size = length (base_bytes now.state); staged = None }
+stored_after now (if_met conditions request) =
+    unless_failed (first_fault now.state conditions) (stored_after now request) (λ fault. now)
 stored_after now request = now
 
 -- ---- what `store.yaml` reads as after a request
@@ -190,6 +212,8 @@ file_after_change file now command (Err fault) = file
 abbrev pub file_after : Option (List ℕ) → Stored → Request → Option (List ℕ)
 file_after file now (changing command) = file_after_change file now command (outcome (longest now) now.state command)
 file_after file now checkpointing = Some (base_bytes now.state)
+file_after file now (if_met conditions request) =
+    unless_failed (first_fault now.state conditions) (file_after file now request) (λ fault. file)
 file_after file now request = file
 
 -- ---- what the new file of a running checkpoint will read as after a request
@@ -198,6 +222,8 @@ file_after file now request = file
 abbrev pub staged_after : Option (List ℕ) → Stored → Request → Option (List ℕ)
 staged_after file now (changing command) = file_after_change file now command (outcome (longest now) now.state command)
 staged_after file now checkpointing = None
+staged_after file now (if_met conditions request) =
+    unless_failed (first_fault now.state conditions) (staged_after file now request) (λ fault. file)
 staged_after file now request = file
 
 -- ---- requests, one after the other
@@ -235,6 +261,8 @@ accepted_by (Err fault) command = []
 -- the command of a request, if it is accepted
 abbrev pub accepted_command : Stored → Request → List Command
 accepted_command now (changing command) = accepted_by (outcome (longest now) now.state command) command
+accepted_command now (if_met conditions request) =
+    unless_failed (first_fault now.state conditions) (accepted_command now request) (λ fault. [])
 accepted_command now request = []
 
 -- the accepted commands of the requests, in order
@@ -253,6 +281,8 @@ refused_of now (changing command) = is_refused (outcome (longest now) now.state 
 refused_of now (unread fault) = 1
 refused_of now (getting name p) = is_refused (value_at_path now.state name p)
 refused_of now (exporting name) = is_refused (tree_named now.state name)
+refused_of now (if_met conditions request) =
+    unless_failed (first_fault now.state conditions) (refused_of now request) (λ fault. 1)
 refused_of now bad = 1
 refused_of now request = 0
 
@@ -268,6 +298,8 @@ refusals now (request ∷ requests) = refused_of now request + refusals (stored_
 abbrev pub syncs : Bool → Stored → Request → Bool
 syncs at_once now (changing command) = at_once && is_ok (outcome (longest now) now.state command)
 syncs at_once now checkpointing = true
+syncs at_once now (if_met conditions request) =
+    unless_failed (first_fault now.state conditions) (syncs at_once now request) (λ fault. false)
 syncs at_once now request = false
 
 -- the state that is flushed after the requests, where `flushed` was before

@@ -2,6 +2,9 @@ pub mod Requests
 pub mod Answers
 pub mod Runs
 pub mod Replies
+pub mod ReadChanges
+pub mod Conditional
+pub mod SaidConditions
 pub mod Said
 pub mod CommandLines
 pub mod PartLines

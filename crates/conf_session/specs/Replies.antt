@@ -12,8 +12,11 @@ use Rattle.conf_store.specs.Durable.{AfterPrefix, HasFlushed, AllImagesAfterPref
 use Rattle.conf_store.specs.View.{StoreView}
 use Rattle.conf_session.specs.declared.fault.SessionFault.{SessionFault}
 use Rattle.conf_session.specs.declared.fault.SessionFault.TheVariants.{OutOfMemory, Device}
-use Rattle.conf_session.specs.Requests.{Request, changing, checkpointing}
-use Rattle.conf_session.specs.Answers.{Stored, answer_bytes, answer_limit, refusal, word, stored_after, file_after, staged_after, accepted_command, refused_of, flushed_after, waiting_after, stored_after_all, file_after_all, staged_after_all, accepted_commands}
+use Rattle.conf_state.specs.declared.command.Command as code_command
+use Rattle.conf_state.specs.declared.fault.StoreFault.{StoreFault}
+use Rattle.conf_conditions.specs.declared.fault.ConditionFault.{ConditionFault}
+use Rattle.conf_session.specs.Requests.{Request, changing, checkpointing, if_met}
+use Rattle.conf_session.specs.Answers.{Stored, answered, condition_answered, answer_bytes, answer_limit, refusal, word, stored_after, file_after, staged_after, accepted_command, refused_of, flushed_after, waiting_after, stored_after_all, file_after_all, staged_after_all, accepted_commands}
 use Rattle.conf_session.specs.Runs.{stored_of}
 use Rattle.conf_session.specs.declared.reply.Way.{Way}
 use Rattle.conf_session.specs.declared.reply.Way.TheVariants.{AtOnce, Submitted}
@@ -25,6 +28,7 @@ use Rattle.conf_session.specs.declared.reply.Reply.TheVariants.{Accepted, Done, 
 abbrev pub OnlyReads : Request → Type 0
 OnlyReads (changing command) = ⊥
 OnlyReads checkpointing = ⊥
+OnlyReads (if_met conditions request) = ⊥
 OnlyReads request = Unit {0}
 
 -- the bytes of the answer that a reply holds
@@ -37,6 +41,16 @@ reply_bytes (Refused reason) = framed_text_bytes (refusal (word reason))
 abbrev pub refused_as : Result Refusal SessionFault → Result Reply SessionFault
 refused_as (Ok reason) = Ok (Refused reason)
 refused_as (Err fault) = Err fault
+
+-- a fault that ends the session, and else the other reply
+abbrev pub unmet_after : Result Refusal SessionFault → Result Reply SessionFault → Result Reply SessionFault
+unmet_after (Ok reason) reply = reply
+unmet_after (Err end) reply = Err end
+
+-- the reply to a command that was read and one of whose conditions fails, or the fault that ends the session
+abbrev pub unmet_as : Result code_command.Command StoreFault → ConditionFault → Result Reply SessionFault
+unmet_as (Ok command) fault = refused_as (condition_answered fault)
+unmet_as (Err why) fault = unmet_after (answered why) (refused_as (condition_answered fault))
 
 -- how many commands that change the state a reply accepts: 1 or 0
 abbrev pub accepts : Reply → ℕ

@@ -10,9 +10,11 @@ use Rattle.conf_state.specs.Commands.{Edit, Command, import_as, single, batch}
 use Rattle.conf_state.specs.declared.fault.StoreFault.{StoreFault}
 use Rattle.conf_state.specs.declared.fault.StoreFault.TheVariants.{Read, OutOfMemory}
 use Rattle.conf_store.specs.Imports.{IsImportOf, RefusesText}
-use Rattle.conf_session.specs.Said.{Part, import_text, plain, Said, Says, single_part, batch_of_parts, get_at, export_of, all_names, checkpoint_now, nothing}
+use Rattle.conf_conditions.specs.Conditions.{Condition}
+use Rattle.conf_session.specs.Said.{Part, import_text, plain, Said, Says, single_part, batch_of_parts, get_at, export_of, all_names, checkpoint_now, conditional, nothing}
 
--- what a document says, with the texts of imports read, or with the reason why there is no command to perform
+-- What a document says, with the texts of imports read, or with the reason why there is no command to perform. With
+-- conditions it asks for a request only if they are met.
 pub data Request : Type 0 where
   changing : (command : Command) → Request
   unread : (fault : StoreFault) → Request
@@ -20,6 +22,7 @@ pub data Request : Type 0 where
   exporting : (name : List ℕ) → Request
   naming : Request
   checkpointing : Request
+  if_met : (conditions : List Condition) (request : Request) → Request
   bad : Request
 
 -- ---- the parts of a batch
@@ -71,6 +74,8 @@ MeansRequest (get_at name path) request = request ≡ getting name path
 MeansRequest (export_of name) request = request ≡ exporting name
 MeansRequest all_names request = request ≡ naming
 MeansRequest checkpoint_now request = request ≡ checkpointing
+MeansRequest (conditional conditions said) request =
+    (met : Request) × MeansRequest said met × (request ≡ if_met conditions met)
 MeansRequest nothing request = request ≡ bad
 
 -- the bytes of a piece ask for this request

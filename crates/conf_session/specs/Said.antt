@@ -2,7 +2,7 @@
 use Rattle.std.specs.Prelude.{◌≡◌, ◌≢◌, ◌⊎◌, ℕ, Bool, true, false, List, [], ◌∷◌, codes, map, Option, Some, None, option_and_then, if◌then◌else◌}
 use Rattle.std.specs.Str.{chars}
 use Rattle.yaml_grammar.specs.Texts.{same_text}
-use Rattle.yaml_grammar.specs.Trees.{Tree, text, sequence, mapping, Elements, no_element, element, Members}
+use Rattle.yaml_grammar.specs.Trees.{Tree, text, sequence, mapping, Elements, no_element, element, Members, no_member, member}
 use Rattle.yaml_grammar.specs.Reads.{Limits}
 use Rattle.yaml_data.specs.TextBytes.{text_bytes}
 use Rattle.yaml_config.specs.Kept.{own_limits}
@@ -11,8 +11,12 @@ use Rattle.yaml_events.specs.declared.read_fault.ReadFault.{ReadFault}
 use Rattle.yaml_events.specs.declared.read_fault.ReadFault.TheVariants.{OutOfMemory}
 use Rattle.conf_state.specs.Commands.{Edit, import_as, edit_of}
 use Rattle.conf_record.specs.RecordsRead.{keys_are, values, edit_under}
+use Rattle.conf_conditions.specs.Conditions.{Condition, conditions_of}
+use Rattle.conf_session.specs.SaidConditions.{conditions_in}
 use Rattle.conf_session.specs.declared.parts.Part as code_part
 use Rattle.conf_session.specs.declared.parts.Part.TheVariants as code_parts
+use Rattle.conf_session.specs.declared.said.Change as code_change
+use Rattle.conf_session.specs.declared.said.Change.TheVariants as code_changes
 use Rattle.conf_session.specs.declared.said.Said as code
 use Rattle.conf_session.specs.declared.said.Said.TheVariants as code_said
 
@@ -65,6 +69,7 @@ pub data Said : Type 0 where
   export_of : (name : List ℕ) → Said
   all_names : Said
   checkpoint_now : Said
+  conditional : (conditions : List Condition) (said : Said) → Said
   nothing : Said
 
 abbrev pub part_said : Option Part → Said
@@ -118,7 +123,29 @@ names_keys = codes "names" ∷ []
 abbrev pub checkpoint_keys : List (List ℕ)
 checkpoint_keys = codes "checkpoint" ∷ []
 
--- a command is a part, or a mapping with exactly these keys
+-- ---- a command with conditions
+
+-- a command that changes configurations: a batch, or a part
+abbrev pub change_said : Members → Said
+change_said ms = if keys_are batch_keys ms then batch_said (values ms) else part_said (part_from ms)
+
+-- only a command that changes configurations has conditions
+abbrev pub with_conditions : Option (List Condition) → Said → Said
+with_conditions (Some conditions) (single_part part) = conditional conditions (single_part part)
+with_conditions (Some conditions) (batch_of_parts parts) = conditional conditions (batch_of_parts parts)
+with_conditions conditions said = nothing
+
+-- the first key is `if`
+abbrev pub begins_with_if : Members → Bool
+begins_with_if no_member = false
+begins_with_if (member key t ms) = same_text key (codes "if")
+
+-- under `if` are the conditions, and after it is the command
+abbrev pub conditional_said : Members → Said
+conditional_said no_member = nothing
+conditional_said (member key t ms) = with_conditions (conditions_in t) (change_said ms)
+
+-- a command is a part, or a mapping with exactly these keys; a part or a batch may have conditions before it
 unfoldable pub said_by : Tree → Said
 said_by (text value) = nothing
 said_by (sequence ts) = nothing
@@ -128,6 +155,7 @@ said_by (mapping ms) =
     else if keys_are export_keys ms then export_said (values ms)
     else if keys_are names_keys ms then names_said (values ms)
     else if keys_are checkpoint_keys ms then checkpoint_said (values ms)
+    else if begins_with_if ms then conditional_said ms
     else part_said (part_from ms)
 
 -- the piece gives a tree that says so, or gives none and says nothing
@@ -145,6 +173,10 @@ part_seen (code_parts.Plain edit) = plain (edit_of edit)
 abbrev pub parts_seen : List code_part.Part → List Part
 parts_seen parts = map part_seen parts
 
+abbrev pub change_seen : code_change.Change → Said
+change_seen (code_changes.Single part) = single_part (part_seen part)
+change_seen (code_changes.Batch parts) = batch_of_parts (parts_seen parts.items)
+
 abbrev pub said_of : code.Said → Said
 said_of (code_said.Single part) = single_part (part_seen part)
 said_of (code_said.Batch parts) = batch_of_parts (parts_seen parts.items)
@@ -152,4 +184,5 @@ said_of (code_said.Get name path) = get_at (chars (text_bytes name)) (chars (tex
 said_of (code_said.Export name) = export_of (chars (text_bytes name))
 said_of code_said.Names = all_names
 said_of code_said.Checkpoint = checkpoint_now
+said_of (code_said.Conditional conditions change) = conditional (conditions_of conditions.items) (change_seen change)
 said_of code_said.Nothing = nothing

@@ -1,5 +1,6 @@
 // Laws of the definitions.
 ghost use Rattle.conf_session.specs.Answers.{AllAreAcknowledged, AnswersAreShort, EachIsAnswered};
+ghost use Rattle.conf_session.specs.Conditional.{ConditionsGuard};
 
 /// No answer is longer than the longest base: 67,108,864 bytes, with its first line and its closing line.
 ///
@@ -23,4 +24,11 @@ pub fn requests_are_answered()
 /// nothing was accepted.
 pub fn answers_acknowledge()
     ensures { AllAreAcknowledged }
+{}
+
+/// A command with conditions is answered and performed exactly as it is without them, if all of them hold of the state
+/// that it finds. Otherwise the first that does not hold is answered, by `Unmet`, `BadName` or `BadPath`, and nothing is
+/// changed: no configuration, no file and no count.
+pub fn conditions_guard()
+    ensures { ConditionsGuard }
 {}

@@ -12,15 +12,16 @@
 
 mod answer;
 mod command_lines;
+mod conditions;
 mod fault;
 mod field_lines;
 mod groups;
 mod input;
 mod laws;
-mod output;
 mod part_lines;
 mod parts;
 mod pieces;
+mod reading;
 mod reply;
 mod rounds;
 mod said;
@@ -30,6 +31,6 @@ mod words;
 
 pub use fault::SessionFault;
 pub use groups::{Checkpoints, run_grouped};
-pub use laws::{answers_acknowledge, answers_are_short, requests_are_answered};
+pub use laws::{answers_acknowledge, answers_are_short, conditions_guard, requests_are_answered};
 pub use rounds::{Piece, RoundFault, round};
 pub use session::{Tally, run};

@@ -1,6 +1,5 @@
 // What is answered to one piece, and what is done for it.
 ghost use Rattle.std.specs.Prelude.{◌≡◌, ◌≢◌, ◌≤◌, ◌⊎◌, ◌↔◌, ◌++◌, ◌∷◌, [], Bool, List, IsErrOf, IfOk, IfErr, OnOk, true, false, if◌then◌else◌};
-ghost use Rattle.std.specs.Str.{chars};
 ghost use Rattle.conf_disk.specs.Folder.{bytes_under};
 ghost use Rattle.conf_disk.specs.Moments.{LeavesOnly};
 ghost use Rattle.conf_journal.specs.Store.{file_with_bytes};
@@ -9,20 +8,22 @@ ghost use Rattle.conf_state.specs.States.{Contents};
 ghost use Rattle.conf_store.specs.Calls.{Accepts, HasFailed, RefusesCommand, next_record};
 ghost use Rattle.conf_store.specs.Durable.{AfterPrefix, AllImagesMean, HasFlushed, staged_text};
 ghost use Rattle.conf_store.specs.Meaning.{FileMeans};
-ghost use Rattle.conf_session.specs.Said.{import_text, single_part, batch_of_parts, part_seen, parts_seen};
+ghost use Rattle.conf_conditions.specs.Conditions.{conditions_of};
+ghost use Rattle.conf_session.specs.ReadChanges.{EndsByMemory, IfMet, IsRequest};
 ghost use Rattle.conf_session.specs.Requests.{Asks, MeansRequest, changing, checkpointing};
 ghost use Rattle.conf_session.specs.Said.{said_of};
-ghost use Rattle.conf_session.specs.Answers.{answered};
-ghost use Rattle.conf_session.specs.Replies.{Handles, MeansPrefixes, is_at_once, refused_as};
+ghost use Rattle.conf_session.specs.Answers.{answered, condition_answered};
+ghost use Rattle.conf_session.specs.Replies.{Handles, MeansPrefixes, is_at_once, refused_as, unmet_as};
 
 use crate::answer::{count_answer, export_answer, get_answer, names_answer};
 use crate::fault::SessionFault;
-use crate::parts::{Part, read_parts};
+use crate::reading::{read_batch, read_change, read_single};
 use crate::said::{Said, read_said};
-use crate::words::{Refusal, answered};
+use crate::words::{Refusal, answered, condition_answered};
+use conf_conditions::{Condition, ConditionFault, check};
 use conf_disk::{Disk, Name};
 use conf_state::{Command, StoreFault};
-use conf_store::{Store, import_command};
+use conf_store::Store;
 use std::alloc::Global;
 
 /// What is answered to a piece.
@@ -133,55 +134,64 @@ fn checkpoint<D: Disk>(alloc: Global, store: &mut Store<D>) -> Result<Reply, Ses
     }
 }
 
-/// Imports a text under a name, or says why the name or the text is refused.
-fn import<D: Disk>(
+/// Performs a command whose texts are read, or answers why there is none.
+fn change_read<D: Disk>(
     alloc: Global,
     store: &mut Store<D>,
-    name: &str,
-    source: &str,
+    read: Result<Command, StoreFault>,
     way: Way,
 ) -> Result<Reply, SessionFault>
     requires means { MeansPrefixes D.model store.old }
-    ensures { Handles (is_at_once way) D.model store.old store.new
-        (MeansRequest (single_part (import_text (chars name.now) (chars source.now)))) result }
+    requires memory { EndsByMemory read }
+    ensures { Handles (is_at_once way) D.model store.old store.new (IsRequest read) result }
 {
-    match import_command(alloc, name, source.as_bytes()) {
+    match read {
         Ok(command) => change(alloc, store, command, way),
         Err(fault) => refused(fault),
     }
 }
 
-/// Performs a part that is a command by itself.
-fn change_single<D: Disk>(
-    alloc: Global,
-    store: &mut Store<D>,
-    part: Part,
-    way: Way,
-) -> Result<Reply, SessionFault>
-    requires means { MeansPrefixes D.model store.old }
-    ensures { Handles (is_at_once way) D.model store.old store.new
-        (MeansRequest (single_part (part_seen part))) result }
+/// The reply to a command one of whose conditions does not hold.
+///
+/// # Errors
+/// `OutOfMemory` is not answered: it ends a session.
+fn refused_condition(fault: ConditionFault) -> Result<Reply, SessionFault>
+    ensures { result ≡ refused_as (condition_answered fault) }
 {
-    match part {
-        Part::Import { name, text } => import(alloc, store, &name, &text, way),
-        Part::Plain(edit) => change(alloc, store, Command::from(edit), way),
+    let reason = condition_answered(fault)?;
+    Ok(Reply::Refused(reason))
+}
+
+/// The same for a command whose texts are read. Where memory ran out for them, that is told.
+fn unmet(read: Result<Command, StoreFault>, fault: ConditionFault) -> Result<Reply, SessionFault>
+    ensures { result ≡ unmet_as read fault }
+{
+    match read {
+        Ok(_) => refused_condition(fault),
+        Err(why) => match answered(why) {
+            Ok(_) => refused_condition(fault),
+            Err(end) => Err(end),
+        },
     }
 }
 
-/// Performs a batch. All texts in it are read first, in order; the first one that gives no tree is why it is refused.
-fn change_batch<D: Disk>(
+/// Performs a command whose texts are read, if its conditions hold of the state that it finds. Its texts are read
+/// before, so that a command without memory changes nothing, whatever its conditions are.
+fn change_if<D: Disk>(
     alloc: Global,
     store: &mut Store<D>,
-    parts: Vec<Part>,
+    conditions: &[Condition],
+    read: Result<Command, StoreFault>,
     way: Way,
 ) -> Result<Reply, SessionFault>
     requires means { MeansPrefixes D.model store.old }
+    requires memory { EndsByMemory read }
     ensures { Handles (is_at_once way) D.model store.old store.new
-        (MeansRequest (batch_of_parts (parts_seen parts.items))) result }
+        (IfMet (conditions_of conditions.now) (IsRequest read)) result }
 {
-    match read_parts(alloc, parts) {
-        Ok(edits) => change(alloc, store, Command::Batch { edits }, way),
-        Err(fault) => refused(StoreFault::Read(fault)),
+    match check(alloc, store, conditions) {
+        Ok(()) => change_read(alloc, store, read, way),
+        Err(fault) => unmet(read, fault),
     }
 }
 
@@ -197,8 +207,18 @@ fn answer_said<D: Disk>(
         (MeansRequest (said_of said)) result }
 {
     match said {
-        Said::Single(part) => change_single(alloc, store, part, way),
-        Said::Batch(parts) => change_batch(alloc, store, parts, way),
+        Said::Single(part) => {
+            let read = read_single(alloc, part);
+            change_read(alloc, store, read, way)
+        }
+        Said::Batch(parts) => {
+            let read = read_batch(alloc, parts);
+            change_read(alloc, store, read, way)
+        }
+        Said::Conditional { conditions, change } => {
+            let read = read_change(alloc, change);
+            change_if(alloc, store, &conditions, read, way)
+        }
         Said::Checkpoint => checkpoint(alloc, store),
         Said::Get { name, path } => get_answer(alloc, store, &name, &path),
         Said::Export(name) => export_answer(alloc, store, &name),

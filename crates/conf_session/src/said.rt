@@ -1,5 +1,5 @@
 // What command documents say.
-ghost use Rattle.std.specs.Prelude.{◌≡◌, [], ◌∷◌, false, IfOk, MatchOption};
+ghost use Rattle.std.specs.Prelude.{◌≡◌, [], ◌∷◌, false, Some, IfOk, MatchOption};
 ghost use Rattle.std.specs.Str.{chars};
 ghost use Rattle.yaml_grammar.specs.Trees.{sequence, text};
 ghost use Rattle.yaml_config.specs.Kept.{IsKept};
@@ -8,12 +8,16 @@ ghost use Rattle.yaml_data.specs.TextBytes.{text_bytes};
 ghost use Rattle.conf_record.specs.RecordsRead.{values};
 ghost use Rattle.conf_record.specs.Reading.{AreKept, AreKeptElements};
 ghost use Rattle.conf_session.specs.Said.{Says, said_by, part_from, part_said, parts_of, parts_said, batch_said};
+ghost use Rattle.conf_conditions.specs.Conditions.{conditions_of};
+ghost use Rattle.conf_session.specs.Said.{begins_with_if, change_said, conditional_said, with_conditions};
 ghost use Rattle.conf_session.specs.Said.{are_two_texts, get_said, export_said, names_said, checkpoint_said, is_empty_text, nothing};
 ghost use Rattle.conf_session.specs.Said.{said_of};
 
 use crate::command_lines::said_in_lines;
+use crate::conditions::conditions_in;
 use crate::parts::{Part, part_from, parts_of};
-use conf_record::{is_same, keys_are, last_text, last_value, next_text};
+use conf_conditions::Condition;
+use conf_record::{is_same, keys_are, last_text, last_value, next_text, split_first};
 use std::alloc::{AllocError, Global};
 use yaml_tree::{Limits, ReadFault, Text, Tree, read_one};
 
@@ -35,15 +39,32 @@ pub(crate) enum Said {
     /// `batch`, with its elements in order.
     Batch(Vec<Part>),
     /// `get`.
-    Get { name: Text, path: Text },
+    Get {
+        name: Text,
+        path: Text,
+    },
     /// `export`.
     Export(Text),
     /// `names`.
     Names,
     /// `checkpoint`.
     Checkpoint,
+    /// `import`, `set`, `delete` or `batch`, after conditions.
+    Conditional {
+        conditions: Vec<Condition>,
+        change: Change,
+    },
     /// It is no command.
     Nothing,
+}
+
+/// A command that changes configurations, after its conditions.
+#[derive(Drop)]
+pub(crate) enum Change {
+    /// `import`, `set` or `delete`.
+    Single(Part),
+    /// `batch`, with its elements in order.
+    Batch(Vec<Part>),
 }
 
 /// Reads a piece as a command document: a mapping with exactly the keys of a command, in their order, whose values are
@@ -90,8 +111,65 @@ fn said_by(alloc: Global, tree: Tree) -> Result<Said, AllocError>
         Ok(names_said(pairs))
     } else if keys_are(&["checkpoint"], &pairs) {
         Ok(checkpoint_said(pairs))
+    } else if begins_with_if(&pairs) {
+        conditional_said(alloc, pairs)
     } else {
         part_said(alloc, pairs)
+    }
+}
+
+/// Whether the first key of a mapping's pairs is `if`.
+fn begins_with_if(pairs: &[(Text, Tree)]) -> bool
+    ensures { result ≡ begins_with_if (members_of pairs.now) }
+{
+    if pairs.is_empty() {
+        return false;
+    }
+    is_same(&pairs[0].0, "if")
+}
+
+/// What a mapping says whose first value is a list of conditions: the command of the other pairs, or no command.
+fn conditional_said(alloc: Global, pairs: Vec<(Text, Tree)>) -> Result<Said, AllocError>
+    requires { AreKept (values (members_of pairs.items)) }
+    ensures { IfOk result (λ said. said_of said ≡ conditional_said (members_of pairs.items)) }
+{
+    let Some((first, rest)) = split_first(pairs) else {
+        return Ok(Said::Nothing);
+    };
+    let Some(conditions) = conditions_in(alloc, first.1)? else {
+        return Ok(Said::Nothing);
+    };
+    let said = change_said(alloc, rest)?;
+    Ok(with_conditions(conditions, said))
+}
+
+/// What a mapping says that changes configurations, or else no command.
+fn change_said(alloc: Global, pairs: Vec<(Text, Tree)>) -> Result<Said, AllocError>
+    requires { AreKept (values (members_of pairs.items)) }
+    ensures { IfOk result (λ said. said_of said ≡ change_said (members_of pairs.items)) }
+{
+    if keys_are(&["batch"], &pairs) {
+        batch_said(alloc, pairs)
+    } else {
+        part_said(alloc, pairs)
+    }
+}
+
+/// A command that changes configurations, after its conditions; any other has none, and is no command then.
+fn with_conditions(conditions: Vec<Condition>, said: Said) -> Said
+    ensures { said_of result
+        ≡ with_conditions (Some (conditions_of conditions.items)) (said_of said) }
+{
+    match said {
+        Said::Single(part) => Said::Conditional {
+            conditions,
+            change: Change::Single(part),
+        },
+        Said::Batch(parts) => Said::Conditional {
+            conditions,
+            change: Change::Batch(parts),
+        },
+        _ => Said::Nothing,
     }
 }
 

@@ -4,12 +4,12 @@ ghost use Rattle.std.specs.Io.KnownBytes.{Appends};
 ghost use Rattle.conf_session.specs.Gathering.{FailsToWrite, KeepsAnswer, WritesAnswers, answers_limit, last_bytes, unwritten_bytes};
 
 use crate::fault::SessionFault;
-use crate::output::write_or_count;
 use crate::pieces::{bytes_of, count_accepted, count_refused};
 use crate::reply::Reply;
 use crate::session::Tally;
 use std::alloc::Global;
 use std::io::Write;
+use yaml_docs::write_or_count;
 
 /// The most bytes of answers that are kept, but for the last answer.
 const ANSWERS_LIMIT: usize = 65_536;

@@ -1,15 +1,16 @@
 // The answers to refused requests. They are constants, and take no memory.
 ghost use Rattle.std.specs.Prelude.{◌≡◌};
 ghost use Rattle.yaml_recognizers.specs.Closings.{framed_text_bytes};
-ghost use Rattle.conf_session.specs.Answers.{answered, path_answered, read_answered, refusal, refusal_lines, word};
+ghost use Rattle.conf_session.specs.Answers.{answered, condition_answered, path_answered, read_answered, refusal, refusal_lines, word};
 
 use crate::fault::SessionFault;
+use conf_conditions::ConditionFault;
 use conf_state::StoreFault;
 use tree_path::PathFault;
 use yaml_tree::ReadFault;
 
 /// Why a request is refused. But for `BadCommand` it is one of the faults that a session answers, by the innermost
-/// fault's own name.
+/// fault's own name. `Unmet` is that of a condition.
 #[derive(Clone, Copy)]
 pub enum Refusal {
     /// The piece is no command.
@@ -33,6 +34,7 @@ pub enum Refusal {
     RecordLong,
     JournalLong,
     CountFull,
+    Unmet,
 }
 
 /// The refusal that answers an import whose text is refused.
@@ -95,6 +97,21 @@ pub fn answered(fault: StoreFault) -> Result<Refusal, SessionFault>
     }
 }
 
+/// The refusal that answers a command one of whose conditions does not hold.
+///
+/// # Errors
+/// `OutOfMemory` is not answered: it ends a session.
+pub fn condition_answered(fault: ConditionFault) -> Result<Refusal, SessionFault>
+    ensures { result ≡ condition_answered fault }
+{
+    match fault {
+        ConditionFault::Unmet => Ok(Refusal::Unmet),
+        ConditionFault::BadName => Ok(Refusal::BadName),
+        ConditionFault::Path(fault) => path_answered(fault),
+        ConditionFault::OutOfMemory => Err(SessionFault::OutOfMemory),
+    }
+}
+
 /// The document that has a name under `refused`.
 macro_rules! refused {
     ($name:literal) => {
@@ -135,6 +152,7 @@ impl Refusal {
             Refusal::RecordLong => refused!("RecordLong"),
             Refusal::JournalLong => refused!("JournalLong"),
             Refusal::CountFull => refused!("CountFull"),
+            Refusal::Unmet => refused!("Unmet"),
         }
     }
 }

@@ -5,7 +5,9 @@ use Rattle.std.specs.Str.{chars}
 use Rattle.std.proofs.lemmas.Result.{err_from_is_err_and}
 use Rattle.yaml_data.specs.TextBytes.{text_bytes}
 use Rattle.conf_session.specs.Said.{get_at, export_of, said_of}
-use Rattle.conf_session.specs.Requests.{MeansRequest, checkpointing, getting, exporting, naming, bad}
+use Rattle.conf_conditions.specs.Conditions.{conditions_of}
+use Rattle.conf_session.specs.ReadChanges.{IfMet, IsRequest}
+use Rattle.conf_session.specs.Requests.{MeansRequest, if_met, checkpointing, getting, exporting, naming, bad}
 use Rattle.conf_session.specs.Replies.{Handles, is_at_once}
 use Rattle.conf_session.specs.declared.reply.Reply.TheVariants.{Refused}
 use Rattle.conf_session.specs.declared.words.Refusal.TheVariants.{BadCommand}
@@ -16,12 +18,22 @@ use Rattle.conf_session.proofs.reply.answer_said.Goals as goal
 pub returns-in-Single : goal.returns-in-Single
 returns-in-Single g c =
     let d = g.D.Disk in
-    subst (λ s. Handles (is_at_once c.args.way) d.model c.args.store.now c.change_single.new.store (MeansRequest s) c.change_single.result) (sym (ap said_of c.in-Single.is)) c.change_single.ensures
+    handles-retold (is_at_once c.args.way) d.model c.args.store.now c.change_read.new.store (IsRequest c.read_single-read.result) (MeansRequest (said_of c.args.said))
+    (λ request is. subst (λ s. MeansRequest s request) (sym (ap said_of c.in-Single.is)) (c.read_single-read.ensures.asked request is)) c.change_read.result c.change_read.ensures
 
 pub returns-in-Batch : goal.returns-in-Batch
 returns-in-Batch g c =
     let d = g.D.Disk in
-    subst (λ s. Handles (is_at_once c.args.way) d.model c.args.store.now c.change_batch.new.store (MeansRequest s) c.change_batch.result) (sym (ap said_of c.in-Batch.is)) c.change_batch.ensures
+    handles-retold (is_at_once c.args.way) d.model c.args.store.now c.change_read-in-Batch.new.store (IsRequest c.read_batch-read.result) (MeansRequest (said_of c.args.said))
+    (λ request is. subst (λ s. MeansRequest s request) (sym (ap said_of c.in-Batch.is)) (c.read_batch-read.ensures.asked request is)) c.change_read-in-Batch.result c.change_read-in-Batch.ensures
+
+pub returns-in-Conditional : goal.returns-in-Conditional
+returns-in-Conditional g c =
+    let d = g.D.Disk in
+    let conditions = conditions_of c.in-Conditional.conditions.items in
+    handles-retold (is_at_once c.args.way) d.model c.args.store.now c.change_if.new.store (IfMet (conditions_of c.deref.result.now) (IsRequest c.read_change-read.result)) (MeansRequest (said_of c.args.said))
+    (λ request is. subst (λ s. MeansRequest s request) (sym (ap said_of c.in-Conditional.is))
+    (is.0, c.read_change-read.ensures.asked is.0 is.1, is.2 ∙ ap (λ cs. if_met (conditions_of cs) is.0) c.deref.ensures.value)) c.change_if.result c.change_if.ensures
 
 pub returns-in-Checkpoint : goal.returns-in-Checkpoint
 returns-in-Checkpoint g c =
@@ -33,10 +45,10 @@ pub returns-in-Get : goal.returns-in-Get
 returns-in-Get g c =
     let d = g.D.Disk in
     let store = c.args.store.now in
-    let name = chars c.deref.result.now in
-    let path = chars c.deref-in-Get.result.now in
+    let name = chars c.deref-in-Get.result.now in
+    let path = chars c.deref-in-Get-2.result.now in
     let same : get_at name path ≡ said_of c.args.said =
-    ap (λ b. get_at (chars b) path) c.deref.ensures ∙ ap (λ b. get_at (chars (text_bytes c.in-Get.name)) (chars b)) c.deref-in-Get.ensures ∙ sym (ap said_of c.in-Get.is) in
+    ap (λ b. get_at (chars b) path) c.deref-in-Get.ensures ∙ ap (λ b. get_at (chars (text_bytes c.in-Get.name)) (chars b)) c.deref-in-Get-2.ensures ∙ sym (ap said_of c.in-Get.is) in
     handles-reading (is_at_once c.args.way) d.model store c.requires.means (MeansRequest (said_of c.args.said)) (λ image h is. g.met.D.Disk.only_now store.disk image h is)
     (getting name path) (subst (λ s. MeansRequest s (getting name path)) same refl) tt c.get_answer.result c.get_answer.ensures.ok c.get_answer.ensures.memory
 

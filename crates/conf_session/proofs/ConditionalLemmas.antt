@@ -1,0 +1,264 @@
+-- A command with conditions: it is as it is without them, or it is refused and changes nothing.
+use Rattle.std.proofs.Common.{◌≡◌, ◌≢◌, ◌⊎◌, inl, inr, ⊎_elim, refl, sym, ap, subst, ◌∙◌, ◌≤◌}
+use Rattle.std.proofs.lemmas.Bool.{false≢true}
+use Rattle.std.proofs.lemmas.List.{append-nil}
+use Rattle.std.specs.Prelude.{ℕ, Bool, true, false, if◌then◌else◌, List, [], ◌∷◌, ◌++◌, length, Option, Some, None, Result, Ok, Err, IfOk, IfErr, is_ok}
+use Rattle.std.specs.Str.{chars, IsUtf8}
+use Rattle.yaml_events.specs.declared.read_fault.ReadFault.{ReadFault}
+use Rattle.yaml_events.specs.declared.read_fault.ReadFault.TheVariants as read_faults
+use Rattle.conf_disk.specs.Folder.{bytes_under}
+use Rattle.conf_disk.specs.Image.{Image, IsImage}
+use Rattle.conf_disk.specs.Models.{DiskModel}
+use Rattle.conf_disk.specs.Moments.{LeavesOnly}
+use Rattle.conf_disk.specs.declared.disk.Name.TheVariants.{Store}
+use Rattle.conf_state.specs.Commands.{Command, command_of}
+use Rattle.conf_state.specs.States.{Contents}
+use Rattle.conf_state.specs.declared.command.Command as code
+use Rattle.conf_state.specs.declared.fault.StoreFault.{StoreFault}
+use Rattle.conf_state.specs.declared.fault.StoreFault.TheVariants as store_faults
+use Rattle.conf_store.specs.Durable.{AfterPrefix, HasFlushed, staged_text}
+use Rattle.conf_store.specs.Imports.{IsImportOf, RefusesText}
+use Rattle.conf_store.specs.View.{StoreView}
+use Rattle.conf_conditions.specs.Conditions.{Condition, first_fault}
+use Rattle.conf_conditions.specs.declared.fault.ConditionFault.{ConditionFault}
+use Rattle.conf_conditions.specs.declared.fault.ConditionFault.TheVariants as condition
+use Rattle.conf_conditions.proofs.ConditionLemmas.{first-none, first-some, told-first}
+use Rattle.conf_session.specs.declared.fault.SessionFault.{SessionFault}
+use Rattle.conf_session.specs.declared.fault.SessionFault.TheVariants as fault
+use Rattle.conf_session.specs.declared.reply.Reply.{Reply}
+use Rattle.conf_session.specs.declared.reply.Reply.TheVariants.{Refused}
+use Rattle.conf_session.specs.declared.words.Refusal.{Refusal}
+use Rattle.conf_session.specs.Said.{import_text, single_part}
+use Rattle.conf_session.specs.Requests.{Request, MeansRequest, changing, unread, if_met}
+use Rattle.conf_session.specs.Answers.{Stored, answer, answer_limit, document_bytes, refusal, word, answered, read_answered, condition_answered, refused_answer, unless_failed, stored_after, file_after, staged_after, accepted_command, refused_of, syncs, flushed_after, waiting_after}
+use Rattle.conf_session.specs.Conditional.{AreAlike, OnlyRefuses, RefusesFirst, IsGuarded, ConditionsGuard}
+use Rattle.conf_session.specs.ReadChanges.{IsRequest, EndsByMemory, ReadsAsked, IfMet}
+use Rattle.conf_session.specs.Replies.{Did, DidAsked, Handles, LeavesPrefixes, MeansPrefixes, Performs, Replies, refused_as, unmet_after, unmet_as}
+use Rattle.conf_session.specs.Runs.{stored_of}
+use Rattle.conf_session.proofs.AnsweredLemmas.{condition-told}
+use Rattle.conf_session.proofs.LengthLemmas.{refused-short}
+use Rattle.conf_session.proofs.RefusalLemmas.{OnlyMemory, path-memory, read-memory, text-memory}
+use Rattle.conf_session.proofs.RequestLemmas.{unchanged, handles-none, handles-same, text-given, text-refused}
+
+-- ---- where no condition fails
+
+module _ (now : Stored) (conditions : List Condition) (request : Request) (none : first_fault now.state conditions ≡ None) where
+  met-answer : answer now (if_met conditions request) ≡ answer now request
+  met-answer = ap (λ o. unless_failed o (answer now request) (λ f. refused_answer (condition_answered f))) none
+
+  met-stored : stored_after now (if_met conditions request) ≡ stored_after now request
+  met-stored = ap (λ o. unless_failed o (stored_after now request) (λ f. now)) none
+
+  met-file : (file : Option (List ℕ)) → file_after file now (if_met conditions request) ≡ file_after file now request
+  met-file file = ap (λ o. unless_failed o (file_after file now request) (λ f. file)) none
+
+  met-staged : (file : Option (List ℕ)) → staged_after file now (if_met conditions request) ≡ staged_after file now request
+  met-staged file = ap (λ o. unless_failed o (staged_after file now request) (λ f. file)) none
+
+  met-accepted : accepted_command now (if_met conditions request) ≡ accepted_command now request
+  met-accepted = ap (λ o. unless_failed o (accepted_command now request) (λ f. [])) none
+
+  met-refused : refused_of now (if_met conditions request) ≡ refused_of now request
+  met-refused = ap (λ o. unless_failed o (refused_of now request) (λ f. 1)) none
+
+  met-syncs : (at_once : Bool) → syncs at_once now (if_met conditions request) ≡ syncs at_once now request
+  met-syncs at_once = ap (λ o. unless_failed o (syncs at_once now request) (λ f. false)) none
+
+  met-flushed : (at_once : Bool) (flushed : Contents) → flushed_after at_once now flushed (if_met conditions request ∷ []) ≡ flushed_after at_once now flushed (request ∷ [])
+  met-flushed at_once flushed =
+      ap (λ b. if b then (stored_after now (if_met conditions request)).state else flushed) (met-syncs at_once)
+      ∙ ap (λ (t : Stored). if syncs at_once now request then t.state else flushed) met-stored
+
+  met-waiting : (at_once : Bool) (waiting : List Command) → waiting_after at_once now waiting (if_met conditions request ∷ []) ≡ waiting_after at_once now waiting (request ∷ [])
+  met-waiting at_once waiting =
+      ap (λ b. if b then [] else waiting ++ accepted_command now (if_met conditions request)) (met-syncs at_once)
+      ∙ ap (λ cs. if syncs at_once now request then [] else waiting ++ cs) met-accepted
+
+  met-replies : (reply : Reply) → Replies now request reply → Replies now (if_met conditions request) reply
+  met-replies reply r = record {
+    bytes = r.bytes ∙ sym (ap document_bytes met-answer);
+    accepted = r.accepted ∙ sym (ap length met-accepted);
+    refused = r.refused ∙ sym met-refused;
+    short = subst (λ a. length (document_bytes a) ≤ answer_limit) (sym met-answer) r.short;
+  }
+
+-- ---- where a condition fails
+
+module _ (now : Stored) (conditions : List Condition) (request : Request) (f : ConditionFault) (some : first_fault now.state conditions ≡ Some f) where
+  unmet-answer : answer now (if_met conditions request) ≡ refused_answer (condition_answered f)
+  unmet-answer = ap (λ o. unless_failed o (answer now request) (λ g. refused_answer (condition_answered g))) some
+
+  unmet-stored : stored_after now (if_met conditions request) ≡ now
+  unmet-stored = ap (λ o. unless_failed o (stored_after now request) (λ g. now)) some
+
+  unmet-file : (file : Option (List ℕ)) → file_after file now (if_met conditions request) ≡ file
+  unmet-file file = ap (λ o. unless_failed o (file_after file now request) (λ g. file)) some
+
+  unmet-staged : (file : Option (List ℕ)) → staged_after file now (if_met conditions request) ≡ file
+  unmet-staged file = ap (λ o. unless_failed o (staged_after file now request) (λ g. file)) some
+
+  unmet-accepted : accepted_command now (if_met conditions request) ≡ []
+  unmet-accepted = ap (λ o. unless_failed o (accepted_command now request) (λ g. [])) some
+
+  unmet-refused : refused_of now (if_met conditions request) ≡ 1
+  unmet-refused = ap (λ o. unless_failed o (refused_of now request) (λ g. 1)) some
+
+  unmet-syncs : (at_once : Bool) → syncs at_once now (if_met conditions request) ≡ false
+  unmet-syncs at_once = ap (λ o. unless_failed o (syncs at_once now request) (λ g. false)) some
+
+  unmet-flushed : (at_once : Bool) (flushed : Contents) → flushed_after at_once now flushed (if_met conditions request ∷ []) ≡ flushed
+  unmet-flushed at_once flushed = ap (λ b. if b then (stored_after now (if_met conditions request)).state else flushed) (unmet-syncs at_once)
+
+  unmet-waiting : (at_once : Bool) (waiting : List Command) → waiting_after at_once now waiting (if_met conditions request ∷ []) ≡ waiting
+  unmet-waiting at_once waiting =
+      ap (λ b. if b then [] else waiting ++ accepted_command now (if_met conditions request)) (unmet-syncs at_once)
+      ∙ ap (λ cs. waiting ++ cs) unmet-accepted ∙ append-nil waiting
+
+  unmet-replies : (reason : Refusal) → condition_answered f ≡ Ok reason → Replies now (if_met conditions request) (Refused reason)
+  unmet-replies reason is = record {
+    bytes = ap (λ a. document_bytes (refused_answer a)) (sym is) ∙ sym (ap document_bytes unmet-answer);
+    accepted = sym (ap length unmet-accepted);
+    refused = sym unmet-refused;
+    short = subst (λ a. length (document_bytes a) ≤ answer_limit) (sym unmet-answer) (refused-short (condition_answered f));
+  }
+
+-- ---- the law
+
+-- a request whose conditions hold is as it is without them, and any other is refused and changes nothing
+pub guarded : ConditionsGuard
+guarded now conditions request = by (first_fault now.state conditions) refl
+  where
+    refuses : (f : ConditionFault) → first_fault now.state conditions ≡ Some f → (r : Result Refusal SessionFault) → condition_answered f ≡ r → is_ok r ≡ true → RefusesFirst now conditions request
+    refuses f some (Ok reason) told is = record {
+      fault = f;
+      first = first-some now.state conditions f some;
+      reason = reason;
+      told = told;
+      only = record {
+        answers = unmet-answer now conditions request f some ∙ ap refused_answer told;
+        leaves = unmet-stored now conditions request f some;
+        reads = unmet-file now conditions request f some;
+        stages = unmet-staged now conditions request f some;
+        accepts = unmet-accepted now conditions request f some;
+      };
+    }
+    refuses f some (Err end) told is = absurd (false≢true is)
+
+    by : (o : Option ConditionFault) → first_fault now.state conditions ≡ o → IsGuarded now conditions request
+    by None none = inl (
+      first-none now.state conditions none,
+      record {
+        answers = met-answer now conditions request none;
+        leaves = met-stored now conditions request none;
+        reads = met-file now conditions request none;
+        stages = met-staged now conditions request none;
+        accepts = met-accepted now conditions request none;
+      },
+    )
+    by (Some f) some = inr (refuses f some (condition_answered f) refl (condition-told f (told-first now.state conditions f some)))
+
+-- ---- what a call did
+
+pub condition-memory : (f : ConditionFault) → OnlyMemory (condition_answered f)
+condition-memory condition.Unmet = tt
+condition-memory condition.BadName = tt
+condition-memory (condition.Path why) = path-memory why
+condition-memory condition.OutOfMemory = refl
+
+module _ (at_once : Bool) {D : Type 0} (model : DiskModel D) where
+  met-performs : (old new : StoreView D) (conditions : List Condition) (request : Request) → first_fault old.state conditions ≡ None → Performs at_once model old new request
+      → Performs at_once model old new (if_met conditions request)
+  met-performs old new conditions request none p =
+      let now = stored_of old in
+      let same = met-stored now conditions request none in
+      record {
+        state = p.state ∙ sym (ap (λ (t : Stored). t.state) same);
+        stored = λ on. p.stored on ∙ sym same;
+        reads = λ h on. p.reads h on ∙ sym (met-file now conditions request none (bytes_under (model.folder old.disk) Store));
+        stages = λ h on. p.stages h on ∙ sym (met-staged now conditions request none (staged_text (model.folder old.disk) old.staged));
+        any_moment = λ h flushed waiting has.
+            subst (λ cs. LeavesOnly model old.disk new.disk (λ image. AfterPrefix flushed (waiting ++ cs) image.store)) (sym (met-accepted now conditions request none)) (p.any_moment h flushed waiting has);
+        waits = λ h on flushed waiting has.
+            subst (λ s. HasFlushed (model.folder new.disk) s (waiting_after at_once now waiting (if_met conditions request ∷ [])) new.state) (sym (met-flushed now conditions request none at_once flushed))
+            (subst (λ cs. HasFlushed (model.folder new.disk) (flushed_after at_once now flushed (request ∷ [])) cs new.state) (sym (met-waiting now conditions request none at_once waiting))
+            (p.waits h on flushed waiting has));
+      }
+
+  did-met : (old new : StoreView D) (conditions : List Condition) (A : Request → Type 0) → first_fault old.state conditions ≡ None → (r : Result Reply SessionFault)
+      → DidAsked at_once model old new A r → DidAsked at_once model old new (IfMet conditions A) r
+  did-met old new conditions A none (Ok reply) did =
+      (if_met conditions did.0, (did.0, did.1, refl), (met-replies (stored_of old) conditions did.0 none reply did.2.0, did.2.1, met-performs old new conditions did.0 none did.2.2))
+  did-met old new conditions A none (Err fault.Device) did = (if_met conditions did.0, (did.0, did.1, refl), (did.2.0, met-performs old new conditions did.0 none did.2.1))
+  did-met old new conditions A none (Err fault.OutOfMemory) did = did
+  did-met old new conditions A none (Err fault.Read) did = absurd did
+  did-met old new conditions A none (Err fault.TooLong) did = absurd did
+  did-met old new conditions A none (Err fault.SessionLong) did = absurd did
+  did-met old new conditions A none (Err fault.Reopen) did = absurd did
+  did-met old new conditions A none (Err (fault.Write written)) did = absurd did
+
+  -- no condition failed, and the request was handled
+  pub handles-met : (old new : StoreView D) (conditions : List Condition) (A : Request → Type 0) → first_fault old.state conditions ≡ None → (r : Result Reply SessionFault)
+      → Handles at_once model old new A r → Handles at_once model old new (IfMet conditions A) r
+  handles-met old new conditions A none r h = record { did = λ off. did-met old new conditions A none r (h.did off); failures = h.failures; means = h.means }
+
+  module _ (store : StoreView D) (means : MeansPrefixes model store) (only : (image : Image) → model.honest → model.left store.disk (model.moment store.disk) image → IsImage (model.folder store.disk) image)
+      (conditions : List Condition) where
+    unmet-performs : (request : Request) (f : ConditionFault) → first_fault store.state conditions ≡ Some f → store.reopen ≡ false → Performs at_once model store store (if_met conditions request)
+    unmet-performs request f some off =
+        let now = stored_of store in
+        let same = unmet-stored now conditions request f some in
+        record {
+          state = sym (ap (λ (t : Stored). t.state) same);
+          stored = λ on. sym same;
+          reads = λ h on. sym (unmet-file now conditions request f some (bytes_under (model.folder store.disk) Store));
+          stages = λ h on. sym (unmet-staged now conditions request f some (staged_text (model.folder store.disk) store.staged));
+          any_moment = unchanged at_once model store off (accepted_command now (if_met conditions request)) only means;
+          waits = λ h on flushed waiting has.
+              subst (λ s. HasFlushed (model.folder store.disk) s (waiting_after at_once now waiting (if_met conditions request ∷ [])) store.state) (sym (unmet-flushed now conditions request f some at_once flushed))
+              (subst (λ cs. HasFlushed (model.folder store.disk) flushed cs store.state) (sym (unmet-waiting now conditions request f some at_once waiting)) has);
+        }
+
+    -- a condition failed
+    handles-unmet : (A : Request → Type 0) (request : Request) → A request → (f : ConditionFault) → (f ≢ condition.OutOfMemory → first_fault store.state conditions ≡ Some f)
+        → Handles at_once model store store (IfMet conditions A) (refused_as (condition_answered f))
+    handles-unmet A request asks f some = by (condition_answered f) refl (condition-memory f)
+      where
+        by : (r : Result Refusal SessionFault) → condition_answered f ≡ r → OnlyMemory r → Handles at_once model store store (IfMet conditions A) (refused_as r)
+        by (Ok reason) is memory =
+            let first : first_fault store.state conditions ≡ Some f = some (λ same. let never : (◌≡◌ {A = Result Refusal SessionFault} (Err fault.OutOfMemory) (Ok reason)) = sym (ap condition_answered same) ∙ is in cc never) in
+            handles-same at_once model store means (IfMet conditions A) (Ok (Refused reason)) tt
+            (λ off. (if_met conditions request, (request, asks, refl), (unmet-replies (stored_of store) conditions request f first reason is, off, unmet-performs request f first off)))
+        by (Err end) is memory = subst (λ (e : SessionFault). Handles at_once model store store (IfMet conditions A) (Err e)) (sym memory) (handles-none at_once model store means (IfMet conditions A))
+
+    -- the same of a command whose texts were read
+    pub handles-unmet-read : (read : Result code.Command StoreFault) → EndsByMemory read → (f : ConditionFault) → (f ≢ condition.OutOfMemory → first_fault store.state conditions ≡ Some f)
+        → Handles at_once model store store (IfMet conditions (IsRequest read)) (unmet_as read f)
+    handles-unmet-read (Ok command) memory f some = handles-unmet (IsRequest (Ok command)) (changing (command_of command)) refl f some
+    handles-unmet-read (Err why) memory f some = by (answered why) refl memory
+      where
+        by : (r : Result Refusal SessionFault) → answered why ≡ r → OnlyMemory r → Handles at_once model store store (IfMet conditions (IsRequest (Err why))) (unmet_after r (refused_as (condition_answered f)))
+        by (Ok reason) is memory = handles-unmet (IsRequest (Err why)) (unread why) (refl, ap is_ok is) f some
+        by (Err end) is memory = subst (λ (e : SessionFault). Handles at_once model store store (IfMet conditions (IsRequest (Err why))) (Err e)) (sym memory)
+            (handles-none at_once model store means (IfMet conditions (IsRequest (Err why))))
+
+-- ---- texts that are read before
+
+-- a fault that is answered is not memory
+pub answered-fault : (why : StoreFault) → is_ok (answered why) ≡ true → why ≢ store_faults.OutOfMemory
+answered-fault why is same = false≢true (sym (ap (λ x. is_ok (answered x)) same) ∙ is)
+
+-- nor is one of a text
+pub answered-read : (why : ReadFault) → is_ok (read_answered why) ≡ true → why ≢ read_faults.OutOfMemory
+answered-read why is same = false≢true (sym (ap (λ x. is_ok (read_answered x)) same) ∙ is)
+
+-- an import is read, or its name or its text is refused
+pub reads-import : (name bytes : List ℕ) → IsUtf8 bytes → (read : Result code.Command StoreFault) → IfOk read (λ command. IsImportOf name bytes (command_of command)) → IfErr read (RefusesText name bytes)
+    → ReadsAsked (MeansRequest (single_part (import_text name (chars bytes)))) read
+reads-import name bytes utf8 (Ok command) given refuses = record {
+  asked = λ request is. subst (MeansRequest (single_part (import_text name (chars bytes)))) (sym is) (text-given name bytes (command_of command) utf8 given);
+  memory = tt;
+}
+reads-import name bytes utf8 (Err why) given refuses = record {
+  asked = λ request is. subst (MeansRequest (single_part (import_text name (chars bytes)))) (sym is.0) (text-refused name bytes why utf8 (answered-fault why is.1) refuses);
+  memory = text-memory name bytes why refuses;
+}
