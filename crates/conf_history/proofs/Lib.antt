@@ -2,6 +2,7 @@ pub mod WalkLemmas
 pub mod ReadingLemmas
 pub mod SurveyLemmas
 pub mod BesideLemmas
+pub mod CopyLemmas
 pub mod OutputLemmas
 pub mod LogLemmas
 pub mod LineLemmas

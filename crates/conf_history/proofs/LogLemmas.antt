@@ -14,7 +14,7 @@ use Rattle.conf_state.specs.States.{Contents}
 use Rattle.conf_state.proofs.RunLaws.{after-count}
 use Rattle.conf_store.specs.Meaning.{AreRecords}
 use Rattle.conf_history.specs.Histories.{RefusesReading, RefusesSurvey}
-use Rattle.conf_history.specs.Logs.{entry_bytes, log_bytes, log_of_pieces, BeginsLog, IsUpTo, IsWholeLog, LogsAll, LogsBefore, CutsLog, FailsToLog, FailsToLogPiece}
+use Rattle.conf_history.specs.Logs.{entry_bytes, log_bytes, log_of_pieces, BeginsLog, IsUpTo, IsWholeLog, LogsAll, LogsBefore, CutsLog, StopsLog, FailsToLogPiece}
 use Rattle.conf_history.specs.Walks.{HasRead, ArePerformed, IsBetween, IsAtPiece, IsAtEndOf, Performs, AfterGoing}
 use Rattle.conf_history.specs.declared.log.LogForm.{LogForm}
 use Rattle.conf_history.specs.declared.walk.Walk.{Walk}
@@ -191,9 +191,9 @@ module _ (form : LogForm) (given left : Option (List ℕ)) (walk : Walk) (pieces
 
   -- the file ended before the number
   pub number-fails : (at : Option ℕ) → AfterGoing at given left walk pieces start commands (Ok false) → (f : HistoryFault) → f ≡ NoSuchCommand
-      → IfSome given (λ bytes. RefusesReading bytes at f) → FailsToLog at form given held mid f
+      → IfSome given (λ bytes. RefusesReading bytes at f) → StopsLog at form given held mid f
   number-fails at ended f fault refused =
-      subst (FailsToLog at form given held mid) (sym fault) (record {
+      subst (StopsLog at form given held mid) (sym fault) (record {
         log = log;
         out = out;
         before = some-both given (λ bytes. RefusesReading bytes at NoSuchCommand) (λ bytes. BeginsLog bytes form log) (λ bytes. LogsBefore bytes at form log NoSuchCommand)
@@ -210,7 +210,7 @@ module _ (form : LogForm) (given left : Option (List ℕ)) (walk : Walk) (pieces
 
   -- the next piece could not be had
   pub next-fails : (before : Option (List ℕ)) (old : Walk) → IsBetween given before old pieces start commands → (at : Option ℕ) (f : HistoryFault)
-      → IfSome given (λ bytes. RefusesSurvey bytes f) → FailsToLog at form given held mid f
+      → IfSome given (λ bytes. RefusesSurvey bytes f) → StopsLog at form given held mid f
   next-fails before old b at f refused = record {
     log = log;
     out = out;
@@ -220,7 +220,7 @@ module _ (form : LogForm) (given left : Option (List ℕ)) (walk : Walk) (pieces
 
   -- a piece was not written whole
   pub piece-fails : (at : Option ℕ) → IfSome at (λ number. walk.state.count < number) → (written : Option (List ℕ)) → IsAtPiece given left walk pieces start commands → (f : HistoryFault)
-      → FailsToLogPiece form walk mid written f → FailsToLog at form given held written f
+      → FailsToLogPiece form walk mid written f → StopsLog at form given held written f
   piece-fails at before written p Output cut =
       let piece = piece_or_rest walk.pieces in
       let entry = entry_bytes form (walk.state.count + 1) piece cut.command in
@@ -287,7 +287,7 @@ not-begun form at Output bytes r = absurd r
 not-begun form at (Damaged bad) bytes r = absurd r
 
 -- there is no base
-pub begin-fails : (form : LogForm) (given held : Option (List ℕ)) (at : Option ℕ) (f : HistoryFault) → IfSome given (λ bytes. RefusesSurvey bytes f) → FailsToLog at form given held held f
+pub begin-fails : (form : LogForm) (given held : Option (List ℕ)) (at : Option ℕ) (f : HistoryFault) → IfSome given (λ bytes. RefusesSurvey bytes f) → StopsLog at form given held held f
 begin-fails form given held at f refused = record {
   log = [];
   out = Appends-nil held;
@@ -296,9 +296,9 @@ begin-fails form given held at f refused = record {
 
 -- the base comes after the number
 pub start-fails : (form : LogForm) (given held : Option (List ℕ)) (at : Option ℕ) (f : HistoryFault) → f ≡ NoSuchCommand → IfSome given (λ bytes. RefusesReading bytes at f)
-    → FailsToLog at form given held held f
+    → StopsLog at form given held held f
 start-fails form given held at f fault refused =
-    subst (FailsToLog at form given held held) (sym fault) (record {
+    subst (StopsLog at form given held held) (sym fault) (record {
       log = [];
       out = Appends-nil held;
       before = some-map given (λ bytes. RefusesReading bytes at NoSuchCommand) (λ bytes. LogsBefore bytes at form [] NoSuchCommand) (λ bytes r. (r, inl refl))

@@ -1,25 +1,8 @@
--- Bytes that go out part by part.
-use Rattle.std.proofs.Common.{◌≡◌, sym, ◌∙◌, ap, subst, arith, append_assoc, take-append-drop}
+-- Why not all of some bytes was written.
+use Rattle.std.proofs.Common.{sym, subst}
 use Rattle.conf_history.specs.declared.fault.HistoryFault.{HistoryFault}
 use Rattle.conf_history.specs.declared.fault.HistoryFault.TheVariants.{Output}
-use Rattle.std.specs.Prelude.{Result, Ok, Err, IfErr, OnErr, ℕ, ◌+◌, List, ◌++◌, take, drop, Option, Some, None}
-use Rattle.std.specs.Io.KnownBytes.{Appends}
-use Rattle.std.proofs.lemmas.List.{take-take, drop-take}
-
-take-more : (bytes : List ℕ) (done n : ℕ) → take done bytes ++ take n (drop done bytes) ≡ take (done + n) bytes
-take-more bytes done n =
-    sym (sym (take-append-drop done (take (done + n) bytes))
-    ∙ ap (λ l. l ++ drop done (take (done + n) bytes)) (take-take done (done + n) bytes (omega arith))
-    ∙ ap (λ l. take done bytes ++ l) (drop-take done n bytes))
-
--- a prefix that was written, and then a prefix of the rest, are a prefix
-pub appends-more : (held mid now : Option (List ℕ)) (bytes : List ℕ) (done n : ℕ) → Appends held mid (take done bytes) → Appends mid now (take n (drop done bytes))
-    → Appends held now (take (done + n) bytes)
-appends-more None mid now bytes done n first second = tt
-appends-more (Some xs) None now bytes done n first second = absurd first
-appends-more (Some xs) (Some ys) None bytes done n first second = absurd second
-appends-more (Some xs) (Some ys) (Some zs) bytes done n first second =
-    second ∙ ap (λ l. l ++ take n (drop done bytes)) first ∙ append_assoc xs (take done bytes) (take n (drop done bytes)) ∙ ap (λ l. xs ++ l) (take-more bytes done n)
+use Rattle.std.specs.Prelude.{◌≡◌, Result, Ok, Err, IfErr, OnErr}
 
 -- why not all was written, from what was
 pub put-refused : (r : Result (Unit {0}) HistoryFault) (part : Type 0) (refusal : HistoryFault → Type 0) → IfErr r (λ f. f ≡ Output) → OnErr r part → (part → refusal Output) → IfErr r refusal

@@ -1,5 +1,6 @@
 pub mod BadPieces
 pub mod Beside
+pub mod Copies
 pub mod Counting
 pub mod Faults
 pub mod Histories

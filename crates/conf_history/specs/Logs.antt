@@ -1,9 +1,11 @@
--- The log of a store's file: a line for each command, or the records as they stand.
+-- The log of a store's file: a line for each command, with or without its values, or the records as they stand.
 use Rattle.std.specs.Prelude.{◌≡◌, ◌<◌, ◌⊎◌, ℕ, ◌+◌, List, [], ◌∷◌, ◌++◌, length, take, codes, decimal, encode_utf8_all, Option, Some, None, IfSome}
-use Rattle.std.specs.Io.KnownBytes.{Appends}
+use Rattle.std.specs.Io.KnownBytes.{Appends, Keeps}
 use Rattle.yaml_grammar.specs.Closings.{Pieces}
 use Rattle.yaml_grammar.specs.Style.{in_double_quotes}
+use Rattle.yaml_grammar.specs.Trees.{Tree}
 use Rattle.yaml_docs.specs.PieceReading.{piece_or_rest}
+use Rattle.yaml_forms.specs.Json.{json_text}
 use Rattle.conf_journal.specs.Store.{store_limit}
 use Rattle.conf_state.specs.Commands.{Edit, import_as, set_at, delete_at, Command, single, batch}
 use Rattle.conf_state.specs.States.{Contents}
@@ -11,34 +13,42 @@ use Rattle.conf_store.specs.Meaning.{PiecesMean}
 use Rattle.conf_history.specs.Histories.{ReadsAtMost, RefusesReading}
 use Rattle.conf_history.specs.Walks.{Performs, RefusesPiece}
 use Rattle.conf_history.specs.declared.fault.HistoryFault.{HistoryFault}
-use Rattle.conf_history.specs.declared.fault.HistoryFault.TheVariants.{Output, Damaged}
+use Rattle.conf_history.specs.declared.fault.HistoryFault.TheVariants.{Output, Damaged, OutOfMemory}
+use Rattle.conf_history.specs.declared.line.LineForm.{LineForm}
+use Rattle.conf_history.specs.declared.line.LineForm.TheVariants.{Names, Values}
 use Rattle.conf_history.specs.declared.log.LogForm.{LogForm}
 use Rattle.conf_history.specs.declared.log.LogForm.TheVariants.{Lines, Records}
 use Rattle.conf_history.specs.declared.walk.Walk.{Walk}
 
+-- a space and the JSON text of an edit's value, where the line shows it
+abbrev pub value_words : LineForm → Tree → List ℕ
+value_words Names value = []
+value_words Values value = codes " " ++ json_text value
+
 -- a space and what an edit does
-abbrev pub edit_words : Edit → List ℕ
-edit_words (import_as name tree) = codes " import " ++ name
-edit_words (set_at name path value) = codes " set " ++ name ++ codes " " ++ in_double_quotes path
-edit_words (delete_at name path) = codes " delete " ++ name ++ codes " " ++ in_double_quotes path
+abbrev pub edit_words : LineForm → Edit → List ℕ
+edit_words form (import_as name tree) = codes " import " ++ name ++ value_words form tree
+edit_words form (set_at name path value) =
+    codes " set " ++ name ++ codes " " ++ in_double_quotes path ++ value_words form value
+edit_words form (delete_at name path) = codes " delete " ++ name ++ codes " " ++ in_double_quotes path
 
 -- what edits do, each after this mark, and the others after a `;`
-abbrev pub edits_words : List ℕ → List Edit → List ℕ
-edits_words mark [] = []
-edits_words mark (edit ∷ edits) = mark ++ edit_words edit ++ edits_words (codes ";") edits
+abbrev pub edits_words : LineForm → List ℕ → List Edit → List ℕ
+edits_words form mark [] = []
+edits_words form mark (edit ∷ edits) = mark ++ edit_words form edit ++ edits_words form (codes ";") edits
 
 -- a space and what a command does
-abbrev pub command_words : Command → List ℕ
-command_words (single edit) = edit_words edit
-command_words (batch edits) = codes " batch" ++ edits_words [] edits
+abbrev pub command_words : LineForm → Command → List ℕ
+command_words form (single edit) = edit_words form edit
+command_words form (batch edits) = codes " batch" ++ edits_words form [] edits
 
 -- the line of a command with a number
-abbrev pub command_line : ℕ → Command → List ℕ
-command_line number command = decimal number ++ command_words command ++ codes "\n"
+abbrev pub command_line : LineForm → ℕ → Command → List ℕ
+command_line form number command = decimal number ++ command_words form command ++ codes "\n"
 
 -- what is written for a command with a number, which has this record
 abbrev pub entry_bytes : LogForm → ℕ → List ℕ → Command → List ℕ
-entry_bytes Lines number bytes command = encode_utf8_all (command_line number command)
+entry_bytes (Lines form) number bytes command = encode_utf8_all (command_line form number command)
 entry_bytes Records number bytes command = bytes
 
 -- the same for consecutive ones, numbered on from a count
@@ -97,12 +107,32 @@ LogsBefore bytes at form log (Damaged bad) =
     RefusesReading bytes at (Damaged bad) × (begins : BeginsLog bytes form log) × (length begins.pieces ≡ bad.number)
 LogsBefore bytes at form log fault = RefusesReading bytes at fault × ((log ≡ []) ⊎ BeginsLog bytes form log)
 
--- so much of the log of known bytes was written
-pub record FailsToLog (at : Option ℕ) (form : LogForm) (given held written : Option (List ℕ)) (fault : HistoryFault)
+-- so much of the log of known bytes was written, where each command is written as soon as it was performed
+pub record StopsLog (at : Option ℕ) (form : LogForm) (given held written : Option (List ℕ)) (fault : HistoryFault)
     : Type 0 where
   pub log : List ℕ
   pub out : Appends held written log
   pub before : IfSome given (λ bytes. LogsBefore bytes at form log fault)
+
+-- less than what known bytes give was written, where the writer failed
+pub record CutsWholeLog (at : Option ℕ) (form : LogForm) (given held written : Option (List ℕ)) : Type 0 where
+  pub log : List ℕ
+  pub kept : ℕ
+  pub out : Appends held written (take kept log)
+  pub short : kept < length log
+  pub whole : IfSome given (λ bytes. IsWholeLog bytes at form log)
+
+-- Why not all was written, and what was. With a number nothing was, unless the writer failed.
+abbrev pub FailsToLog : Option ℕ → LogForm → Option (List ℕ) → Option (List ℕ) → Option (List ℕ) → HistoryFault → Type 0
+FailsToLog None form given held written fault = StopsLog None form given held written fault
+FailsToLog (Some number) form given held written Output = CutsWholeLog (Some number) form given held written
+FailsToLog (Some number) form given held written fault =
+    IfSome given (λ bytes. RefusesReading bytes (Some number) fault) × Keeps held written
+
+-- the fault of a log that was to be held in memory, which takes no bytes only where there is no more
+abbrev pub fault_of_holding : HistoryFault → HistoryFault
+fault_of_holding Output = OutOfMemory
+fault_of_holding fault = fault
 
 -- ---- one piece
 

@@ -1,4 +1,4 @@
-// Why the file of a store is not read to its end, and why nothing is saved from it.
+// Why the file of a store is not read to its end, and why no new store is made of it.
 ghost use Rattle.std.specs.Prelude.{◌≡◌};
 ghost use Rattle.conf_history.specs.Faults.{fault_of_pieces};
 
@@ -51,10 +51,10 @@ pub(crate) fn fault_of_pieces(fault: PiecesFault) -> HistoryFault
     }
 }
 
-/// Why no store was saved from a file. The message is the fault's own name.
+/// Why no new store was made of a file. The message is the fault's own name.
 #[derive(Clone, Copy, Debug, PartialEq, Eq, Error)]
 pub enum SalvageFault {
-    /// The file can't be read, or is no store. The disk is as it was.
+    /// The file can't be read, or is no store; or it is damaged, and not salvaged. The disk is as it was.
     #[error(transparent)]
     History(HistoryFault),
     /// There is a `store.yaml` on the disk. It is as it was.
@@ -63,7 +63,7 @@ pub enum SalvageFault {
     /// The device of the new store failed. There is no `store.yaml`, or the whole new one.
     #[error("Device")]
     Device,
-    /// Out of memory for the base of the new store. The disk is as it was.
+    /// Out of memory for the new store. The disk is as it was.
     #[error("OutOfMemory")]
     OutOfMemory,
 }

@@ -8,8 +8,10 @@
 //! - [`write_log`] writes which commands the file holds.
 //! - [`survey_store`] says what an opening would find, also in a damaged file.
 //! - [`salvage`] makes a new store of what stands before the damage.
+//! - [`back_up`] makes a new store with the same base and records.
 #![tactic(auto)]
 
+mod copying;
 mod fault;
 mod laws;
 mod line;
@@ -22,8 +24,10 @@ mod survey;
 mod walk;
 
 pub use conf_store::NoRecord;
+pub use copying::back_up;
 pub use fault::{HistoryFault, SalvageFault};
 pub use laws::reading_beside_a_writer;
+pub use line::LineForm;
 pub use log::{LogForm, write_log};
 pub use place::BadPiece;
 pub use reading::state_at;

@@ -1,129 +1,159 @@
 // The line of a command in a log.
-ghost use Rattle.std.specs.Prelude.{◌≡◌, ◌++◌, [], codes, decimal, encode_utf8_all, map, IfOk, OnOk};
+ghost use Rattle.std.specs.Prelude.{◌≡◌, ◌++◌, [], codes, decimal, encode_utf8_all, map, string_bytes, IfOk, OnOk};
 ghost use Rattle.std.specs.Str.{chars};
 ghost use Rattle.yaml_grammar.specs.Style.{in_double_quotes};
+ghost use Rattle.yaml_data.specs.Seen.{tree_of};
 ghost use Rattle.conf_state.specs.Commands.{command_of, edit_of};
-ghost use Rattle.conf_history.specs.Logs.{command_line, command_words, edit_words, edits_words};
+ghost use Rattle.conf_history.specs.Logs.{command_line, command_words, edit_words, edits_words, value_words};
 
 use conf_state::{Command, Edit};
 use itoa::Buffer;
 use std::alloc::{AllocError, Global};
-use yaml_writer::write_quoted;
+use yaml_config::Config;
+use yaml_forms::write_json;
+use yaml_writer::{Sink, write_quoted};
+
+/// What a line says of each edit.
+#[derive(Clone, Copy, Debug, PartialEq, Eq)]
+pub enum LineForm {
+    /// What it does, the name of the configuration, and the place in it.
+    Names,
+    /// The same, and then the value of an import or a set as a JSON text (RFC 8259).
+    Values,
+}
 
 /// The line of a command with a number.
 pub(crate) fn record_line(
     alloc: Global,
     number: u64,
     command: &Command,
-) -> Result<Vec<u8>, AllocError>
-    ensures { IfOk result (λ line.
-        line.items ≡ encode_utf8_all (command_line number (command_of command.now))) }
+    form: LineForm,
+) -> Result<String, AllocError>
+    ensures { IfOk result (λ line. string_bytes line
+        ≡ encode_utf8_all (command_line form number (command_of command.now))) }
 {
-    let mut line = Vec::new(alloc);
-    let mut digits = Buffer::new();
-    push_text(digits.format(number), &mut line)?;
-    push_command(alloc, command, &mut line)?;
-    push_text("\n", &mut line)?;
+    let mut line = String::new(alloc);
+    write_line(number, command, form, &mut line)?;
     Ok(line)
 }
 
-/// Appends a space and what a command does.
-fn push_command(alloc: Global, command: &Command, line: &mut Vec<u8>) -> Result<(), AllocError>
-    ensures { OnOk result (line.new.items
-        ≡ line.old.items ++ encode_utf8_all (command_words (command_of command.now))) }
+/// Writes the line of a command with a number.
+fn write_line<S: Sink>(
+    number: u64,
+    command: &Command,
+    form: LineForm,
+    sink: &mut S,
+) -> Result<(), S::Fault>
+    ensures { OnOk result (S.Takes sink.old
+        (command_line form number (command_of command.now)) sink.new) }
+{
+    let mut digits = Buffer::new();
+    sink.put_text(digits.format(number))?;
+    write_command(command, form, sink)?;
+    sink.put_char('\n')
+}
+
+/// Writes a space and what a command does.
+fn write_command<S: Sink>(command: &Command, form: LineForm, sink: &mut S) -> Result<(), S::Fault>
+    ensures { OnOk result (S.Takes sink.old
+        (command_words form (command_of command.now)) sink.new) }
 {
     match command {
-        Command::Import { name, .. } => push_import(name, line),
-        Command::Set { name, path, .. } => push_set(alloc, name, path, line),
-        Command::Delete { name, path } => push_delete(alloc, name, path, line),
-        Command::Batch { edits } => push_batch(alloc, edits, line),
+        Command::Import { name, tree } => write_import(name, tree, form, sink),
+        Command::Set { name, path, value } => write_set(name, path, value, form, sink),
+        Command::Delete { name, path } => write_delete(name, path, sink),
+        Command::Batch { edits } => write_batch(edits, form, sink),
     }
 }
 
-/// Appends the edits of a batch, with `;` between them.
-fn push_batch(alloc: Global, edits: &[Edit], line: &mut Vec<u8>) -> Result<(), AllocError>
-    ensures { OnOk result (line.new.items ≡ line.old.items
-        ++ encode_utf8_all (codes " batch" ++ edits_words [] (map edit_of edits.now))) }
+/// Writes the edits of a batch, with `;` between them.
+fn write_batch<S: Sink>(edits: &[Edit], form: LineForm, sink: &mut S) -> Result<(), S::Fault>
+    ensures { OnOk result (S.Takes sink.old
+        (codes " batch" ++ edits_words form [] (map edit_of edits.now)) sink.new) }
 {
-    push_text(" batch", line)?;
+    sink.put_text(" batch")?;
     let mut mark = "";
     for edit in edits {
-        push_text(mark, line)?;
-        push_edit(alloc, edit, line)?;
+        sink.put_text(mark)?;
+        write_edit(edit, form, sink)?;
         mark = ";";
     }
     Ok(())
 }
 
-/// Appends a space and what an edit does.
-fn push_edit(alloc: Global, edit: &Edit, line: &mut Vec<u8>) -> Result<(), AllocError>
-    ensures { OnOk result (line.new.items
-        ≡ line.old.items ++ encode_utf8_all (edit_words (edit_of edit.now))) }
+/// Writes a space and what an edit does.
+fn write_edit<S: Sink>(edit: &Edit, form: LineForm, sink: &mut S) -> Result<(), S::Fault>
+    ensures { OnOk result (S.Takes sink.old (edit_words form (edit_of edit.now)) sink.new) }
 {
     match edit {
-        Edit::Import { name, .. } => push_import(name, line),
-        Edit::Set { name, path, .. } => push_set(alloc, name, path, line),
-        Edit::Delete { name, path } => push_delete(alloc, name, path, line),
+        Edit::Import { name, tree } => write_import(name, tree, form, sink),
+        Edit::Set { name, path, value } => write_set(name, path, value, form, sink),
+        Edit::Delete { name, path } => write_delete(name, path, sink),
     }
 }
 
-/// Appends an import of a configuration.
-fn push_import(name: &str, line: &mut Vec<u8>) -> Result<(), AllocError>
-    ensures { OnOk result (line.new.items
-        ≡ line.old.items ++ encode_utf8_all (codes " import " ++ chars name.now)) }
+/// Writes an import of a configuration.
+fn write_import<S: Sink>(
+    name: &str,
+    tree: &Config,
+    form: LineForm,
+    sink: &mut S,
+) -> Result<(), S::Fault>
+    ensures { OnOk result (S.Takes sink.old
+        (codes " import " ++ chars name.now ++ value_words form (tree_of tree.now)) sink.new) }
 {
-    push_text(" import ", line)?;
-    push_text(name, line)
+    sink.put_text(" import ")?;
+    sink.put_text(name)?;
+    write_value(tree, form, sink)
 }
 
-/// Appends a set at a pointer.
-fn push_set(alloc: Global, name: &str, path: &str, line: &mut Vec<u8>) -> Result<(), AllocError>
-    ensures { OnOk result (line.new.items ≡ line.old.items ++ encode_utf8_all
-        (codes " set " ++ chars name.now ++ codes " " ++ in_double_quotes (chars path.now))) }
-{
-    push_at(alloc, " set ", name, path, line)
-}
-
-/// Appends a delete at a pointer.
-fn push_delete(alloc: Global, name: &str, path: &str, line: &mut Vec<u8>) -> Result<(), AllocError>
-    ensures { OnOk result (line.new.items ≡ line.old.items ++ encode_utf8_all
-        (codes " delete " ++ chars name.now ++ codes " " ++ in_double_quotes (chars path.now))) }
-{
-    push_at(alloc, " delete ", name, path, line)
-}
-
-/// Appends a word, the name of a configuration, and a pointer in double quotes.
-fn push_at(
-    alloc: Global,
-    word: &str,
+/// Writes a set at a pointer.
+fn write_set<S: Sink>(
     name: &str,
     path: &str,
-    line: &mut Vec<u8>,
-) -> Result<(), AllocError>
-    ensures { OnOk result (line.new.items ≡ line.old.items ++ encode_utf8_all
-        (chars word.now ++ chars name.now ++ codes " " ++ in_double_quotes (chars path.now))) }
+    value: &Config,
+    form: LineForm,
+    sink: &mut S,
+) -> Result<(), S::Fault>
+    ensures { OnOk result (S.Takes sink.old
+        (codes " set " ++ chars name.now ++ codes " " ++ in_double_quotes (chars path.now)
+        ++ value_words form (tree_of value.now)) sink.new) }
 {
-    push_text(word, line)?;
-    push_text(name, line)?;
-    push_text(" ", line)?;
-    push_quoted(alloc, path, line)
+    write_at(" set ", name, path, sink)?;
+    write_value(value, form, sink)
 }
 
-/// Appends a text in double quotes, as the one style writes it there.
-fn push_quoted(alloc: Global, text: &str, line: &mut Vec<u8>) -> Result<(), AllocError>
-    ensures { OnOk result (line.new.items
-        ≡ line.old.items ++ encode_utf8_all (in_double_quotes (chars text.now))) }
+/// Writes a delete at a pointer.
+fn write_delete<S: Sink>(name: &str, path: &str, sink: &mut S) -> Result<(), S::Fault>
+    ensures { OnOk result (S.Takes sink.old
+        (codes " delete " ++ chars name.now ++ codes " " ++ in_double_quotes (chars path.now))
+        sink.new) }
 {
-    let mut quoted = String::new(alloc);
-    write_quoted(text, &mut quoted)?;
-    push_text(&quoted, line)
+    write_at(" delete ", name, path, sink)
 }
 
-/// Appends a text.
-fn push_text(text: &str, line: &mut Vec<u8>) -> Result<(), AllocError>
-    ensures { OnOk result (line.new.items
-        ≡ line.old.items ++ encode_utf8_all (chars text.now)) }
+/// Writes a word, the name of a configuration, and a pointer in double quotes as the one style writes it there.
+fn write_at<S: Sink>(word: &str, name: &str, path: &str, sink: &mut S) -> Result<(), S::Fault>
+    ensures { OnOk result (S.Takes sink.old
+        (chars word.now ++ chars name.now ++ codes " " ++ in_double_quotes (chars path.now))
+        sink.new) }
 {
-    line.extend_from_slice(text.as_bytes())?;
-    Ok(())
+    sink.put_text(word)?;
+    sink.put_text(name)?;
+    sink.put_char(' ')?;
+    write_quoted(path, sink)
+}
+
+/// Writes a space and the JSON text of a value, where the line shows it.
+fn write_value<S: Sink>(value: &Config, form: LineForm, sink: &mut S) -> Result<(), S::Fault>
+    ensures { OnOk result (S.Takes sink.old
+        (value_words form (tree_of value.now)) sink.new) }
+{
+    match form {
+        LineForm::Names => Ok(()),
+        LineForm::Values => {
+            sink.put_char(' ')?;
+            write_json(value.tree(), sink)
+        }
+    }
 }

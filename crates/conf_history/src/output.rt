@@ -4,6 +4,7 @@ ghost use Rattle.std.specs.Io.KnownBytes.{Appends};
 
 use crate::fault::HistoryFault;
 use std::io::Write;
+use yaml_docs::write_or_count;
 
 /// Writes all the bytes, in as many writes as it takes. It does not flush.
 ///
@@ -16,13 +17,8 @@ pub(crate) fn put_bytes<W: Write>(writer: &mut W, bytes: &[u8]) -> Result<(), Hi
         × Appends (W.contents writer.old) (W.contents writer.new) (take kept bytes.now)) }
     ensures fault { IfErr result (λ fault. fault ≡ HistoryFault.Output) }
 {
-    let mut done = 0;
-    'parts: while done < bytes.len() {
-        match writer.write(&bytes[done..]) {
-            Ok(0) => return Err(HistoryFault::Output),
-            Ok(count) => done += count,
-            Err(_) => return Err(HistoryFault::Output),
-        }
+    match write_or_count(writer, bytes) {
+        Ok(()) => Ok(()),
+        Err(_) => Err(HistoryFault::Output),
     }
-    Ok(())
 }

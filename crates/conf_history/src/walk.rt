@@ -1,5 +1,5 @@
 // A walk over the pieces of a store's file, with the state after those so far.
-ghost use Rattle.std.specs.Prelude.{◌≡◌, ◌<◌, ◌+◌, ℕ, List, [], Option, OnOk, OnErr, IfOk, IfErr, IfSome};
+ghost use Rattle.std.specs.Prelude.{◌≡◌, ◌<◌, ◌+◌, ℕ, List, [], ◌∷◌, Option, OnOk, OnErr, IfOk, IfErr, IfSome};
 ghost use Rattle.conf_state.specs.Commands.{Command as Meant, command_of};
 ghost use Rattle.conf_state.specs.States.{Contents};
 ghost use Rattle.conf_record.specs.Documents.{IsRecord};
@@ -34,6 +34,9 @@ impl Walk {
     pub fn begin<R: Read>(alloc: Global, reader: &mut R) -> Result<Walk, HistoryFault>
         ensures ok { IfOk result (λ walk. (pieces : List (List ℕ)) × IsBetween
             (R.remaining reader.old) (R.remaining reader.new) walk pieces walk.state []) }
+        // What was read is that base, which the reader of pieces still has.
+        ensures first { IfOk result (λ walk. IsBetween (R.remaining reader.old)
+            (R.remaining reader.new) walk (piece_or_rest walk.pieces ∷ []) walk.state []) }
         ensures refused { IfErr result (λ fault.
             IfSome (R.remaining reader.old) (λ bytes. RefusesSurvey bytes fault)) }
     {

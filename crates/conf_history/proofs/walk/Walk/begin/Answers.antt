@@ -42,3 +42,16 @@ returns-clause-ok g c =
           (subst (λ b. IsBase b c.in-Some.state) c.piece.ensures base)
           (placed c.start.result c.after-place.result (piece_or_rest now) c.piece-2.result.now c.start.ensures c.piece-2.ensures c.after-place.ensures),
     )
+
+pub returns-clause-first : goal.returns-clause-first
+returns-clause-first g c =
+    let given = g.R.Read.remaining c.args.reader.now in
+    let left = g.R.Read.remaining c.advance.new.reader in
+    let old = c.in_ok-pieces.pieces in
+    let now = c.advance.new.self in
+    let first : AdvancesToPiece store_limit store_limit given left old now =
+    subst (λ b. Advances store_limit store_limit given left old now (Ok b)) c.in-Ok-true.field-0-test (own-limits given left old now (Ok c.in-Ok-true.field-0) c.in_ok-pieces.ensures.sound c.in-Ok-true.ensures) in
+    let base : IsBase c.piece.result.now c.in-Some.state = search rules in
+    begun given left old now c.in_ok-pieces.ensures.unread.0 c.in_ok-pieces.ensures.unread.1 c.in-Some.state c.after-place.result first
+    (subst (λ b. IsBase b c.in-Some.state) c.piece.ensures base)
+    (placed c.start.result c.after-place.result (piece_or_rest now) c.piece-2.result.now c.start.ensures c.piece-2.ensures c.after-place.ensures)

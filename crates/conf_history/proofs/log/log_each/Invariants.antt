@@ -7,7 +7,7 @@ use Rattle.conf_state.specs.Commands.{Command}
 use Rattle.conf_state.specs.States.{Contents}
 use Rattle.conf_history.specs.Logs.{log_of_pieces}
 use Rattle.conf_history.specs.Walks.{HasLimits, IsBetween}
-use Rattle.conf_history.proofs.log.write_log.Given as goal
+use Rattle.conf_history.proofs.log.log_each.Given as goal
 
 abbrev pub invariant-records : goal.invariant-records
 invariant-records g l = record {

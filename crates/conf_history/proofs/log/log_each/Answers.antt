@@ -14,7 +14,7 @@ use Rattle.conf_history.specs.declared.place.Place.{Place}
 use Rattle.conf_history.proofs.WalkLemmas.{has-room, performs-on, passes}
 use Rattle.conf_history.proofs.ReadingLemmas.{before-number, next-number, refuses-before, refuses-after}
 use Rattle.conf_history.proofs.LogLemmas.{begins-empty, begin-fails, start-fails, next-fails, piece-fails, number-fails, logs-all, logged-more}
-use Rattle.conf_history.proofs.log.write_log.Goals as goal
+use Rattle.conf_history.proofs.log.log_each.Goals as goal
 
 pub returns-in_err-walk-clause-refused : goal.returns-in_err-walk-clause-refused
 returns-in_err-walk-clause-refused g c =

@@ -1,0 +1,42 @@
+use Rattle.std.proofs.Common.{[], codes, map, refl, sym, subst, arith}
+use Rattle.std.proofs.lemmas.List.{drop_all}
+use Rattle.yaml_data.proofs.ListLemmas.{drop_item}
+use Rattle.conf_state.specs.Commands.{edit_of}
+use Rattle.conf_state.proofs.LineLemmas.{ascii}
+use Rattle.conf_history.specs.Logs.{edits_words}
+use Rattle.conf_history.proofs.LineLemmas.{ascii-text}
+use Rattle.conf_history.proofs.line.write_batch.Goals as goal
+
+pub loop-edit-init : goal.loop-edit-init
+loop-edit-init g c = record { text = ascii-text [] refl; ascii = ascii [] refl; left = λ end left. left }
+
+pub put_text-requires-in-loop-edit-text-text : goal.put_text-requires-in-loop-edit-text-text
+put_text-requires-in-loop-edit-text-text g c = λ lifetimes within. c.loop-edit.invariant.text
+
+pub loop-edit-preserved : goal.loop-edit-preserved
+loop-edit-preserved g c =
+    let l = c.loop-edit in
+    let inv = l.invariant in
+    let both = g.met.S.Sink.takes_both in
+    let start = l.sink in
+    let mark = l.mark.now in
+    let here = drop_item c.args.edits.now l.edit-index c.edit-item.result (omega arith) c.edit-item.is in
+    let marked = subst (λ cs. g.S.Sink.Takes start cs c.put_text-in-loop-edit.new.self) inv.ascii c.in_ok-put_text-2.ensures in
+    let edited = both _ _ _ _ _ marked c.in_ok-write_edit.ensures in
+    record {
+      text = ascii-text (codes ";") refl;
+      ascii = ascii (codes ";") refl;
+      left = λ end left.
+          inv.left end (subst (λ es. g.S.Sink.Takes start (edits_words c.args.form mark (map edit_of es)) end) (sym here)
+          (both _ _ _ _ _ edited left));
+    }
+
+pub returns : goal.returns
+returns g c =
+    let l = c.loop-edit in
+    let Takes = g.S.Sink.Takes in
+    let none = drop_all l.edit-index c.args.edits.now (omega arith) in
+    let ends = l.invariant.left l.sink
+    (subst (λ es. Takes l.sink (edits_words c.args.form l.mark.now (map edit_of es)) l.sink) (sym none) (g.met.S.Sink.takes_none l.sink)) in
+    let word = subst (λ cs. Takes c.args.sink.now cs c.put_text.new.self) (ascii (codes " batch") refl) c.in_ok-put_text.ensures in
+    g.met.S.Sink.takes_both _ _ _ _ _ word ends

@@ -1,0 +1,14 @@
+-- what takes the edits from here on has taken them all from the start; the mark is of ASCII
+use Rattle.std.proofs.Common.{◌≡◌, [], drop, map}
+use Rattle.std.specs.Str.{chars, IsUtf8}
+use Rattle.conf_state.specs.Commands.{edit_of}
+use Rattle.conf_history.specs.Logs.{edits_words}
+use Rattle.conf_history.proofs.line.write_batch.Given as goal
+
+abbrev pub invariant-loop-edit : goal.invariant-loop-edit
+invariant-loop-edit g l = record {
+  text : IsUtf8 l.mark;
+  ascii : chars l.mark ≡ l.mark;
+  left : (end : _) → g.S.Sink.Takes l.sink (edits_words l.form l.mark (map edit_of (drop l.edit-index l.edits))) end
+      → g.S.Sink.Takes l.initial.sink (edits_words l.form [] (map edit_of l.edits)) end;
+}
