@@ -6,6 +6,7 @@ use crate::arguments::{
     FILE, FOLDER, NAME, POINTER, WHOLE, YAML, explain_arg, flag_arg, folder_arg, name_arg,
     reporting_of, whole_pointer_arg,
 };
+use crate::conditions::{conditions_of, with_conditions};
 use crate::invocation::{Grouping, Invocation, MissingStore, STANDARD_INPUT, Value};
 use crate::refusal::refused;
 use crate::unparsed::Unparsed;
@@ -35,7 +36,7 @@ pub(crate) fn init_invocation<'w>(words: &ArgMatches<'w>) -> Option<Invocation<'
 const IMPORT_HELP: &str = "\
 A configuration that has the name is replaced. Nothing is printed where it is done. Comments and
 quotes are not kept, and `3` is written `\"3\"`. A folder without a store is refused (NotAStore), and
-stays as it is, unless --init is given.
+stays as it is, unless --init is given. If a condition does not hold, nothing changes (Unmet).
 
 A text that is refused is reported on standard error with its file, `-` for standard input, as
 `web.yaml:501:1: KeyTwice \"key250\" (first at 17:1)`. With --explain, or where standard error is a
@@ -44,6 +45,7 @@ terminal, the line of the text follows, with a mark under the place, and what to
 Examples:
   confstore import store web web.yaml
   confstore import --init store web web.yaml
+  confstore import store web web.yaml --if-absent
   printf 'port: 80\\n' | confstore import store web";
 
 const TEXT_FILE_HELP: &str = "The file of the text; standard input if it is left out or `-`";
@@ -57,10 +59,11 @@ pub(crate) fn import_arguments<'a>(
     alloc: Global,
     import: Command<'a>,
 ) -> Result<Command<'a>, AllocError> {
-    import
+    let import = import
         .after_help(IMPORT_HELP)
         .arg(flag_arg(alloc, INIT, IMPORT_INIT_HELP))?
-        .arg(explain_arg(alloc))?
+        .arg(explain_arg(alloc))?;
+    with_conditions(alloc, import)?
         .arg(folder_arg(alloc))?
         .arg(name_arg(alloc))?
         .arg(Arg::new(alloc, FILE).help(TEXT_FILE_HELP))
@@ -74,6 +77,7 @@ pub(crate) fn import_invocation<'w>(words: &ArgMatches<'w>) -> Option<Invocation
         name: words.get_str(NAME)?,
         file: words.get_str(FILE).unwrap_or(STANDARD_INPUT),
         missing: missing_of(words),
+        conditions: conditions_of(words),
         reporting: reporting_of(words),
     })
 }
@@ -87,15 +91,21 @@ fn missing_of(words: &ArgMatches<'_>) -> MissingStore {
 }
 
 const SET_HELP: &str = "\
-VALUE is the text itself. With `--yaml` it is read as a YAML text, so that a list or a mapping can be
-set; then `-` stands for standard input. The pointer \"\" needs --whole: it stands for the whole
-configuration. Nothing is printed where it is done. A YAML text that is refused is reported on standard error, as
-`VALUE:1:8: KeyTwice \"a\" (first at 1:2)`, or with `-` for standard input.
+VALUE is the text itself. With --yaml it is read as a YAML text, so that a list or a mapping can be
+set; then `-` stands for standard input. With --file in place of VALUE, the bytes of FILE are the text,
+also a line feed at their end; they have to be UTF-8. The pointer \"\" needs --whole: it stands for the
+whole configuration. Nothing is printed where it is done.
+
+A YAML text or a file that is refused is reported on standard error, as
+`VALUE:1:8: KeyTwice \"a\" (first at 1:2)`, with the name of the file, or with `-` for standard input.
+If a condition does not hold, nothing changes (Unmet).
 
 Examples:
   confstore set store web /port 80
+  confstore set store web /port 81 --if-value 80
   confstore set store web /tags '[a, b]' --yaml
-  confstore set store web /tags - --yaml < tags.yaml";
+  confstore set store web /tags - --yaml < tags.yaml
+  confstore set store web /key --file key.pem";
 
 const POINTER_HELP: &str = "A JSON Pointer, as /port or /tags/0";
 
@@ -111,22 +121,51 @@ const ALLOW_WHOLE_HELP: &str = "Allows the pointer \"\", which stands for the wh
 
 const SET_YAML_HELP: &str = "Reads VALUE, or standard input if that is `-`, as a YAML text";
 
+/// The word of `set` that gives the file of a text in place of the value. It excludes [`YAML`].
+const FROM_FILE: &str = "file";
+
+const FROM_FILE_HELP: &str =
+    "Takes the bytes of FILE, or of standard input for `-`, as the text, in place of VALUE";
+
 pub(crate) fn set_arguments<'a>(
     alloc: Global,
     set: Command<'a>,
 ) -> Result<Command<'a>, AllocError> {
-    let value = Arg::new(alloc, VALUE)
-        .required(true)
-        .allow_negative_numbers(true)
-        .help(VALUE_HELP);
-    set.after_help(SET_HELP)
-        .arg(flag_arg(alloc, YAML, SET_YAML_HELP))?
+    let set = with_set_flags(alloc, set.after_help(SET_HELP))?;
+    with_place(alloc, with_conditions(alloc, set)?)?.arg(value_arg(alloc)?)
+}
+
+/// The word `set` with its own flags.
+fn with_set_flags<'a>(alloc: Global, set: Command<'a>) -> Result<Command<'a>, AllocError> {
+    set.arg(flag_arg(alloc, YAML, SET_YAML_HELP))?
+        .arg(from_file(alloc)?)?
         .arg(flag_arg(alloc, ALLOW_WHOLE, ALLOW_WHOLE_HELP))?
-        .arg(explain_arg(alloc))?
-        .arg(folder_arg(alloc))?
+        .arg(explain_arg(alloc))
+}
+
+/// A word with the place of a value in a store.
+fn with_place<'a>(alloc: Global, word: Command<'a>) -> Result<Command<'a>, AllocError> {
+    word.arg(folder_arg(alloc))?
         .arg(name_arg(alloc))?
-        .arg(Arg::new(alloc, POINTER).required(true).help(POINTER_HELP))?
-        .arg(value)
+        .arg(Arg::new(alloc, POINTER).required(true).help(POINTER_HELP))
+}
+
+/// The file of a text.
+fn from_file<'a>(alloc: Global) -> Result<Arg<'a>, AllocError> {
+    Arg::new(alloc, FROM_FILE)
+        .long(FROM_FILE)
+        .value_name(FILE)
+        .help(FROM_FILE_HELP)
+        .conflicts_with(YAML)
+}
+
+/// The value, which has to be there if no file gives one.
+fn value_arg<'a>(alloc: Global) -> Result<Arg<'a>, AllocError> {
+    Arg::new(alloc, VALUE)
+        .allow_negative_numbers(true)
+        .help(VALUE_HELP)
+        .required_unless_present(FROM_FILE)?
+        .conflicts_with(FROM_FILE)
 }
 
 pub(crate) fn set_invocation<'w>(words: &ArgMatches<'w>) -> Option<Invocation<'w>>
@@ -137,6 +176,7 @@ pub(crate) fn set_invocation<'w>(words: &ArgMatches<'w>) -> Option<Invocation<'w
         name: words.get_str(NAME)?,
         pointer: words.get_str(POINTER)?,
         value: value_of(words)?,
+        conditions: conditions_of(words),
         reporting: reporting_of(words),
     })
 }
@@ -154,6 +194,9 @@ pub(crate) fn test_pointer(alloc: Global, words: &ArgMatches<'_>) -> Result<(), 
 }
 
 fn value_of<'w>(words: &ArgMatches<'w>) -> Option<Value<'w>> {
+    if let Some(file) = words.get_str(FROM_FILE) {
+        return Some(Value::File(file));
+    }
     let text = words.get_str(VALUE)?;
     if words.get_flag(YAML) {
         Some(Value::Yaml(text))
@@ -164,19 +207,21 @@ fn value_of<'w>(words: &ArgMatches<'w>) -> Option<Value<'w>> {
 
 const DELETE_HELP: &str = "\
 Nothing is printed where it is done. Without POINTER the whole configuration is removed; the pointer
-\"\" needs --whole.
+\"\" needs --whole. If a condition does not hold, nothing changes (Unmet).
 
 Examples:
   confstore delete store web /tags/0
-  confstore delete store web";
+  confstore delete store web
+  confstore delete store web --if-count 12";
 
 pub(crate) fn delete_arguments<'a>(
     alloc: Global,
     delete: Command<'a>,
 ) -> Result<Command<'a>, AllocError> {
-    delete
+    let delete = delete
         .after_help(DELETE_HELP)
-        .arg(flag_arg(alloc, ALLOW_WHOLE, ALLOW_WHOLE_HELP))?
+        .arg(flag_arg(alloc, ALLOW_WHOLE, ALLOW_WHOLE_HELP))?;
+    with_conditions(alloc, delete)?
         .arg(folder_arg(alloc))?
         .arg(name_arg(alloc))?
         .arg(whole_pointer_arg(alloc))
@@ -189,6 +234,75 @@ pub(crate) fn delete_invocation<'w>(words: &ArgMatches<'w>) -> Option<Invocation
         folder: words.get_str(FOLDER)?,
         name: words.get_str(NAME)?,
         pointer: words.get_str(POINTER).unwrap_or(WHOLE),
+        conditions: conditions_of(words),
+    })
+}
+
+const COPY_HELP: &str = "\
+A configuration that has the name TO is replaced, unless --if-absent is given. All of it is done or
+nothing, in one command. Nothing is printed where it is done. If a condition does not hold, nothing
+changes (Unmet); --if-value and --if-absent look at TO.
+
+Examples:
+  confstore copy store web web-old
+  confstore copy store web web-old --if-absent";
+
+/// The argument of `copy` and `rename` that is the other name.
+const TO: &str = "TO";
+
+const TO_HELP: &str = "The other name; after `--` if it begins with `-`";
+
+/// A word that gives a configuration another name, with its arguments.
+fn with_names<'a>(alloc: Global, word: Command<'a>) -> Result<Command<'a>, AllocError> {
+    with_conditions(alloc, word)?
+        .arg(folder_arg(alloc))?
+        .arg(name_arg(alloc))?
+        .arg(Arg::new(alloc, TO).required(true).help(TO_HELP))
+}
+
+pub(crate) fn copy_arguments<'a>(
+    alloc: Global,
+    copy: Command<'a>,
+) -> Result<Command<'a>, AllocError> {
+    with_names(alloc, copy.after_help(COPY_HELP))
+}
+
+pub(crate) fn copy_invocation<'w>(words: &ArgMatches<'w>) -> Option<Invocation<'w>>
+    ensures { IfSome result HasFittingFiles }
+{
+    Some(Invocation::Copy {
+        folder: words.get_str(FOLDER)?,
+        name: words.get_str(NAME)?,
+        to: words.get_str(TO)?,
+        conditions: conditions_of(words),
+    })
+}
+
+const RENAME_HELP: &str = "\
+A configuration that has the name TO is replaced, unless --if-absent is given; it keeps the place of TO
+among the names, and a new name comes last. All of it is done or nothing, in one command. Nothing is
+printed where it is done. If a condition does not hold, nothing changes (Unmet); --if-value and
+--if-absent look at TO.
+
+Examples:
+  confstore rename store web site
+  confstore rename store web site --if-absent";
+
+pub(crate) fn rename_arguments<'a>(
+    alloc: Global,
+    rename: Command<'a>,
+) -> Result<Command<'a>, AllocError> {
+    with_names(alloc, rename.after_help(RENAME_HELP))
+}
+
+pub(crate) fn rename_invocation<'w>(words: &ArgMatches<'w>) -> Option<Invocation<'w>>
+    ensures { IfSome result HasFittingFiles }
+{
+    Some(Invocation::Rename {
+        folder: words.get_str(FOLDER)?,
+        name: words.get_str(NAME)?,
+        to: words.get_str(TO)?,
+        conditions: conditions_of(words),
     })
 }
 

@@ -5,7 +5,7 @@ pub const STANDARD_INPUT: &str = "-";
 
 /// What a run of the program is asked to do. The words that it holds are as they were given: no folder, name or pointer
 /// was looked at.
-#[derive(Clone, Debug, PartialEq, Eq, Drop)]
+#[derive(Debug, Drop)]
 pub enum Invocation<'w> {
     /// Makes the folder, if it is missing, and an empty store in it.
     Init {
@@ -18,6 +18,7 @@ pub enum Invocation<'w> {
         name: &'w str,
         file: &'w str,
         missing: MissingStore,
+        conditions: Conditions<'w>,
         reporting: Reporting,
     },
     /// Sets the value at a JSON Pointer of a configuration. The pointer is empty only if the words say that the whole
@@ -27,6 +28,7 @@ pub enum Invocation<'w> {
         name: &'w str,
         pointer: &'w str,
         value: Value<'w>,
+        conditions: Conditions<'w>,
         reporting: Reporting,
     },
     /// Removes what is at a JSON Pointer of a configuration. The pointer is empty if the words leave it out, or say that
@@ -35,6 +37,21 @@ pub enum Invocation<'w> {
         folder: &'w str,
         name: &'w str,
         pointer: &'w str,
+        conditions: Conditions<'w>,
+    },
+    /// Puts a copy of the configuration under `name` under the name `to`, in place of one that is there.
+    Copy {
+        folder: &'w str,
+        name: &'w str,
+        to: &'w str,
+        conditions: Conditions<'w>,
+    },
+    /// Gives the configuration under `name` the name `to`, in place of one that is there.
+    Rename {
+        folder: &'w str,
+        name: &'w str,
+        to: &'w str,
+        conditions: Conditions<'w>,
     },
     /// Makes the store file as short as its state.
     Checkpoint {
@@ -45,24 +62,37 @@ pub enum Invocation<'w> {
         folder: &'w str,
         grouping: Grouping,
     },
-    /// Writes a configuration in the one style.
+    /// Writes a configuration.
     Export {
         folder: &'w str,
         name: &'w str,
+        form: TreeForm,
     },
     /// Writes the names of the configurations, of the store as it was after command `at`, or as it is.
     Names {
         folder: &'w str,
         at: Option<u64>,
+        form: NamesForm,
     },
-    /// Writes the value at a JSON Pointer of a configuration, of the store as it was after command `at`, or as it is.
+    /// Writes the value at a JSON Pointer of a configuration, or its keys, of the store as it was after command `at`, or
+    /// as it is.
     /// The pointer is empty if the words leave it out: then the value is the whole configuration.
     Get {
         folder: &'w str,
         name: &'w str,
         pointer: &'w str,
         at: Option<u64>,
+        missing: MissingValue<'w>,
         form: ValueForm,
+    },
+    /// Tells by the status whether something is at a JSON Pointer of a configuration, of the store as it was after
+    /// command `at`, or as it is. The pointer is empty if the words leave it out: then the configuration is
+    /// looked for.
+    Exists {
+        folder: &'w str,
+        name: &'w str,
+        pointer: &'w str,
+        at: Option<u64>,
     },
     /// Writes the commands that the store has accepted since its last checkpoint, up to command `at`, or all.
     Log {
@@ -76,6 +106,11 @@ pub enum Invocation<'w> {
     },
     /// Makes a store in the folder `new` of what the damaged one in `folder` says before its first bad piece.
     Salvage {
+        folder: &'w str,
+        new: &'w str,
+    },
+    /// Makes a store in the folder `new` with the same base and records as the one in `folder`.
+    Backup {
         folder: &'w str,
         new: &'w str,
     },
@@ -99,6 +134,28 @@ pub enum Value<'w> {
     Text(&'w str),
     /// What this YAML text gives, or the one on standard input for [`STANDARD_INPUT`].
     Yaml(&'w str),
+    /// The bytes of this file as a text, or those of standard input for [`STANDARD_INPUT`].
+    File(&'w str),
+}
+
+/// What has to hold of a store, before its change, for a word to change it.
+#[derive(Clone, Copy, Debug, PartialEq, Eq)]
+pub struct Conditions<'w> {
+    /// What has to be at the place that the word changes: at the pointer, or under the name that gets a configuration.
+    pub place: Wanted<'w>,
+    /// How many commands the store has to have accepted; any number if there is none.
+    pub count: Option<u64>,
+}
+
+/// What has to be at a place.
+#[derive(Clone, Copy, Debug, PartialEq, Eq)]
+pub enum Wanted<'w> {
+    /// Anything, or nothing.
+    Anything,
+    /// Nothing.
+    Nothing,
+    /// This text.
+    Text(&'w str),
 }
 
 /// Which commands of a session share a sync.
@@ -111,13 +168,52 @@ pub enum Grouping {
     Grouped { checkpoint_after: Option<u64> },
 }
 
-/// How `get` writes a value.
+/// What `get` does where nothing is at the place.
 #[derive(Clone, Copy, Debug, PartialEq, Eq)]
-pub enum ValueForm {
+pub enum MissingValue<'w> {
+    /// It is refused.
+    Refused,
+    /// This text is written, as if it were there.
+    Default(&'w str),
+}
+
+/// How a value is written whole.
+#[derive(Clone, Copy, Debug, PartialEq, Eq)]
+pub enum TreeForm {
     /// In the one style.
     Styled,
-    /// A text as it is, with a line feed after it.
-    Raw,
+    /// As a JSON text (RFC 8259) on one line.
+    Json,
+    /// In the one style, but a text that YAML's core schema (YAML 1.2.2, 10.3.2) takes for null, a truth value or a
+    /// number stands plain.
+    Plain,
+}
+
+/// What `get` and `keys` write of a value.
+#[derive(Clone, Copy, Debug, PartialEq, Eq)]
+pub enum ValueForm {
+    /// All of it.
+    Whole(TreeForm),
+    /// A text as it is, and then its end. Any other value is refused.
+    Raw(RawEnd),
+    /// The keys of a mapping, or the indexes of a sequence. A text is refused.
+    Keys,
+}
+
+/// How names are written.
+#[derive(Clone, Copy, Debug, PartialEq, Eq)]
+pub enum NamesForm {
+    /// A line each.
+    Lines,
+    /// As a JSON array on one line.
+    Json,
+}
+
+/// What follows a text that is written as it is.
+#[derive(Clone, Copy, Debug, PartialEq, Eq)]
+pub enum RawEnd {
+    LineFeed,
+    Nothing,
 }
 
 /// How `log` writes a command.
@@ -125,6 +221,8 @@ pub enum ValueForm {
 pub enum LogForm {
     /// In a line.
     Lines,
+    /// In a line, with the value of each import and each set as a JSON text (RFC 8259).
+    Values,
     /// As its record stands in the store file.
     Records,
 }

@@ -4,6 +4,7 @@
 
 mod arguments;
 mod change_words;
+mod conditions;
 mod escapes;
 mod folder_word;
 mod invocation;
@@ -17,8 +18,8 @@ mod words;
 pub use escapes::escaped;
 pub use folder_word::FolderWord;
 pub use invocation::{
-    Comments, Formatting, Grouping, Invocation, LogForm, MissingStore, Reporting, STANDARD_INPUT,
-    Value, ValueForm,
+    Comments, Conditions, Formatting, Grouping, Invocation, LogForm, MissingStore, MissingValue,
+    NamesForm, RawEnd, Reporting, STANDARD_INPUT, TreeForm, Value, ValueForm, Wanted,
 };
 pub use subcommand::Subcommand;
 pub use unparsed::Unparsed;

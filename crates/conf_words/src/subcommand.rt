@@ -11,6 +11,10 @@ pub enum Subcommand {
     Set,
     /// Removes a configuration, or what is at a JSON Pointer of it.
     Delete,
+    /// Puts a copy of a configuration under another name.
+    Copy,
+    /// Gives a configuration another name.
+    Rename,
     /// Makes the store file as short as its state.
     Checkpoint,
     /// Performs the commands on standard input on the store in a folder.
@@ -21,12 +25,18 @@ pub enum Subcommand {
     Names,
     /// Writes the value at a JSON Pointer of a configuration.
     Get,
+    /// Writes the keys of what is at a JSON Pointer of a configuration.
+    Keys,
+    /// Says by the status whether something is at a JSON Pointer of a configuration.
+    Exists,
     /// Writes the commands that a store has accepted since its last checkpoint.
     Log,
     /// Reads a whole store, and writes whether it can be opened.
     Verify,
     /// Makes a new store of what a damaged one says before its first bad piece.
     Salvage,
+    /// Makes a new store with the same base and records as another one.
+    Backup,
     /// Writes the tree of a YAML text in the one style.
     Format,
     /// Writes where YAML texts depart from the one style.
@@ -35,19 +45,24 @@ pub enum Subcommand {
 
 impl Subcommand {
     /// All of them, in the order of the help.
-    pub const ALL: [Subcommand; 14] = [
+    pub const ALL: [Subcommand; 19] = [
         Subcommand::Init,
         Subcommand::Import,
         Subcommand::Set,
         Subcommand::Delete,
+        Subcommand::Copy,
+        Subcommand::Rename,
         Subcommand::Checkpoint,
         Subcommand::Run,
         Subcommand::Export,
         Subcommand::Names,
         Subcommand::Get,
+        Subcommand::Keys,
+        Subcommand::Exists,
         Subcommand::Log,
         Subcommand::Verify,
         Subcommand::Salvage,
+        Subcommand::Backup,
         Subcommand::Format,
         Subcommand::Check,
     ];
@@ -75,14 +90,19 @@ impl Subcommand {
             Subcommand::Import => "import",
             Subcommand::Set => "set",
             Subcommand::Delete => "delete",
+            Subcommand::Copy => "copy",
+            Subcommand::Rename => "rename",
             Subcommand::Checkpoint => "checkpoint",
             Subcommand::Run => "run",
             Subcommand::Export => "export",
             Subcommand::Names => "names",
             Subcommand::Get => "get",
+            Subcommand::Keys => "keys",
+            Subcommand::Exists => "exists",
             Subcommand::Log => "log",
             Subcommand::Verify => "verify",
             Subcommand::Salvage => "salvage",
+            Subcommand::Backup => "backup",
             Subcommand::Format => "format",
             Subcommand::Check => "check",
         }
@@ -95,17 +115,21 @@ impl Subcommand {
             Subcommand::Import => "Reads a YAML text, and puts its tree under a name",
             Subcommand::Set => "Sets the value at a JSON Pointer of a configuration",
             Subcommand::Delete => "Removes a configuration, or what is at a JSON Pointer of it",
+            Subcommand::Copy => "Puts a copy of a configuration under another name",
+            Subcommand::Rename => "Gives a configuration another name",
             Subcommand::Checkpoint => "Makes the store file as short as its state",
             Subcommand::Run => "Performs the commands on standard input on the store in a folder",
-            Subcommand::Export =>
-                "Writes a configuration of the store in a folder in the one style",
+            Subcommand::Export => "Writes a configuration of the store in a folder",
             Subcommand::Names => "Writes the names of the configurations of a store",
             Subcommand::Get => "Writes the value at a JSON Pointer of a configuration",
+            Subcommand::Keys => "Writes the keys of a mapping, or the indexes of a list",
+            Subcommand::Exists => "Tells whether something is at a JSON Pointer, by the status",
             Subcommand::Log =>
                 "Writes the commands that a store has accepted since its last checkpoint",
             Subcommand::Verify => "Reads a whole store, and writes whether it can be opened",
             Subcommand::Salvage =>
                 "Makes a new store of what a damaged one says before its first bad piece",
+            Subcommand::Backup => "Makes a new store with the same base and records as another one",
             Subcommand::Format => "Writes the tree of a YAML text in the one style",
             Subcommand::Check => "Writes where YAML texts depart from the one style",
         }

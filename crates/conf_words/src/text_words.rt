@@ -64,7 +64,9 @@ pub(crate) fn format_arguments<'a>(
         .short('i')
         .requires_arg(FILE)?;
     let drop_comments = flag_arg(alloc, DROP_COMMENTS, DROP_COMMENTS_HELP).requires_arg(IN_PLACE)?;
-    let only_check = flag_arg(alloc, ONLY_CHECK, ONLY_CHECK_HELP).conflicts_with(IN_PLACE)?;
+    let only_check = flag_arg(alloc, ONLY_CHECK, ONLY_CHECK_HELP)
+        .conflicts_with(IN_PLACE)?
+        .conflicts_with(DROP_COMMENTS)?;
     format
         .after_help(FORMAT_HELP)
         .arg(in_place)?
