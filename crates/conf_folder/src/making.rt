@@ -23,7 +23,7 @@ impl NewFolder {
 }
 
 /// Makes a folder, and syncs the folder that it is in, so that a crash leaves it. Whatever is at the path stays as it
-/// is: then this returns `None`.
+/// is: then this returns `None`. A new folder that can't be synced is removed again.
 ///
 /// The folder that it is in is synced also if the folder was there, since a run that made it may have been killed
 /// before it did so. One that this run may not read, and so can't sync, is left out then.
@@ -42,10 +42,13 @@ pub fn make_folder<R: Files<File = File>>(
         path: String::from_str(alloc, path)?,
     };
     match fs::create_dir(rt, path) {
-        Ok(()) => {
-            sync_parent(rt, path)?;
-            Ok(Some(new))
-        }
+        Ok(()) => match sync_parent(rt, path) {
+            Ok(()) => Ok(Some(new)),
+            Err(cause) => {
+                new.remove_if_empty(rt);
+                Err(FolderError::from(cause))
+            }
+        },
         Err(error) if error.kind() == ErrorKind::AlreadyExists => {
             match sync_parent(rt, path) {
                 Err(cause) if cause.error.kind() != ErrorKind::PermissionDenied => {

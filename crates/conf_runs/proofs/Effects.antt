@@ -1,20 +1,27 @@
 -- What each word does to the folders of a world.
 use Rattle.std.proofs.Common.{◌≡◌, ◌≢◌, inl, inr, ℕ, Bool, true, false, List, [], ◌∷◌, Option, None, Some, Result, Ok, Err, refl, sym, ap, subst, codes}
+use Rattle.conf_conditions.specs.Conditions.{Condition, conditions_of}
 use Rattle.conf_disk.specs.Image.{Image}
 use Rattle.conf_disk.specs.Models.{DiskModel}
 use Rattle.conf_files.specs.declared.replace.ReplaceFault.{ReplaceFault}
 use Rattle.conf_history.specs.declared.fault.HistoryFault.TheVariants as history
 use Rattle.conf_history.specs.declared.fault.SalvageFault.TheVariants as salvage
+use Rattle.conf_words.specs.declared.invocation.Conditions.{Conditions}
 use Rattle.conf_words.specs.declared.invocation.Invocation.{Invocation}
-use Rattle.conf_words.specs.declared.invocation.Invocation.TheVariants.{Init, Import, Set, Delete, Checkpoint, Run, Export, Names, Get, Log, Verify, Salvage, Format, Check}
+use Rattle.conf_words.specs.declared.invocation.TreeForm.{TreeForm}
+use Rattle.conf_words.specs.declared.invocation.Invocation.TheVariants.{Init, Import, Set, Delete, Copy, Rename, Checkpoint, Run, Export, Names, Get, Exists, Log, Verify, Salvage, Backup, Format, Check}
 use Rattle.conf_words.specs.declared.invocation.Comments.{Comments}
 use Rattle.conf_words.specs.declared.invocation.Formatting.{Formatting}
 use Rattle.conf_words.specs.declared.invocation.Formatting.TheVariants as formatting
-use Rattle.conf_tools.specs.Performs.{FormatsAll, ChecksAll, ImportsRead, Performs, access_of, grouping_of}
+use Rattle.conf_words.specs.declared.invocation.Value.{Value}
+use Rattle.conf_words.specs.declared.invocation.Value.TheVariants.{Text, Yaml, File}
+use Rattle.conf_tools.specs.Backups.{BacksUpFound, BacksUpInFolder}
+use Rattle.conf_tools.specs.Asking.{AskedConditions}
+use Rattle.conf_tools.specs.Performs.{ChangesAt, FormatsAll, ChecksAll, ImportsRead, Performs, access_of, grouping_of}
 use Rattle.conf_tools.specs.Tools.{Taken}
 use Rattle.conf_tools.specs.ProgramCalls.{Call, changing, disk_before, disk_behind, exporting, running}
 use Rattle.conf_tools.specs.StoreWords.{ChangesInFolder, ExportsFromFolder, Inits, MakesChange, MakesInFolder, OpensFile, OpensNew, RunsOnFolder, SavesFound, SavesInFolder, status_at_end}
-use Rattle.conf_tools.specs.TextWords.{IfSo, ReplacesAt, ReplacesRead, ReportsOnAll, RestylesAll, RestylesOpened, TakesText, stops_all, status_of_report}
+use Rattle.conf_tools.specs.TextWords.{IfSo, IsSet, ReplacesAt, ReplacesRead, ReportsOnAll, RestylesAll, RestylesOpened, TakesText, stops_all, status_of_report}
 use Rattle.conf_tools.specs.Statuses.{worst}
 use Rattle.conf_tools.specs.Worlds.{Around, WorldModel}
 use Rattle.conf_tools.specs.declared.changes.Change.{Change}
@@ -32,7 +39,7 @@ use Rattle.conf_tools.specs.declared.texts.ToolFault.{ToolFault}
 use Rattle.conf_tools.specs.declared.world.Access.{Access}
 use Rattle.conf_tools.specs.declared.world.Access.TheVariants.{Changing}
 use Rattle.conf_runs.specs.Folders.{IsDiskOf, KeepsFolders, LeavesNoMore}
-use Rattle.conf_runs.specs.Runs.{asked_for, call_of, changed_in, exported_from, folder_of, imported, initialised, made_in, ran_in, salvages}
+use Rattle.conf_runs.specs.Runs.{asked_for, call_of, changed_if, changed_in, exported_from, folder_of, imported, initialised, made_in, ran_in, salvages}
 
 module _ {W D F P : Type 0} (world : WorldModel W D F P) (disk : DiskModel D) (remaining : F → Option (List ℕ))
     (honest : disk.honest) (leaves : W → List ℕ → Image → Type 0) (keeps : KeepsFolders world disk leaves) where
@@ -81,23 +88,30 @@ module _ {W D F P : Type 0} (world : WorldModel W D F P) (disk : DiskModel D) (r
   of-init folder old new status (inr makes) =
       after old makes.made new (keeps.made folder old makes.made _ makes.makes) (of-making folder makes.made new status makes.then)
 
-  of-change : (access : Access) (folder : List ℕ) (change : Change) (old new : W) (status : Status) (does : ChangesInFolder world disk access folder change old new status)
+  of-change : (access : Access) (folder : List ℕ) (conditions : List Condition) (change : Change) (old new : W) (status : Status)
+      (does : ChangesInFolder world disk access folder conditions change old new status)
       → Effect old new status (Some folder) (changed_in world disk honest change does)
-  of-change access folder change old new status (inl cannot) = nothing (Some folder) (keeps.no_disk _ folder old new cannot.fault cannot.opens)
-  of-change access folder change old new status (inr changes) =
+  of-change access folder conditions change old new status (inl cannot) = nothing (Some folder) (keeps.no_disk _ folder old new cannot.fault cannot.opens)
+  of-change access folder conditions change old new status (inr changes) =
       on_disk folder old _ (stays old) (keeps.disks _ folder old changes.opened new changes.first _ changes.opens changes.gives_back) changes.ends
 
-  of-asked : (access : Access) (folder : List ℕ) (change : Result Change ToolFault) (old new : W) (status : Status)
-      (does : MakesChange world disk access folder change old new status)
-      → Effect old new status (Some folder) (asked_for world disk honest access folder change old new status does)
-  of-asked access folder (Ok change) old new status does = of-change access folder change old new status does
-  of-asked access folder (Err fault) old new status does = nothing (Some folder) (same old new does.0)
+  of-conditional : (access : Access) (folder : List ℕ) (asked : AskedConditions) (change : Change) (old new : W) (status : Status)
+      (does : MakesChange world disk access folder asked change old new status)
+      → Effect old new status (Some folder) (changed_if world disk honest access folder asked change old new status does)
+  of-conditional access folder (Ok conditions) change old new status does = of-change access folder (conditions_of conditions.items) change old new status does
+  of-conditional access folder (Err fault) change old new status does = nothing (Some folder) (same old new does.0)
 
-  of-import : (access : Access) (folder name : List ℕ) (read : Taken) (old new : W) (status : Status)
-      (does : ImportsRead world disk access folder name read old new status)
-      → Effect old new status (Some folder) (imported world disk honest access folder name read old new status does)
-  of-import access folder name (Ok bytes) old new status does = of-asked access folder does.change old new status does.makes
-  of-import access folder name (Err fault) old new status does = nothing (Some folder) (same old new does.0)
+  of-asked : (wanted : Conditions) (access : Access) (folder name path : List ℕ) (change : Result Change ToolFault) (old new : W) (status : Status)
+      (does : ChangesAt world disk wanted access folder name path change old new status)
+      → Effect old new status (Some folder) (asked_for world disk honest wanted access folder name path change old new status does)
+  of-asked wanted access folder name path (Ok change) old new status does = of-conditional access folder does.conditions change old new status does.makes
+  of-asked wanted access folder name path (Err fault) old new status does = nothing (Some folder) (same old new does.0)
+
+  of-import : (wanted : Conditions) (access : Access) (folder name : List ℕ) (read : Taken) (old new : W) (status : Status)
+      (does : ImportsRead world disk wanted access folder name read old new status)
+      → Effect old new status (Some folder) (imported world disk honest wanted access folder name read old new status does)
+  of-import wanted access folder name (Ok bytes) old new status does = of-asked wanted access folder name [] does.change old new status does.changes
+  of-import wanted access folder name (Err fault) old new status does = nothing (Some folder) (same old new does.0)
 
   of-run : (folder : List ℕ) (grouping : Grouping) (old new : Around W) (status : Status) (does : RunsOnFolder world disk folder grouping old new status)
       → Effect old.world new.world status (Some folder) (ran_in world disk honest grouping old new does)
@@ -106,12 +120,12 @@ module _ {W D F P : Type 0} (world : WorldModel W D F P) (disk : DiskModel D) (r
   of-run folder grouping old new status (inr runs) =
       on_disk folder old.world _ (stays old.world) (keeps.disks _ folder old.world runs.opened new.world runs.first _ runs.opens runs.gives_back) tt
 
-  of-export : (folder name : List ℕ) (old new : W) (held written : Option (List ℕ)) (status : Status)
-      (does : ExportsFromFolder world disk folder name old new held written status)
+  of-export : (form : TreeForm) (folder name : List ℕ) (old new : W) (held written : Option (List ℕ)) (status : Status)
+      (does : ExportsFromFolder world disk form folder name old new held written status)
       → Effect old new status (Some folder) (exported_from world disk honest does)
-  of-export folder name old new held written status (inl cannot) =
+  of-export form folder name old new held written status (inl cannot) =
       nothing (Some folder) (keeps.no_disk _ folder old new cannot.cannot.fault cannot.cannot.opens)
-  of-export folder name old new held written status (inr exports) =
+  of-export form folder name old new held written status (inr exports) =
       on_disk folder old _ (stays old) (keeps.disks _ folder old exports.opened new exports.first _ exports.opens exports.gives_back) tt
 
   -- ---- words that read the file of a store
@@ -126,10 +140,12 @@ module _ {W D F P : Type 0} (world : WorldModel W D F P) (disk : DiskModel D) (r
   of-open folder old (Err (reading.History history.NoSuchCommand)) new opens = absurd opens
   of-open folder old (Err (reading.History history.OutOfMemory)) new opens = absurd opens
   of-open folder old (Err (reading.Value fault)) new opens = absurd opens
+  of-open folder old (Err reading.NotText) new opens = absurd opens
+  of-open folder old (Err reading.NotCollection) new opens = absurd opens
   of-open folder old (Err (reading.Salvage fault)) new opens = absurd opens
   of-open folder old (Err reading.Output) new opens = absurd opens
 
-  -- a store is salvaged into one folder alone
+  -- a store is made in one folder alone of what another one says
   abbrev Spares : List ℕ → W → W → Type 0
   Spares path old new = (other : List ℕ) (image : Image) → other ≢ path → leaves new other image → leaves old other image
 
@@ -144,6 +160,8 @@ module _ {W D F P : Type 0} (world : WorldModel W D F P) (disk : DiskModel D) (r
   of-new folder old (reading.Salvage salvage.OutOfMemory) new opens = absurd opens
   of-new folder old (reading.History fault) new opens = absurd opens
   of-new folder old (reading.Value fault) new opens = absurd opens
+  of-new folder old reading.NotText new opens = absurd opens
+  of-new folder old reading.NotCollection new opens = absurd opens
   of-new folder old reading.Output new opens = absurd opens
   of-new folder old (reading.Folder fault) new (inl makes) = keeps.made folder old new _ makes
   of-new folder old (reading.Folder fault) new (inr (inl (made, makes, opens))) =
@@ -163,6 +181,22 @@ module _ {W D F P : Type 0} (world : WorldModel W D F P) (disk : DiskModel D) (r
       then old made seen (keeps.made folder old made _ opens.2) (keeps.stores folder made seen _ opens.3) other image
       (now.elsewhere other image is_other is)
 
+  of-backing-up : (folder : List ℕ) (given : Option (List ℕ)) (old new : W) (status : Status)
+      → BacksUpInFolder world disk folder given old new status → Spares folder old new
+  of-backing-up folder given old new status (inl cannot) = spared folder old new (of-new folder old cannot.fault new cannot.opens)
+  of-backing-up folder given old new status (inr makes) = λ other image is_other is.
+      let opens = makes.opens in
+      let made = opens.0 in
+      let seen = opens.1 in
+      let now = keeps.disks _ folder seen makes.opened new makes.first _ opens.4 makes.gives_back in
+      then old made seen (keeps.made folder old made _ opens.2) (keeps.stores folder made seen _ opens.3) other image
+      (now.elsewhere other image is_other is)
+
+  of-copied : (folder : List ℕ) (file : Result F ReadingFault) (old new : W) (status : Status)
+      → BacksUpFound world disk remaining folder file old new status → Spares folder old new
+  of-copied folder (Ok file) old new status makes = of-backing-up folder (remaining file) old new status makes
+  of-copied folder (Err fault) old new status makes = spared folder old new (same old new makes.0)
+
   of-found : (folder : List ℕ) (file : Result F ReadingFault) (old new : W) (held written : Option (List ℕ)) (status : Status)
       → SavesFound world disk remaining folder file old new held written status → Spares folder old new
   of-found folder (Ok file) old new held written status saves = of-saving folder (remaining file) old new held written status saves
@@ -174,6 +208,13 @@ module _ {W D F P : Type 0} (world : WorldModel W D F P) (disk : DiskModel D) (r
       → TakesText world remaining path read old new given left → Steady old new
   of-text path read old new given left (inl input) = same old new input.1
   of-text path read old new given left (inr file) = keeps.files path old new _ file.2.opens
+
+  -- the value of `set`
+  of-value : (name pointer : List ℕ) (value : Value) (change : Result Change ToolFault) (old seen : W) (given left : Option (List ℕ))
+      → IsSet world remaining name pointer value change old seen given left → Steady old seen
+  of-value name pointer (Text word) change old seen given left is = same old seen is.0
+  of-value name pointer (Yaml word) change old seen given left is = same old seen is.0
+  of-value name pointer (File path) change old seen given left is = of-text path.now is.read old seen given left is.takes
 
   -- after one report, the others
   of-rest : (old now new : Around W) (stops : Bool) (ends others : Type 0) → (others → Steady now.world new.world)
@@ -232,22 +273,32 @@ module _ {W D F P : Type 0} (world : WorldModel W D F P) (disk : DiskModel D) (r
       → salvages invocation ≡ false
       → Effect old.world new.world status (folder_of invocation) (call_of world disk remaining honest invocation old new status does)
   effect (Init folder) old new status does no_salvage = of-init folder.now old.world new.world status does.0
-  effect (Import folder name file absent reporting) old new status does no_salvage =
+  effect (Import folder name file absent conditions reporting) old new status does no_salvage =
       after old.world does.seen new.world (of-text file.now does.read old.world does.seen old.input new.input does.takes)
-      (of-import (access_of absent) folder.now name.now does.read does.seen new.world status does.imports)
-  effect (Set folder name pointer value reporting) old new status does no_salvage = of-asked Changing folder.now does.change old.world new.world status does.makes
-  effect (Delete folder name pointer) old new status does no_salvage = of-asked Changing folder.now does.change old.world new.world status does.makes
-  effect (Checkpoint folder) old new status does no_salvage = of-change Changing folder.now change.Checkpoint old.world new.world status does.0
+      (of-import conditions (access_of absent) folder.now name.now does.read does.seen new.world status does.imports)
+  effect (Set folder name pointer value conditions reporting) old new status does no_salvage =
+      after old.world does.0.seen new.world (of-value name.now pointer.now value does.0.change old.world does.0.seen old.input new.input does.0.is)
+      (of-asked conditions Changing folder.now name.now pointer.now does.0.change does.0.seen new.world status does.0.changes)
+  effect (Delete folder name pointer conditions) old new status does no_salvage =
+      of-asked conditions Changing folder.now name.now pointer.now does.0.change old.world new.world status does.0.changes
+  effect (Copy folder name to conditions) old new status does no_salvage =
+      of-asked conditions Changing folder.now to.now [] does.0.change old.world new.world status does.0.changes
+  effect (Rename folder name to conditions) old new status does no_salvage =
+      of-asked conditions Changing folder.now to.now [] does.0.change old.world new.world status does.0.changes
+  effect (Checkpoint folder) old new status does no_salvage = of-change Changing folder.now [] change.Checkpoint old.world new.world status does.0
   effect (Run folder grouping) old new status does no_salvage = of-run folder.now (grouping_of grouping) old new status does
-  effect (Export folder name) old new status does no_salvage =
-      of-export folder.now name.now old.world new.world old.output new.output status does.0
-  effect (Names folder at) old new status does no_salvage = nothing None (of-open folder.now old.world does.0.file new.world does.0.opens)
-  effect (Get folder name pointer at form) old new status does no_salvage =
+  effect (Export folder name form) old new status does no_salvage =
+      of-export form folder.now name.now old.world new.world old.output new.output status does.0
+  effect (Names folder at form) old new status does no_salvage = nothing None (of-open folder.now old.world does.0.file new.world does.0.opens)
+  effect (Get folder name pointer at missing form) old new status does no_salvage =
+      nothing None (of-open folder.now old.world does.0.file new.world does.0.opens)
+  effect (Exists folder name pointer at) old new status does no_salvage =
       nothing None (of-open folder.now old.world does.0.file new.world does.0.opens)
   effect (Log folder at form) old new status does no_salvage = nothing None (of-open folder.now old.world does.0.file new.world does.0.opens)
   effect (Verify folder) old new status does no_salvage = nothing None (of-open folder.now old.world does.0.file new.world does.0.opens)
   effect (Format formatting files reporting) old new status does no_salvage = nothing None (of-formatting formatting _ old new status does)
   effect (Salvage folder new_folder) old new status does no_salvage = cc
+  effect (Backup folder new_folder) old new status does no_salvage = cc
   effect (Check files reporting) old new status does no_salvage = nothing None (of-checking _ old new status does)
 
   -- what is done to one folder leaves another as it was
@@ -266,24 +317,35 @@ module _ {W D F P : Type 0} (world : WorldModel W D F P) (disk : DiskModel D) (r
       let begins = of-open folder.now old.world says.file says.found says.opens in
       begins path image (of-found new_folder.now says.file says.found new.world old.output new.output status says.saves path image
       (λ same. is_other (ap Some (sym same))) is)
+  spares path (Backup folder new_folder) old new status does is_other image is =
+      let says = does.0 in
+      let begins = of-open folder.now old.world says.file says.found says.opens in
+      begins path image (of-copied new_folder.now says.file says.found new.world status says.makes path image
+      (λ same. is_other (ap Some (sym same))) is)
   spares path (Init folder) old new status does is_other image is =
       beside path old.world new.world (effect (Init folder) old new status does refl) is_other image is
-  spares path (Import folder name file absent reporting) old new status does is_other image is =
-      beside path old.world new.world (effect (Import folder name file absent reporting) old new status does refl) is_other image is
-  spares path (Set folder name pointer value reporting) old new status does is_other image is =
-      beside path old.world new.world (effect (Set folder name pointer value reporting) old new status does refl) is_other image is
-  spares path (Delete folder name pointer) old new status does is_other image is =
-      beside path old.world new.world (effect (Delete folder name pointer) old new status does refl) is_other image is
+  spares path (Import folder name file absent conditions reporting) old new status does is_other image is =
+      beside path old.world new.world (effect (Import folder name file absent conditions reporting) old new status does refl) is_other image is
+  spares path (Set folder name pointer value conditions reporting) old new status does is_other image is =
+      beside path old.world new.world (effect (Set folder name pointer value conditions reporting) old new status does refl) is_other image is
+  spares path (Delete folder name pointer conditions) old new status does is_other image is =
+      beside path old.world new.world (effect (Delete folder name pointer conditions) old new status does refl) is_other image is
+  spares path (Copy folder name to conditions) old new status does is_other image is =
+      beside path old.world new.world (effect (Copy folder name to conditions) old new status does refl) is_other image is
+  spares path (Rename folder name to conditions) old new status does is_other image is =
+      beside path old.world new.world (effect (Rename folder name to conditions) old new status does refl) is_other image is
   spares path (Checkpoint folder) old new status does is_other image is =
       beside path old.world new.world (effect (Checkpoint folder) old new status does refl) is_other image is
   spares path (Run folder grouping) old new status does is_other image is =
       beside path old.world new.world (effect (Run folder grouping) old new status does refl) is_other image is
-  spares path (Export folder name) old new status does is_other image is =
-      beside path old.world new.world (effect (Export folder name) old new status does refl) is_other image is
-  spares path (Names folder at) old new status does is_other image is =
-      beside path old.world new.world (effect (Names folder at) old new status does refl) is_other image is
-  spares path (Get folder name pointer at form) old new status does is_other image is =
-      beside path old.world new.world (effect (Get folder name pointer at form) old new status does refl) is_other image is
+  spares path (Export folder name form) old new status does is_other image is =
+      beside path old.world new.world (effect (Export folder name form) old new status does refl) is_other image is
+  spares path (Names folder at form) old new status does is_other image is =
+      beside path old.world new.world (effect (Names folder at form) old new status does refl) is_other image is
+  spares path (Get folder name pointer at missing form) old new status does is_other image is =
+      beside path old.world new.world (effect (Get folder name pointer at missing form) old new status does refl) is_other image is
+  spares path (Exists folder name pointer at) old new status does is_other image is =
+      beside path old.world new.world (effect (Exists folder name pointer at) old new status does refl) is_other image is
   spares path (Log folder at form) old new status does is_other image is =
       beside path old.world new.world (effect (Log folder at form) old new status does refl) is_other image is
   spares path (Verify folder) old new status does is_other image is =

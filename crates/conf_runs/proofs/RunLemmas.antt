@@ -15,7 +15,7 @@ use Rattle.conf_tools.specs.ProgramCalls.{Call, CallHolds, EachMeans, disk_befor
 use Rattle.conf_tools.specs.ProgramCalls as program
 use Rattle.conf_tools.specs.Worlds.{Around, WorldModel}
 use Rattle.conf_tools.specs.declared.program.Status.{Status}
-use Rattle.conf_tools.specs.declared.program.Status.TheVariants.{Done, Found, Refused, WrongWords, Device}
+use Rattle.conf_tools.specs.declared.program.Status.TheVariants.{Done, Found, Absent, Refused, WrongWords, Device}
 use Rattle.conf_runs.specs.Folders.{IsDiskOf, KeepsFolders}
 use Rattle.conf_runs.specs.Runs.{AreRuns, EachKept, Ending, Event, Holds, IsMade, KeptOf, LeavesAfter, MayLeave, MeantBy, Where, accepted_in, acknowledged, call_at, call_in, cut_off, elsewhere, ending_of_call, folder_of, here, not_begun, returned}
 use Rattle.conf_runs.proofs.StatusLemmas.{not-done}
@@ -94,6 +94,7 @@ module _ {W D F P : Type 0} (world : WorldModel W D F P) (disk : DiskModel D) (r
   least Done (program.changing change old (Ok new) crashes) fits count le = le
   least Done (program.changing change old (Err (new, fault)) crashes) fits count le = absurd (not-done fault fits)
   least Found (program.changing change old result crashes) fits count le = omega arith
+  least Absent (program.changing change old result crashes) fits count le = omega arith
   least Refused (program.changing change old result crashes) fits count le = omega arith
   least WrongWords (program.changing change old result crashes) fits count le = omega arith
   least Device (program.changing change old result crashes) fits count le = omega arith
@@ -104,7 +105,7 @@ module _ {W D F P : Type 0} (world : WorldModel W D F P) (disk : DiskModel D) (r
   made status (program.running given left held written grouping old result crashes) fits = tt
   made status (program.exporting old new crashes) fits = tt
   made status (program.changing change old (Ok new) crashes) fits = λ is. crashes.all refl
-  made status (program.changing change old (Err (new, fault)) crashes) fits = λ is. absurd (not-done fault (sym is ∙ fits))
+  made status (program.changing change old (Err (new, fault)) crashes) fits = λ is. not-done fault (sym is ∙ fits)
 
   -- what is kept of a run, by its call
   record Parts (ending : Ending) (status : Status) (c : Option (Call disk)) (kept : List Command) : Type 0 where

@@ -7,7 +7,7 @@ use Rattle.conf_session.specs.declared.fault.SessionFault.TheVariants as session
 use Rattle.conf_tools.specs.Statuses.{status_of_store}
 use Rattle.conf_tools.specs.declared.program.Status.TheVariants.{Done}
 use Rattle.conf_tools.specs.declared.stores.StoreToolFault.{StoreToolFault}
-use Rattle.conf_tools.specs.declared.stores.StoreToolFault.TheVariants.{Folder as InFolder, Open, Session, Export, Refused, StoreExists}
+use Rattle.conf_tools.specs.declared.stores.StoreToolFault.TheVariants.{Folder as InFolder, Open, Session, Export, Condition, Refused, StoreExists}
 
 pub not-done : (fault : StoreToolFault) → Done ≡ status_of_store fault → ⊥
 not-done (InFolder folder.Device) is = cc
@@ -40,6 +40,7 @@ not-done (Export store.CountFull) is = cc
 not-done (Export store.Reopen) is = cc
 not-done (Export store.Device) is = cc
 not-done (Export store.OutOfMemory) is = cc
+not-done (Condition fault) is = cc
 not-done (Refused store.EmptyBatch) is = cc
 not-done (Refused store.BadName) is = cc
 not-done (Refused store.NoConfig) is = cc

@@ -1,6 +1,7 @@
 -- Runs of the program, one after the other, and what the store in one folder keeps of their commands.
 use Rattle.std.specs.Prelude.{◌≡◌, ◌≢◌, ◌≤◌, ℕ, Bool, true, false, List, [], ◌∷◌, length, take, Option, None, Some, Result, Ok, Err}
 use Rattle.std.proofs.Common.{inl, inr}
+use Rattle.conf_conditions.specs.Conditions.{Condition}
 use Rattle.conf_disk.specs.Image.{Image}
 use Rattle.conf_disk.specs.Models.{DiskModel}
 use Rattle.conf_state.specs.Commands.{Command}
@@ -8,11 +9,14 @@ use Rattle.conf_state.specs.States.{Contents}
 use Rattle.conf_state.specs.Steps.{after}
 use Rattle.conf_store.specs.Lives.{all_commands}
 use Rattle.conf_store.specs.Meaning.{FileMeans}
+use Rattle.conf_words.specs.declared.invocation.Conditions.{Conditions}
 use Rattle.conf_words.specs.declared.invocation.Invocation.{Invocation}
-use Rattle.conf_words.specs.declared.invocation.Invocation.TheVariants.{Init, Import, Set, Delete, Checkpoint, Run, Export, Salvage}
+use Rattle.conf_words.specs.declared.invocation.TreeForm.{TreeForm}
+use Rattle.conf_words.specs.declared.invocation.Invocation.TheVariants.{Init, Import, Set, Delete, Copy, Rename, Checkpoint, Run, Export, Salvage, Backup}
+use Rattle.conf_tools.specs.Asking.{AskedConditions}
 use Rattle.conf_tools.specs.Changes.{Performs as ChangePerforms}
 use Rattle.conf_tools.specs.Exports.{disk_back, disk_handed_back}
-use Rattle.conf_tools.specs.Performs.{ImportsRead, Performs, access_of, grouping_of}
+use Rattle.conf_tools.specs.Performs.{ChangesAt, ImportsRead, Performs, access_of, grouping_of}
 use Rattle.conf_tools.specs.ProgramCalls.{Call, Ending as CallEnding, accepted, answered, changing, disk_before, disk_behind, exporting, running}
 use Rattle.conf_tools.specs.ProgramCalls as call
 use Rattle.conf_tools.specs.StoreWords.{ChangesInFolder, ExportsFromFolder, Inits, MakesChange, MakesInFolder, RunsOnFolder}
@@ -33,21 +37,25 @@ use Rattle.conf_runs.specs.Folders.{KeepsFolders}
 -- the folder whose disk a run takes, if its words name one
 abbrev pub folder_of : Invocation → Option (List ℕ)
 folder_of (Init folder) = Some folder.now
-folder_of (Import folder name file absent reporting) = Some folder.now
-folder_of (Set folder name pointer value reporting) = Some folder.now
-folder_of (Delete folder name pointer) = Some folder.now
+folder_of (Import folder name file absent conditions reporting) = Some folder.now
+folder_of (Set folder name pointer value conditions reporting) = Some folder.now
+folder_of (Delete folder name pointer conditions) = Some folder.now
+folder_of (Copy folder name to conditions) = Some folder.now
+folder_of (Rename folder name to conditions) = Some folder.now
 folder_of (Checkpoint folder) = Some folder.now
 folder_of (Run folder grouping) = Some folder.now
-folder_of (Export folder name) = Some folder.now
+folder_of (Export folder name form) = Some folder.now
 folder_of (Salvage folder new) = Some new.now
+folder_of (Backup folder new) = Some new.now
 folder_of invocation = None
 
--- whether the words make a store of what a damaged one says
+-- whether the words make a store of what another one's file says
 abbrev pub salvages : Invocation → Bool
 salvages (Salvage folder new) = true
+salvages (Backup folder new) = true
 salvages invocation = false
 
--- Whether a run is on the store in the folder at a path. No store is salvaged into this folder.
+-- Whether a run is on the store in the folder at a path. No store is made in this folder of what another one says.
 pub data Where (path : List ℕ) (invocation : Invocation) : Type 0 where
   here : folder_of invocation ≡ Some path → salvages invocation ≡ false → Where path invocation
   elsewhere : folder_of invocation ≢ Some path → Where path invocation
@@ -66,21 +74,28 @@ module _ {W D F P : Type 0} (world : WorldModel W D F P) (disk : DiskModel D) (h
   initialised (inl cannot) = None
   initialised (inr makes) = made_in makes.then
 
-  abbrev pub changed_in : {access : Access} {folder : List ℕ} (change : Change) {old new : W} {status : Status}
-      → ChangesInFolder world disk access folder change old new status → Option (Call disk)
+  abbrev pub changed_in : {access : Access} {folder : List ℕ} {conditions : List Condition} (change : Change) {old new : W}
+      {status : Status} → ChangesInFolder world disk access folder conditions change old new status → Option (Call disk)
   changed_in change (inl cannot) = None
   changed_in change (inr changes) = Some (changing change changes.first changes.result (changes.survives honest))
 
-  abbrev pub asked_for : (access : Access) (folder : List ℕ) (change : Result Change ToolFault) (old new : W)
-      (status : Status) → MakesChange world disk access folder change old new status → Option (Call disk)
-  asked_for access folder (Ok change) old new status makes = changed_in change makes
-  asked_for access folder (Err fault) old new status makes = None
+  abbrev pub changed_if : (access : Access) (folder : List ℕ) (asked : AskedConditions) (change : Change) (old new : W)
+      (status : Status) → MakesChange world disk access folder asked change old new status → Option (Call disk)
+  changed_if access folder (Ok conditions) change old new status makes = changed_in change makes
+  changed_if access folder (Err fault) change old new status makes = None
 
-  abbrev pub imported : (access : Access) (folder name : List ℕ) (read : Taken) (old new : W) (status : Status)
-      → ImportsRead world disk access folder name read old new status → Option (Call disk)
-  imported access folder name (Ok bytes) old new status does =
-      asked_for access folder does.change old new status does.makes
-  imported access folder name (Err fault) old new status does = None
+  abbrev pub asked_for : (wanted : Conditions) (access : Access) (folder name path : List ℕ)
+      (change : Result Change ToolFault) (old new : W) (status : Status)
+      → ChangesAt world disk wanted access folder name path change old new status → Option (Call disk)
+  asked_for wanted access folder name path (Ok change) old new status does =
+      changed_if access folder does.conditions change old new status does.makes
+  asked_for wanted access folder name path (Err fault) old new status does = None
+
+  abbrev pub imported : (wanted : Conditions) (access : Access) (folder name : List ℕ) (read : Taken) (old new : W)
+      (status : Status) → ImportsRead world disk wanted access folder name read old new status → Option (Call disk)
+  imported wanted access folder name (Ok bytes) old new status does =
+      asked_for wanted access folder name [] does.change old new status does.changes
+  imported wanted access folder name (Err fault) old new status does = None
 
   abbrev pub ran_in : {folder : List ℕ} (grouping : Grouping) (old new : Around W) {status : Status}
       → RunsOnFolder world disk folder grouping old new status → Option (Call disk)
@@ -88,8 +103,8 @@ module _ {W D F P : Type 0} (world : WorldModel W D F P) (disk : DiskModel D) (h
   ran_in grouping old new (inr runs) =
       Some (running old.input new.input old.output new.output grouping runs.first runs.result (runs.survives honest))
 
-  abbrev pub exported_from : {folder name : List ℕ} {old new : W} {held written : Option (List ℕ)} {status : Status}
-      → ExportsFromFolder world disk folder name old new held written status → Option (Call disk)
+  abbrev pub exported_from : {form : TreeForm} {folder name : List ℕ} {old new : W} {held written : Option (List ℕ)} {status : Status}
+      → ExportsFromFolder world disk form folder name old new held written status → Option (Call disk)
   exported_from (inl cannot) = None
   exported_from (inr exports) = Some (exporting exports.first (disk_back exports.result) (exports.survives honest))
 
@@ -99,15 +114,24 @@ module _ {W D F P : Type 0} (world : WorldModel W D F P) (disk : DiskModel D) (r
   abbrev pub call_of : (invocation : Invocation) (old new : Around W) (status : Status)
       → Performs world disk remaining invocation old new status → Option (Call disk)
   call_of (Init folder) old new status does = initialised world disk honest does.0
-  call_of (Import folder name file absent reporting) old new status does =
-      imported world disk honest (access_of absent) folder.now name.now does.read does.seen new.world status does.imports
-  call_of (Set folder name pointer value reporting) old new status does =
-      asked_for world disk honest Changing folder.now does.change old.world new.world status does.makes
-  call_of (Delete folder name pointer) old new status does =
-      asked_for world disk honest Changing folder.now does.change old.world new.world status does.makes
+  call_of (Import folder name file absent conditions reporting) old new status does =
+      imported world disk honest conditions (access_of absent) folder.now name.now does.read does.seen new.world status
+      does.imports
+  call_of (Set folder name pointer value conditions reporting) old new status does =
+      asked_for world disk honest conditions Changing folder.now name.now pointer.now does.0.change does.0.seen new.world
+      status does.0.changes
+  call_of (Delete folder name pointer conditions) old new status does =
+      asked_for world disk honest conditions Changing folder.now name.now pointer.now does.0.change old.world new.world
+      status does.0.changes
+  call_of (Copy folder name to conditions) old new status does =
+      asked_for world disk honest conditions Changing folder.now to.now [] does.0.change old.world new.world status
+      does.0.changes
+  call_of (Rename folder name to conditions) old new status does =
+      asked_for world disk honest conditions Changing folder.now to.now [] does.0.change old.world new.world status
+      does.0.changes
   call_of (Checkpoint folder) old new status does = changed_in world disk honest change.Checkpoint does.0
   call_of (Run folder grouping) old new status does = ran_in world disk honest (grouping_of grouping) old new does
-  call_of (Export folder name) old new status does = exported_from world disk honest does.0
+  call_of (Export folder name form) old new status does = exported_from world disk honest does.0
   call_of invocation old new status does = None
 
 -- ---- a run
@@ -189,10 +213,11 @@ module _ {W D F P : Type 0} (world : WorldModel W D F P) (disk : DiskModel D) (r
       if_done status (length (accepted disk (changing change old result crashes)))
   acknowledged status (Some (exporting old new crashes)) = 0
 
-  -- where the status of a change was Done, what was accepted is what the change performs
+  -- where the status of a change was Done, what was accepted is what the change performs on the state that the file meant
   abbrev pub IsMade : Status → Option (Call disk) → Type 0
-  IsMade status (Some (changing change old result crashes)) =
-      status ≡ Done → ChangePerforms change (accepted disk (changing change old result crashes))
+  IsMade status (Some (changing change old (Ok new) crashes)) =
+      status ≡ Done → ChangePerforms crashes.start change crashes.accepted
+  IsMade status (Some (changing change old (Err refused) crashes)) = status ≢ Done
   IsMade status call = Unit {0}
 
   -- the first of the commands that a run accepted; if it returned, all that it acknowledged

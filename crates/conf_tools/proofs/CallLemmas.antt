@@ -21,7 +21,7 @@ use Rattle.conf_tools.specs.Changes.{KeepsChange}
 use Rattle.conf_tools.specs.Stores.{KeepsAnswered}
 use Rattle.conf_tools.specs.declared.changes.Change.{Change}
 use Rattle.conf_tools.specs.declared.stores.Grouping.{Grouping}
-use Rattle.conf_tools.specs.declared.stores.StoreToolFault.TheVariants.{Folder as InFolder, Open, Session, Export, Refused, StoreExists}
+use Rattle.conf_tools.specs.declared.stores.StoreToolFault.TheVariants.{Folder as InFolder, Open, Session, Export, Condition as OnCondition, Refused, StoreExists}
 
 -- a file means one state at most
 file-one : OneMeaning → (file : Option (List ℕ)) (s t : Contents) → FileMeans file s → FileMeans file t → s ≡ t
@@ -133,6 +133,7 @@ module _ {D : Type 0} (model : DiskModel D)
       kept-session P given left held written grouping old new (Err fault) ending image stands keeps is
   kept-call P ending (running given left held written grouping old (Err (new, InFolder fault)) leaves) image stands is = kept-unchanged P old new ending image stands leaves is
   kept-call P ending (running given left held written grouping old (Err (new, Open fault)) leaves) image stands is = kept-unchanged P old new ending image stands leaves is
+  kept-call P ending (running given left held written grouping old (Err (new, OnCondition fault)) leaves) image stands is = kept-unchanged P old new ending image stands leaves is
   kept-call P ending (running given left held written grouping old (Err (new, Export fault)) leaves) image stands is = kept-unchanged P old new ending image stands leaves is
   kept-call P ending (running given left held written grouping old (Err (new, Refused fault)) leaves) image stands is = kept-unchanged P old new ending image stands leaves is
   kept-call P ending (running given left held written grouping old (Err (new, StoreExists)) leaves) image stands is = kept-unchanged P old new ending image stands leaves is
@@ -140,6 +141,7 @@ module _ {D : Type 0} (model : DiskModel D)
   kept-call P ending (changing change old (Err (new, Refused fault)) keeps) image stands is = kept-change P change old new false ending image stands keeps is
   kept-call P ending (changing change old (Err (new, InFolder fault)) leaves) image stands is = kept-unchanged P old new ending image stands leaves is
   kept-call P ending (changing change old (Err (new, Open fault)) leaves) image stands is = kept-unchanged P old new ending image stands leaves is
+  kept-call P ending (changing change old (Err (new, OnCondition fault)) leaves) image stands is = kept-unchanged P old new ending image stands leaves is
   kept-call P ending (changing change old (Err (new, Session fault)) leaves) image stands is = kept-unchanged P old new ending image stands leaves is
   kept-call P ending (changing change old (Err (new, Export fault)) leaves) image stands is = kept-unchanged P old new ending image stands leaves is
   kept-call P ending (changing change old (Err (new, StoreExists)) leaves) image stands is = kept-unchanged P old new ending image stands leaves is

@@ -25,14 +25,14 @@ use Rattle.conf_store.proofs.StepLemmas.{StepsNeedRoom, accepted-anyway}
 use Rattle.conf_tools.specs.Changes.{KeepsChange, Makes, MeansOneOf, Performs, RefusesChange}
 use Rattle.conf_tools.specs.Stores.{OpensOn}
 use Rattle.conf_tools.specs.declared.changes.Change.{Change}
-use Rattle.conf_tools.specs.declared.changes.Change.TheVariants.{Import, Perform, Checkpoint}
+use Rattle.conf_tools.specs.declared.changes.Change.TheVariants.{Import, Perform, Copy, Rename, Checkpoint}
 
 -- ---- which commands a change performs
 
 -- The commands of a change, which lead from one state to another.
 pub record Led (change : Change) (before end : Contents) : Type 0 where
   pub commands : List GivenCommand
-  pub of : Performs change commands
+  pub of : Performs before change commands
   pub leads : after before commands ≡ Ok end
 
 accepted-leads : StepsNeedRoom → (size : ℕ) (s end : Contents) (command : GivenCommand) → outcome size s command ≡ Ok end → after s (command ∷ []) ≡ Ok end
@@ -50,6 +50,16 @@ made-led room old new (Perform command) made = record {
   of = refl;
   leads = accepted-leads room (journal_length old) old.state new.state (command_of command) made.step;
 }
+made-led room old new (Copy name to) made = record {
+  commands = made.command ∷ [];
+  of = (made.command, made.of, refl);
+  leads = accepted-leads room (journal_length old) old.state new.state made.command made.accepts.step;
+}
+made-led room old new (Rename name to) made = record {
+  commands = made.command ∷ [];
+  of = (made.command, made.of, refl);
+  leads = accepted-leads room (journal_length old) old.state new.state made.command made.accepts.step;
+}
 made-led room old new Checkpoint made = record { commands = []; of = refl; leads = ap Ok (sym made.0) }
 
 -- a change in which the device failed
@@ -63,6 +73,16 @@ device-led room old new (Perform command) refuses = record {
   commands = command_of command ∷ [];
   of = refl;
   leads = accepted-leads room (journal_length old) old.state new.state (command_of command) refuses;
+}
+device-led room old new (Copy name to) refuses = record {
+  commands = refuses.command ∷ [];
+  of = (refuses.command, refuses.of, refl);
+  leads = accepted-leads room (journal_length old) old.state new.state refuses.command refuses.refuses;
+}
+device-led room old new (Rename name to) refuses = record {
+  commands = refuses.command ∷ [];
+  of = (refuses.command, refuses.of, refl);
+  leads = accepted-leads room (journal_length old) old.state new.state refuses.command refuses.refuses;
 }
 device-led room old new Checkpoint refuses = record { commands = []; of = refl; leads = ap Ok (sym refuses.0) }
 
@@ -157,7 +177,7 @@ module _ {D : Type 0} (model : DiskModel D)
       }
 
   keeps-some : ((t : ℕ) (image : Image) → t ≤ model.moment closed.disk → IsImage (model.folder closed.disk) image → model.left closed.disk t image) → model.honest
-      → (commands : List GivenCommand) → (commands ≡ []) ⊎ Performs change commands → after opened.state commands ≡ Ok closed.state
+      → (commands : List GivenCommand) → (commands ≡ []) ⊎ Performs opened.state change commands → after opened.state commands ≡ Ok closed.state
       → KeepsChange model old change closed.disk false
   keeps-some counts h commands of leads = record {
     start = opened.state;

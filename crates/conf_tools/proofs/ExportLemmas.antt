@@ -16,10 +16,11 @@ use Rattle.conf_store.specs.Opens.{MeantAtEntry, RefusesOpening}
 use Rattle.conf_store.specs.View.{StoreView}
 use Rattle.conf_store.specs.declared.fault.OpenFault.{OpenFault}
 use Rattle.conf_store.specs.declared.fault.OpenFault.TheVariants.{NotAStore, Damaged, Device, OutOfMemory}
+use Rattle.conf_words.specs.declared.invocation.TreeForm.{TreeForm}
 use Rattle.conf_tools.specs.Exports.{Finds, HasText, LacksText, disk_back}
 use Rattle.conf_tools.specs.Stores.{CannotOpen, OpensOn}
 use Rattle.conf_tools.specs.declared.stores.StoreToolFault.{StoreToolFault}
-use Rattle.conf_tools.specs.declared.stores.StoreToolFault.TheVariants.{Folder as InFolder, Open, Session, Export, Refused, StoreExists}
+use Rattle.conf_tools.specs.declared.stores.StoreToolFault.TheVariants.{Folder as InFolder, Open, Session, Export, Condition as OnCondition, Refused, StoreExists}
 
 -- a failure is still one after further calls
 failed-on : (before now later : ℕ) → HasFailed before now → now ≤ later → HasFailed before later
@@ -64,11 +65,11 @@ module _ {D : Type 0} (model : DiskModel D) where
           (cannot.old_or_base h);
     }
 
-    pub text-since : {X : Type 0} (bytes : X → List ℕ) (name : List ℕ) (r : Result (D × X) (D × StoreToolFault)) → model.failure_count mid ≤ model.failure_count (disk_back r) → (model.honest → model.folder (disk_back r) ≡ model.folder mid)
-        → IfOk r (λ found. HasText model mid found.0 name (bytes found.1)) → IfOk r (λ found. HasText model old found.0 name (bytes found.1))
-    text-since bytes name (Ok (new, x)) risen same text =
-        record { state = text.state; finds = since-opening new text.state risen same text.finds; exports = text.exports; exact = text.exact }
-    text-since bytes name (Err refused) risen same text = tt
+    pub text-since : {X : Type 0} (bytes : X → List ℕ) (form : TreeForm) (name : List ℕ) (r : Result (D × X) (D × StoreToolFault)) → model.failure_count mid ≤ model.failure_count (disk_back r) → (model.honest → model.folder (disk_back r) ≡ model.folder mid)
+        → IfOk r (λ found. HasText model form mid found.0 name (bytes found.1)) → IfOk r (λ found. HasText model form old found.0 name (bytes found.1))
+    text-since bytes form name (Ok (new, x)) risen same text =
+        record { state = text.state; finds = since-opening new text.state risen same text.finds; exports = text.exports }
+    text-since bytes form name (Err refused) risen same text = tt
 
     lacks-since : (name : List ℕ) (new : D) (fault : StoreToolFault) → model.failure_count mid ≤ model.failure_count new → (model.honest → model.folder new ≡ model.folder mid)
         → LacksText model mid new name fault → LacksText model old new name fault
@@ -76,6 +77,7 @@ module _ {D : Type 0} (model : DiskModel D) where
     lacks-since name new (Open fault) risen same lacks = (lacks.0, λ device. failed-on (model.failure_count old) (model.failure_count mid) (model.failure_count new) (cannot.cause refl) risen)
     lacks-since name new (Session fault) risen same lacks = absurd lacks
     lacks-since name new (Export fault) risen same lacks = record { state = lacks.state; finds = since-opening new lacks.state risen same lacks.finds; why = lacks.why }
+    lacks-since name new (OnCondition fault) risen same lacks = absurd lacks
     lacks-since name new (Refused fault) risen same lacks = absurd lacks
     lacks-since name new StoreExists risen same lacks = absurd lacks
 

@@ -7,4 +7,5 @@ pub mod CallLemmas
 pub mod ExportLemmas
 pub mod ChangeLemmas
 pub mod ReadLemmas
+pub mod FoundLemmas
 pub mod FileLemmas

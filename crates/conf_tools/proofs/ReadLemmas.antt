@@ -3,8 +3,7 @@ use Rattle.std.proofs.Common.{◌≡◌, ℕ, List, [], ◌∷◌, ◌++◌, sym
 use Rattle.std.proofs.lemmas.Str.{encodes-chars}
 use Rattle.std.specs.Prelude.{encode_utf8_all, Result, OnOk, is_ok, if◌then◌else◌, Option, Some, None}
 use Rattle.std.specs.Str.{IsUtf8, chars}
-use Rattle.yaml_grammar.specs.Style.{style_text}
-use Rattle.yaml_grammar.specs.Trees.{Tree, Elements, Members, text, sequence, mapping}
+use Rattle.yaml_grammar.specs.Trees.{Tree}
 use Rattle.tree_path.specs.Paths.{at}
 use Rattle.json_pointer.specs.Pointers.{path_of}
 use Rattle.json_pointer.specs.declared.fault.PathFault.{PathFault}
@@ -16,11 +15,10 @@ use Rattle.conf_store.specs.Calls.{tree_at, tree_named}
 use Rattle.conf_session.specs.Answers.{value_at_path}
 use Rattle.conf_history.specs.declared.fault.HistoryFault.TheVariants as history
 use Rattle.conf_history.specs.declared.survey.Findings.{Findings}
-use Rattle.conf_tools.specs.Reads.{name_lines, shown}
+use Rattle.conf_tools.specs.Reads.{name_lines}
 use Rattle.conf_tools.specs.Surveys.{CannotWrite, FileIsAs, RefusesWriting}
 use Rattle.conf_tools.specs.declared.reading_fault.ReadingFault.{ReadingFault}
 use Rattle.conf_tools.specs.declared.reading_fault.ReadingFault.TheVariants as reading
-use Rattle.conf_words.specs.declared.invocation.ValueForm.TheVariants.{Raw}
 
 -- bytes that were put behind others, where there was memory for them
 pub on_pushed : {A E Q : Type 0} (r : Result A E) (new more old : List ℕ) → new ≡ (if is_ok r then more else old) → (new ≡ more → Q) → OnOk r Q
@@ -50,18 +48,6 @@ pub five_pieces : (old a b c d e one two three four five : List ℕ) → one ≡
 five_pieces old a b c d e one two three four five p q r s t =
     t ∙ ap (λ x. x ++ e) (s ∙ ap (λ x. x ++ d) (r ∙ ap (λ x. x ++ c) (q ∙ ap (λ x. x ++ b) p ∙ append_assoc old a b) ∙ append_assoc old (a ++ b) c) ∙ append_assoc old (a ++ b ++ c) d)
     ∙ append_assoc old (a ++ b ++ c ++ d) e
-
--- ---- values
-
--- a raw text is its line, and any other raw value is in the one style
-pub shown_text : (t : Tree) (cs : List ℕ) → t ≡ text cs → cs ++ codes "\n" ≡ shown Raw t
-shown_text t cs e = sym (ap (shown Raw) e)
-
-pub shown_sequence : (t : Tree) (ts : Elements) → t ≡ sequence ts → style_text t ≡ shown Raw t
-shown_sequence t ts e = ap style_text e ∙ sym (ap (shown Raw) e)
-
-pub shown_mapping : (t : Tree) (ms : Members) → t ≡ mapping ms → style_text t ≡ shown Raw t
-shown_mapping t ms e = ap style_text e ∙ sym (ap (shown Raw) e)
 
 -- ---- the value at a pointer
 
@@ -109,4 +95,6 @@ cannot_write given held written state findings is (reading.History (history.Dama
 cannot_write given held written state findings is (reading.History history.NoSuchCommand) cannot = absurd cannot
 cannot_write given held written state findings is (reading.Folder fault) cannot = absurd cannot
 cannot_write given held written state findings is (reading.Value fault) cannot = absurd cannot
+cannot_write given held written state findings is reading.NotText cannot = absurd cannot
+cannot_write given held written state findings is reading.NotCollection cannot = absurd cannot
 cannot_write given held written state findings is (reading.Salvage fault) cannot = absurd cannot

@@ -1,19 +1,21 @@
 -- What a session leaves of the disk of the store that was opened for it.
-use Rattle.std.proofs.Common.{◌≡◌, ◌≢◌, ◌⊎◌, ◌↔◌, ℕ, Bool, true, false, List, [], ◌∷◌, ◌++◌, ap, inl, inr, length, refl, sym, ◌∙◌, subst}
+use Rattle.std.proofs.Common.{◌≡◌, ◌≢◌, ◌≤◌, ◌⊎◌, ◌↔◌, ℕ, Bool, true, false, List, [], ◌∷◌, ◌++◌, ap, inl, inr, length, refl, sym, ◌∙◌, subst}
 use Rattle.std.proofs.lemmas.Bool.{false≢true}
 use Rattle.std.specs.Prelude.{Option, None, Result, Err, IsErrOf}
 use Rattle.conf_disk.specs.Folder.{bytes_under}
 use Rattle.conf_disk.specs.Models.{DiskModel}
 use Rattle.conf_disk.specs.declared.disk.Name.TheVariants.{Store}
+use Rattle.conf_store.specs.Calls.{HasFailed}
 use Rattle.conf_store.specs.Durable.{staged_text}
 use Rattle.conf_store.specs.View.{StoreView}
+use Rattle.conf_store.proofs.OpenLemmas.{failed-later}
 use Rattle.conf_session.specs.Answers.{AllAreAcknowledged, Stored, accepted_commands, file_after_all}
 use Rattle.conf_session.specs.Groups.{AreDue, RunsGrouped, Turn, acknowledged_turns, all_asked, files_after_turns, turns_accepted}
 use Rattle.conf_session.specs.Runs.{AfterAtLeast, Runs, stored_of}
 use Rattle.conf_session.specs.declared.groups.Checkpoints.{Checkpoints}
 use Rattle.conf_session.specs.declared.groups.Checkpoints.TheVariants.{After, Asked}
 use Rattle.conf_session.specs.declared.fault.SessionFault.{SessionFault}
-use Rattle.conf_session.specs.declared.fault.SessionFault.TheVariants.{Device}
+use Rattle.conf_session.specs.declared.fault.SessionFault.TheVariants.{Device, Reopen}
 use Rattle.conf_session.specs.declared.session.Tally.{Tally}
 use Rattle.conf_tools.specs.Stores.{Answers, AnswersOn, BeginsWhenDue, KeepsAnswered, OpensOn, SessionRuns, Work}
 use Rattle.conf_tools.specs.declared.stores.Grouping.{Grouping}
@@ -39,6 +41,20 @@ module _ {D : Type 0} (model : DiskModel D) (given left held written : Option (L
   abbrev file : Option (List ℕ)
   file = bytes_under (model.folder store.disk) Store
 
+  -- what the call says of its faults
+  pub record SaysFaults : Type 0 where
+    pub reopen : IsErrOf result Reopen ↔ (store.reopen ≡ true)
+    pub device : (new.reopen ≡ true) ↔ ((store.reopen ≡ true) ⊎ IsErrOf result Device)
+    pub cause : IsErrOf result Device → HasFailed (model.failure_count store.disk) (model.failure_count new.disk)
+    pub risen : model.failure_count store.disk ≤ model.failure_count new.disk
+
+  module _ (says : SaysFaults) where
+    never-reopened : result ≢ Err Reopen
+    never-reopened is = false≢true (sym opens.no_reopen ∙ says.reopen.0 is)
+
+    failed-since : result ≡ Err Device → HasFailed (model.failure_count old) (model.failure_count new.disk)
+    failed-since is = failed-later (model.failure_count old) (model.failure_count store.disk) (model.failure_count new.disk) opens.risen says.risen (says.cause is)
+
   -- ---- each command by itself
 
   module _ (runs : Runs model given left held written store new result) where
@@ -52,15 +68,17 @@ module _ {D : Type 0} (model : DiskModel D) (given left held written : Option (L
     abbrev each-answers : Answers given left held written (stored_of store) file Single result each-work
     each-answers = record { answered = runs.answered; performed = runs.performed; ends = runs.ends; does = refl }
 
-    each-on : ((new.reopen ≡ true) ↔ ((store.reopen ≡ true) ⊎ IsErrOf result Device)) → AnswersOn model given left held written Single old new.disk result
-    each-on device = record {
+    each-on : SaysFaults → AnswersOn model given left held written Single old new.disk result
+    each-on says = record {
       start = stored_of store;
       file = file;
       work = each-work;
       answers = each-answers;
       due = λ h. tt;
       opens = opens.opens;
-      reads = λ h other. runs.reads h (in-order store.reopen new.reopen result opens.no_reopen device other);
+      reads = λ h other. runs.reads h (in-order store.reopen new.reopen result opens.no_reopen says.device other);
+      not_reopen = never-reopened says;
+      cause = failed-since says;
     }
 
     each-kept : AllAreAcknowledged → model.honest → KeepsAnswered model given left held written Single old new.disk result
@@ -101,16 +119,18 @@ module _ {D : Type 0} (model : DiskModel D) (given left held written : Option (L
     groups-due (After bytes) is h =
         subst (λ staged. AreDue bytes (record { store = file; staged = staged_text (model.folder store.disk) staged }) (stored_of store) runs.answered) opens.no_checkpoint (runs.due h bytes is)
 
-    groups-on : ((new.reopen ≡ true) ↔ ((store.reopen ≡ true) ⊎ IsErrOf result Device)) → AnswersOn model given left held written (Grouped checkpoints) old new.disk result
-    groups-on device = record {
+    groups-on : SaysFaults → AnswersOn model given left held written (Grouped checkpoints) old new.disk result
+    groups-on says = record {
       start = stored_of store;
       file = file;
       work = groups-work;
       answers = groups-answers;
       due = λ h. groups-due checkpoints refl h;
       opens = opens.opens;
-      reads = λ h other. ap (λ files. files.store) (runs.files h (in-order store.reopen new.reopen result opens.no_reopen device other))
+      reads = λ h other. ap (λ files. files.store) (runs.files h (in-order store.reopen new.reopen result opens.no_reopen says.device other))
           ∙ ap (λ staged. file-after (staged_text (model.folder store.disk) staged)) opens.no_checkpoint;
+      not_reopen = never-reopened says;
+      cause = failed-since says;
     }
 
     groups-kept : model.honest → KeepsAnswered model given left held written (Grouped checkpoints) old new.disk result
@@ -131,9 +151,9 @@ module _ {D : Type 0} (model : DiskModel D) (given left held written : Option (L
 
   -- what was answered, and what `store.yaml` reads as
   pub answers-on : (grouping : Grouping) → SessionRuns model given left held written grouping store new result
-      → ((new.reopen ≡ true) ↔ ((store.reopen ≡ true) ⊎ IsErrOf result Device)) → AnswersOn model given left held written grouping old new.disk result
-  answers-on Single runs device = each-on runs device
-  answers-on (Grouped checkpoints) runs device = groups-on checkpoints runs device
+      → SaysFaults → AnswersOn model given left held written grouping old new.disk result
+  answers-on Single runs says = each-on runs says
+  answers-on (Grouped checkpoints) runs says = groups-on checkpoints runs says
 
   -- what a crash leaves: opening first, and then the session, at whose start nothing waits
   pub keeps-answered : (grouping : Grouping) → SessionRuns model given left held written grouping store new result

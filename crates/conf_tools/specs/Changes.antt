@@ -3,44 +3,127 @@ use Rattle.std.specs.Prelude.{◌≡◌, ◌≢◌, ◌⊎◌, ℕ, Bool, true, 
 use Rattle.yaml_grammar.specs.Trees.{Tree}
 use Rattle.yaml_tree.specs.Reading.{IsRead}
 use Rattle.yaml_config.specs.Limits.{config_limits}
+use Rattle.conf_conditions.specs.Conditions.{Condition, first_fault}
+use Rattle.conf_conditions.specs.declared.fault.ConditionFault.{ConditionFault}
+use Rattle.conf_conditions.specs.declared.fault.ConditionFault.TheVariants.{OutOfMemory as NoMemory}
 use Rattle.conf_disk.specs.Folder.{Folder, bytes_under}
 use Rattle.conf_disk.specs.Image.{Image, IsImage}
 use Rattle.conf_disk.specs.Models.{DiskModel}
 use Rattle.conf_disk.specs.Moments.{LeavesOnly}
 use Rattle.conf_disk.specs.declared.disk.Name.TheVariants.{Store}
 use Rattle.conf_state.specs.BaseTexts.{base_bytes}
-use Rattle.conf_state.specs.Commands.{Command as GivenCommand, command_of, import_as, single, text_of}
+use Rattle.conf_state.specs.Commands.{Command as GivenCommand, batch, command_of, delete_at, import_as, single, text_of}
 use Rattle.conf_state.specs.States.{Contents}
 use Rattle.conf_state.specs.declared.fault.StoreFault.{StoreFault}
 use Rattle.conf_state.specs.declared.fault.StoreFault.TheVariants.{Reopen, Device, OutOfMemory}
-use Rattle.conf_store.specs.Calls.{Accepts, RefusesCommand}
+use Rattle.conf_store.specs.Calls.{Accepts, HasFailed, RefusesCommand, tree_named}
+use Rattle.conf_store.specs.Changing.{AppendsRecord, store_file}
 use Rattle.conf_store.specs.Durable.{AfterPrefix, AllImagesMean}
 use Rattle.conf_store.specs.Files.{IsOldOrBase}
-use Rattle.conf_store.specs.Imports.{Imports, RefusesImport}
+use Rattle.conf_store.specs.Imports.{AppendsImport, Imports, RefusesImport}
 use Rattle.conf_store.specs.Meaning.{FileMeans, empty_state}
 use Rattle.conf_store.specs.Opens.{MeantAtEntry}
 use Rattle.conf_store.specs.View.{StoreView}
 use Rattle.conf_session.specs.Runs.{AfterAtLeast}
+use Rattle.conf_store.specs.declared.fault.OpenFault.{OpenFault}
+use Rattle.conf_store.specs.declared.fault.OpenFault.TheVariants as OpenFaults
 use Rattle.conf_tools.specs.Stores.{CannotOpen, OpensOn}
 use Rattle.conf_tools.specs.declared.changes.Change.{Change}
-use Rattle.conf_tools.specs.declared.changes.Change.TheVariants.{Import, Perform, Checkpoint}
+use Rattle.conf_tools.specs.declared.changes.Change.TheVariants.{Import, Perform, Copy, Rename, Checkpoint}
 use Rattle.conf_tools.specs.declared.stores.StoreToolFault.{StoreToolFault}
-use Rattle.conf_tools.specs.declared.stores.StoreToolFault.TheVariants.{Open, Refused, StoreExists}
+use Rattle.conf_tools.specs.declared.stores.StoreToolFault.TheVariants.{Open, Condition as OnCondition, Refused, StoreExists}
+
+-- ---- commands that are made of a state
+
+-- the command that puts a tree under a name
+abbrev pub copies : List ℕ → Tree → GivenCommand
+copies to tree = single (import_as to tree)
+
+-- the command that deletes what is under a name, and then puts a tree under another one
+abbrev pub renames : List ℕ → List ℕ → Tree → GivenCommand
+renames name to tree = batch (delete_at name [] ∷ import_as to tree ∷ [])
+
+-- the command is made so of the tree under a name
+pub record IsMadeOf (s : Contents) (name : List ℕ) (makes : Tree → GivenCommand) (command : GivenCommand) : Type 0 where
+  pub tree : Tree
+  pub named : tree_named s name ≡ Ok tree
+  pub is : command ≡ makes tree
+
+-- there is no tree under a name, for this reason; or memory ran out
+abbrev pub LacksTree : Contents → List ℕ → StoreFault → Type 0
+LacksTree s name fault = (fault ≡ OutOfMemory) ⊎ (tree_named s name ≡ Err fault)
+
+-- what a change performs on a state: the command of an import, of an edit, of a copy or of a rename; a checkpoint
+-- performs none
+abbrev pub Performs : Contents → Change → List GivenCommand → Type 0
+Performs s (Import name text) commands =
+    (tree : Tree) × IsRead text.now config_limits tree × (commands ≡ single (import_as (text_of name) tree) ∷ [])
+Performs s (Perform command) commands = commands ≡ command_of command ∷ []
+Performs s (Copy name to) commands =
+    (command : GivenCommand) × IsMadeOf s (text_of name) (copies (text_of to)) command × (commands ≡ command ∷ [])
+Performs s (Rename name to) commands =
+    (command : GivenCommand) × IsMadeOf s (text_of name) (renames (text_of name) (text_of to)) command
+    × (commands ≡ command ∷ [])
+Performs s Checkpoint commands = commands ≡ []
 
 -- ---- an open store
+
+module _ {D : Type 0} (old : StoreView D) where
+  -- the command that is made so of the tree under a name was accepted
+  pub record MakesOf (name : List ℕ) (makes : Tree → GivenCommand) (new : StoreView D) : Type 0 where
+    pub command : GivenCommand
+    pub of : IsMadeOf old.state name makes command
+    pub accepts : Accepts old command new
+
+  -- that command was refused
+  pub record RefusesMade (name : List ℕ) (makes : Tree → GivenCommand) (new : StoreView D) (fault : StoreFault)
+      : Type 0 where
+    pub command : GivenCommand
+    pub of : IsMadeOf old.state name makes command
+    pub refuses : RefusesCommand old command new fault
+
+  -- Why it was not accepted: there is no tree under the name, or the command was refused. Reopen and OutOfMemory say
+  -- nothing of them.
+  abbrev pub RefusesOf : List ℕ → (Tree → GivenCommand) → StoreView D → StoreFault → Type 0
+  RefusesOf name makes new Reopen = Unit {0}
+  RefusesOf name makes new OutOfMemory = Unit {0}
+  RefusesOf name makes new Device = RefusesMade name makes new Device
+  RefusesOf name makes new fault = (tree_named old.state name ≡ Err fault) ⊎ RefusesMade name makes new fault
 
 -- The change was made: its command was accepted, or the file is as short as a base of the state.
 abbrev pub Makes : {D : Type 0} → StoreView D → Change → StoreView D → Type 0
 Makes old (Import name text) new = Imports old (text_of name) text.now new
 Makes old (Perform command) new = Accepts old (command_of command) new
+Makes old (Copy name to) new = MakesOf old (text_of name) (copies (text_of to)) new
+Makes old (Rename name to) new = MakesOf old (text_of name) (renames (text_of name) (text_of to)) new
 Makes old Checkpoint new = (new.state ≡ old.state) × (new.size ≡ length (base_bytes old.state))
 
 -- Why the change was refused.
 abbrev pub RefusesChange : {D : Type 0} → StoreView D → Change → StoreView D → StoreFault → Type 0
 RefusesChange old (Import name text) new fault = RefusesImport old (text_of name) text.now new fault
 RefusesChange old (Perform command) new fault = RefusesCommand old (command_of command) new fault
+RefusesChange old (Copy name to) new fault = RefusesOf old (text_of name) (copies (text_of to)) new fault
+RefusesChange old (Rename name to) new fault =
+    RefusesOf old (text_of name) (renames (text_of name) (text_of to)) new fault
 RefusesChange old Checkpoint new fault =
     (new.state ≡ old.state) × ((fault ≡ Reopen) ⊎ (fault ≡ Device) ⊎ (fault ≡ OutOfMemory))
+
+-- `after` is `before` with the record appended of a command that is made so of the tree under a name
+pub record AppendsMade {D : Type 0} (old : StoreView D) (name : List ℕ) (makes : Tree → GivenCommand)
+    (before after : Option (List ℕ)) : Type 0 where
+  pub command : GivenCommand
+  pub of : IsMadeOf old.state name makes command
+  pub appends : AppendsRecord old command before after
+
+-- What `store.yaml` reads as after a change, of what it read as before: the command's record is appended, or a base of
+-- the state is in its place.
+abbrev pub ReadsChanged : {D : Type 0} → StoreView D → Change → Option (List ℕ) → Option (List ℕ) → Type 0
+ReadsChanged old (Import name text) before after = AppendsImport old (text_of name) text.now before after
+ReadsChanged old (Perform command) before after = AppendsRecord old (command_of command) before after
+ReadsChanged old (Copy name to) before after = AppendsMade old (text_of name) (copies (text_of to)) before after
+ReadsChanged old (Rename name to) before after =
+    AppendsMade old (text_of name) (renames (text_of name) (text_of to)) before after
+ReadsChanged old Checkpoint before after = after ≡ Some (base_bytes old.state)
 
 -- the file means the state before a call, or the one after it
 abbrev pub MeansOneOf : Contents → Contents → Option (List ℕ) → Type 0
@@ -48,43 +131,54 @@ MeansOneOf before after file = FileMeans file before ⊎ FileMeans file after
 
 -- ---- a disk
 
--- The change was made on the store that opening made of the disk, and it is on the disk that is handed back.
-pub record ChangesOn {D : Type 0} (model : DiskModel D) (old : D) (change : Change) (new : D) : Type 0 where
+-- The conditions held of the store that opening made of the disk. The change was made on it, and is on the disk that is
+-- handed back.
+pub record ChangesOn {D : Type 0} (model : DiskModel D) (old : D) (conditions : List Condition) (change : Change)
+    (new : D) : Type 0 where
   pub opened : StoreView D
   pub opens : OpensOn model old opened
+  pub met : first_fault opened.state conditions ≡ None
   pub closed : StoreView D
   pub makes : Makes opened change closed
   pub back : new ≡ closed.disk
+  pub reads : model.honest → ReadsChanged opened change (store_file model opened.disk) (store_file model new)
   pub images : model.honest → AllImagesMean (model.folder new) closed.state
 
--- The store that opening made of the disk refused the change. Unless the device failed, that changed nothing.
-pub record RefusesOn {D : Type 0} (model : DiskModel D) (old : D) (change : Change) (new : D)
-    (fault : StoreFault) : Type 0 where
+-- The conditions held of the store that opening made of the disk, and it refused the change. Unless the device failed,
+-- that changed nothing. Device is the fault only where it failed during the call.
+pub record RefusesOn {D : Type 0} (model : DiskModel D) (old : D) (conditions : List Condition) (change : Change)
+    (new : D) (fault : StoreFault) : Type 0 where
   pub opened : StoreView D
   pub opens : OpensOn model old opened
+  pub met : first_fault opened.state conditions ≡ None
   pub closed : StoreView D
   pub refuses : RefusesChange opened change closed fault
   pub not_reopen : fault ≢ Reopen
   pub back : new ≡ closed.disk
   pub same : fault ≢ Device → closed ≡ opened
+  pub cause : fault ≡ Device → HasFailed (model.failure_count old) (model.failure_count new)
+
+-- A condition did not hold of the store that opening made of the disk, and this is the fault of the first such one; or
+-- memory ran out. The disk that is handed back is that store's.
+pub record FailsOn {D : Type 0} (model : DiskModel D) (old : D) (conditions : List Condition) (new : D)
+    (fault : ConditionFault) : Type 0 where
+  pub opened : StoreView D
+  pub opens : OpensOn model old opened
+  pub fails : fault ≢ NoMemory → first_fault opened.state conditions ≡ Some fault
+  pub back : new ≡ opened.disk
 
 -- why a change of the store on a disk was not made
-abbrev pub CannotChange : {D : Type 0} → DiskModel D → D
+abbrev pub CannotChange : {D : Type 0} → DiskModel D → D → List Condition
     → Change → D → StoreToolFault → Type 0
-CannotChange model old change new (Open fault) =
+CannotChange model old conditions change new (Open fault) =
     CannotOpen model old new fault
-CannotChange model old change new (Refused fault) =
-    RefusesOn model old change new fault
-CannotChange model old change new fault = ⊥
+CannotChange model old conditions change new (OnCondition fault) =
+    FailsOn model old conditions new fault
+CannotChange model old conditions change new (Refused fault) =
+    RefusesOn model old conditions change new fault
+CannotChange model old conditions change new fault = ⊥
 
 -- ---- what a crash leaves
-
--- what a change performs: the command of an import or of an edit; a checkpoint performs none
-abbrev pub Performs : Change → List GivenCommand → Type 0
-Performs (Import name text) commands =
-    (tree : Tree) × IsRead text.now config_limits tree × (commands ≡ single (import_as (text_of name) tree) ∷ [])
-Performs (Perform command) commands = commands ≡ command_of command ∷ []
-Performs Checkpoint commands = commands ≡ []
 
 -- What a change promises. `opened` is the disk once the store is open. Until then a crash leaves what the disk might
 -- have left before the call; from then on, the state that `store.yaml` meant, or the one after the accepted command. Where
@@ -95,8 +189,8 @@ pub record KeepsChange {D : Type 0} (model : DiskModel D)
   pub means : FileMeans (bytes_under (model.folder old) Store) start
   pub opened : D
   pub accepted : List GivenCommand
-  pub of : (accepted ≡ []) ⊎ Performs change accepted
-  pub all : is_done ≡ true → Performs change accepted
+  pub of : (accepted ≡ []) ⊎ Performs start change accepted
+  pub all : is_done ≡ true → Performs start change accepted
   pub while_opening : LeavesOnly model old opened (λ image. MeantAtEntry (model.folder old) image.store)
   pub once_open : LeavesOnly model opened new (λ image. AfterPrefix start accepted image.store)
   pub returned : (image : Image) → IsImage (model.folder new) image
@@ -119,11 +213,17 @@ pub record MakesStore {D : Type 0} (folder : D → Folder) (old new : D) : Type 
   pub reads : bytes_under (folder new) Store ≡ Some (base_bytes empty_state)
   pub images : AllImagesMean (folder new) empty_state
 
--- Why no store was made: there is a `store.yaml`, and nothing has changed; or a call failed, and there is none, or a
--- whole base of the empty state.
+-- No store could be opened where there was none: memory ran out, or a call failed. There is no `store.yaml`, or a whole
+-- base of the empty state.
+pub record CannotStart {D : Type 0} (model : DiskModel D) (old new : D) (fault : OpenFault) : Type 0 where
+  pub is : model.honest → (fault ≡ OpenFaults.OutOfMemory) ⊎ (fault ≡ OpenFaults.Device)
+  pub cause : fault ≡ OpenFaults.Device → HasFailed (model.failure_count old) (model.failure_count new)
+  pub old_or_base : model.honest
+      → IsOldOrBase (bytes_under (model.folder old) Store) (bytes_under (model.folder new) Store)
+
+-- Why no store was made: there is a `store.yaml`, and nothing has changed; or it could not be opened.
 abbrev pub CannotMake : {D : Type 0} → DiskModel D → D → D → StoreToolFault → Type 0
-CannotMake model old new (Open fault) =
-    model.honest → IsOldOrBase (bytes_under (model.folder old) Store) (bytes_under (model.folder new) Store)
+CannotMake model old new (Open fault) = CannotStart model old new fault
 CannotMake model old new StoreExists =
     (model.honest → bytes_under (model.folder old) Store ≢ None) × (model.honest → model.folder new ≡ model.folder old)
 CannotMake model old new fault = ⊥

@@ -1,17 +1,19 @@
 -- What an export finds, and in which state.
 use Rattle.std.specs.Prelude.{◌≡◌, ◌⊎◌, ℕ, List, Result, Ok, Err, encode_utf8_all}
-use Rattle.std.specs.Str.{chars}
+use Rattle.yaml_grammar.specs.Trees.{Tree}
 use Rattle.conf_disk.specs.Folder.{bytes_under}
 use Rattle.conf_disk.specs.Models.{DiskModel}
 use Rattle.conf_disk.specs.declared.disk.Name.TheVariants.{Store}
 use Rattle.conf_state.specs.States.{Contents}
 use Rattle.conf_state.specs.declared.fault.StoreFault.{StoreFault}
 use Rattle.conf_state.specs.declared.fault.StoreFault.TheVariants.{OutOfMemory}
-use Rattle.conf_store.specs.Calls.{Exports, HasFailed, tree_named}
+use Rattle.conf_store.specs.Calls.{HasFailed, tree_named}
 use Rattle.conf_store.specs.Files.{IsNewBase}
 use Rattle.conf_store.specs.Meaning.{FileMeans}
 use Rattle.conf_store.specs.Opens.{RefusesOpening}
 use Rattle.conf_store.specs.declared.fault.OpenFault.TheVariants as OpenFaults
+use Rattle.conf_words.specs.declared.invocation.TreeForm.{TreeForm}
+use Rattle.conf_tools.specs.Reads.{tree_text}
 use Rattle.conf_tools.specs.declared.stores.StoreToolFault.{StoreToolFault}
 use Rattle.conf_tools.specs.declared.stores.StoreToolFault.TheVariants.{Open, Export}
 
@@ -34,13 +36,18 @@ pub record Finds {D : Type 0} (model : DiskModel D) (old new : D)
       ⊎ (HasFailed (model.failure_count old) (model.failure_count new)
       × IsNewBase (bytes_under (model.folder old) Store) (bytes_under (model.folder new) Store))
 
--- the bytes are the text of the configuration under the name, in UTF-8
-pub record HasText {D : Type 0} (model : DiskModel D) (old new : D)
+-- the bytes are the configuration under the name, written in this form in UTF-8
+pub record IsTextOf (form : TreeForm) (state : Contents) (name bytes : List ℕ) : Type 0 where
+  pub tree : Tree
+  pub named : tree_named state name ≡ Ok tree
+  pub is : bytes ≡ encode_utf8_all (tree_text form tree)
+
+-- the same of the state that an export finds
+pub record HasText {D : Type 0} (model : DiskModel D) (form : TreeForm) (old new : D)
     (name bytes : List ℕ) : Type 0 where
   pub state : Contents
   pub finds : Finds model old new state
-  pub exports : Exports state name (chars bytes)
-  pub exact : bytes ≡ encode_utf8_all (chars bytes)
+  pub exports : IsTextOf form state name bytes
 
 -- memory ran out, or the state has no configuration under the name, for this reason
 pub record HasNoText {D : Type 0} (model : DiskModel D) (old new : D)

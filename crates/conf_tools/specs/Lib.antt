@@ -1,3 +1,5 @@
+pub mod Asking
+pub mod Backups
 pub mod Statuses
 pub mod Tools
 pub mod FileTexts

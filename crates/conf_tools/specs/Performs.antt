@@ -1,24 +1,29 @@
 -- What the program does for an invocation, with the world around it, its input and its output, and how it ends.
 use Rattle.std.specs.Prelude.{◌≡◌, ℕ, List, [], ◌∷◌, map, Option, Some, None, Result, Ok, Err, codes}
+use Rattle.std.specs.Str.{chars}
 use Rattle.conf_disk.specs.Models.{DiskModel}
+use Rattle.conf_history.specs.declared.line.LineForm.TheVariants.{Names as LineNames, Values as LineValues}
 use Rattle.conf_history.specs.declared.log.LogForm.{LogForm as HistoryForm}
 use Rattle.conf_history.specs.declared.log.LogForm.TheVariants as history
 use Rattle.conf_session.specs.declared.groups.Checkpoints.{Checkpoints}
 use Rattle.conf_session.specs.declared.groups.Checkpoints.TheVariants.{After, Asked}
 use Rattle.conf_words.specs.declared.invocation.Comments.{Comments}
+use Rattle.conf_words.specs.declared.invocation.Conditions.{Conditions}
 use Rattle.conf_words.specs.declared.invocation.Formatting.TheVariants as formatting
 use Rattle.conf_words.specs.declared.invocation.Grouping.{Grouping as AskedGrouping}
 use Rattle.conf_words.specs.declared.invocation.Grouping.TheVariants as asked
 use Rattle.conf_words.specs.declared.invocation.Invocation.{Invocation}
-use Rattle.conf_words.specs.declared.invocation.Invocation.TheVariants.{Init, Import, Set, Delete, Checkpoint, Run, Export, Names, Get, Log, Verify, Salvage, Format, Check}
+use Rattle.conf_words.specs.declared.invocation.Invocation.TheVariants.{Init, Import, Set, Delete, Copy, Rename, Checkpoint, Run, Export, Names, Get, Exists, Log, Verify, Salvage, Backup, Format, Check}
 use Rattle.conf_words.specs.declared.invocation.LogForm.{LogForm}
-use Rattle.conf_words.specs.declared.invocation.LogForm.TheVariants.{Lines, Records}
+use Rattle.conf_words.specs.declared.invocation.LogForm.TheVariants.{Lines, Values, Records}
 use Rattle.conf_words.specs.declared.invocation.MissingStore.{MissingStore}
 use Rattle.conf_words.specs.declared.invocation.MissingStore.TheVariants as missing
 use Rattle.conf_words.specs.declared.invocation.Value.{Value}
 use Rattle.conf_words.specs.declared.invocation.Formatting.{Formatting}
-use Rattle.conf_tools.specs.StoreWords.{ExportsFromFolder, Inits, MakesChange, Reads, RunsOnFolder, Salvages, SaysLog, SaysNames, SaysSurvey, SaysValue}
-use Rattle.conf_tools.specs.TextWords.{ChecksRead, FormatsFile, FormatsRead, IsDelete, IsImport, IsSet, ReportsOnAll, RestylesAll, TakesText}
+use Rattle.conf_tools.specs.Asking.{AskedConditions, AsksFor}
+use Rattle.conf_tools.specs.Backups.{BacksUpStore}
+use Rattle.conf_tools.specs.StoreWords.{ChangesInFolder, ExportsFromFolder, Inits, MakesChange, Reads, RunsOnFolder, Salvages, SaysLog, SaysNames, SaysPresence, SaysSurvey, SaysValue}
+use Rattle.conf_tools.specs.TextWords.{ChecksRead, FormatsFile, FormatsRead, IsCopy, IsDelete, IsImport, IsRename, IsSet, ReportsOnAll, RestylesAll, TakesText}
 use Rattle.conf_tools.specs.Tools.{IsTaken, Taken}
 use Rattle.conf_tools.specs.Statuses.{status_of}
 use Rattle.conf_tools.specs.Worlds.{Around, LeavesStreams, WorldModel}
@@ -49,7 +54,8 @@ access_of missing.Refused = Changing
 access_of missing.Made = Making
 
 abbrev pub log_form_of : LogForm → HistoryForm
-log_form_of Lines = history.Lines
+log_form_of Lines = history.Lines LineNames
+log_form_of Values = history.Lines LineValues
 log_form_of Records = history.Records
 
 -- ---- the input alone
@@ -68,12 +74,24 @@ pub record ChecksText (given left held written : Option (List ℕ)) (status : St
 
 -- ---- the words
 
-module _ {W D F P : Type 0} (world : WorldModel W D F P) (disk : DiskModel D) where
+module _ {W D F P : Type 0} (world : WorldModel W D F P) (disk : DiskModel D) (wanted : Conditions) where
+  -- the change was made of the store in a folder, if what is wanted held at a place of it
+  pub record ChangesIf (access : Access) (folder name path : List ℕ) (change : Change) (old new : W) (status : Status)
+      : Type 0 where
+    pub conditions : AskedConditions
+    pub asks : AsksFor (chars name) (chars path) wanted conditions
+    pub makes : MakesChange world disk access folder conditions change old new status
+
+  -- the same; where there is no change to make, no folder is looked at
+  abbrev pub ChangesAt : Access → List ℕ → List ℕ → List ℕ → Result Change ToolFault → W → W → Status → Type 0
+  ChangesAt access folder name path (Ok change) old new status = ChangesIf access folder name path change old new status
+  ChangesAt access folder name path (Err fault) old new status = (new ≡ old) × (status ≡ status_of fault)
+
   -- the change that imports these bytes was made
   pub record ImportsBytes (access : Access) (folder name bytes : List ℕ) (old new : W) (status : Status) : Type 0 where
     pub change : Result Change ToolFault
     pub is : IsImport name bytes change
-    pub makes : MakesChange world disk access folder change old new status
+    pub changes : ChangesAt access folder name [] change old new status
 
   -- the same of a text that was read; where none was, no folder is looked at
   abbrev pub ImportsRead : Access → List ℕ → List ℕ → Taken → W → W → Status → Type 0
@@ -82,31 +100,32 @@ module _ {W D F P : Type 0} (world : WorldModel W D F P) (disk : DiskModel D) wh
 
 module _ {W D F P : Type 0} (world : WorldModel W D F P) (disk : DiskModel D) (remaining : F → Option (List ℕ)) where
   -- `import`: a text is read, of a file or of the input for `-`, and then the change is made
-  pub record Imports (access : Access) (folder name file : List ℕ) (old new : Around W) (status : Status) : Type 0 where
+  pub record Imports (access : Access) (folder name file : List ℕ) (wanted : Conditions) (old new : Around W)
+      (status : Status) : Type 0 where
     pub read : Taken
     pub seen : W
     pub takes : TakesText world remaining file read old.world seen old.input new.input
-    pub imports : ImportsRead world disk access folder name read seen new.world status
+    pub imports : ImportsRead world disk wanted access folder name read seen new.world status
     pub output : new.output ≡ old.output
+
+  -- `set`: the value is read of a file or of the input, if the words say so, and then the change is made
+  pub record Sets (folder name pointer : List ℕ) (value : Value) (wanted : Conditions) (old new : W)
+      (given left : Option (List ℕ)) (status : Status) : Type 0 where
+    pub change : Result Change ToolFault
+    pub seen : W
+    pub is : IsSet world remaining name pointer value change old seen given left
+    pub changes : ChangesAt world disk wanted Changing folder name pointer change seen new status
 
 module _ {W D F P : Type 0} (world : WorldModel W D F P) (disk : DiskModel D) where
-  -- `set`: the value is read of the input, if the words say so, and then the change is made
-  pub record Sets (folder name pointer : List ℕ) (value : Value) (old new : Around W) (status : Status)
-      : Type 0 where
+  -- `delete`, `copy` and `rename`: the change is as `Is` says
+  pub record ChangesByWords (Is : Result Change ToolFault → Type 0) (wanted : Conditions) (folder name path : List ℕ)
+      (old new : W) (status : Status) : Type 0 where
     pub change : Result Change ToolFault
-    pub is : IsSet name pointer value change old.input new.input
-    pub makes : MakesChange world disk Changing folder change old.world new.world status
-    pub output : new.output ≡ old.output
-
-  -- `delete`
-  pub record Deletes (folder name pointer : List ℕ) (old new : Around W) (status : Status) : Type 0 where
-    pub change : Result Change ToolFault
-    pub is : IsDelete name pointer change
-    pub makes : MakesChange world disk Changing folder change old.world new.world status
-    pub streams : LeavesStreams old new
+    pub is : Is change
+    pub changes : ChangesAt world disk wanted Changing folder name path change old new status
 
 module _ {W D F P : Type 0} (world : WorldModel W D F P) (remaining : F → Option (List ℕ)) where
-  -- `names`, `get`, `log` and `verify`
+  -- `names`, `get`, `exists`, `log` and `verify`
   abbrev pub Asks : List ℕ → (Option (List ℕ) → Option (List ℕ) → Option (List ℕ) → Status → Type 0)
       → Around W → Around W → Status → Type 0
   Asks folder says old new status =
@@ -143,27 +162,40 @@ module _ {W D F P : Type 0} (world : WorldModel W D F P) (disk : DiskModel D) (r
   abbrev pub Performs : Invocation → Around W → Around W → Status → Type 0
   Performs (Init folder) old new status =
       Inits world disk folder.now old.world new.world status × LeavesStreams old new
-  Performs (Import folder name file absent reporting) old new status =
-      Imports world disk remaining (access_of absent) folder.now name.now file.now old new status
-  Performs (Set folder name pointer value reporting) old new status =
-      Sets world disk folder.now name.now pointer.now value old new status
-  Performs (Delete folder name pointer) old new status =
-      Deletes world disk folder.now name.now pointer.now old new status
+  Performs (Import folder name file absent conditions reporting) old new status =
+      Imports world disk remaining (access_of absent) folder.now name.now file.now conditions old new status
+  Performs (Set folder name pointer value conditions reporting) old new status =
+      Sets world disk remaining folder.now name.now pointer.now value conditions old.world new.world old.input new.input
+      status × (new.output ≡ old.output)
+  Performs (Delete folder name pointer conditions) old new status =
+      ChangesByWords world disk (IsDelete name.now pointer.now) conditions folder.now name.now pointer.now
+      old.world new.world status × LeavesStreams old new
+  Performs (Copy folder name to conditions) old new status =
+      ChangesByWords world disk (IsCopy name.now to.now) conditions folder.now to.now [] old.world new.world status
+      × LeavesStreams old new
+  Performs (Rename folder name to conditions) old new status =
+      ChangesByWords world disk (IsRename name.now to.now) conditions folder.now to.now [] old.world new.world status
+      × LeavesStreams old new
   Performs (Checkpoint folder) old new status =
-      MakesChange world disk Changing folder.now (Ok change.Checkpoint) old.world new.world status × LeavesStreams old new
+      ChangesInFolder world disk Changing folder.now [] change.Checkpoint old.world new.world status
+      × LeavesStreams old new
   Performs (Run folder grouping) old new status =
       RunsOnFolder world disk folder.now (grouping_of grouping) old new status
-  Performs (Export folder name) old new status =
-      ExportsFromFolder world disk folder.now name.now old.world new.world old.output new.output status
+  Performs (Export folder name form) old new status =
+      ExportsFromFolder world disk form folder.now name.now old.world new.world old.output new.output status
       × (new.input ≡ old.input)
-  Performs (Names folder at) old new status = Asks world remaining folder.now (SaysNames at) old new status
-  Performs (Get folder name pointer at form) old new status =
-      Asks world remaining folder.now (SaysValue at name.now pointer.now form) old new status
+  Performs (Names folder at form) old new status = Asks world remaining folder.now (SaysNames at form) old new status
+  Performs (Get folder name pointer at absent form) old new status =
+      Asks world remaining folder.now (SaysValue at name.now pointer.now absent form) old new status
+  Performs (Exists folder name pointer at) old new status =
+      Asks world remaining folder.now (SaysPresence at name.now pointer.now) old new status
   Performs (Log folder at form) old new status = Asks world remaining folder.now (SaysLog at (log_form_of form)) old new status
   Performs (Verify folder) old new status = Asks world remaining folder.now SaysSurvey old new status
   Performs (Salvage folder new_folder) old new status =
       Salvages world disk remaining folder.now new_folder.now old.world new.world old.output new.output status
       × (new.input ≡ old.input)
+  Performs (Backup folder new_folder) old new status =
+      BacksUpStore world disk remaining folder.now new_folder.now old.world new.world status × LeavesStreams old new
   Performs (Format formatting files reporting) old new status =
       FormatsAll world remaining formatting (map (λ file. file.now) files.items) old new status
   Performs (Check files reporting) old new status =

@@ -11,6 +11,7 @@ use Rattle.conf_store.specs.Meaning.{FileMeans}
 use Rattle.conf_store.specs.Opens.{MeantAtEntry}
 use Rattle.conf_session.specs.declared.session.Tally.{Tally}
 use Rattle.conf_tools.specs.Changes.{ChangeSurvives}
+use Rattle.conf_tools.specs.Exports.{disk_back, disk_handed_back}
 use Rattle.conf_tools.specs.Stores.{SurvivesCrashes}
 use Rattle.conf_tools.specs.declared.changes.Change.{Change}
 use Rattle.conf_tools.specs.declared.stores.Grouping.{Grouping}
@@ -45,20 +46,10 @@ module _ {D : Type 0} (model : DiskModel D) where
   disk_before (changing change old result crashes) = old
   disk_before (exporting old new crashes) = old
 
-  -- the disk after a session
-  abbrev pub disk_handed_back : Result (D × Tally) (D × StoreToolFault) → D
-  disk_handed_back (Ok r) = r.0
-  disk_handed_back (Err r) = r.0
-
-  -- the disk after a change
-  abbrev pub disk_back : Result D (D × StoreToolFault) → D
-  disk_back (Ok new) = new
-  disk_back (Err r) = r.0
-
   -- the disk after a call
   abbrev pub disk_behind : Call model → D
-  disk_behind (running given left held written grouping old result crashes) = disk_handed_back result
-  disk_behind (changing change old result crashes) = disk_back result
+  disk_behind (running given left held written grouping old result crashes) = disk_back result
+  disk_behind (changing change old result crashes) = disk_handed_back result
   disk_behind (exporting old new crashes) = new
 
   -- the commands that a session accepted

@@ -6,7 +6,7 @@ use Rattle.conf_history.specs.declared.fault.SalvageFault.TheVariants as Salvage
 use Rattle.conf_tools.specs.declared.program.Status.{Status}
 use Rattle.conf_tools.specs.declared.program.Status.TheVariants.{Refused, Device}
 use Rattle.conf_tools.specs.declared.reading_fault.ReadingFault.{ReadingFault}
-use Rattle.conf_tools.specs.declared.reading_fault.ReadingFault.TheVariants.{Folder, History, Value, Salvage, Output}
+use Rattle.conf_tools.specs.declared.reading_fault.ReadingFault.TheVariants.{Folder, History, Value, NotText, NotCollection, Salvage, Output}
 
 -- the status after a fault of a store's file
 abbrev pub status_of_history : HistoryFault → Status
@@ -21,6 +21,8 @@ status_of_reading (Folder FolderFault.Locked) = Device
 status_of_reading (Folder fault) = Refused
 status_of_reading (History fault) = status_of_history fault
 status_of_reading (Value fault) = Refused
+status_of_reading NotText = Refused
+status_of_reading NotCollection = Refused
 status_of_reading (Salvage (SalvageFault.History fault)) = status_of_history fault
 status_of_reading (Salvage SalvageFault.Device) = Device
 status_of_reading (Salvage fault) = Refused

@@ -1,56 +1,134 @@
--- What is written of a store's file by the words that only read it: names, and a value.
-use Rattle.std.specs.Prelude.{◌≡◌, ◌⊎◌, ℕ, List, [], ◌∷◌, ◌++◌, Option, IfSome, Ok, Err, codes, encode_utf8_all}
+-- What is written of a store's file by the words that only read it: names, and a value. And whether something is there.
+use Rattle.std.specs.Prelude.{◌≡◌, ◌⊎◌, ℕ, Bool, true, false, if◌then◌else◌, List, [], ◌∷◌, ◌++◌, Option, Some, None, IfSome, Result, Ok, Err, option_map, codes, encode_utf8_all}
 use Rattle.std.specs.Io.KnownBytes.{Keeps, Appends}
+use Rattle.std.specs.Str.{chars}
 use Rattle.yaml_grammar.specs.Style.{style_text}
-use Rattle.yaml_grammar.specs.Trees.{Tree, text}
+use Rattle.yaml_grammar.specs.Trees.{Tree, text, sequence, mapping}
+use Rattle.yaml_forms.specs.Json.{json_line, json_texts}
+use Rattle.yaml_forms.specs.KeyLines.{index_lines, member_lines}
+use Rattle.yaml_forms.specs.PlainForm.{plain_text}
+use Rattle.json_pointer.specs.declared.fault.PathFault.TheVariants.{NoSuchPlace, NotIndex}
 use Rattle.conf_state.specs.States.{Contents, names_of}
 use Rattle.conf_state.specs.declared.fault.StoreFault.{StoreFault}
-use Rattle.conf_state.specs.declared.fault.StoreFault.TheVariants.{OutOfMemory}
+use Rattle.conf_state.specs.declared.fault.StoreFault.TheVariants.{NoConfig, Path, OutOfMemory}
 use Rattle.conf_history.specs.Histories.{HoldsAt, RefusesReading}
 use Rattle.conf_session.specs.Answers.{value_at_path}
+use Rattle.conf_words.specs.declared.invocation.MissingValue.{MissingValue}
+use Rattle.conf_words.specs.declared.invocation.MissingValue.TheVariants.{Default}
+use Rattle.conf_words.specs.declared.invocation.NamesForm.{NamesForm}
+use Rattle.conf_words.specs.declared.invocation.NamesForm.TheVariants as names
+use Rattle.conf_words.specs.declared.invocation.RawEnd.TheVariants.{LineFeed, Nothing}
+use Rattle.conf_words.specs.declared.invocation.TreeForm.{TreeForm}
+use Rattle.conf_words.specs.declared.invocation.TreeForm.TheVariants.{Styled, Json, Plain}
 use Rattle.conf_words.specs.declared.invocation.ValueForm.{ValueForm}
-use Rattle.conf_words.specs.declared.invocation.ValueForm.TheVariants.{Styled, Raw}
+use Rattle.conf_words.specs.declared.invocation.ValueForm.TheVariants.{Whole, Raw, Keys}
 use Rattle.conf_tools.specs.declared.reading_fault.ReadingFault.{ReadingFault}
-use Rattle.conf_tools.specs.declared.reading_fault.ReadingFault.TheVariants.{History, Value, Output}
+use Rattle.conf_tools.specs.declared.reading_fault.ReadingFault.TheVariants.{History, Value, NotText, NotCollection, Output}
+use Rattle.conf_tools.specs.declared.reads.Presence.{Presence}
+use Rattle.conf_tools.specs.declared.reads.Presence.TheVariants.{Present, Absent}
 
 -- the names in UTF-8, each with a line feed after it
 abbrev pub name_lines : List (List ℕ) → List ℕ
 name_lines [] = []
 name_lines (name ∷ names) = encode_utf8_all name ++ codes "\n" ++ name_lines names
 
--- a value in the one style; or a text as it is, with a line feed after it
-abbrev pub shown : ValueForm → Tree → List ℕ
-shown Styled value = style_text value
-shown Raw (text cs) = cs ++ codes "\n"
-shown Raw value = style_text value
+-- the names in a form, in UTF-8: a line each, or as a JSON array on one line
+abbrev pub names_text : NamesForm → List (List ℕ) → List ℕ
+names_text names.Lines all = name_lines all
+names_text names.Json all = encode_utf8_all (json_texts all ++ codes "\n")
+
+-- ---- a value
+
+-- a value written whole
+abbrev pub tree_text : TreeForm → Tree → List ℕ
+tree_text Styled value = style_text value
+tree_text Json value = json_line value
+tree_text Plain value = plain_text value
+
+-- A value written whole; or a text as it is, with its end after it; or the keys of a collection, a line each. No other
+-- value is written as it is, and a text has no keys.
+abbrev pub shown : ValueForm → Tree → Option (List ℕ)
+shown (Whole form) value = Some (tree_text form value)
+shown (Raw LineFeed) (text cs) = Some (cs ++ codes "\n")
+shown (Raw Nothing) (text cs) = Some cs
+shown (Raw end) value = None
+shown Keys (text cs) = None
+shown Keys (sequence ts) = Some (index_lines 0 ts)
+shown Keys (mapping ms) = Some (member_lines ms)
+
+-- whether a fault says that nothing is at the place: no configuration has the name, or the pointer leads nowhere
+abbrev pub is_absent : StoreFault → Bool
+is_absent NoConfig = true
+is_absent (Path (NoSuchPlace step)) = true
+is_absent (Path (NotIndex step)) = true
+is_absent fault = false
+
+-- the value that was found; where nothing is at the place, the text that the words give for it, if they give one
+abbrev pub found_or : MissingValue → Result Tree StoreFault → Result Tree StoreFault
+found_or (Default word) (Err fault) = if is_absent fault then Ok (text (chars word.now)) else Err fault
+found_or missing found = found
+
+-- whether something is at the place, or why that can't be told
+abbrev pub presence_of : Result Tree StoreFault → Result Presence StoreFault
+presence_of (Ok value) = Ok Present
+presence_of (Err fault) = if is_absent fault then Ok Absent else Err fault
+
+-- ---- what was written
 
 -- the bytes of the file, where they are known, hold the state at this command
 abbrev pub FileHolds : Option (List ℕ) → Option ℕ → Contents → Type 0
 FileHolds given at state = IfSome given (λ bytes. HoldsAt bytes at state)
 
 -- the names of the configurations that the file holds were written
-pub record WritesNames (given : Option (List ℕ)) (at : Option ℕ) (held written : Option (List ℕ)) : Type 0 where
+pub record WritesNames (given : Option (List ℕ)) (at : Option ℕ) (form : NamesForm) (held written : Option (List ℕ))
+    : Type 0 where
   pub state : Contents
   pub holds : FileHolds given at state
-  pub writes : Appends held written (name_lines (names_of state.configs))
+  pub writes : Appends held written (names_text form (names_of state.configs))
 
--- the bytes are the value at the pointer in this form, in UTF-8
-pub record ShowsValue (state : Contents) (name pointer : List ℕ) (form : ValueForm) (bytes : List ℕ) : Type 0 where
+-- the bytes are the value in this form, in UTF-8
+abbrev pub ShowsTree : ValueForm → Tree → List ℕ → Type 0
+ShowsTree form tree bytes = option_map encode_utf8_all (shown form tree) ≡ Some bytes
+
+-- the same of what was found
+pub record ShowsFound (found : Result Tree StoreFault) (form : ValueForm) (bytes : List ℕ) : Type 0 where
   pub tree : Tree
-  pub is : value_at_path state name pointer ≡ Ok tree
-  pub shows : bytes ≡ encode_utf8_all (shown form tree)
+  pub is : found ≡ Ok tree
+  pub shows : ShowsTree form tree bytes
 
--- memory ran out, or the state has no such value, for this reason
-abbrev pub LacksValue : Contents → List ℕ → List ℕ → StoreFault → Type 0
-LacksValue state name pointer fault = (fault ≡ OutOfMemory) ⊎ (value_at_path state name pointer ≡ Err fault)
+-- the fault of a value that a form doesn't show
+abbrev pub unshown : ValueForm → ReadingFault
+unshown Keys = NotCollection
+unshown form = NotText
+
+-- Why a value is not written in a form: memory ran out; or it is no text and was to be written as it is; or it is a
+-- text, and its keys were asked for.
+abbrev pub CannotShow : ValueForm → Tree → ReadingFault → Type 0
+CannotShow form tree (Value fault) = fault ≡ OutOfMemory
+CannotShow form tree NotText = (unshown form ≡ NotText) × (shown form tree ≡ None)
+CannotShow form tree NotCollection = (unshown form ≡ NotCollection) × (shown form tree ≡ None)
+CannotShow form tree fault = ⊥
+
+-- the same of what was found; or nothing was found, for this reason
+abbrev pub LacksFound : Result Tree StoreFault → ValueForm → ReadingFault → Type 0
+LacksFound found form (Value fault) = (fault ≡ OutOfMemory) ⊎ (found ≡ Err fault)
+LacksFound found form NotText =
+    (tree : Tree) × (found ≡ Ok tree) × (unshown form ≡ NotText) × (shown form tree ≡ None)
+LacksFound found form NotCollection =
+    (tree : Tree) × (found ≡ Ok tree) × (unshown form ≡ NotCollection) × (shown form tree ≡ None)
+LacksFound found form fault = ⊥
+
+-- what stands for the value at a pointer
+abbrev pub value_or : MissingValue → Contents → List ℕ → List ℕ → Result Tree StoreFault
+value_or missing state name pointer = found_or missing (value_at_path state name pointer)
 
 -- the value at the pointer that the file holds was written
-pub record WritesValue (given : Option (List ℕ)) (at : Option ℕ) (name pointer : List ℕ) (form : ValueForm)
-    (held written : Option (List ℕ)) : Type 0 where
+pub record WritesValue (given : Option (List ℕ)) (at : Option ℕ) (name pointer : List ℕ) (missing : MissingValue)
+    (form : ValueForm) (held written : Option (List ℕ)) : Type 0 where
   pub state : Contents
   pub holds : FileHolds given at state
   pub bytes : List ℕ
-  pub shows : ShowsValue state name pointer form bytes
+  pub shows : ShowsFound (value_or missing state name pointer) form bytes
   pub writes : Appends held written bytes
 
 -- the file doesn't answer, and nothing was written
@@ -65,9 +143,34 @@ RefusesNames given at held written Output = (state : Contents) × FileHolds give
 RefusesNames given at held written fault = RefusesFile given at held written fault
 
 -- Why not all of the value was written: the file doesn't answer, its state has no such value, or the writer failed.
-abbrev pub RefusesValue : Option (List ℕ) → Option ℕ → List ℕ → List ℕ → Option (List ℕ) → Option (List ℕ)
-    → ReadingFault → Type 0
-RefusesValue given at name pointer held written (Value fault) =
-    (state : Contents) × FileHolds given at state × LacksValue state name pointer fault × Keeps held written
-RefusesValue given at name pointer held written Output = (state : Contents) × FileHolds given at state
-RefusesValue given at name pointer held written fault = RefusesFile given at held written fault
+abbrev pub RefusesValue : Option (List ℕ) → Option ℕ → List ℕ → List ℕ → MissingValue → ValueForm → Option (List ℕ)
+    → Option (List ℕ) → ReadingFault → Type 0
+RefusesValue given at name pointer missing form held written (History fault) =
+    RefusesFile given at held written (History fault)
+RefusesValue given at name pointer missing form held written Output =
+    (state : Contents) × FileHolds given at state
+    × ((bytes : List ℕ) × ShowsFound (value_or missing state name pointer) form bytes)
+RefusesValue given at name pointer missing form held written fault =
+    (state : Contents) × FileHolds given at state × LacksFound (value_or missing state name pointer) form fault
+    × Keeps held written
+
+-- ---- whether something is there
+
+-- the file holds something at the pointer, or nothing
+pub record FindsPresence (given : Option (List ℕ)) (at : Option ℕ) (name pointer : List ℕ) (presence : Presence)
+    : Type 0 where
+  pub state : Contents
+  pub holds : FileHolds given at state
+  pub is : presence_of (value_at_path state name pointer) ≡ Ok presence
+
+-- why that can't be told: memory ran out, or for this reason
+abbrev pub HidesPresence : Result Presence StoreFault → StoreFault → Type 0
+HidesPresence presence fault = (fault ≡ OutOfMemory) ⊎ (presence ≡ Err fault)
+
+-- the file doesn't answer, or the name or the pointer can't be one
+abbrev pub RefusesPresence : Option (List ℕ) → Option ℕ → List ℕ → List ℕ → ReadingFault → Type 0
+RefusesPresence given at name pointer (History fault) = IfSome given (λ bytes. RefusesReading bytes at fault)
+RefusesPresence given at name pointer (Value fault) =
+    (state : Contents) × FileHolds given at state
+    × HidesPresence (presence_of (value_at_path state name pointer)) fault
+RefusesPresence given at name pointer fault = ⊥

@@ -8,9 +8,9 @@ use Rattle.conf_session.specs.declared.fault.SessionFault.TheVariants as Session
 use Rattle.conf_words.specs.declared.unparsed.Unparsed.{Unparsed}
 use Rattle.conf_words.specs.declared.unparsed.Unparsed.TheVariants.{Shown, Wrong, OutOfMemory as UnparsedOutOfMemory}
 use Rattle.conf_tools.specs.declared.stores.StoreToolFault.{StoreToolFault}
-use Rattle.conf_tools.specs.declared.stores.StoreToolFault.TheVariants.{Folder as InFolder, Open, Session, Export, Refused as RefusedChange, StoreExists}
+use Rattle.conf_tools.specs.declared.stores.StoreToolFault.TheVariants.{Folder as InFolder, Open, Session, Export, Condition as OnCondition, Refused as RefusedChange, StoreExists}
 use Rattle.conf_tools.specs.declared.program.Status.{Status}
-use Rattle.conf_tools.specs.declared.program.Status.TheVariants.{Done, Found, Refused, WrongWords, Device}
+use Rattle.conf_tools.specs.declared.program.Status.TheVariants.{Done, Found, Absent, Refused, WrongWords, Device}
 use Rattle.conf_tools.specs.declared.texts.ToolFault.{ToolFault}
 use Rattle.conf_tools.specs.declared.texts.ToolFault.TheVariants.{Input, Output, Read, Comments}
 
@@ -18,6 +18,7 @@ use Rattle.conf_tools.specs.declared.texts.ToolFault.TheVariants.{Input, Output,
 abbrev pub code_of : Status → ℕ
 code_of Done = 0
 code_of Found = 1
+code_of Absent = 1
 code_of Refused = 1
 code_of WrongWords = 2
 code_of Device = 3
@@ -48,6 +49,7 @@ status_of_store (Session fault) = Refused
 status_of_store (Export StoreFault.Device) = Device
 status_of_store (Export StoreFault.Reopen) = Device
 status_of_store (Export fault) = Refused
+status_of_store (OnCondition fault) = Refused
 status_of_store (RefusedChange StoreFault.Device) = Device
 status_of_store (RefusedChange StoreFault.Reopen) = Device
 status_of_store (RefusedChange fault) = Refused

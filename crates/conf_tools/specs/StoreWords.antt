@@ -3,6 +3,7 @@ use Rattle.std.specs.Prelude.{◌≡◌, ◌⊎◌, ℕ, List, Option, Some, Non
 use Rattle.std.specs.declared.alloc.Global.{Global}
 use Rattle.std.specs.Str.{chars}
 use Rattle.std.specs.Io.KnownBytes.{Appends}
+use Rattle.conf_conditions.specs.Conditions.{Condition, conditions_of}
 use Rattle.conf_disk.specs.Models.{DiskModel}
 use Rattle.conf_disk.specs.Moments.{LeavesOnly}
 use Rattle.conf_folder.specs.declared.fault.FolderFault.{FolderFault}
@@ -16,10 +17,14 @@ use Rattle.conf_history.specs.declared.log.LogForm.{LogForm}
 use Rattle.conf_history.specs.declared.survey.Findings.{Findings}
 use Rattle.conf_session.specs.declared.session.Tally.{Tally}
 use Rattle.conf_store.specs.Opens.{MeantAtEntry}
+use Rattle.conf_words.specs.declared.invocation.MissingValue.{MissingValue}
+use Rattle.conf_words.specs.declared.invocation.NamesForm.{NamesForm}
+use Rattle.conf_words.specs.declared.invocation.TreeForm.{TreeForm}
 use Rattle.conf_words.specs.declared.invocation.ValueForm.{ValueForm}
+use Rattle.conf_tools.specs.Asking.{AskedConditions}
 use Rattle.conf_tools.specs.Changes.{CannotChange, CannotMake, ChangeSurvives, ChangesOn, MakesStore}
 use Rattle.conf_tools.specs.Exports.{HasText, LacksText, disk_back, disk_handed_back}
-use Rattle.conf_tools.specs.Reads.{RefusesNames, RefusesValue, WritesNames, WritesValue}
+use Rattle.conf_tools.specs.Reads.{FindsPresence, RefusesNames, RefusesPresence, RefusesValue, WritesNames, WritesValue}
 use Rattle.conf_tools.specs.ReadingStatuses.{status_of_reading}
 use Rattle.conf_tools.specs.Statuses.{status_of, status_of_store}
 use Rattle.conf_tools.specs.Stores.{RunsOn, SurvivesCrashes}
@@ -27,15 +32,16 @@ use Rattle.conf_tools.specs.Surveys.{CannotWrite, RefusesWriting, WritesSurvey, 
 use Rattle.conf_tools.specs.Worlds.{Around, LeavesStreams, WorldModel}
 use Rattle.conf_tools.specs.declared.changes.Change.{Change}
 use Rattle.conf_tools.specs.declared.program.Status.{Status}
-use Rattle.conf_tools.specs.declared.program.Status.TheVariants.{Done, Refused, Device}
+use Rattle.conf_tools.specs.declared.program.Status.TheVariants.{Done, Absent, Refused, Device}
 use Rattle.conf_tools.specs.declared.reading_fault.ReadingFault.{ReadingFault}
 use Rattle.conf_tools.specs.declared.reading_fault.ReadingFault.TheVariants.{Folder as ReadingFolder, History, Salvage}
+use Rattle.conf_tools.specs.declared.reads.Presence.{Presence}
+use Rattle.conf_tools.specs.declared.reads.Presence.TheVariants.{Present, Absent as NothingThere}
 use Rattle.conf_tools.specs.declared.stores.Grouping.{Grouping}
 use Rattle.conf_tools.specs.declared.stores.StoreToolFault.{StoreToolFault}
 use Rattle.conf_tools.specs.declared.stores.StoreToolFault.TheVariants.{Folder as InFolder}
 use Rattle.conf_tools.specs.declared.surveys.Soundness.{Soundness}
 use Rattle.conf_tools.specs.declared.surveys.Soundness.TheVariants.{Whole, Damaged}
-use Rattle.conf_tools.specs.declared.texts.ToolFault.{ToolFault}
 use Rattle.conf_tools.specs.declared.world.Access.{Access}
 use Rattle.conf_tools.specs.declared.world.Access.TheVariants.{Making, New, Reading}
 
@@ -60,6 +66,12 @@ status_after_reading (Err fault) = status_of_reading fault
 abbrev pub status_after_log : Result (Unit {0}) HistoryFault → Status
 status_after_log (Ok done) = Done
 status_after_log (Err fault) = status_of_reading (History fault)
+
+-- the status of `exists`
+abbrev pub status_after_presence : Result Presence ReadingFault → Status
+status_after_presence (Ok Present) = Done
+status_after_presence (Ok NothingThere) = Absent
+status_after_presence (Err fault) = status_of_reading fault
 
 -- the status of `verify`
 abbrev pub status_after_survey : Result Soundness ReadingFault → Status
@@ -119,27 +131,30 @@ module _ {W D F P : Type 0} (world : WorldModel W D F P) (disk : DiskModel D) wh
   abbrev pub Inits : List ℕ → W → W → Status → Type 0
   Inits folder old new status = CannotMakeFolder folder old new status ⊎ MakesFolder folder old new status
 
-  -- The change was made of the store on the disk of the folder, or why not; and the disk was given back.
-  pub record ChangesIn (access : Access) (folder : List ℕ) (change : Change) (old new : W) (status : Status) : Type 0 where
+  -- Where the conditions held, the change was made of the store on the disk of the folder, or why not; and the disk was
+  -- given back.
+  pub record ChangesIn (access : Access) (folder : List ℕ) (conditions : List Condition) (change : Change) (old new : W)
+      (status : Status) : Type 0 where
     pub first : D
     pub opened : W
     pub opens : world.opened access folder old (Ok first) opened
     pub result : Result D (D × StoreToolFault)
     pub gives_back : world.given_back (disk_handed_back result) opened new
     pub ends : status ≡ status_at_end result
-    pub made : IfOk result (ChangesOn disk first change)
-    pub refused : IfErr result (λ refused. CannotChange disk first change refused.0 refused.1)
+    pub made : IfOk result (ChangesOn disk first conditions change)
+    pub refused : IfErr result (λ refused. CannotChange disk first conditions change refused.0 refused.1)
     pub survives : disk.honest → ChangeSurvives disk first change result
 
   -- a change of the store in a folder
-  abbrev pub ChangesInFolder : Access → List ℕ → Change → W → W → Status → Type 0
-  ChangesInFolder access folder change old new status =
-      CannotUse access folder old new status ⊎ ChangesIn access folder change old new status
+  abbrev pub ChangesInFolder : Access → List ℕ → List Condition → Change → W → W → Status → Type 0
+  ChangesInFolder access folder conditions change old new status =
+      CannotUse access folder old new status ⊎ ChangesIn access folder conditions change old new status
 
-  -- the same; where there is no change to make, no folder is looked at
-  abbrev pub MakesChange : Access → List ℕ → Result Change ToolFault → W → W → Status → Type 0
-  MakesChange access folder (Ok change) old new status = ChangesInFolder access folder change old new status
-  MakesChange access folder (Err fault) old new status = (new ≡ old) × (status ≡ status_of fault)
+  -- The same. Where the conditions can't be asked for, no folder is looked at.
+  abbrev pub MakesChange : Access → List ℕ → AskedConditions → Change → W → W → Status → Type 0
+  MakesChange access folder (Ok conditions) change old new status =
+      ChangesInFolder access folder (conditions_of conditions.items) change old new status
+  MakesChange access folder (Err fault) change old new status = (new ≡ old) × (status ≡ status_of fault)
 
   -- A session ran on the disk of the folder, and the disk was given back.
   pub record RunsIn (folder : List ℕ) (grouping : Grouping) (old new : Around W) (status : Status) : Type 0 where
@@ -165,7 +180,7 @@ module _ {W D F P : Type 0} (world : WorldModel W D F P) (disk : DiskModel D) wh
 
   -- The text of the configuration was found on the disk of the folder, or why not; the disk was given back, and the text
   -- was written.
-  pub record ExportsFrom (folder name : List ℕ) (old new : W) (held written : Option (List ℕ)) (status : Status)
+  pub record ExportsFrom (form : TreeForm) (folder name : List ℕ) (old new : W) (held written : Option (List ℕ)) (status : Status)
       : Type 0 where
     pub first : D
     pub opened : W
@@ -173,7 +188,7 @@ module _ {W D F P : Type 0} (world : WorldModel W D F P) (disk : DiskModel D) wh
     pub result : Result (D × String Global) (D × StoreToolFault)
     pub gives_back : world.given_back (disk_back result) opened new
     pub writes : WritesFound result held written status
-    pub found : IfOk result (λ found. HasText disk first found.0 (chars name) (string_bytes found.1))
+    pub found : IfOk result (λ found. HasText disk form first found.0 (chars name) (string_bytes found.1))
     pub refused : IfErr result (λ refused. LacksText disk first refused.0 (chars name) refused.1)
     pub survives : disk.honest → LeavesOnly disk first (disk_back result)
         (λ image. MeantAtEntry (disk.folder first) image.store)
@@ -185,9 +200,9 @@ module _ {W D F P : Type 0} (world : WorldModel W D F P) (disk : DiskModel D) wh
     pub keeps : written ≡ held
 
   -- `export`
-  abbrev pub ExportsFromFolder : List ℕ → List ℕ → W → W → Option (List ℕ) → Option (List ℕ) → Status → Type 0
-  ExportsFromFolder folder name old new held written status =
-      CannotExport folder old new held written status ⊎ ExportsFrom folder name old new held written status
+  abbrev pub ExportsFromFolder : TreeForm → List ℕ → List ℕ → W → W → Option (List ℕ) → Option (List ℕ) → Status → Type 0
+  ExportsFromFolder form folder name old new held written status =
+      CannotExport folder old new held written status ⊎ ExportsFrom form folder name old new held written status
 
 -- what stands in the file was written, where a store was made of it
 abbrev pub WritesFindings : {D : Type 0} → Result (D × Findings) (D × SalvageFault) → Option (List ℕ) → Option (List ℕ)
@@ -224,19 +239,29 @@ module _ {W D F P : Type 0} (world : WorldModel W D F P) (remaining : F → Opti
     pub does : SaysOfFile remaining says file held written status
 
 -- the names that the file holds
-pub record SaysNames (at : Option ℕ) (given held written : Option (List ℕ)) (status : Status) : Type 0 where
+pub record SaysNames (at : Option ℕ) (form : NamesForm) (given held written : Option (List ℕ)) (status : Status)
+    : Type 0 where
   pub result : Result (Unit {0}) ReadingFault
   pub ends : status ≡ status_after_reading result
-  pub done : OnOk result (WritesNames given at held written)
+  pub done : OnOk result (WritesNames given at form held written)
   pub refused : IfErr result (RefusesNames given at held written)
 
 -- a value that it holds
-pub record SaysValue (at : Option ℕ) (name pointer : List ℕ) (form : ValueForm)
+pub record SaysValue (at : Option ℕ) (name pointer : List ℕ) (missing : MissingValue) (form : ValueForm)
     (given held written : Option (List ℕ)) (status : Status) : Type 0 where
   pub result : Result (Unit {0}) ReadingFault
   pub ends : status ≡ status_after_reading result
-  pub done : OnOk result (WritesValue given at (chars name) (chars pointer) form held written)
-  pub refused : IfErr result (RefusesValue given at (chars name) (chars pointer) held written)
+  pub done : OnOk result (WritesValue given at (chars name) (chars pointer) missing form held written)
+  pub refused : IfErr result (RefusesValue given at (chars name) (chars pointer) missing form held written)
+
+-- whether something is at a place; nothing is written
+pub record SaysPresence (at : Option ℕ) (name pointer : List ℕ) (given held written : Option (List ℕ)) (status : Status)
+    : Type 0 where
+  pub result : Result Presence ReadingFault
+  pub ends : status ≡ status_after_presence result
+  pub done : IfOk result (FindsPresence given at (chars name) (chars pointer))
+  pub refused : IfErr result (RefusesPresence given at (chars name) (chars pointer))
+  pub keeps : written ≡ held
 
 -- its commands
 pub record SaysLog (at : Option ℕ) (form : LogForm) (given held written : Option (List ℕ)) (status : Status)

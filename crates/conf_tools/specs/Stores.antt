@@ -1,5 +1,5 @@
 -- What a tool on a store has read, answered and written, and what it leaves on its disk.
-use Rattle.std.specs.Prelude.{◌≡◌, ◌≢◌, ℕ, false, List, [], ◌++◌, length, Option, None, Result, Ok, Err}
+use Rattle.std.specs.Prelude.{◌≡◌, ◌≢◌, ◌≤◌, ℕ, false, List, [], ◌++◌, length, Option, None, Result, Ok, Err}
 use Rattle.std.specs.Io.KnownBytes.{Keeps}
 use Rattle.conf_disk.specs.Folder.{bytes_under}
 use Rattle.conf_disk.specs.Image.{Image, IsImage}
@@ -98,7 +98,8 @@ pub record OpensTo (before : Option (List ℕ)) (start : Stored) (after : Option
   pub size : HasLength after start.size
   pub no_checkpoint : start.staged ≡ None
 
--- The store on a disk was opened, and nothing waits. A crash during it leaves what the disk might have left before.
+-- The store on a disk was opened, and nothing waits. A crash during it leaves what the disk might have left before, and
+-- the device's failures did not become fewer.
 pub record OpensOn {D : Type 0} (model : DiskModel D) (old : D) (store : StoreView D) : Type 0 where
   pub no_reopen : store.reopen ≡ false
   pub no_checkpoint : store.staged ≡ None
@@ -108,6 +109,7 @@ pub record OpensOn {D : Type 0} (model : DiskModel D) (old : D) (store : StoreVi
       → LeavesOnly model old store.disk (λ image. MeantAtEntry (model.folder old) image.store)
   pub flushed : model.honest → HasFlushed (model.folder store.disk) store.state [] store.state
   pub images : model.honest → AllImagesMean (model.folder store.disk) store.state
+  pub risen : model.failure_count old ≤ model.failure_count store.disk
 
 -- The store on a disk can't be opened. But for Device no file has changed, and at Device `store.yaml` may be a base of
 -- the state that it meant. A crash during it leaves what the disk might have left before.
@@ -131,7 +133,8 @@ SessionRuns model given left held written Single old new result =
 SessionRuns model given left held written (Grouped checkpoints) old new result =
     RunsGrouped model given left held written checkpoints old new result
 
--- A session ran on the store that opening made of the disk, whose `store.yaml` read as `file` then.
+-- A session ran on the store that opening made of the disk, whose `store.yaml` read as `file` then. It ended by Device
+-- only where the device failed during the call.
 pub record AnswersOn {D : Type 0} (model : DiskModel D)
     (given left held written : Option (List ℕ)) (grouping : Grouping) (old new : D)
     (result : Result Tally SessionFault) : Type 0 where
@@ -142,6 +145,8 @@ pub record AnswersOn {D : Type 0} (model : DiskModel D)
   pub due : model.honest → CheckpointsAreDue given left held written start file grouping result work answers
   pub opens : model.honest → OpensTo (bytes_under (model.folder old) Store) start file
   pub reads : model.honest → result ≢ Err SessionFaults.Device → bytes_under (model.folder new) Store ≡ work.file
+  pub not_reopen : result ≢ Err SessionFaults.Reopen
+  pub cause : result ≡ Err SessionFaults.Device → HasFailed (model.failure_count old) (model.failure_count new)
 
 -- How a session on a disk ends, and what its files read as then. Nothing is read or written if the store can't be
 -- opened.

@@ -1,13 +1,8 @@
 -- What is written of a store's file by `verify`: what an opening would find in it.
 use Rattle.std.specs.Prelude.{◌≡◌, ℕ, List, [], ◌++◌, Option, Some, None, IfSome, codes, decimal}
 use Rattle.std.specs.Io.KnownBytes.{Keeps, Appends}
-use Rattle.yaml_events.specs.declared.read_fault.ReadFault.{ReadFault}
-use Rattle.yaml_events.specs.declared.read_fault.ReadFault.TheVariants as read
-use Rattle.json_pointer.specs.declared.fault.PathFault.{PathFault}
-use Rattle.json_pointer.specs.declared.fault.PathFault.TheVariants as path
 use Rattle.conf_state.specs.States.{Contents}
-use Rattle.conf_state.specs.declared.fault.StoreFault.{StoreFault}
-use Rattle.conf_state.specs.declared.fault.StoreFault.TheVariants as store
+use Rattle.conf_state.specs.FaultNames.{fault_name}
 use Rattle.conf_history.specs.Histories.{IsSurvey, RefusesSurvey}
 use Rattle.conf_history.specs.declared.fault.HistoryFault.TheVariants.{OutOfMemory}
 use Rattle.conf_store.specs.declared.records.NoRecord.{NoRecord}
@@ -19,46 +14,11 @@ use Rattle.conf_tools.specs.declared.reading_fault.ReadingFault.TheVariants.{His
 use Rattle.conf_tools.specs.declared.surveys.Soundness.{Soundness}
 use Rattle.conf_tools.specs.declared.surveys.Soundness.TheVariants.{Whole, Damaged}
 
--- ---- words: the innermost fault's own name
-
-abbrev pub read_word : ReadFault → List ℕ
-read_word read.TooLong = codes "TooLong"
-read_word (read.NotUtf8 at) = codes "NotUtf8"
-read_word (read.Syntax line column why) = codes "Syntax"
-read_word (read.Documents count) = codes "Documents"
-read_word read.KeyNotText = codes "KeyNotText"
-read_word read.KeyTwice = codes "KeyTwice"
-read_word read.TooDeep = codes "TooDeep"
-read_word read.LargeInStyle = codes "LargeInStyle"
-read_word read.OutOfMemory = codes "OutOfMemory"
-
-abbrev pub path_word : PathFault → List ℕ
-path_word (path.BadPath at) = codes "BadPath"
-path_word (path.NoSuchPlace step) = codes "NoSuchPlace"
-path_word (path.NotIndex step) = codes "NotIndex"
-path_word path.OutOfMemory = codes "OutOfMemory"
-
-abbrev pub refusal_word : StoreFault → List ℕ
-refusal_word store.EmptyBatch = codes "EmptyBatch"
-refusal_word store.BadName = codes "BadName"
-refusal_word store.NoConfig = codes "NoConfig"
-refusal_word (store.Path fault) = path_word fault
-refusal_word (store.Read fault) = read_word fault
-refusal_word store.TooDeep = codes "TooDeep"
-refusal_word store.ConfigLarge = codes "ConfigLarge"
-refusal_word store.StoreFull = codes "StoreFull"
-refusal_word store.RecordLong = codes "RecordLong"
-refusal_word store.JournalLong = codes "JournalLong"
-refusal_word store.CountFull = codes "CountFull"
-refusal_word store.Reopen = codes "Reopen"
-refusal_word store.Device = codes "Device"
-refusal_word store.OutOfMemory = codes "OutOfMemory"
-
--- why a piece is not the next record
+-- why a piece is not the next record: the name of the innermost fault, if its command is refused
 abbrev pub why_word : NoRecord → List ℕ
 why_word NotARecord = codes "NotARecord"
 why_word (WrongNumber found) = codes "WrongNumber"
-why_word (Refused fault) = refusal_word fault
+why_word (Refused fault) = fault_name fault
 
 -- ---- the text
 

@@ -1,16 +1,17 @@
 -- What the words on texts do, and how a change is made ready of the text that it is given.
-use Rattle.std.specs.Prelude.{◌≡◌, ◌≢◌, ◌⊎◌, ℕ, Bool, true, false, ◌==◌, if◌then◌else◌, List, [], ◌∷◌, Option, Some, None, Result, Ok, Err, IfOk, IfErr, OnOk, codes, encode_utf8_all, string_bytes}
-use Rattle.std.specs.Str.{chars}
+use Rattle.std.specs.Prelude.{◌≡◌, ◌≢◌, ◌⊎◌, ◌<◌, ◌≤◌, ℕ, Bool, true, false, ◌==◌, if◌then◌else◌, List, [], ◌∷◌, length, Option, Some, None, Result, Ok, Err, IfOk, IfErr, IsErrAnd, OnOk, codes, encode_utf8_all, string_bytes}
+use Rattle.std.specs.Str.{chars, IsUtf8}
+use Rattle.std.specs.Str.Lossy.{utf8_valid_len}
 use Rattle.conf_files.specs.declared.replace.ReplaceFault.{ReplaceFault}
 use Rattle.conf_files.specs.declared.replace.ReplaceFault.TheVariants as replacing
 use Rattle.conf_state.specs.Commands.{command_of, delete_at, set_at, single, text_of}
 use Rattle.conf_words.specs.Escapes.{escaped}
 use Rattle.conf_words.specs.declared.invocation.Comments.{Comments}
 use Rattle.conf_words.specs.declared.invocation.Value.{Value}
-use Rattle.conf_words.specs.declared.invocation.Value.TheVariants.{Text, Yaml}
+use Rattle.conf_words.specs.declared.invocation.Value.TheVariants.{Text, Yaml, File}
 use Rattle.yaml_config.specs.Kept.{IsFirstFault, own_limits}
 use Rattle.yaml_config.specs.Limits.{config_limits}
-use Rattle.yaml_events.specs.declared.read_fault.ReadFault.TheVariants.{OutOfMemory}
+use Rattle.yaml_events.specs.declared.read_fault.ReadFault.TheVariants.{TooLong, NotUtf8, OutOfMemory}
 use Rattle.yaml_grammar.specs.Trees.{Tree, text}
 use Rattle.yaml_tree.specs.Reading.{IsRead, Refuses}
 use Rattle.conf_tools.specs.FileTexts.{ChecksFile, Lists, Restyles, StopsInFile, StopsRestyling}
@@ -18,7 +19,7 @@ use Rattle.conf_tools.specs.Statuses.{status_of, worst}
 use Rattle.conf_tools.specs.Tools.{Checks, Formats, IsTaken, Stops, Taken}
 use Rattle.conf_tools.specs.Worlds.{Around, WorldModel}
 use Rattle.conf_tools.specs.declared.changes.Change.{Change}
-use Rattle.conf_tools.specs.declared.changes.Change.TheVariants.{Import, Perform}
+use Rattle.conf_tools.specs.declared.changes.Change.TheVariants.{Import, Perform, Copy, Rename}
 use Rattle.conf_tools.specs.declared.file_texts.Restyled.{Restyled}
 use Rattle.conf_tools.specs.declared.file_texts.Restyled.TheVariants.{Same, Changed}
 use Rattle.conf_tools.specs.declared.file_words.Report.{Report}
@@ -122,11 +123,41 @@ SetsWord name pointer word change given left =
     ((word ≢ codes "-") × (left ≡ given) × SetsBytes name pointer word change)
     ⊎ ((word ≡ codes "-") × SetsInput name pointer given left change)
 
--- The change sets the value that the words give, or the input for `-`.
-abbrev pub IsSet : List ℕ → List ℕ → Value → Result Change ToolFault → Option (List ℕ) → Option (List ℕ) → Type 0
-IsSet name pointer (Text word) change given left =
-    (left ≡ given) × SetsText name pointer (chars word.now) change
-IsSet name pointer (Yaml word) change given left = SetsWord name pointer word.now change given left
+-- why bytes can't be a text: there are too many, or they are not UTF-8
+abbrev pub IsNoText : List ℕ → ToolFault → Type 0
+IsNoText bytes (Read TooLong) = config_limits.bytes < length bytes
+IsNoText bytes (Read (NotUtf8 at)) =
+    (length bytes ≤ config_limits.bytes) × (IsUtf8 bytes → ⊥) × (at ≡ utf8_valid_len bytes)
+IsNoText bytes fault = ⊥
+
+-- the change sets the text that these bytes are; or they are none
+abbrev pub SetsPlain : List ℕ → List ℕ → List ℕ → Result Change ToolFault → Type 0
+SetsPlain name pointer bytes change =
+    (IsUtf8 bytes × (length bytes ≤ config_limits.bytes) × SetsText name pointer (chars bytes) change)
+    ⊎ IsErrAnd change (IsNoText bytes)
+
+-- the same of bytes that were read
+abbrev pub SetsRead : List ℕ → List ℕ → Taken → Result Change ToolFault → Type 0
+SetsRead name pointer (Ok bytes) change = SetsPlain name pointer bytes.items change
+SetsRead name pointer (Err fault) change = change ≡ Err fault
+
+module _ {W D F P : Type 0} (world : WorldModel W D F P) (remaining : F → Option (List ℕ)) where
+  -- The change sets the text of the file at a path, or of the input for `-`.
+  pub record SetsFile (name pointer path : List ℕ) (change : Result Change ToolFault) (old new : W)
+      (given left : Option (List ℕ)) : Type 0 where
+    pub read : Taken
+    pub takes : TakesText world remaining path read old new given left
+    pub sets : SetsRead name pointer read change
+
+  -- The change sets the value that the words give, or a file, or the input for `-`.
+  abbrev pub IsSet : List ℕ → List ℕ → Value → Result Change ToolFault → W → W → Option (List ℕ) → Option (List ℕ)
+      → Type 0
+  IsSet name pointer (Text word) change old new given left =
+      (new ≡ old) × (left ≡ given) × SetsText name pointer (chars word.now) change
+  IsSet name pointer (Yaml word) change old new given left =
+      (new ≡ old) × SetsWord name pointer word.now change given left
+  IsSet name pointer (File path) change old new given left =
+      SetsFile name pointer path.now change old new given left
 
 -- the change removes what is at a pointer; or memory ran out
 abbrev pub IsDelete : List ℕ → List ℕ → Result Change ToolFault → Type 0
@@ -134,6 +165,18 @@ IsDelete name pointer (Ok (Perform command)) =
     command_of command ≡ single (delete_at (chars name) (chars pointer))
 IsDelete name pointer (Ok change) = ⊥
 IsDelete name pointer (Err fault) = fault ≡ Read OutOfMemory
+
+-- the change copies what is under a name to another one; or memory ran out
+abbrev pub IsCopy : List ℕ → List ℕ → Result Change ToolFault → Type 0
+IsCopy name to (Ok (Copy kept other)) = (text_of kept ≡ chars name) × (text_of other ≡ chars to)
+IsCopy name to (Ok change) = ⊥
+IsCopy name to (Err fault) = fault ≡ Read OutOfMemory
+
+-- the change gives what is under a name another one; or memory ran out
+abbrev pub IsRename : List ℕ → List ℕ → Result Change ToolFault → Type 0
+IsRename name to (Ok (Rename kept other)) = (text_of kept ≡ chars name) × (text_of other ≡ chars to)
+IsRename name to (Ok change) = ⊥
+IsRename name to (Err fault) = fault ≡ Read OutOfMemory
 
 -- ---- texts in the one style, and findings
 

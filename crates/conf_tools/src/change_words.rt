@@ -1,24 +1,29 @@
 // The words of the program that change a store.
-ghost use Rattle.std.specs.Prelude.{◌≡◌, IfOk, IfErr, Err};
-ghost use Rattle.std.specs.Str.{chars};
+ghost use Rattle.std.specs.Prelude.{◌≡◌, ◌≤◌, [], IfOk, IfErr, Err, length};
+ghost use Rattle.std.specs.Str.{IsUtf8, chars};
+ghost use Rattle.yaml_config.specs.Limits.{config_limits};
 ghost use Rattle.yaml_grammar.specs.Trees.{text as one_text};
 ghost use Rattle.yaml_data.specs.Seen.{tree_of};
+ghost use Rattle.conf_conditions.specs.Conditions.{conditions_of};
 ghost use Rattle.conf_tools.specs.Exports.{disk_handed_back};
-ghost use Rattle.conf_tools.specs.Performs.{ImportsBytes, ImportsRead, access_of};
-ghost use Rattle.conf_tools.specs.StoreWords.{ChangesInFolder, Inits, MakesChange, MakesInFolder, status_after_change, status_at_end};
-ghost use Rattle.conf_tools.specs.TextWords.{IsDelete, IsImport, IsSet, RefusesText, SetsAt, SetsBytes, SetsInput, SetsTaken, SetsText, SetsWord};
+ghost use Rattle.conf_tools.specs.Performs.{ChangesAt, ChangesByWords, ChangesIf, ImportsBytes, ImportsRead, Sets, access_of};
+ghost use Rattle.conf_tools.specs.StoreWords.{ChangesInFolder, Inits, MakesInFolder, status_after_change, status_at_end};
+ghost use Rattle.conf_tools.specs.TextWords.{IsCopy, IsDelete, IsImport, IsNoText, IsRename, IsSet, RefusesText, SetsAt, SetsBytes, SetsInput, SetsPlain, SetsRead, SetsTaken, SetsText, SetsWord};
 
+use crate::asking::conditions_at;
 use crate::changes::{Change, change_store, make_store};
+use crate::file_words::{read_named, tell_cause};
 use crate::program::{Status, status_of, status_of_store, write_fault, write_store_fault};
 use crate::reporter::{Origin, Reporter};
 use crate::stores::StoreToolFault;
-use crate::texts::{ToolFault, read_text};
+use crate::texts::{MOST_INPUT, ToolFault, read_text};
 use crate::world::{Access, World};
+use conf_conditions::Condition;
 use conf_state::{Command, StoreFault};
-use conf_words::{MissingStore, STANDARD_INPUT, Value};
+use conf_words::{Conditions, MissingStore, STANDARD_INPUT, Value};
 use std::alloc::{AllocError, Global};
 use std::io::{Read, Write};
-use yaml_tree::{Config, Limits, Text, Tree, read_one};
+use yaml_tree::{Config, Limits, ReadFault, Text, Tree, read_one};
 
 /// What a refused YAML text is named by that the words give as a value.
 const VALUE: &str = "VALUE";
@@ -34,7 +39,25 @@ pub(crate) struct Import<'w> {
     pub(crate) file: &'w str,
     /// What is done where the folder has no store.
     pub(crate) missing: MissingStore,
+    /// What has to hold before.
+    pub(crate) conditions: Conditions<'w>,
 }
+
+/// Where a word changes the store in a folder, and what has to hold there before.
+#[derive(Clone, Copy)]
+pub(crate) struct Target<'w> {
+    /// The folder of the store.
+    pub(crate) folder: &'w str,
+    /// The name of the configuration that is changed.
+    pub(crate) name: &'w str,
+    /// The JSON Pointer of what is changed in it.
+    pub(crate) pointer: &'w str,
+    /// What has to hold before.
+    pub(crate) conditions: Conditions<'w>,
+}
+
+/// The pointer to a whole configuration.
+pub(crate) const WHOLE: &str = "";
 
 /// Makes a folder, if it is missing, and an empty store in it.
 pub(crate) fn init_folder<A: World, E: Write>(
@@ -79,13 +102,14 @@ pub(crate) fn import_text<A: World, E: Write>(
     read: Result<Vec<u8>, ToolFault>,
     errors: &mut E,
 ) -> Status
-    ensures { ImportsRead A.model A.Disk.model (access_of asked.entry.missing)
+    ensures { ImportsRead A.model A.Disk.model asked.entry.conditions (access_of asked.entry.missing)
         asked.entry.folder.now asked.entry.name.now read world.old world.new result }
 {
     match read {
         Ok(text) => import_bytes(world, reporter, asked, &text, errors),
         Err(fault) => {
             reporter.tell_fault(errors, Origin::Named(asked.file), b"", fault);
+            tell_cause(world, reporter.alloc, asked.file, errors);
             status_of(fault)
         }
     }
@@ -99,17 +123,35 @@ fn import_bytes<A: World, E: Write>(
     text: &[u8],
     errors: &mut E,
 ) -> Status
-    ensures { ImportsBytes A.model A.Disk.model (access_of asked.entry.missing)
+    ensures { ImportsBytes A.model A.Disk.model asked.entry.conditions (access_of asked.entry.missing)
         asked.entry.folder.now asked.entry.name.now text.now world.old world.new result }
 {
     match import_of(reporter.alloc, asked.name, text) {
-        Ok(change) => {
-            let access = access_of(asked.missing);
+        Ok(change) => import_change(world, reporter, asked, text, change, errors),
+        Err(fault) => write_fault(errors, fault),
+    }
+}
+
+/// Makes the change that imports a text, or writes why that is not done.
+fn import_change<A: World, E: Write>(
+    world: &mut A,
+    reporter: Reporter,
+    asked: Import<'_>,
+    text: &[u8],
+    change: Change<'_>,
+    errors: &mut E,
+) -> Status
+    ensures { ChangesIf A.model A.Disk.model asked.entry.conditions (access_of asked.entry.missing)
+        asked.entry.folder.now asked.entry.name.now [] change.entry world.old world.new result }
+{
+    match conditions_at(reporter.alloc, asked.name, WHOLE, asked.conditions) {
+        Ok(conditions) => {
             let ended = change_in_folder(
                 world,
                 reporter.alloc,
-                access,
+                access_of(asked.missing),
                 asked.folder,
+                &conditions,
                 change,
                 errors,
             );
@@ -156,12 +198,57 @@ fn tell_import<E: Write>(
     }
 }
 
-/// The change that sets a value, which may be given by `input`, at a place of a configuration. If there is none, why is
-/// written.
+/// Sets a value, which may be given by a file or by `input`, at a place of the store in a folder, or writes why it is not
+/// done.
+pub(crate) fn set_at<A: World, R: Read, E: Write>(
+    world: &mut A,
+    reporter: Reporter,
+    place: Target<'_>,
+    value: Value<'_>,
+    input: &mut R,
+    errors: &mut E,
+) -> Status
+    ensures { Sets A.model A.Disk.model A.File.remaining place.entry.folder.now place.entry.name.now
+        place.entry.pointer.now value.entry place.entry.conditions world.old world.new
+        (R.remaining input.old) (R.remaining input.new) result }
+{
+    let change = set_of(
+        world,
+        reporter,
+        place.name,
+        place.pointer,
+        value,
+        input,
+        errors,
+    );
+    set_change(world, reporter.alloc, place, change, errors)
+}
+
+/// Sets a value at a place of the store in a folder, if there is one. That there is none is written already.
+fn set_change<A: World, E: Write>(
+    world: &mut A,
+    alloc: Global,
+    place: Target<'_>,
+    change: Result<Change<'_>, ToolFault>,
+    errors: &mut E,
+) -> Status
+    ensures { ChangesAt A.model A.Disk.model place.entry.conditions Access.Changing
+        place.entry.folder.now place.entry.name.now place.entry.pointer.now change.entry
+        world.old world.new result }
+{
+    match change {
+        Ok(change) => change_if(world, alloc, place, change, errors),
+        Err(fault) => status_of(fault),
+    }
+}
+
+/// The change that sets a value, which may be given by a file or by `input`, at a place of a configuration. If there is
+/// none, why is written.
 ///
 /// # Errors
 /// `Input` if the value can't be read, `Read` if it is refused, and memory that runs out.
-pub(crate) fn set_of<R: Read, E: Write>(
+fn set_of<A: World, R: Read, E: Write>(
+    world: &mut A,
     reporter: Reporter,
     name: &str,
     pointer: &str,
@@ -169,8 +256,8 @@ pub(crate) fn set_of<R: Read, E: Write>(
     input: &mut R,
     errors: &mut E,
 ) -> Result<Change<'static>, ToolFault>
-    ensures { IsSet name.now pointer.now value.entry result
-        (R.remaining input.old) (R.remaining input.new) }
+    ensures { IsSet A.model A.File.remaining name.now pointer.now value.entry result
+        world.old world.new (R.remaining input.old) (R.remaining input.new) }
 {
     match value {
         Value::Text(text) => {
@@ -179,6 +266,71 @@ pub(crate) fn set_of<R: Read, E: Write>(
             change
         }
         Value::Yaml(word) => set_word(reporter, name, pointer, word, input, errors),
+        Value::File(file) => {
+            let read = read_named(world, reporter.alloc, file, input);
+            let change = set_read(reporter, name, pointer, file, read, errors);
+            tell_cause(world, reporter.alloc, file, errors);
+            change
+        }
+    }
+}
+
+/// The change that sets the text of a file, if it was read.
+fn set_read<E: Write>(
+    reporter: Reporter,
+    name: &str,
+    pointer: &str,
+    file: &str,
+    read: Result<Vec<u8>, ToolFault>,
+    errors: &mut E,
+) -> Result<Change<'static>, ToolFault>
+    ensures { SetsRead name.now pointer.now read result }
+{
+    match read {
+        Ok(bytes) => {
+            let change = set_plain(reporter.alloc, name, pointer, &bytes);
+            reporter.tell(errors, Origin::Named(file), &bytes, &change);
+            change
+        }
+        Err(fault) => {
+            reporter.tell_fault(errors, Origin::Named(file), b"", fault);
+            Err(fault)
+        }
+    }
+}
+
+/// The change that sets the text that these bytes are.
+fn set_plain(
+    alloc: Global,
+    name: &str,
+    pointer: &str,
+    bytes: &[u8],
+) -> Result<Change<'static>, ToolFault>
+    ensures { SetsPlain name.now pointer.now bytes.now result }
+{
+    match plain_text(bytes) {
+        Ok(text) => set_text(alloc, name, pointer, text),
+        Err(fault) => Err(fault),
+    }
+}
+
+/// The text that these bytes are.
+///
+/// # Errors
+/// `Read` with `TooLong` if there are more than 4,194,304, and with `NotUtf8` if they are not UTF-8.
+fn plain_text(bytes: &[u8]) -> Result<&str, ToolFault>
+    ensures ok { IfOk result (λ text. (text.now ≡ bytes.now) × IsUtf8 bytes.now
+        × (length bytes.now ≤ config_limits.bytes)) }
+    ensures refused { IfErr result (IsNoText bytes.now) }
+{
+    if bytes.len() >= MOST_INPUT {
+        return Err(ToolFault::Read(ReadFault::TooLong));
+    }
+    match str::from_utf8(bytes) {
+        Ok(text) => Ok(text),
+        Err(error) => Err(ToolFault::Read(ReadFault::NotUtf8 {
+            at: error.valid_up_to(),
+        })),
     }
 }
 
@@ -284,21 +436,24 @@ fn set_command(
     }))
 }
 
-/// The change that removes what is at a place of a configuration. It fails only if memory runs out, and writes that.
-pub(crate) fn delete_of<E: Write>(
-    reporter: Reporter,
-    name: &str,
-    pointer: &str,
+/// Removes what is at a place of the store in a folder, or writes why it is not done.
+pub(crate) fn delete_at<A: World, E: Write>(
+    world: &mut A,
+    alloc: Global,
+    place: Target<'_>,
     errors: &mut E,
-) -> Result<Change<'static>, ToolFault>
-    ensures { IsDelete name.now pointer.now result }
+) -> Status
+    ensures { ChangesByWords A.model A.Disk.model
+        (IsDelete place.entry.name.now place.entry.pointer.now) place.entry.conditions
+        place.entry.folder.now place.entry.name.now place.entry.pointer.now
+        world.old world.new result }
 {
-    let change = delete_command(reporter.alloc, name, pointer);
-    reporter.tell(errors, Origin::Input, b"", &change);
-    change
+    let change = delete_change(alloc, place.name, place.pointer);
+    make_change(world, alloc, place, change, errors)
 }
 
-fn delete_command(alloc: Global, name: &str, pointer: &str) -> Result<Change<'static>, ToolFault>
+/// The change that removes what is at a place of a configuration. It fails only if memory runs out.
+fn delete_change(alloc: Global, name: &str, pointer: &str) -> Result<Change<'static>, ToolFault>
     ensures { IsDelete name.now pointer.now result }
 {
     Ok(Change::Perform(Command::Delete {
@@ -307,26 +462,113 @@ fn delete_command(alloc: Global, name: &str, pointer: &str) -> Result<Change<'st
     }))
 }
 
-/// Makes a change of the store in a folder, if there is one to make, and writes why it is not made. That there is none is
-/// written already.
-pub(crate) fn change_folder<A: World, E: Write>(
+/// Puts a copy of the configuration under a name at the place of another one, or writes why it is not done.
+pub(crate) fn copy_to<A: World, E: Write>(
     world: &mut A,
     alloc: Global,
-    folder: &str,
+    name: &str,
+    place: Target<'_>,
+    errors: &mut E,
+) -> Status
+    ensures { ChangesByWords A.model A.Disk.model
+        (IsCopy name.now place.entry.name.now) place.entry.conditions
+        place.entry.folder.now place.entry.name.now place.entry.pointer.now
+        world.old world.new result }
+{
+    let change = copy_change(alloc, name, place.name);
+    make_change(world, alloc, place, change, errors)
+}
+
+/// The change that puts a copy of a configuration under another name. It fails only if memory runs out.
+fn copy_change(alloc: Global, name: &str, to: &str) -> Result<Change<'static>, ToolFault>
+    ensures { IsCopy name.now to.now result }
+{
+    Ok(Change::Copy {
+        name: String::from_str(alloc, name)?,
+        to: String::from_str(alloc, to)?,
+    })
+}
+
+/// Gives the configuration under a name that of a place, or writes why it is not done.
+pub(crate) fn rename_to<A: World, E: Write>(
+    world: &mut A,
+    alloc: Global,
+    name: &str,
+    place: Target<'_>,
+    errors: &mut E,
+) -> Status
+    ensures { ChangesByWords A.model A.Disk.model
+        (IsRename name.now place.entry.name.now) place.entry.conditions
+        place.entry.folder.now place.entry.name.now place.entry.pointer.now
+        world.old world.new result }
+{
+    let change = rename_change(alloc, name, place.name);
+    make_change(world, alloc, place, change, errors)
+}
+
+/// The change that gives a configuration another name. It fails only if memory runs out.
+fn rename_change(alloc: Global, name: &str, to: &str) -> Result<Change<'static>, ToolFault>
+    ensures { IsRename name.now to.now result }
+{
+    Ok(Change::Rename {
+        name: String::from_str(alloc, name)?,
+        to: String::from_str(alloc, to)?,
+    })
+}
+
+/// Makes a change at a place of the store in a folder, if memory was there for it and what is wanted of the place holds.
+/// Writes why it is not made.
+fn make_change<A: World, E: Write>(
+    world: &mut A,
+    alloc: Global,
+    place: Target<'_>,
     change: Result<Change<'_>, ToolFault>,
     errors: &mut E,
 ) -> Status
-    ensures { MakesChange A.model A.Disk.model Access.Changing folder.now change.entry
+    ensures { ChangesAt A.model A.Disk.model place.entry.conditions Access.Changing
+        place.entry.folder.now place.entry.name.now place.entry.pointer.now change.entry
         world.old world.new result }
 {
     match change {
-        Ok(change) => {
-            let ended = change_in_folder(world, alloc, Access::Changing, folder, change, errors);
-            tell_change(errors, &ended);
-            status_after_change(ended)
-        }
-        Err(fault) => status_of(fault),
+        Ok(change) => change_if(world, alloc, place, change, errors),
+        Err(fault) => write_fault(errors, fault),
     }
+}
+
+/// Makes a change at a place of the store in a folder, if what is wanted of the place holds, and writes why it is not made.
+fn change_if<A: World, E: Write>(
+    world: &mut A,
+    alloc: Global,
+    place: Target<'_>,
+    change: Change<'_>,
+    errors: &mut E,
+) -> Status
+    ensures { ChangesIf A.model A.Disk.model place.entry.conditions Access.Changing
+        place.entry.folder.now place.entry.name.now place.entry.pointer.now change.entry
+        world.old world.new result }
+{
+    match conditions_at(alloc, place.name, place.pointer, place.conditions) {
+        Ok(conditions) => change_now(world, alloc, place.folder, &conditions, change, errors),
+        Err(fault) => write_fault(errors, fault),
+    }
+}
+
+/// Makes a change of the store in a folder, if the conditions hold, and writes why it is not made.
+pub(crate) fn change_now<A: World, E: Write>(
+    world: &mut A,
+    alloc: Global,
+    folder: &str,
+    conditions: &[Condition],
+    change: Change<'_>,
+    errors: &mut E,
+) -> Status
+    ensures { ChangesInFolder A.model A.Disk.model Access.Changing folder.now
+        (conditions_of conditions.now) change.entry world.old world.new result }
+{
+    let access = Access::Changing;
+    let ended = change_in_folder(world, alloc, access, folder, conditions, change, errors);
+    tell_change(errors, &ended);
+    status_after_change(ended)
 }
 
 /// Writes why a change was not made, if it was not.
@@ -346,21 +588,22 @@ fn status_after_change(ended: Result<(), StoreToolFault>) -> Status
     }
 }
 
-/// Makes a change of the store in a folder.
+/// Makes a change of the store in a folder, if the conditions hold.
 fn change_in_folder<A: World, E: Write>(
     world: &mut A,
     alloc: Global,
     access: Access,
     folder: &str,
+    conditions: &[Condition],
     change: Change<'_>,
     errors: &mut E,
 ) -> Result<(), StoreToolFault>
-    ensures { ChangesInFolder A.model A.Disk.model access folder.now change.entry
-        world.old world.new (status_after_change result) }
+    ensures { ChangesInFolder A.model A.Disk.model access folder.now (conditions_of conditions.now)
+        change.entry world.old world.new (status_after_change result) }
 {
     match world.open(alloc, access, folder) {
         Ok(disk) => {
-            let ended = change_store(alloc, disk, change, errors);
+            let ended = change_store(alloc, disk, conditions, change, errors);
             end_change(world, ended)
         }
         Err(fault) => Err(StoreToolFault::Folder(fault)),
@@ -388,7 +631,7 @@ fn end_change<A: World>(
 }
 
 /// A text as a value.
-fn text_value(alloc: Global, text: &str) -> Result<Config, ToolFault>
+pub(crate) fn text_value(alloc: Global, text: &str) -> Result<Config, ToolFault>
     ensures ok { IfOk result (λ config. tree_of config ≡ one_text (chars text.now)) }
     ensures refused { IfErr result (RefusesText (chars text.now)) }
 {

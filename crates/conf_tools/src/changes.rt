@@ -1,21 +1,28 @@
 // Single changes of a store, over any disk.
-ghost use Rattle.std.specs.Prelude.{◌≡◌, ◌≢◌, ◌≤◌, ◌⊎◌, ◌↔◌, [], true, false, IfOk, IfErr, IsErrOf, OnOk};
+ghost use Rattle.std.specs.Prelude.{◌≡◌, ◌≢◌, ◌≤◌, ◌⊎◌, ◌↔◌, [], true, false, IfOk, IfErr, IsErrOf, Ok, OnOk};
 ghost use Rattle.std.specs.Io.KnownBytes.{Keeps};
+ghost use Rattle.std.specs.Str.{chars};
+ghost use Rattle.yaml_data.specs.Seen.{tree_of};
+ghost use Rattle.conf_conditions.specs.Conditions.{conditions_of};
 ghost use Rattle.conf_disk.specs.Folder.{bytes_under};
 ghost use Rattle.conf_disk.specs.Moments.{LeavesOnly};
-ghost use Rattle.conf_store.specs.Calls.{HasFailed};
+ghost use Rattle.conf_state.specs.Commands.{command_of, text_of};
+ghost use Rattle.conf_store.specs.Calls.{Accepts, RefusesCommand, tree_named};
+ghost use Rattle.conf_store.specs.Changing.{AppendsRecord, DeviceHasCause, FailuresNeverFall, store_file};
 ghost use Rattle.conf_store.specs.Durable.{AllImagesMean, HasFlushed};
 ghost use Rattle.conf_store.specs.Opens.{MeantAtEntry};
-ghost use Rattle.conf_tools.specs.Changes.{CannotChange, CannotMake, ChangesOn, ChangeSurvives, MakesStore, Makes, MeansOneOf, RefusesChange};
+ghost use Rattle.conf_tools.specs.Changes.{CannotChange, CannotMake, ChangesOn, ChangeSurvives, IsMadeOf, LacksTree, MakesStore, Makes, MeansOneOf, ReadsChanged, RefusesChange, copies, renames};
 ghost use Rattle.conf_tools.specs.Dropped.{HasNoRest};
 ghost use Rattle.conf_tools.specs.Exports.{disk_handed_back};
 
 use crate::stores::{StoreToolFault, open_store};
+use conf_conditions::{Condition, check};
 use conf_disk::{Content, Disk, DiskFault, Name};
-use conf_state::{Command, StoreFault, steps_are_counted_or_refused};
+use conf_state::{Command, Edit, StoreFault, steps_are_counted_or_refused};
 use conf_store::{OpenFault, Store, one_state_is_flushed};
-use std::alloc::Global;
+use std::alloc::{AllocError, Global};
 use std::io::Write;
+use yaml_config::Config;
 
 /// One change of a store.
 #[derive(Drop)]
@@ -24,6 +31,11 @@ pub enum Change<'t> {
     Import { name: String, text: &'t [u8] },
     /// Performs a command, as [`Store::apply`].
     Perform(Command),
+    /// Puts a copy of the configuration under `name` under the name `to`, in place of one that is there: an import.
+    Copy { name: String, to: String },
+    /// Gives the configuration under `name` the name `to`, in place of one that is there: a batch that deletes it and
+    /// then imports it. A configuration that keeps its name comes last.
+    Rename { name: String, to: String },
     /// Makes the file as short as a base of the state, as [`Store::checkpoint`].
     Checkpoint,
 }
@@ -31,8 +43,9 @@ pub enum Change<'t> {
 /// Makes a change of an open store.
 ///
 /// # Errors
-/// Those of the call of the store. Each but `Device` leaves the store and the disk as they were.
-fn make<D: Disk>(store: &mut Store<D>, change: Change<'_>) -> Result<(), StoreFault>
+/// Those of the call of the store. For a copy or a rename `BadName` and `NoConfig` also if there is no configuration to
+/// copy. Each but `Device` leaves the store and the disk as they were.
+fn make<D: Disk>(alloc: Global, store: &mut Store<D>, change: Change<'_>) -> Result<(), StoreFault>
     ensures reopen { IsErrOf result StoreFault.Reopen ↔ (store.old.reopen ≡ true) }
     ensures ok { OnOk result (Makes store.old change.entry store.new) }
     ensures refused { IfErr result (RefusesChange store.old change.entry store.new) }
@@ -44,40 +57,160 @@ fn make<D: Disk>(store: &mut Store<D>, change: Change<'_>) -> Result<(), StoreFa
         (λ image. MeansOneOf store.old.state store.new.state image.store) }
     ensures now { D.model.honest → OnOk result
         (AllImagesMean (D.model.folder store.new.disk) store.new.state) }
+    ensures reads { D.model.honest → store.old.reopen ≡ false → OnOk result
+        (ReadsChanged store.old change.entry
+        (store_file D.model store.old.disk) (store_file D.model store.new.disk)) }
+    ensures cause { DeviceHasCause D.model store.old store.new result }
+    ensures risen { FailuresNeverFall D.model store.old store.new }
 {
     one_state_is_flushed();
+    if store.needs_reopen() {
+        return Err(StoreFault::Reopen);
+    }
     match change {
         Change::Import { name, text } => match store.import(&name, text) {
             Ok(_) => Ok(()),
             Err(fault) => Err(fault),
         },
-        Change::Perform(command) => match store.apply(command) {
-            Ok(_) => Ok(()),
+        Change::Perform(command) => perform(store, command),
+        Change::Copy { name, to } => match copy_command(alloc, store, name, to) {
+            Ok(command) => perform(store, command),
+            Err(fault) => Err(fault),
+        },
+        Change::Rename { name, to } => match rename_command(alloc, store, name, to) {
+            Ok(command) => perform(store, command),
             Err(fault) => Err(fault),
         },
         Change::Checkpoint => store.checkpoint(),
     }
 }
 
-/// Opens the store on `disk` and makes one change. Returns the disk, with the change on it. One line to `errors` says how
-/// many bytes opening dropped, if there were any.
+/// Performs a command on an open store.
+///
+/// # Errors
+/// Those of [`Store::apply`].
+fn perform<D: Disk>(store: &mut Store<D>, command: Command) -> Result<(), StoreFault>
+    ensures reopen { IsErrOf result StoreFault.Reopen ↔ (store.old.reopen ≡ true) }
+    ensures ok { OnOk result (Accepts store.old (command_of command) store.new) }
+    ensures refused { IfErr result (RefusesCommand store.old (command_of command) store.new) }
+    ensures unchanged { IfErr result (λ fault.
+        fault ≢ StoreFault.Device → store.new ≡ store.old) }
+    ensures any_moment { D.model.honest → store.old.reopen ≡ false →
+        HasFlushed (D.model.folder store.old.disk) store.old.state [] store.old.state →
+        LeavesOnly D.model store.old.disk store.new.disk
+        (λ image. MeansOneOf store.old.state store.new.state image.store) }
+    ensures now { D.model.honest → OnOk result
+        (AllImagesMean (D.model.folder store.new.disk) store.new.state) }
+    ensures reads { D.model.honest → store.old.reopen ≡ false → OnOk result
+        (AppendsRecord store.old (command_of command)
+        (store_file D.model store.old.disk) (store_file D.model store.new.disk)) }
+    ensures cause { DeviceHasCause D.model store.old store.new result }
+    ensures risen { FailuresNeverFall D.model store.old store.new }
+{
+    one_state_is_flushed();
+    match store.apply(command) {
+        Ok(_) => Ok(()),
+        Err(fault) => Err(fault),
+    }
+}
+
+/// The command that puts a copy of the configuration under `name` under the name `to`.
+///
+/// # Errors
+/// `BadName` and `NoConfig` if there is none to copy, and `OutOfMemory`.
+fn copy_command<D: Disk>(
+    alloc: Global,
+    store: &Store<D>,
+    name: String,
+    to: String,
+) -> Result<Command, StoreFault>
+    ensures ok { IfOk result (λ command. IsMadeOf store.now.state (text_of name)
+        (copies (text_of to)) (command_of command)) }
+    ensures refused { IfErr result (LacksTree store.now.state (text_of name)) }
+{
+    match copy_named(alloc, store, &name) {
+        Ok(tree) => Ok(Command::Import { name: to, tree }),
+        Err(fault) => Err(fault),
+    }
+}
+
+/// The command that gives the configuration under `name` the name `to`: both edits are made, or none.
+///
+/// # Errors
+/// `BadName` and `NoConfig` if there is none to rename, and `OutOfMemory`.
+fn rename_command<D: Disk>(
+    alloc: Global,
+    store: &Store<D>,
+    name: String,
+    to: String,
+) -> Result<Command, StoreFault>
+    ensures ok { IfOk result (λ command. IsMadeOf store.now.state (text_of name)
+        (renames (text_of name) (text_of to)) (command_of command)) }
+    ensures refused { IfErr result (LacksTree store.now.state (text_of name)) }
+{
+    match copy_named(alloc, store, &name) {
+        Ok(tree) => Ok(rename_batch(alloc, name, to, tree)?),
+        Err(fault) => Err(fault),
+    }
+}
+
+/// The batch that deletes the configuration under `name`, and then imports a tree under the name `to`. It fails only if
+/// memory runs out.
+fn rename_batch(
+    alloc: Global,
+    name: String,
+    to: String,
+    tree: Config,
+) -> Result<Command, AllocError>
+    ensures { IfOk result (λ command.
+        command_of command ≡ renames (text_of name) (text_of to) (tree_of tree)) }
+{
+    let delete = Edit::Delete {
+        name,
+        path: String::new(alloc),
+    };
+    let import = Edit::Import { name: to, tree };
+    let edits = vec![in alloc; delete, import]?;
+    Ok(Command::Batch { edits })
+}
+
+/// A copy of the configuration under a name.
+///
+/// # Errors
+/// `BadName` and `NoConfig` if there is none, and `OutOfMemory`.
+fn copy_named<D: Disk>(alloc: Global, store: &Store<D>, name: &str) -> Result<Config, StoreFault>
+    ensures ok { IfOk result (λ copy.
+        tree_named store.now.state (chars name.now) ≡ Ok (tree_of copy)) }
+    ensures refused { IfErr result (LacksTree store.now.state (chars name.now)) }
+{
+    match store.config(name) {
+        Ok(config) => Ok(config.try_copy(alloc)?),
+        Err(fault) => Err(fault),
+    }
+}
+/// Opens the store on `disk` and makes one change, if all conditions hold of the state that was opened. They are judged in
+/// order. Returns the disk, with the change on it. One line to `errors` says how many bytes opening dropped, if there were
+/// any.
 ///
 /// While the store is opened, a crash leaves a `store.yaml` that means what it might have meant before the call. From
 /// then on, a crash at any moment leaves the state before the change or after it. Once this has returned `Ok`, it leaves
 /// the one after it.
 ///
 /// # Errors
-/// The disk is returned with the fault. `Open` if the store can't be opened, and `Refused` if it refuses the change;
-/// each but `Device` changes no configuration.
+/// The disk is returned with the fault. `Open` if the store can't be opened, `Condition` with the fault of the first
+/// condition that does not hold, and `Refused` if the store refuses the change; each but `Device` changes no
+/// configuration.
 pub fn change_store<D: Disk + Drop, E: Write>(
     alloc: Global,
     disk: D,
+    conditions: &[Condition],
     change: Change<'_>,
     errors: &mut E,
 ) -> Result<D, (D, StoreToolFault)>
-    ensures made { IfOk result (ChangesOn D.model disk change.entry) }
+    ensures made { IfOk result
+        (ChangesOn D.model disk (conditions_of conditions.now) change.entry) }
     ensures refused { IfErr result (λ r.
-        CannotChange D.model disk change.entry r.0 r.1) }
+        CannotChange D.model disk (conditions_of conditions.now) change.entry r.0 r.1) }
     // No crash loses a change that was made, or keeps one that was refused.
     ensures crashes { D.model.honest → ChangeSurvives D.model disk change.entry result }
     // Nothing is written to `errors` if no bytes are dropped.
@@ -89,7 +222,11 @@ pub fn change_store<D: Disk + Drop, E: Write>(
         Ok(store) => store,
         Err((disk, fault)) => return Err((disk, StoreToolFault::Open(fault))),
     };
-    let made = make(&mut store, change);
+    match check(alloc, &store, conditions) {
+        Ok(()) => {}
+        Err(fault) => return Err((store.close(), StoreToolFault::Condition(fault))),
+    }
+    let made = make(alloc, &mut store, change);
     let disk = store.close();
     match made {
         Ok(()) => Ok(disk),

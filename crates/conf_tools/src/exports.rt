@@ -4,41 +4,59 @@ ghost use Rattle.std.specs.Io.KnownBytes.{Keeps};
 ghost use Rattle.std.specs.Str.{chars};
 ghost use Rattle.conf_disk.specs.Folder.{bytes_under};
 ghost use Rattle.conf_disk.specs.Moments.{LeavesOnly};
-ghost use Rattle.conf_store.specs.Calls.{Exports, tree_named};
+ghost use Rattle.conf_store.specs.Calls.{tree_named};
 ghost use Rattle.conf_store.specs.Files.{FilesStay};
 ghost use Rattle.conf_store.specs.Opens.{MeantAtEntry};
 ghost use Rattle.conf_tools.specs.Dropped.{HasNoRest};
-ghost use Rattle.conf_tools.specs.Exports.{HasText, LacksText, disk_back};
+ghost use Rattle.conf_tools.specs.Exports.{HasText, IsTextOf, LacksText, disk_back};
 
+use crate::reads::{config_of, tree_text};
 use crate::stores::{StoreToolFault, open_store};
 use conf_disk::{Disk, Name, reading_is_an_image};
-use conf_state::{State, StoreFault, good_name};
-use conf_store::{OpenFault, read_state};
+use conf_state::{State, StoreFault};
+use conf_store::{OpenFault, Store, read_state};
+use conf_words::TreeForm;
 use std::alloc::Global;
 use std::io::Write;
-use yaml_emit::style_text;
 
-/// The text of the configuration that a state has under a name, in the one style.
+/// The configuration that a state has under a name, written in a form.
 ///
 /// # Errors
 /// `BadName` if the name may not be used, `NoConfig` if no configuration has it, and `OutOfMemory`.
-fn text_in(alloc: Global, state: &State, name: &str) -> Result<String, StoreFault>
+fn text_in(alloc: Global, state: &State, name: &str, form: TreeForm) -> Result<String, StoreFault>
     ensures ok { IfOk result (λ text.
-        Exports state.now (chars name.now) (chars (string_bytes text))) }
+        IsTextOf form state.now (chars name.now) (string_bytes text)) }
     ensures refused { IfErr result (λ fault.
         (fault ≡ StoreFault.OutOfMemory) ⊎ (tree_named state.now (chars name.now) ≡ Err fault)) }
 {
-    if !good_name(name) {
-        return Err(StoreFault::BadName);
-    }
-    match state.get(name) {
-        Some(config) => Ok(style_text(alloc, config)?),
-        None => Err(StoreFault::NoConfig),
+    match config_of(state, name) {
+        Ok(config) => Ok(tree_text(alloc, config.tree(), form)?),
+        Err(fault) => Err(fault),
     }
 }
 
-/// The text of the configuration under a name, in the one style, from what `store.yaml` on `disk` means. No file
-/// changes.
+/// The configuration that an open store has under a name, written in a form.
+///
+/// # Errors
+/// Those of [`text_in`].
+fn text_of<D: Disk>(
+    alloc: Global,
+    store: &Store<D>,
+    name: &str,
+    form: TreeForm,
+) -> Result<String, StoreFault>
+    ensures ok { IfOk result (λ text.
+        IsTextOf form store.now.state (chars name.now) (string_bytes text)) }
+    ensures refused { IfErr result (λ fault.
+        (fault ≡ StoreFault.OutOfMemory) ⊎ (tree_named store.now.state (chars name.now) ≡ Err fault)) }
+{
+    match store.config(name) {
+        Ok(config) => Ok(tree_text(alloc, config.tree(), form)?),
+        Err(fault) => Err(fault),
+    }
+}
+
+/// The configuration under a name, written in a form, from what `store.yaml` on `disk` means. No file changes.
 ///
 /// # Errors
 /// The disk is returned with the fault: `Open` if the file can't be read or means nothing, and `Export` as
@@ -47,8 +65,9 @@ fn read_text<D: Disk + Drop>(
     alloc: Global,
     disk: D,
     name: &str,
+    form: TreeForm,
 ) -> Result<(D, String), (D, StoreToolFault)>
-    ensures ok { IfOk result (λ r. HasText D.model disk r.0
+    ensures ok { IfOk result (λ r. HasText D.model form disk r.0
         (chars name.now) (string_bytes r.1)) }
     ensures refused { IfErr result (λ r. LacksText D.model disk r.0
         (chars name.now) r.1) }
@@ -61,14 +80,13 @@ fn read_text<D: Disk + Drop>(
         Ok((state, _)) => state,
         Err(fault) => return Err((disk, StoreToolFault::Open(fault))),
     };
-    match text_in(alloc, &state, name) {
+    match text_in(alloc, &state, name, form) {
         Ok(text) => Ok((disk, text)),
         Err(fault) => Err((disk, StoreToolFault::Export(fault))),
     }
 }
 
-/// Opens the store on `disk`, and returns the text of the configuration under a name, in the one style, with the disk.
-/// One line to `errors` says how many bytes opening dropped, if there were any.
+/// Opens the store on `disk`, and returns the configuration under a name, written in a form, with the disk. One line to `errors` says how many bytes opening dropped, if there were any.
 ///
 /// If the device fails while the store is opened, `store.yaml` is read as it stands, and nothing more is written or
 /// synced. So the configuration can be had from a folder that can't be written. But a crash may take back the last
@@ -83,9 +101,10 @@ pub fn export_text<D: Disk + Drop, E: Write>(
     alloc: Global,
     disk: D,
     name: &str,
+    form: TreeForm,
     errors: &mut E,
 ) -> Result<(D, String), (D, StoreToolFault)>
-    ensures ok { IfOk result (λ r. HasText D.model disk r.0
+    ensures ok { IfOk result (λ r. HasText D.model form disk r.0
         (chars name.now) (string_bytes r.1)) }
     ensures refused { IfErr result (λ r. LacksText D.model disk r.0
         (chars name.now) r.1) }
@@ -99,10 +118,10 @@ pub fn export_text<D: Disk + Drop, E: Write>(
     reading_is_an_image();
     let store = match open_store(alloc, disk, errors) {
         Ok(store) => store,
-        Err((disk, OpenFault::Device)) => return read_text(alloc, disk, name),
+        Err((disk, OpenFault::Device)) => return read_text(alloc, disk, name, form),
         Err((disk, fault)) => return Err((disk, StoreToolFault::Open(fault))),
     };
-    let exported = store.export(name);
+    let exported = text_of(alloc, &store, name, form);
     let disk = store.close();
     match exported {
         Ok(text) => Ok((disk, text)),

@@ -7,7 +7,7 @@ ghost use Rattle.conf_tools.specs.Worlds.{around};
 
 use crate::file_texts::{Restyled, check_file, list_changed, restyle};
 use crate::program::{Status, status_of};
-use crate::reporter::{Origin, Reporter};
+use crate::reporter::{Origin, Reporter, write_cause};
 use crate::texts::{ToolFault, check_text, format_text, read_text};
 use crate::world::World;
 use conf_files::ReplaceFault;
@@ -107,6 +107,19 @@ pub(crate) fn read_named<A: World, R: Read>(
     }
 }
 
+/// Writes why a file could not be opened or replaced, if that is known. Of standard input it is not known.
+pub(crate) fn tell_cause<A: World, E: Write>(world: &A, alloc: Global, file: &str, errors: &mut E) {
+    if file == STANDARD_INPUT {
+        return;
+    }
+    match world.file_cause() {
+        Some(cause) if !cause.is_out_of_memory() => {
+            write_cause(errors, alloc, cause, file, "FILE");
+        }
+        _ => {}
+    }
+}
+
 /// Writes the text of `input` in the one style.
 fn format_input<R: Read, W: Write, E: Write>(
     reporter: Reporter,
@@ -135,7 +148,9 @@ fn format_file<A: World, R: Read, W: Write, E: Write>(
         (around world.new (R.remaining input.new) (W.contents output.new)) result }
 {
     let read = read_named(world, reporter.alloc, file, input);
-    format_read(reporter, Origin::Named(file), read, output, errors)
+    let status = format_read(reporter, Origin::Named(file), read, output, errors);
+    tell_cause(world, reporter.alloc, file, errors);
+    status
 }
 
 /// Writes a text that was read in the one style, or why it was not read.
@@ -276,8 +291,23 @@ fn replace_files<A: World, E: Write>(
     status
 }
 
-/// Replaces a file by its text in the one style, if that is another one.
+/// Replaces a file by its text in the one style, if that is another one. Writes why it is not read or replaced.
 fn restyle_file<A: World, E: Write>(
+    world: &mut A,
+    reporter: Reporter,
+    comments: Comments,
+    file: &str,
+    errors: &mut E,
+) -> Status
+    ensures { RestylesFile A.model A.File.remaining comments file.now world.old world.new result }
+{
+    let status = restyle_opened(world, reporter, comments, file, errors);
+    tell_cause(world, reporter.alloc, file, errors);
+    status
+}
+
+/// Replaces a file by its text in the one style, if that is another one.
+fn restyle_opened<A: World, E: Write>(
     world: &mut A,
     reporter: Reporter,
     comments: Comments,
@@ -424,7 +454,9 @@ fn try_file<A: World, R: Read, W: Write, E: Write>(
         (around world.new (R.remaining input.new) (W.contents output.new)) result }
 {
     let read = read_named(world, reporter.alloc, file, input);
-    report_on_read(reporter, report, file, read, output, errors)
+    let ended = report_on_read(reporter, report, file, read, output, errors);
+    tell_cause(world, reporter.alloc, file, errors);
+    ended
 }
 
 /// Reports on a text that was read of a file, or writes why there is no report.

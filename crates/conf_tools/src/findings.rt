@@ -1,13 +1,10 @@
 // What stands in a store's file, as lines of text.
 ghost use Rattle.std.specs.Prelude.{◌≡◌, ◌++◌, IfOk, OnOk};
-ghost use Rattle.conf_tools.specs.Surveys.{bad_lines, findings_text, number_line, path_word, read_word, refusal_word, state_word, why_word, word_line};
+ghost use Rattle.conf_tools.specs.Surveys.{bad_lines, findings_text, number_line, state_word, why_word, word_line};
 
 use conf_history::{Bad, Findings, NoRecord};
-use conf_state::StoreFault;
 use itoa::Buffer;
 use std::alloc::{AllocError, Global};
-use tree_path::PathFault;
-use yaml_tree::ReadFault;
 
 /// What stands in a store's file, as a YAML mapping in the one style: a line for each key. It fails only if memory runs
 /// out.
@@ -75,55 +72,6 @@ fn why_word(why: NoRecord) -> &'static str
     match why {
         NoRecord::NotARecord => "NotARecord",
         NoRecord::WrongNumber { .. } => "WrongNumber",
-        NoRecord::Refused(fault) => refusal_word(fault),
-    }
-}
-
-/// The name of the innermost fault.
-fn refusal_word(fault: StoreFault) -> &'static str
-    ensures { result.now ≡ refusal_word fault }
-{
-    match fault {
-        StoreFault::Path(fault) => path_word(fault),
-        StoreFault::Read(fault) => read_word(fault),
-        StoreFault::EmptyBatch => "EmptyBatch",
-        StoreFault::BadName => "BadName",
-        StoreFault::NoConfig => "NoConfig",
-        StoreFault::TooDeep => "TooDeep",
-        StoreFault::ConfigLarge => "ConfigLarge",
-        StoreFault::StoreFull => "StoreFull",
-        StoreFault::RecordLong => "RecordLong",
-        StoreFault::JournalLong => "JournalLong",
-        StoreFault::CountFull => "CountFull",
-        StoreFault::Reopen => "Reopen",
-        StoreFault::Device => "Device",
-        StoreFault::OutOfMemory => "OutOfMemory",
-    }
-}
-
-fn path_word(fault: PathFault) -> &'static str
-    ensures { result.now ≡ path_word fault }
-{
-    match fault {
-        PathFault::BadPath { .. } => "BadPath",
-        PathFault::NoSuchPlace { .. } => "NoSuchPlace",
-        PathFault::NotIndex { .. } => "NotIndex",
-        PathFault::OutOfMemory => "OutOfMemory",
-    }
-}
-
-fn read_word(fault: ReadFault) -> &'static str
-    ensures { result.now ≡ read_word fault }
-{
-    match fault {
-        ReadFault::TooLong => "TooLong",
-        ReadFault::NotUtf8 { .. } => "NotUtf8",
-        ReadFault::Syntax { .. } => "Syntax",
-        ReadFault::Documents { .. } => "Documents",
-        ReadFault::KeyNotText => "KeyNotText",
-        ReadFault::KeyTwice => "KeyTwice",
-        ReadFault::TooDeep => "TooDeep",
-        ReadFault::LargeInStyle => "LargeInStyle",
-        ReadFault::OutOfMemory => "OutOfMemory",
+        NoRecord::Refused(fault) => fault.name(),
     }
 }

@@ -19,6 +19,8 @@ pub struct Host<'r, F> {
     folder: Option<String>,
     /// Why the call on a folder that failed last did.
     cause: Option<Cause>,
+    /// Why the last call on a file failed, if it did.
+    file_cause: Option<Cause>,
 }
 
 impl<'r, F: Files<File = File>> Host<'r, F> {
@@ -30,6 +32,7 @@ impl<'r, F: Files<File = File>> Host<'r, F> {
             made: None,
             folder: None,
             cause: None,
+            file_cause: None,
         }
     }
 
@@ -49,6 +52,20 @@ impl<'r, F: Files<File = File>> Host<'r, F> {
         }
     }
 
+    /// Keeps the cause of a call on a file, if it failed.
+    fn keep_of_file<T>(&mut self, done: Result<T, Cause>) -> Result<T, ReplaceFault> {
+        match done {
+            Ok(value) => {
+                self.file_cause = None;
+                Ok(value)
+            }
+            Err(cause) => {
+                self.file_cause = Some(cause);
+                Err(ReplaceFault::from(cause))
+            }
+        }
+    }
+
     /// Hands out a disk that was opened. If none was, a folder that was made for it is removed.
     fn hand_out(
         &mut self,
@@ -56,12 +73,15 @@ impl<'r, F: Files<File = File>> Host<'r, F> {
     ) -> Result<FolderDisk<'r, F>, FolderFault> {
         match opened {
             Ok(disk) => Ok(disk),
-            Err(error) => {
-                self.leave_nothing();
-                self.cause = error.cause;
-                Err(error.fault)
-            }
+            Err(error) => Err(self.refuse(error)),
         }
+    }
+
+    /// The fault of a folder in which nothing could be opened. A folder that was made for it is removed.
+    fn refuse(&mut self, error: FolderError) -> FolderFault {
+        self.leave_nothing();
+        self.cause = error.cause;
+        error.fault
     }
 
     /// Removes the folder that was made last, if nothing is in it.
@@ -98,6 +118,10 @@ impl<'r, F: Files<File = File>> World for Host<'r, F> {
             (Some(cause), Some(folder)) => Some((cause, folder.as_str())),
             _ => None,
         }
+    }
+
+    fn file_cause(&self) -> Option<Cause> {
+        self.file_cause
     }
 
     fn make_folder(&mut self, alloc: Global, folder: &str) -> Result<(), FolderFault> {
@@ -147,11 +171,15 @@ impl<'r, F: Files<File = File>> World for Host<'r, F> {
 
     fn open_store(&mut self, alloc: Global, folder: &str) -> Result<Option<File>, FolderFault> {
         self.begin(alloc, folder);
-        self.keep(open_store_file(self.rt, alloc, folder))
+        match open_store_file(self.rt, alloc, folder) {
+            Ok(file) => Ok(file),
+            Err(error) => Err(self.refuse(error)),
+        }
     }
 
     fn open_file(&mut self, path: &str) -> Option<File> {
-        open_input(self.rt, path).ok()
+        let opened = open_input(self.rt, path);
+        self.keep_of_file(opened).ok()
     }
 
     fn open_to_replace(
@@ -159,10 +187,12 @@ impl<'r, F: Files<File = File>> World for Host<'r, F> {
         alloc: Global,
         path: &str,
     ) -> Result<(File, Place), ReplaceFault> {
-        open_to_replace(self.rt, alloc, path).map_err(ReplaceFault::from)
+        let opened = open_to_replace(self.rt, alloc, path);
+        self.keep_of_file(opened)
     }
 
     fn replace(&mut self, alloc: Global, place: Place, bytes: &[u8]) -> Result<(), ReplaceFault> {
-        replace_file(self.rt, alloc, &place, bytes).map_err(ReplaceFault::from)
+        let replaced = replace_file(self.rt, alloc, &place, bytes);
+        self.keep_of_file(replaced)
     }
 }

@@ -9,6 +9,8 @@
 //! says on a writer for errors how many bytes opening dropped. [`calls_hold`] says what these calls keep over any crashes.
 #![tactic(auto)]
 
+mod asking;
+mod backups;
 mod change_words;
 mod changes;
 mod dropped;
@@ -40,7 +42,7 @@ pub use host::Host;
 pub use laws::{call_holds, calls_hold};
 pub use program::{Status, perform, refuse_words, show_unparsed};
 pub use reading_fault::ReadingFault;
-pub use reads::{write_names, write_value};
+pub use reads::{Place, Presence, find_presence, write_names, write_value};
 pub use stores::{Grouping, StoreToolFault, run_store};
 pub use surveys::{Soundness, write_findings, write_survey};
 pub use tail::{KEPT, Tail, TailReader};

@@ -6,14 +6,20 @@ ghost use Rattle.conf_tools.specs.Statuses.{ShowsUnparsed, code_of, status_of, s
 ghost use Rattle.conf_tools.specs.StoreWords.{ExportsFromFolder, RunsOnFolder, WritesFound, WritesWhole, status_at_end};
 ghost use Rattle.conf_tools.specs.Worlds.{around};
 
-use crate::change_words::{Import, change_folder, delete_of, import_text, init_folder, set_of};
+use crate::backups::back_up_file;
+use crate::change_words::{
+    Import, Target, WHOLE, change_now, copy_to, delete_at, import_text, init_folder, rename_to,
+    set_at,
+};
 use crate::changes::Change;
 use crate::exports::export_text;
 use crate::file_words::{check_files, format_files, read_named};
 use crate::read_words::{
-    Asked, log_form_of, open_file, save_file, tell_log, tell_names, tell_survey, tell_value,
+    Asked, log_form_of, open_file, save_file, tell_log, tell_names, tell_presence, tell_survey,
+    tell_value,
 };
-use crate::reporter::Reporter;
+use crate::reads::Place;
+use crate::reporter::{Reporter, write_cause};
 use crate::rest::write_rest;
 use crate::stores::{Grouping, StoreToolFault, run_store};
 use crate::tail::{Tail, TailReader};
@@ -23,7 +29,7 @@ use conf_folder::FolderFault;
 use conf_session::{Checkpoints, SessionFault, Tally};
 use conf_state::StoreFault;
 use conf_store::OpenFault;
-use conf_words::{Invocation, Reporting, Unparsed, escaped};
+use conf_words::{Invocation, Reporting, TreeForm, Unparsed};
 use std::alloc::{AllocError, Global};
 use std::io;
 use std::io::{ErrorKind, Read, Write};
@@ -35,6 +41,8 @@ pub enum Status {
     Done,
     /// 1: `check` found something in a text.
     Found,
+    /// 1: `exists` found nothing at a place.
+    Absent,
     /// 1: a text or a store was refused, or memory ran out.
     Refused,
     /// 2: the words are none that the program takes.
@@ -50,7 +58,7 @@ impl Status {
     {
         match self {
             Status::Done => 0,
-            Status::Found | Status::Refused => 1,
+            Status::Found | Status::Absent | Status::Refused => 1,
             Status::WrongWords => 2,
             Status::Device => 3,
         }
@@ -59,15 +67,17 @@ impl Status {
 
 /// Does what an invocation asks for, with the folders and files of `world`, and returns the status.
 ///
-/// It is `Done` if all was done. It is `Refused` if a text or a store is refused or memory ran out, `Found` if something
-/// was found in a text, and `Device` if reading or writing failed, or a folder is missing or locked. A fault is written
-/// to `errors` in one line; if that write fails, it is ignored. Where a text of a file is refused, the line has the place,
-/// and others explain it where the invocation or the world asks for that. Commands that are refused inside a session leave the
-/// status `Done`. So do bytes after the last closing line of its input; if they are not blank, one line to `errors` says
-/// that they were not performed, and the likely cause. Another line there says how many bytes after the last whole record
-/// of a store were dropped, if there were any.
+/// It is `Done` if all was done. It is `Refused` if a text or a store is refused or memory ran out, `Found` if
+/// something was found in a text, `Absent` if nothing is at a place that was looked for, and `Device` if reading or
+/// writing failed, or a folder is missing or locked. A fault is written to `errors` in one line; if that write fails,
+/// it is ignored. Where a text of a file is refused, the line has the place, and others explain it where the
+/// invocation or the world asks for that. Commands that are refused inside a session leave the status `Done`. So do
+/// bytes after the last closing line of its input; if they are not blank, one line to `errors` says that they were not
+/// performed, and the likely cause. Another line there says how many bytes after the last whole record of a store were
+/// dropped, if there were any.
 ///
-/// Where a folder could not be used, a line after the fault says why, as `store.yaml: No space left on device`.
+/// Where a folder or a file could not be used, a line after the fault says why, as
+/// `store.yaml: No space left on device`.
 ///
 /// Each disk that the world hands out is given back to it before this returns, and before anything is written to `output`
 /// but the answers of a session.
@@ -85,18 +95,15 @@ pub fn perform<A: World, R: Read, W: Write, E: Write>(
 {
     let status = perform_word(world, alloc, invocation, input, output, errors);
     if status == Status::Device {
-        write_cause(world, alloc, errors);
+        tell_folder_cause(world, alloc, errors);
     }
     status
 }
 
 /// Writes why a folder could not be used, if that is known.
-fn write_cause<A: World, E: Write>(world: &A, alloc: Global, errors: &mut E) {
+fn tell_folder_cause<A: World, E: Write>(world: &A, alloc: Global, errors: &mut E) {
     if let Some((cause, folder)) = world.cause() {
-        let shown = escaped(alloc, folder).ok();
-        let shown = shown.as_deref().unwrap_or("FOLDER");
-        let cause = cause.shown(shown);
-        let _ = writeln!(errors, "{cause}");
+        write_cause(errors, alloc, cause, folder, "FOLDER");
     }
 }
 
@@ -120,6 +127,7 @@ fn perform_word<A: World, R: Read, W: Write, E: Write>(
             name,
             file,
             missing,
+            conditions,
             reporting,
         } => {
             let reporter = reporter_of(world, alloc, reporting);
@@ -129,6 +137,7 @@ fn perform_word<A: World, R: Read, W: Write, E: Write>(
                 name,
                 file,
                 missing,
+                conditions,
             };
             import_text(world, reporter, asked, read, errors)
         }
@@ -137,23 +146,62 @@ fn perform_word<A: World, R: Read, W: Write, E: Write>(
             name,
             pointer,
             value,
+            conditions,
             reporting,
         } => {
             let reporter = reporter_of(world, alloc, reporting);
-            let change = set_of(reporter, name, pointer, value, input, errors);
-            change_folder(world, alloc, folder, change, errors)
+            let place = Target {
+                folder,
+                name,
+                pointer,
+                conditions,
+            };
+            set_at(world, reporter, place, value, input, errors)
         }
         Invocation::Delete {
             folder,
             name,
             pointer,
+            conditions,
         } => {
-            let reporter = reporter_of(world, alloc, Reporting::Brief);
-            let change = delete_of(reporter, name, pointer, errors);
-            change_folder(world, alloc, folder, change, errors)
+            let place = Target {
+                folder,
+                name,
+                pointer,
+                conditions,
+            };
+            delete_at(world, alloc, place, errors)
+        }
+        Invocation::Copy {
+            folder,
+            name,
+            to,
+            conditions,
+        } => {
+            let place = Target {
+                folder,
+                name: to,
+                pointer: WHOLE,
+                conditions,
+            };
+            copy_to(world, alloc, name, place, errors)
+        }
+        Invocation::Rename {
+            folder,
+            name,
+            to,
+            conditions,
+        } => {
+            let place = Target {
+                folder,
+                name: to,
+                pointer: WHOLE,
+                conditions,
+            };
+            rename_to(world, alloc, name, place, errors)
         }
         Invocation::Checkpoint { folder } => {
-            change_folder(world, alloc, folder, Ok(Change::Checkpoint), errors)
+            change_now(world, alloc, folder, &[], Change::Checkpoint, errors)
         }
         Invocation::Run { folder, grouping } => {
             run_folder(
@@ -166,28 +214,38 @@ fn perform_word<A: World, R: Read, W: Write, E: Write>(
                 errors,
             )
         }
-        Invocation::Export { folder, name } => {
-            export_folder(world, alloc, folder, name, output, errors)
+        Invocation::Export { folder, name, form } => {
+            export_folder(world, alloc, folder, name, form, output, errors)
         }
-        Invocation::Names { folder, at } => {
+        Invocation::Names { folder, at, form } => {
             let file = open_file(world, alloc, folder);
-            tell_names(alloc, file, at, output, errors)
+            tell_names(alloc, file, at, form, output, errors)
         }
         Invocation::Get {
             folder,
             name,
             pointer,
             at,
+            missing,
             form,
         } => {
             let file = open_file(world, alloc, folder);
             let asked = Asked {
-                name,
-                pointer,
-                at,
+                place: Place { name, pointer, at },
+                missing,
                 form,
             };
             tell_value(alloc, file, asked, output, errors)
+        }
+        Invocation::Exists {
+            folder,
+            name,
+            pointer,
+            at,
+        } => {
+            let file = open_file(world, alloc, folder);
+            let place = Place { name, pointer, at };
+            tell_presence(alloc, file, place, errors)
         }
         Invocation::Log { folder, at, form } => {
             let file = open_file(world, alloc, folder);
@@ -200,6 +258,10 @@ fn perform_word<A: World, R: Read, W: Write, E: Write>(
         Invocation::Salvage { folder, new } => {
             let file = open_file(world, alloc, folder);
             save_file(world, alloc, file, new, output, errors)
+        }
+        Invocation::Backup { folder, new } => {
+            let file = open_file(world, alloc, folder);
+            back_up_file(world, alloc, file, new, errors)
         }
         Invocation::Format {
             formatting,
@@ -302,15 +364,16 @@ fn export_folder<A: World, W: Write, E: Write>(
     alloc: Global,
     folder: &str,
     name: &str,
+    form: TreeForm,
     output: &mut W,
     errors: &mut E,
 ) -> Status
-    ensures { ExportsFromFolder A.model A.Disk.model folder.now name.now world.old world.new
+    ensures { ExportsFromFolder A.model A.Disk.model form folder.now name.now world.old world.new
         (W.contents output.old) (W.contents output.new) result }
 {
     match world.open(alloc, Access::Reading, folder) {
         Ok(disk) => {
-            let found = export_text(alloc, disk, name, errors);
+            let found = export_text(alloc, disk, name, form, errors);
             write_found(world, found, output, errors)
         }
         Err(fault) => write_store_fault(errors, StoreToolFault::Folder(fault)),

@@ -1,30 +1,28 @@
 // The words of the program that only read a store, and the one that makes a store of what a damaged one still says.
-ghost use Rattle.std.specs.Prelude.{◌≡◌};
+ghost use Rattle.std.specs.Prelude.{◌≡◌, ℕ, List, Option};
 ghost use Rattle.conf_tools.specs.Performs.{log_form_of};
 ghost use Rattle.conf_tools.specs.ReadingStatuses.{status_of_history, status_of_reading};
 ghost use Rattle.conf_tools.specs.Exports.{disk_back};
-ghost use Rattle.conf_tools.specs.StoreWords.{OpensFile, OpensNew, SavesFound, SavesInFolder, SaysLog, SaysNames, SaysOfFile, SaysSurvey, SaysValue, WritesFindings, status_after_log, status_after_reading, status_after_survey};
+ghost use Rattle.conf_tools.specs.StoreWords.{OpensFile, OpensNew, SavesFound, SavesInFolder, SaysLog, SaysNames, SaysOfFile, SaysPresence, SaysSurvey, SaysValue, WritesFindings, status_after_log, status_after_presence, status_after_reading, status_after_survey};
 
 use crate::program::Status;
 use crate::reading_fault::ReadingFault;
-use crate::reads::{write_names, write_value};
+use crate::reads::{Place, Presence, find_presence, write_names, write_value};
 use crate::surveys::{Soundness, write_findings, write_survey};
 use crate::world::World;
 use conf_folder::FolderFault;
-use conf_history::{Findings, HistoryFault, LogForm, SalvageFault, salvage, write_log};
-use conf_words::{FolderWord, ValueForm};
+use conf_history::{Findings, HistoryFault, LineForm, LogForm, SalvageFault, salvage, write_log};
+use conf_words::{FolderWord, MissingValue, NamesForm, ValueForm};
 use std::alloc::Global;
 use std::io::{Read, Write};
 
 /// Which value of a store is asked for, and how it is to be written.
 #[derive(Clone, Copy)]
 pub(crate) struct Asked<'w> {
-    /// The name of the configuration.
-    pub(crate) name: &'w str,
-    /// The JSON Pointer of the value.
-    pub(crate) pointer: &'w str,
-    /// The number of the command after which it stands there; the last one if there is no number.
-    pub(crate) at: Option<u64>,
+    /// Where it stands.
+    pub(crate) place: Place<'w>,
+    /// What is done where nothing is.
+    pub(crate) missing: MissingValue<'w>,
     /// How it is to be written.
     pub(crate) form: ValueForm,
 }
@@ -34,15 +32,16 @@ pub(crate) fn tell_names<F: Read + Drop, W: Write, E: Write>(
     alloc: Global,
     file: Result<F, ReadingFault>,
     at: Option<u64>,
+    form: NamesForm,
     output: &mut W,
     errors: &mut E,
 ) -> Status
-    ensures { SaysOfFile F.remaining (SaysNames at) file
+    ensures { SaysOfFile F.remaining (SaysNames at form) file
         (W.contents output.old) (W.contents output.new) result }
 {
     match file {
         Ok(mut file) => {
-            let ended = write_names(alloc, &mut file, at, output);
+            let ended = write_names(alloc, &mut file, at, form, output);
             tell_reading(errors, ended)
         }
         Err(fault) => write_reading_fault(errors, fault),
@@ -58,20 +57,51 @@ pub(crate) fn tell_value<F: Read + Drop, W: Write, E: Write>(
     errors: &mut E,
 ) -> Status
     ensures { SaysOfFile F.remaining
-        (SaysValue asked.entry.at asked.entry.name.now asked.entry.pointer.now asked.entry.form)
+        (SaysValue asked.entry.place.at asked.entry.place.name.now asked.entry.place.pointer.now
+        asked.entry.missing asked.entry.form)
         file (W.contents output.old) (W.contents output.new) result }
 {
     let Asked {
-        name,
-        pointer,
-        at,
+        place,
+        missing,
         form,
     } = asked;
     match file {
         Ok(mut file) => {
-            let ended = write_value(alloc, &mut file, at, name, pointer, form, output);
+            let ended = write_value(alloc, &mut file, place, missing, form, output);
             tell_reading(errors, ended)
         }
+        Err(fault) => write_reading_fault(errors, fault),
+    }
+}
+
+/// Looks whether something is at a place of a store's file, and writes why that can't be told, if it can't.
+pub(crate) fn tell_presence<F: Read + Drop, E: Write>(
+    alloc: Global,
+    file: Result<F, ReadingFault>,
+    place: Place<'_>,
+    errors: &mut E,
+) -> Status
+    ensures { (output : Option (List ℕ)) → SaysOfFile F.remaining
+        (SaysPresence place.entry.at place.entry.name.now place.entry.pointer.now)
+        file output output result }
+{
+    match file {
+        Ok(mut file) => {
+            let found = find_presence(alloc, &mut file, place);
+            end_presence(errors, found)
+        }
+        Err(fault) => write_reading_fault(errors, fault),
+    }
+}
+
+/// Writes why it can't be told whether something is at a place, if that is so, and returns the status.
+fn end_presence<E: Write>(errors: &mut E, found: Result<Presence, ReadingFault>) -> Status
+    ensures { result ≡ status_after_presence found }
+{
+    match found {
+        Ok(Presence::Present) => Status::Done,
+        Ok(Presence::Absent) => Status::Absent,
         Err(fault) => write_reading_fault(errors, fault),
     }
 }
@@ -122,7 +152,8 @@ pub(crate) fn log_form_of(asked: conf_words::LogForm) -> LogForm
     ensures { result ≡ log_form_of asked }
 {
     match asked {
-        conf_words::LogForm::Lines => LogForm::Lines,
+        conf_words::LogForm::Lines => LogForm::Lines(LineForm::Names),
+        conf_words::LogForm::Values => LogForm::Lines(LineForm::Values),
         conf_words::LogForm::Records => LogForm::Records,
     }
 }
@@ -241,7 +272,7 @@ fn write_saved<A: World, W: Write, E: Write>(
 
 /// The disk of a folder that is to hold a new store, which takes after the file of another one. A missing folder is made.
 /// One that has a `store.yaml` stays as it is.
-fn open_new<A: World>(
+pub(crate) fn open_new<A: World>(
     world: &mut A,
     alloc: Global,
     like: &A::File,
@@ -280,7 +311,7 @@ pub(crate) fn open_file<A: World>(
 
 /// Writes a fault of a word that reads a store in one line, and returns its status. A read that failed is reported as the
 /// fault of the device.
-fn write_reading_fault<E: Write>(errors: &mut E, fault: ReadingFault) -> Status
+pub(crate) fn write_reading_fault<E: Write>(errors: &mut E, fault: ReadingFault) -> Status
     ensures { result ≡ status_of_reading fault }
 {
     let _ = match fault {

@@ -1,27 +1,30 @@
 // The names and values of a store's file, over any reader and writer.
-ghost use Rattle.std.specs.Prelude.{◌≡◌, ◌≤◌, ◌++◌, Ok, Err, IfOk, IfErr, OnOk, string_bytes, encode_utf8_all, codes};
+ghost use Rattle.std.specs.Prelude.{◌≡◌, ◌≤◌, ◌⊎◌, ◌++◌, Ok, Err, IfOk, IfErr, OnOk, string_bytes, encode_utf8_all, codes};
 ghost use Rattle.std.specs.Str.{chars};
 ghost use Rattle.yaml_grammar.specs.Style.{style_text};
-ghost use Rattle.yaml_grammar.specs.Trees.{depth};
+ghost use Rattle.yaml_forms.specs.Json.{json_texts};
+ghost use Rattle.yaml_grammar.specs.Trees.{depth, text as one_text};
 ghost use Rattle.yaml_config.specs.Kept.{own_limits};
 ghost use Rattle.yaml_data.specs.Seen.{tree_of};
+ghost use Rattle.conf_session.specs.Answers.{value_at_path};
 ghost use Rattle.conf_state.specs.Limits.{IsState};
 ghost use Rattle.conf_state.specs.States.{names_of};
 ghost use Rattle.conf_store.specs.Calls.{tree_named};
-ghost use Rattle.conf_tools.specs.Reads.{LacksValue, RefusesNames, RefusesValue, ShowsValue, WritesNames, WritesValue, name_lines, shown};
+ghost use Rattle.conf_tools.specs.Reads.{CannotShow, FindsPresence, HidesPresence, LacksFound, RefusesNames, RefusesPresence, RefusesValue, ShowsFound, ShowsTree, WritesNames, WritesValue, found_or, is_absent, name_lines, names_text, presence_of, tree_text, value_or};
 
 use crate::reading_fault::ReadingFault;
 use crate::texts::write_whole;
 use conf_history::{HistoryFault, state_at};
 use conf_state::{State, StoreFault, good_name};
-use conf_words::ValueForm;
+use conf_words::{MissingValue, NamesForm, RawEnd, TreeForm, ValueForm};
 use std::alloc::{AllocError, Global};
 use std::io::{Read, Write};
 use tree_path::{Path, PathFault};
-use yaml_tree::{Config, Sink, Tree, write_style};
+use yaml_forms::{KeysFault, TextArray, json_line, keys, plain};
+use yaml_tree::{Config, Sink, Text, Tree, write_style};
 
-/// Writes the names of the configurations that a store's file holds, in order, each with a line feed after it: after
-/// all its commands, or after the one with the number `at`. The file is read as by [`state_at`].
+/// Writes the names of the configurations that a store's file holds, in order and in a form: after all its commands, or
+/// after the one with the number `at`. The file is read as by [`state_at`].
 ///
 /// # Errors
 /// - `History` if [`state_at`] fails. Nothing is written.
@@ -30,9 +33,10 @@ pub fn write_names<R: Read, W: Write>(
     alloc: Global,
     reader: &mut R,
     at: Option<u64>,
+    form: NamesForm,
     writer: &mut W,
 ) -> Result<(), ReadingFault>
-    ensures ok { OnOk result (WritesNames (R.remaining reader.old) at
+    ensures ok { OnOk result (WritesNames (R.remaining reader.old) at form
         (W.contents writer.old) (W.contents writer.new)) }
     ensures refused { IfErr result (RefusesNames (R.remaining reader.old) at
         (W.contents writer.old) (W.contents writer.new)) }
@@ -41,14 +45,46 @@ pub fn write_names<R: Read, W: Write>(
         Ok(state) => state,
         Err(fault) => return Err(ReadingFault::History(fault)),
     };
-    let lines = match name_lines(alloc, &state) {
-        Ok(lines) => lines,
+    let text = match names_text(alloc, &state, form) {
+        Ok(text) => text,
         Err(_) => return Err(ReadingFault::History(HistoryFault::OutOfMemory)),
     };
-    match write_whole(writer, &lines) {
+    match write_whole(writer, &text) {
         Ok(()) => Ok(()),
         Err(_) => Err(ReadingFault::Output),
     }
+}
+
+/// The names of a state in a form.
+fn names_text(alloc: Global, state: &State, form: NamesForm) -> Result<Vec<u8>, AllocError>
+    ensures { IfOk result (λ text. text.items ≡ names_text form (names_of state.now.configs)) }
+{
+    match form {
+        NamesForm::Lines => name_lines(alloc, state),
+        NamesForm::Json => Ok(name_array(alloc, state)?.into_bytes()),
+    }
+}
+
+/// The names of a state as a JSON array, with a line feed after it.
+fn name_array(alloc: Global, state: &State) -> Result<String, AllocError>
+    ensures { IfOk result (λ line. string_bytes line
+        ≡ encode_utf8_all (json_texts (names_of state.now.configs) ++ codes "\n")) }
+{
+    let mut array = names_array(alloc, state)?;
+    array.put_char('\n')?;
+    Ok(array)
+}
+
+/// The names of a state as a JSON array.
+fn names_array(alloc: Global, state: &State) -> Result<String, AllocError>
+    ensures { IfOk result (λ json.
+        string_bytes json ≡ encode_utf8_all (json_texts (names_of state.now.configs))) }
+{
+    let mut array = TextArray::new(alloc);
+    for name in state.names() {
+        array.push(name)?;
+    }
+    array.finish()
 }
 
 /// The names of a state as lines.
@@ -71,37 +107,50 @@ fn push_name(lines: &mut Vec<u8>, name: &str) -> Result<(), AllocError>
     lines.extend_from_slice(b"\n")
 }
 
-/// Writes the value at a pointer of a configuration that a store's file holds: after all its commands, or after the one
-/// with the number `number`. The file is read as by [`state_at`]. The empty pointer means the whole configuration.
+/// Which place of a store is meant.
+#[derive(Clone, Copy)]
+pub struct Place<'w> {
+    /// The name of the configuration.
+    pub name: &'w str,
+    /// The JSON Pointer in it. The empty one means the whole configuration.
+    pub pointer: &'w str,
+    /// The number of the command after which the store is read; the last one if there is no number.
+    pub at: Option<u64>,
+}
+
+/// Writes the value at a place of a store's file. The file is read as by [`state_at`].
 ///
 /// # Errors
 /// - `History` if [`state_at`] fails.
 /// - `Value` with the first of these that holds: `BadName` if the name may not be used, `NoConfig` if no configuration
-///   has it, and the pointer's fault. Or with `OutOfMemory`.
+///   has it, and the pointer's fault. Where `missing` gives a text, `NoConfig`, `NoSuchPlace` and `NotIndex` are no
+///   faults: that text is written. Or with `OutOfMemory`.
+/// - `NotText` if the value is no text, and the form is that of a text as it is.
 /// - `Output` if the writer fails. Some of the value may be written.
 ///
 /// But for `Output`, nothing is written.
 pub fn write_value<R: Read, W: Write>(
     alloc: Global,
     reader: &mut R,
-    number: Option<u64>,
-    name: &str,
-    pointer: &str,
+    place: Place<'_>,
+    missing: MissingValue<'_>,
     form: ValueForm,
     writer: &mut W,
 ) -> Result<(), ReadingFault>
-    ensures ok { OnOk result (WritesValue (R.remaining reader.old) number
-        (chars name.now) (chars pointer.now) form (W.contents writer.old) (W.contents writer.new)) }
-    ensures refused { IfErr result (RefusesValue (R.remaining reader.old) number
-        (chars name.now) (chars pointer.now) (W.contents writer.old) (W.contents writer.new)) }
+    ensures ok { OnOk result (WritesValue (R.remaining reader.old) place.entry.at
+        (chars place.entry.name.now) (chars place.entry.pointer.now) missing.entry form
+        (W.contents writer.old) (W.contents writer.new)) }
+    ensures refused { IfErr result (RefusesValue (R.remaining reader.old) place.entry.at
+        (chars place.entry.name.now) (chars place.entry.pointer.now) missing.entry form
+        (W.contents writer.old) (W.contents writer.new)) }
 {
-    let state = match state_at(alloc, reader, number) {
+    let state = match state_at(alloc, reader, place.at) {
         Ok(state) => state,
         Err(fault) => return Err(ReadingFault::History(fault)),
     };
-    let text = match value_text(alloc, &state, name, pointer, form) {
+    let text = match value_text(alloc, &state, place, missing, form) {
         Ok(text) => text,
-        Err(fault) => return Err(ReadingFault::Value(fault)),
+        Err(fault) => return Err(fault),
     };
     match write_whole(writer, text.as_bytes()) {
         Ok(()) => Ok(()),
@@ -109,33 +158,152 @@ pub fn write_value<R: Read, W: Write>(
     }
 }
 
-/// The text of the value at a pointer of a configuration.
+/// Whether something is at a place.
+#[derive(Clone, Copy, Debug, PartialEq, Eq)]
+pub enum Presence {
+    /// A value is there.
+    Present,
+    /// No configuration has the name, or the pointer leads nowhere.
+    Absent,
+}
+
+/// Looks whether something is at a place of a store's file. The file is read as by [`state_at`].
 ///
 /// # Errors
-/// The first of these that holds: `BadName`, `NoConfig`, and the pointer's fault. `OutOfMemory` may come at any point.
+/// - `History` if [`state_at`] fails.
+/// - `Value` with `BadName` if the name may not be used, with `BadPath` if the pointer is none, or with `OutOfMemory`.
+pub fn find_presence<R: Read>(
+    alloc: Global,
+    reader: &mut R,
+    place: Place<'_>,
+) -> Result<Presence, ReadingFault>
+    ensures ok { IfOk result (FindsPresence (R.remaining reader.old) place.entry.at
+        (chars place.entry.name.now) (chars place.entry.pointer.now)) }
+    ensures refused { IfErr result (RefusesPresence (R.remaining reader.old) place.entry.at
+        (chars place.entry.name.now) (chars place.entry.pointer.now)) }
+{
+    let state = match state_at(alloc, reader, place.at) {
+        Ok(state) => state,
+        Err(fault) => return Err(ReadingFault::History(fault)),
+    };
+    match presence_in(alloc, &state, place) {
+        Ok(presence) => Ok(presence),
+        Err(fault) => Err(ReadingFault::Value(fault)),
+    }
+}
+
+/// Whether a state has something at a place.
+fn presence_in(alloc: Global, state: &State, place: Place<'_>) -> Result<Presence, StoreFault>
+    ensures ok { IfOk result (λ presence. presence_of (value_at_path state.now
+        (chars place.entry.name.now) (chars place.entry.pointer.now)) ≡ Ok presence) }
+    ensures refused { IfErr result (HidesPresence (presence_of (value_at_path state.now
+        (chars place.entry.name.now) (chars place.entry.pointer.now)))) }
+{
+    match value_at(alloc, state, place) {
+        Ok(_) => Ok(Presence::Present),
+        Err(fault) => presence_after(fault),
+    }
+}
+
+/// Whether something is at a place, where a look for it ended with a fault.
+fn presence_after(fault: StoreFault) -> Result<Presence, StoreFault>
+    ensures { result ≡ presence_of (Err fault) }
+{
+    if is_absent(fault) {
+        Ok(Presence::Absent)
+    } else {
+        Err(fault)
+    }
+}
+
+/// Whether a fault says that nothing is at a place.
+fn is_absent(fault: StoreFault) -> bool
+    ensures { result ≡ is_absent fault }
+{
+    match fault {
+        StoreFault::NoConfig
+        | StoreFault::Path(PathFault::NoSuchPlace { .. } | PathFault::NotIndex { .. }) => true,
+        _ => false,
+    }
+}
+
+/// The text of the value at a place of a state, or of what stands for it.
 fn value_text(
     alloc: Global,
     state: &State,
-    name: &str,
-    pointer: &str,
+    place: Place<'_>,
+    missing: MissingValue<'_>,
     form: ValueForm,
-) -> Result<String, StoreFault>
-    ensures ok { IfOk result (λ text. ShowsValue state.now (chars name.now) (chars pointer.now)
-        form (string_bytes text)) }
-    ensures refused { IfErr result
-        (LacksValue state.now (chars name.now) (chars pointer.now)) }
+) -> Result<String, ReadingFault>
+    ensures ok { IfOk result (λ text. ShowsFound (value_or missing.entry state.now
+        (chars place.entry.name.now) (chars place.entry.pointer.now)) form (string_bytes text)) }
+    ensures refused { IfErr result (LacksFound (value_or missing.entry state.now
+        (chars place.entry.name.now) (chars place.entry.pointer.now)) form) }
 {
-    let config = match config_of(state, name) {
+    match value_at(alloc, state, place) {
+        Ok(value) => shown(alloc, value, form),
+        Err(fault) => missing_text(alloc, fault, missing, form),
+    }
+}
+
+/// The text for a place at which a look ended with a fault: that which the words give, if nothing is there.
+fn missing_text(
+    alloc: Global,
+    fault: StoreFault,
+    missing: MissingValue<'_>,
+    form: ValueForm,
+) -> Result<String, ReadingFault>
+    ensures ok { IfOk result (λ text.
+        ShowsFound (found_or missing.entry (Err fault)) form (string_bytes text)) }
+    ensures refused { IfErr result (LacksFound (found_or missing.entry (Err fault)) form) }
+{
+    match missing {
+        MissingValue::Default(text) => default_text(alloc, fault, text, form),
+        MissingValue::Refused => Err(ReadingFault::Value(fault)),
+    }
+}
+
+/// A text that the words give for a place at which a look ended with a fault, if nothing is there.
+fn default_text(
+    alloc: Global,
+    fault: StoreFault,
+    text: &str,
+    form: ValueForm,
+) -> Result<String, ReadingFault>
+    ensures ok { IfOk result (λ bytes.
+        ShowsFound (found_or (MissingValue.Default text.entry) (Err fault)) form (string_bytes bytes)) }
+    ensures refused { IfErr result
+        (LacksFound (found_or (MissingValue.Default text.entry) (Err fault)) form) }
+{
+    if is_absent(fault) {
+        shown_text(alloc, text, form)
+    } else {
+        Err(ReadingFault::Value(fault))
+    }
+}
+
+/// The value at a place of a state.
+///
+/// # Errors
+/// The first of these that holds: `BadName`, `NoConfig`, and the pointer's fault. `OutOfMemory` may come at any point.
+fn value_at<'s>(alloc: Global, state: &'s State, place: Place<'_>) -> Result<&'s Tree, StoreFault>
+    ensures ok { IfOk result (λ value. value_at_path state.now
+        (chars place.entry.name.now) (chars place.entry.pointer.now) ≡ Ok (tree_of value.now)) }
+    ensures shallow { IfOk result (λ value. depth (tree_of value.now) ≤ own_limits.depth) }
+    ensures refused { IfErr result (λ fault. (fault ≡ StoreFault.OutOfMemory) ⊎ (value_at_path state.now
+        (chars place.entry.name.now) (chars place.entry.pointer.now) ≡ Err fault)) }
+{
+    let config = match config_of(state, place.name) {
         Ok(config) => config,
         Err(fault) => return Err(fault),
     };
-    let path = match Path::parse(alloc, pointer) {
+    let path = match Path::parse(alloc, place.pointer) {
         Ok(path) => path,
         Err(PathFault::OutOfMemory) => return Err(StoreFault::OutOfMemory),
         Err(fault) => return Err(StoreFault::Path(fault)),
     };
     match config.value_at(&path) {
-        Ok(value) => Ok(shown(alloc, value, form)?),
+        Ok(value) => Ok(value),
         Err(fault) => Err(StoreFault::Path(fault)),
     }
 }
@@ -144,7 +312,7 @@ fn value_text(
 ///
 /// # Errors
 /// `BadName` if the name may not be used, and `NoConfig` if no configuration has it.
-fn config_of<'s>(state: &'s State, name: &str) -> Result<&'s Config, StoreFault>
+pub(crate) fn config_of<'s>(state: &'s State, name: &str) -> Result<&'s Config, StoreFault>
     ensures limits { OnOk result (IsState state.now) }
     ensures ok { IfOk result (λ config. tree_named state.now (chars name.now)
         ≡ Ok (tree_of config.now)) }
@@ -160,28 +328,72 @@ fn config_of<'s>(state: &'s State, name: &str) -> Result<&'s Config, StoreFault>
     }
 }
 
-/// A value in a form, in UTF-8.
-fn shown(alloc: Global, value: &Tree, form: ValueForm) -> Result<String, AllocError>
-    requires { depth (tree_of value.now) ≤ own_limits.depth }
-    ensures { IfOk result (λ text.
-        string_bytes text ≡ encode_utf8_all (shown form (tree_of value.now))) }
+/// A text in a form, in UTF-8.
+fn shown_text(alloc: Global, text: &str, form: ValueForm) -> Result<String, ReadingFault>
+    ensures ok { IfOk result (λ bytes.
+        ShowsTree form (one_text (chars text.now)) (string_bytes bytes)) }
+    ensures refused { IfErr result (CannotShow form (one_text (chars text.now))) }
 {
     match form {
-        ValueForm::Styled => styled(alloc, value),
-        ValueForm::Raw => raw(alloc, value),
+        ValueForm::Whole(form) => Ok(whole_text(alloc, text, form)?),
+        ValueForm::Raw(end) => Ok(raw_text(alloc, text, end)?),
+        ValueForm::Keys => Err(ReadingFault::NotCollection),
     }
 }
 
-/// A text as it is, with a line feed after it. Any other value in the one style.
-fn raw(alloc: Global, value: &Tree) -> Result<String, AllocError>
+/// A value in a form, in UTF-8.
+fn shown(alloc: Global, value: &Tree, form: ValueForm) -> Result<String, ReadingFault>
     requires { depth (tree_of value.now) ≤ own_limits.depth }
-    ensures { IfOk result (λ text.
-        string_bytes text ≡ encode_utf8_all (shown ValueForm.Raw (tree_of value.now))) }
+    ensures ok { IfOk result (λ text. ShowsTree form (tree_of value.now) (string_bytes text)) }
+    ensures refused { IfErr result (CannotShow form (tree_of value.now)) }
+{
+    match form {
+        ValueForm::Whole(form) => Ok(tree_text(alloc, value, form)?),
+        ValueForm::Raw(end) => raw(alloc, value, end),
+        ValueForm::Keys => key_lines(alloc, value),
+    }
+}
+
+/// The keys of a mapping, or the indexes of a sequence, a line each.
+///
+/// # Errors
+/// `NotCollection` if the value is a text, and memory that runs out.
+fn key_lines(alloc: Global, value: &Tree) -> Result<String, ReadingFault>
+    ensures ok { IfOk result (λ text.
+        ShowsTree ValueForm.Keys (tree_of value.now) (string_bytes text)) }
+    ensures refused { IfErr result (CannotShow ValueForm.Keys (tree_of value.now)) }
+{
+    match keys(alloc, value) {
+        Ok(lines) => Ok(lines),
+        Err(KeysFault::NotCollection) => Err(ReadingFault::NotCollection),
+        Err(KeysFault::OutOfMemory) => Err(ReadingFault::Value(StoreFault::OutOfMemory)),
+    }
+}
+
+/// A text as it is, with its end.
+///
+/// # Errors
+/// `NotText` if the value is none, and memory that runs out.
+fn raw(alloc: Global, value: &Tree, end: RawEnd) -> Result<String, ReadingFault>
+    ensures ok { IfOk result (λ text.
+        ShowsTree (ValueForm.Raw end) (tree_of value.now) (string_bytes text)) }
+    ensures refused { IfErr result (CannotShow (ValueForm.Raw end) (tree_of value.now)) }
 {
     match value {
-        Tree::Text(text) => line_of(alloc, text),
-        Tree::Seq(_) => styled(alloc, value),
-        Tree::Map(_) => styled(alloc, value),
+        Tree::Text(text) => Ok(raw_text(alloc, text, end)?),
+        Tree::Seq(_) => Err(ReadingFault::NotText),
+        Tree::Map(_) => Err(ReadingFault::NotText),
+    }
+}
+
+/// The characters of a text and its end, in UTF-8.
+fn raw_text(alloc: Global, text: &str, end: RawEnd) -> Result<String, AllocError>
+    ensures { IfOk result (λ bytes.
+        ShowsTree (ValueForm.Raw end) (one_text (chars text.now)) (string_bytes bytes)) }
+{
+    match end {
+        RawEnd::LineFeed => line_of(alloc, text),
+        RawEnd::Nothing => bare(alloc, text),
     }
 }
 
@@ -194,6 +406,37 @@ fn line_of(alloc: Global, text: &str) -> Result<String, AllocError>
     line.put_text(text)?;
     line.put_char('\n')?;
     Ok(line)
+}
+
+/// A text alone.
+fn bare(alloc: Global, text: &str) -> Result<String, AllocError>
+    ensures { IfOk result (λ bytes. string_bytes bytes ≡ encode_utf8_all (chars text.now)) }
+{
+    let mut bytes = String::new(alloc);
+    bytes.put_text(text)?;
+    Ok(bytes)
+}
+
+/// A text as a value that is written whole.
+fn whole_text(alloc: Global, text: &str, form: TreeForm) -> Result<String, AllocError>
+    ensures { IfOk result (λ bytes.
+        string_bytes bytes ≡ encode_utf8_all (tree_text form (one_text (chars text.now)))) }
+{
+    let value = Tree::Text(Text::new(alloc, text)?);
+    tree_text(alloc, &value, form)
+}
+
+/// A value written whole.
+pub(crate) fn tree_text(alloc: Global, value: &Tree, form: TreeForm) -> Result<String, AllocError>
+    requires { depth (tree_of value.now) ≤ own_limits.depth }
+    ensures { IfOk result (λ text.
+        string_bytes text ≡ encode_utf8_all (tree_text form (tree_of value.now))) }
+{
+    match form {
+        TreeForm::Styled => styled(alloc, value),
+        TreeForm::Json => json_line(alloc, value),
+        TreeForm::Plain => plain(alloc, value),
+    }
 }
 
 /// A value in the one style.

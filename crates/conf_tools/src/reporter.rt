@@ -1,5 +1,6 @@
 // What standard error has of a text that is refused.
 use crate::texts::ToolFault;
+use conf_files::Cause;
 use conf_words::{Reporting, escaped};
 use std::alloc::Global;
 use std::io::Write;
@@ -104,6 +105,21 @@ impl Reporter {
             let _ = writeln!(errors, "help: {remedy}");
         }
     }
+}
+
+/// Writes why a file or a folder at a path could not be used, in one line. If there is no memory to show the path,
+/// another word stands for it. A failure of the writer is ignored.
+pub(crate) fn write_cause<E: Write>(
+    errors: &mut E,
+    alloc: Global,
+    cause: Cause,
+    path: &str,
+    unshown: &str,
+) {
+    let shown = escaped(alloc, path).ok();
+    let shown = shown.as_deref().unwrap_or(unshown);
+    let cause = cause.shown(shown);
+    let _ = writeln!(errors, "{cause}");
 }
 
 /// Writes a refusal in one line, under the name of the file and with the place if it has one.

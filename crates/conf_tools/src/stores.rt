@@ -1,11 +1,13 @@
 // Sessions on a store, over any disk, reader and writer.
-ghost use Rattle.std.specs.Prelude.{◌≡◌, ◌⊎◌, ◌↔◌, true, IfOk, IfErr, IsErrOf};
+ghost use Rattle.std.specs.Prelude.{◌≡◌, ◌≤◌, ◌⊎◌, ◌↔◌, true, IfOk, IfErr, IsErrOf};
 ghost use Rattle.std.specs.Io.KnownBytes.{Keeps};
 ghost use Rattle.conf_disk.specs.Folder.{bytes_under};
+ghost use Rattle.conf_store.specs.Calls.{HasFailed};
 ghost use Rattle.conf_tools.specs.Dropped.{HasNoRest};
 ghost use Rattle.conf_tools.specs.Stores.{CannotOpen, OpensOn, RunsOn, SessionRuns, SurvivesCrashes};
 
 use crate::dropped::write_dropped;
+use conf_conditions::ConditionFault;
 use conf_disk::{Disk, Name};
 use conf_folder::FolderFault;
 use conf_session::{Checkpoints, SessionFault, Tally, answers_acknowledge, run, run_grouped};
@@ -30,6 +32,9 @@ pub enum StoreToolFault {
     /// The configuration can't be exported. Nothing was written.
     #[error(transparent)]
     Export(StoreFault),
+    /// A condition of a change does not hold, or can't be judged. Nothing has changed.
+    #[error(transparent)]
+    Condition(ConditionFault),
     /// The store refuses a change. Each but `Device` leaves it as it was.
     #[error(transparent)]
     Refused(StoreFault),
@@ -83,8 +88,12 @@ fn run_session<D: Disk, R: Read, W: Write>(
     ensures runs { SessionRuns D.model (R.remaining reader.old)
         (R.remaining reader.new) (W.contents writer.old) (W.contents writer.new)
         grouping store.old store.new result }
+    ensures reopen { IsErrOf result SessionFault.Reopen ↔ (store.old.reopen ≡ true) }
     ensures device { (store.new.reopen ≡ true)
         ↔ ((store.old.reopen ≡ true) ⊎ IsErrOf result SessionFault.Device) }
+    ensures cause { IsErrOf result SessionFault.Device →
+        HasFailed (D.model.failure_count store.old.disk) (D.model.failure_count store.new.disk) }
+    ensures risen { D.model.failure_count store.old.disk ≤ D.model.failure_count store.new.disk }
 {
     match grouping {
         Grouping::Single => run(alloc, store, reader, writer),

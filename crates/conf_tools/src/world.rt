@@ -45,6 +45,9 @@ pub trait World {
     /// is claimed of it.
     fn cause(&self) -> Option<(Cause, &str)>;
 
+    /// Why the last call on a file failed, if it did and the system said so. Nothing is claimed of it.
+    fn file_cause(&self) -> Option<Cause>;
+
     /// Makes a folder. Whatever is at the path stays as it is.
     ///
     /// # Errors

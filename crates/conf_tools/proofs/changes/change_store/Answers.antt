@@ -1,7 +1,10 @@
 -- The change was made, or refused, on the store that was opened, whose disk is handed back.
 use Rattle.std.proofs.Common.{true, false, Err, ap, sym, subst}
+use Rattle.conf_store.specs.Calls.{HasFailed}
+use Rattle.conf_store.specs.Changing.{store_file}
 use Rattle.conf_store.specs.Durable.{AllImagesMean}
-use Rattle.conf_tools.specs.Changes.{KeepsChange}
+use Rattle.conf_store.proofs.OpenLemmas.{failed-later}
+use Rattle.conf_tools.specs.Changes.{KeepsChange, ReadsChanged}
 use Rattle.conf_tools.proofs.ChangeLemmas.{keeps-made, keeps-refused, never-reopen}
 use Rattle.conf_tools.proofs.changes.change_store.Goals as goal
 
@@ -12,9 +15,12 @@ returns-in-Ok-made-clause-made g c =
     record {
       opened = c.in-Ok.store;
       opens = c.in-Ok.ensures.opens;
+      met = c.in-Ok-check.ensures.ok;
       closed = closed;
       makes = c.in-Ok-made.ensures.ok;
       back = c.close-disk.ensures;
+      reads = λ h. subst (λ (disk : g.row.D.Denot). ReadsChanged c.in-Ok.store c.args.change (store_file d.model c.in-Ok.store.disk) (store_file d.model disk)) (sym c.close-disk.ensures)
+          (c.in-Ok-made.ensures.reads h c.in-Ok.ensures.opens.no_reopen);
       images = λ h. subst (λ (disk : g.row.D.Denot). AllImagesMean (d.model.folder disk) closed.state) (sym c.close-disk.ensures) (c.in-Ok-made.ensures.now h);
     }
 
@@ -29,15 +35,23 @@ returns-in-Ok-made-clause-crashes g c h =
     c.steps_are_counted_or_refused.ensures.room c.in-Ok-made.ensures.ok h (c.in-Ok-made.ensures.now h))
 
 pub returns-in-Err-made-clause-refused : goal.returns-in-Err-made-clause-refused
-returns-in-Err-made-clause-refused g c = record {
-  opened = c.in-Ok.store;
-  opens = c.in-Ok.ensures.opens;
-  closed = c.make-made.new.store;
-  refuses = c.in-Err-made.ensures.refused;
-  not_reopen = never-reopen c.in-Ok.store.reopen c.in-Err-made.fault c.in-Ok.ensures.opens.no_reopen (λ is. c.in-Err-made.ensures.reopen.0 (ap Err is));
-  back = c.close-disk.ensures;
-  same = c.in-Err-made.ensures.unchanged;
-}
+returns-in-Err-made-clause-refused g c =
+    let count = g.D.Disk.model.failure_count in
+    let opened = c.in-Ok.store in
+    let opens = c.in-Ok.ensures.opens in
+    let closed = c.make-made.new.store in
+    record {
+      opened = opened;
+      opens = opens;
+      met = c.in-Ok-check.ensures.ok;
+      closed = closed;
+      refuses = c.in-Err-made.ensures.refused;
+      not_reopen = never-reopen opened.reopen c.in-Err-made.fault opens.no_reopen (λ is. c.in-Err-made.ensures.reopen.0 (ap Err is));
+      back = c.close-disk.ensures;
+      same = c.in-Err-made.ensures.unchanged;
+      cause = λ is. subst (λ (disk : g.row.D.Denot). HasFailed (count c.args.disk) (count disk)) (sym c.close-disk.ensures)
+          (failed-later (count c.args.disk) (count opened.disk) (count closed.disk) opens.risen c.make-made.ensures.risen (c.in-Err-made.ensures.cause (ap Err is)));
+    }
 
 pub returns-in-Err-made-clause-crashes : goal.returns-in-Err-made-clause-crashes
 returns-in-Err-made-clause-crashes g c h =

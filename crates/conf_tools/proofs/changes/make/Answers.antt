@@ -1,5 +1,7 @@
 -- Nothing waits before the change, so a crash leaves one of two states.
 use Rattle.std.proofs.Common.{[]}
+use Rattle.std.proofs.lemmas.Result.{on_ok_weaker}
+use Rattle.conf_state.specs.Commands.{command_of}
 use Rattle.conf_tools.proofs.ChangeLemmas.{checkpoint-leaves, command-leaves}
 use Rattle.conf_tools.proofs.changes.make.Goals as goal
 
@@ -11,14 +13,16 @@ pub returns-in-Import-clause-any_moment : goal.returns-in-Import-clause-any_mome
 returns-in-Import-clause-any_moment g c h on has =
     command-leaves c.one_state_is_flushed.ensures.nothing g.D.Disk.model c.args.store.now c.import.new.self (c.import.ensures.any_moment h on c.args.store.now.state [] has)
 
-pub returns-in-Ok-apply-clause-any_moment : goal.returns-in-Ok-apply-clause-any_moment
-returns-in-Ok-apply-clause-any_moment g c h on has =
-    command-leaves c.one_state_is_flushed.ensures.nothing g.D.Disk.model c.args.store.now c.apply.new.self (c.apply.ensures.any_moment h on c.args.store.now.state [] has)
-
-pub returns-in-Perform-clause-any_moment : goal.returns-in-Perform-clause-any_moment
-returns-in-Perform-clause-any_moment g c h on has =
-    command-leaves c.one_state_is_flushed.ensures.nothing g.D.Disk.model c.args.store.now c.apply.new.self (c.apply.ensures.any_moment h on c.args.store.now.state [] has)
-
 pub returns-clause-any_moment : goal.returns-clause-any_moment
 returns-clause-any_moment g c h on has =
     checkpoint-leaves c.one_state_is_flushed.ensures.nothing g.D.Disk.model c.args.store.now c.checkpoint.new.self (c.checkpoint.ensures.any_moment h on c.args.store.now.state [] has)
+
+pub returns-in-Ok-copy_command-clause-reads : goal.returns-in-Ok-copy_command-clause-reads
+returns-in-Ok-copy_command-clause-reads g c h on = rw (c.in-Copy.is)
+    (on_ok_weaker c.perform-in-Ok-copy_command.result (λ appends. record { command = command_of c.in-Ok-copy_command.command; of = c.in-Ok-copy_command.ensures.ok; appends = appends })
+    (c.perform-in-Ok-copy_command.ensures.reads h on))
+
+pub returns-in-Ok-rename_command-clause-reads : goal.returns-in-Ok-rename_command-clause-reads
+returns-in-Ok-rename_command-clause-reads g c h on = rw (c.in-Rename.is)
+    (on_ok_weaker c.perform-in-Ok-rename_command.result (λ appends. record { command = command_of c.in-Ok-rename_command.command; of = c.in-Ok-rename_command.ensures.ok; appends = appends })
+    (c.perform-in-Ok-rename_command.ensures.reads h on))

@@ -1,6 +1,5 @@
 -- The store was opened, or its file was read after the device failed.
 use Rattle.std.proofs.Common.{sym, subst, string_bytes}
-use Rattle.std.proofs.lemmas.Str.{IsUtf8-string_bytes, encodes-chars}
 use Rattle.std.specs.Str.{chars}
 use Rattle.conf_disk.specs.Moments.{LeavesOnly}
 use Rattle.conf_store.specs.Opens.{MeantAtEntry}
@@ -15,7 +14,7 @@ returns-in-Err-default-Device-clause-ok g c =
     let d = g.D.Disk in
     let failed = c.in-Err-default-Device in
     let cannot = subst (λ (fault : OpenFault). CannotOpen d.model c.args.disk failed.disk fault) failed.field-0-1-is failed.ensures.refused in
-    text-since d.model c.args.disk failed.disk cannot string_bytes (chars c.args.name.now) c.read_text.result c.read_text.ensures.risen c.read_text.ensures.same c.read_text.ensures.ok
+    text-since d.model c.args.disk failed.disk cannot string_bytes c.args.form (chars c.args.name.now) c.read_text.result c.read_text.ensures.risen c.read_text.ensures.same c.read_text.ensures.ok
 
 pub returns-in-Err-default-Device-clause-refused : goal.returns-in-Err-default-Device-clause-refused
 returns-in-Err-default-Device-clause-refused g c =
@@ -36,12 +35,11 @@ pub returns-in-Ok-exported-clause-ok : goal.returns-in-Ok-exported-clause-ok
 returns-in-Ok-exported-clause-ok g c =
     let d = g.D.Disk in
     let text = c.in-Ok-exported.text in
-    subst (λ (disk : g.row.D.Denot). HasText d.model c.args.disk disk (chars c.args.name.now) (string_bytes text)) (sym c.close-disk.ensures)
+    subst (λ (disk : g.row.D.Denot). HasText d.model c.args.form c.args.disk disk (chars c.args.name.now) (string_bytes text)) (sym c.close-disk.ensures)
     (record {
       state = c.in-Ok.store.state;
       finds = opened-finds d.model c.reading_is_an_image.ensures c.args.disk c.in-Ok.store c.in-Ok.ensures.opens;
       exports = c.in-Ok-exported.ensures.ok;
-      exact = sym (encodes-chars (string_bytes text) (IsUtf8-string_bytes text));
     })
 
 pub returns-in-Ok-exported-clause-crashes : goal.returns-in-Ok-exported-clause-crashes

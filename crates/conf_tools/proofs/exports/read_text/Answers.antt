@@ -1,16 +1,12 @@
--- What was read is the state that the file means, and the bytes of a string are the UTF-8 of its characters.
-use Rattle.std.proofs.Common.{sym, string_bytes}
-use Rattle.std.proofs.lemmas.Str.{IsUtf8-string_bytes, encodes-chars}
+-- What was read is the state that the file means.
 use Rattle.conf_tools.proofs.ExportLemmas.{read-finds}
 use Rattle.conf_tools.proofs.exports.read_text.Goals as goal
 
 pub returns-in-Ok-text_in-clause-ok : goal.returns-in-Ok-text_in-clause-ok
 returns-in-Ok-text_in-clause-ok g c =
     let d = g.D.Disk in
-    let text = c.in-Ok-text_in.text in
     record {
       state = c.in-Ok.state;
       finds = read-finds d.model c.args.disk c.read_state.new.disk c.in-Ok.state (λ h. c.in-Ok.ensures.same h) (λ h. c.in-Ok.ensures.means h);
       exports = c.in-Ok-text_in.ensures.ok;
-      exact = sym (encodes-chars (string_bytes text) (IsUtf8-string_bytes text));
     }

@@ -1,14 +1,27 @@
--- A value in a configuration of a state is no deeper than what is written.
-use Rattle.std.proofs.Common.{◌≡◌, Ok, rules}
+-- What was found is shown, or what stands for it.
+use Rattle.std.proofs.Common.{string_bytes}
 use Rattle.std.specs.Str.{chars}
 use Rattle.yaml_data.specs.Seen.{tree_of}
-use Rattle.tree_path.specs.Paths.{at}
-use Rattle.conf_session.proofs.AnswerLemmas.{value-shallow}
-use Rattle.conf_tools.proofs.ReadLemmas.{value_at_tokens}
+use Rattle.conf_session.specs.Answers.{value_at_path}
+use Rattle.conf_tools.proofs.FoundLemmas.{found-lacks-all, found-shown-all, missing-lacks-all, missing-shown-all}
 use Rattle.conf_tools.proofs.reads.value_text.Goals as goal
 
-pub shown-requires : goal.shown-requires
-shown-requires c =
-    let there : at (tree_of c.in-Ok.config.now) c.in-Ok-parse.path ≡ Ok (tree_of c.in-Ok-value_at.value.now) = search rules in
-    value-shallow c.args.state.now (chars c.args.name.now) c.in-Ok-parse.path (tree_of c.in-Ok-value_at.value.now) c.in-Ok.ensures.limits
-    (value_at_tokens c.args.state.now (chars c.args.name.now) (chars c.args.pointer.now) (tree_of c.in-Ok.config.now) (tree_of c.in-Ok-value_at.value.now) c.in-Ok-parse.path c.in-Ok.ensures.ok there)
+pub returns-in-Ok-clause-ok : goal.returns-in-Ok-clause-ok
+returns-in-Ok-clause-ok c =
+    found-shown-all c.args.missing (value_at_path c.args.state.now (chars c.args.place.name.now) (chars c.args.place.pointer.now)) (tree_of c.in-Ok.value.now) c.in-Ok.ensures.ok
+    c.args.form string_bytes c.shown.result c.shown.ensures.ok
+
+pub returns-in-Ok-clause-refused : goal.returns-in-Ok-clause-refused
+returns-in-Ok-clause-refused c =
+    found-lacks-all c.args.missing (value_at_path c.args.state.now (chars c.args.place.name.now) (chars c.args.place.pointer.now)) (tree_of c.in-Ok.value.now) c.in-Ok.ensures.ok
+    c.args.form c.shown.result c.shown.ensures.refused
+
+pub returns-in-Err-clause-ok : goal.returns-in-Err-clause-ok
+returns-in-Err-clause-ok c =
+    missing-shown-all c.args.missing (value_at_path c.args.state.now (chars c.args.place.name.now) (chars c.args.place.pointer.now)) c.in-Err.fault
+    c.args.form c.in-Err.ensures.refused string_bytes c.missing_text.result c.missing_text.ensures.ok
+
+pub returns-in-Err-clause-refused : goal.returns-in-Err-clause-refused
+returns-in-Err-clause-refused c =
+    missing-lacks-all c.args.missing (value_at_path c.args.state.now (chars c.args.place.name.now) (chars c.args.place.pointer.now)) c.in-Err.fault
+    c.args.form c.in-Err.ensures.refused c.missing_text.result c.missing_text.ensures.refused

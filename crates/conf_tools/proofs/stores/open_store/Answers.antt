@@ -22,6 +22,7 @@ returns-in-Ok-clause-opens g c =
       at_any_moment = λ h. opened.any_moment h;
       flushed = λ h. opened.flushed h;
       images = λ h. opened.now h;
+      risen = opened.risen;
     }
 
 pub returns-in-Ok-clause-quiet : goal.returns-in-Ok-clause-quiet

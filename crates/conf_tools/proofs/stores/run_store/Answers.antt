@@ -11,7 +11,8 @@ returns-in-Ok-result-clause-runs g c =
     let held = g.W.Write.contents in
     subst (λ (disk : g.row.D.Denot). AnswersOn d.model (given c.args.reader.now) (given c.run_session-result.new.reader) (held c.args.writer.now) (held c.run_session-result.new.writer) c.args.grouping c.args.disk disk (Ok c.in-Ok-result.tally))
     (sym c.close-disk.ensures)
-    (answers-on d.model _ _ _ _ c.args.disk c.in-Ok.store c.run_session-result.new.store _ c.in-Ok.ensures.opens c.args.grouping c.in-Ok-result.ensures.runs c.in-Ok-result.ensures.device)
+    (answers-on d.model _ _ _ _ c.args.disk c.in-Ok.store c.run_session-result.new.store _ c.in-Ok.ensures.opens c.args.grouping c.in-Ok-result.ensures.runs
+    (record { reopen = c.in-Ok-result.ensures.reopen; device = c.in-Ok-result.ensures.device; cause = c.in-Ok-result.ensures.cause; risen = c.run_session-result.ensures.risen }))
 
 pub returns-in-Ok-result-clause-crashes : goal.returns-in-Ok-result-clause-crashes
 returns-in-Ok-result-clause-crashes g c h =
@@ -29,7 +30,8 @@ returns-in-Err-result-clause-runs g c =
     let held = g.W.Write.contents in
     subst (λ (disk : g.row.D.Denot). AnswersOn d.model (given c.args.reader.now) (given c.run_session-result.new.reader) (held c.args.writer.now) (held c.run_session-result.new.writer) c.args.grouping c.args.disk disk (Err c.in-Err-result.fault))
     (sym c.close-disk.ensures)
-    (answers-on d.model _ _ _ _ c.args.disk c.in-Ok.store c.run_session-result.new.store _ c.in-Ok.ensures.opens c.args.grouping c.in-Err-result.ensures.runs c.in-Err-result.ensures.device)
+    (answers-on d.model _ _ _ _ c.args.disk c.in-Ok.store c.run_session-result.new.store _ c.in-Ok.ensures.opens c.args.grouping c.in-Err-result.ensures.runs
+    (record { reopen = c.in-Err-result.ensures.reopen; device = c.in-Err-result.ensures.device; cause = c.in-Err-result.ensures.cause; risen = c.run_session-result.ensures.risen }))
 
 pub returns-in-Err-result-clause-crashes : goal.returns-in-Err-result-clause-crashes
 returns-in-Err-result-clause-crashes g c h =
