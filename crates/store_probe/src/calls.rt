@@ -1,7 +1,7 @@
 // Calls of an open store.
 use crate::groups::{begin, flush, running, slice, slices, submit};
 use crate::rounds::round_of;
-use crate::sessions::{copies, failing, parts, roomy};
+use crate::sessions::{copies, failing, grouped, parts, roomy};
 use crate::store_commands::{batch, delete, set};
 use conf_state::{Command, StoreFault};
 use conf_store::Store;
@@ -43,6 +43,7 @@ pub(crate) fn call(
         ["reopen"] => reopen(alloc, store),
         ["round", pieces @ ..] => round_of(alloc, store, pieces),
         ["session", input] => parts(alloc, store, usize::MAX, input),
+        ["grouped", input] => grouped(alloc, store, input),
         ["parts", bytes, input] => parts(alloc, store, number_of(bytes) as usize, input),
         ["broken", input] => failing(alloc, store, ErrorKind::BrokenPipe, input),
         ["interrupted", input] => failing(alloc, store, ErrorKind::Interrupted, input),

@@ -33,7 +33,7 @@
 //! - `round;TEXT;TEXT;..`: a round of these pieces. The answer is how many answers there are and their text, or why there
 //!   are none.
 //! - `session;TEXT`: a session on this input. The answer is how it ends, how many bytes of its input are not read, and
-//!   its output. `parts;BYTES;TEXT`: at most so many bytes are read at a time. `broken;TEXT` and `interrupted;TEXT`: at
+//!   its output. `grouped;TEXT`: the same in groups. `parts;BYTES;TEXT`: at most so many bytes are read at a time. `broken;TEXT` and `interrupted;TEXT`: at
 //!   most 100, and after them a read fails. `room;BYTES;TEXT`: the output takes so many bytes. `copies;COUNT;TEXT`: the
 //!   input is so many times the text, and the output takes nothing.
 //!

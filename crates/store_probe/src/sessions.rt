@@ -1,6 +1,6 @@
 // Sessions on the open store.
 use crate::calls::FusedStore;
-use conf_session::run;
+use conf_session::{Checkpoints, SessionFault, Tally, run, run_grouped};
 use probe_words::{Sink, Source, meant};
 use std::alloc::{AllocError, Global};
 use std::io::ErrorKind;
@@ -13,11 +13,37 @@ fn session(
     mut sink: Sink,
 ) -> Result<String, AllocError> {
     let ended = run(alloc, store, &mut source, &mut sink);
-    let unread = source.rest.len();
-    match str::from_utf8(&sink.kept) {
+    told(alloc, ended, source.rest.len(), &sink.kept)
+}
+
+/// How a session ended, how many bytes of its input were not read, and its output.
+fn told(
+    alloc: Global,
+    ended: Result<Tally, SessionFault>,
+    unread: usize,
+    output: &[u8],
+) -> Result<String, AllocError> {
+    match str::from_utf8(output) {
         Ok(text) => format!(in alloc; "{ended:?} {unread} unread {text:?}"),
         Err(_) => format!(in alloc; "{ended:?} {unread} unread, no text"),
     }
+}
+
+/// A session in groups. Its whole input is read at once, and is one group.
+pub(crate) fn grouped(
+    alloc: Global,
+    store: &mut FusedStore,
+    input: &str,
+) -> Result<String, AllocError> {
+    let input = meant(alloc, input)?;
+    let mut source = Source {
+        rest: input.as_bytes(),
+        step: usize::MAX,
+        fault: None,
+    };
+    let mut sink = Sink::new(alloc, usize::MAX);
+    let ended = run_grouped(alloc, store, &mut source, &mut sink, Checkpoints::Asked);
+    told(alloc, ended, source.rest.len(), &sink.kept)
 }
 
 /// A session that reads at most so many bytes at a time.

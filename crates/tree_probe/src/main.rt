@@ -34,14 +34,22 @@
 //! - `fault;BYTES`: why the bytes are refused. `sentence;BYTES` says it in a sentence, and by its name.
 //!   `check_fault;BYTES`: why they have no findings.
 //!
+//! The group `form`, other forms of the tree of a text of YAML:
+//!
+//! - `json;TEXT`: its JSON text. `line;TEXT` shows it with a line feed after it.
+//! - `plain;TEXT`: shows its plain form.
+//! - `keys;TEXT`: shows the keys of a mapping, or the indexes of a sequence, as lines.
+//! - `texts;TEXT;..`: the JSON text of a sequence of texts. `texts;` has one, the empty text.
+//!
 //! What is refused is answered with the fault. `probe_words` says how a text with escapes is written after `style` and
-//! in the group `config`, what a heading is, and how the program ends.
+//! in the groups `config` and `form`, what a heading is, and how the program ends.
 #![tactic(auto)]
 
 mod builds;
 mod configs;
 mod edits;
 mod faults;
+mod forms;
 mod orders;
 mod style;
 mod texts;

@@ -1,6 +1,6 @@
 // Orders of each group, and what is held from one to the next.
 use crate::style::styled;
-use crate::{configs, trees};
+use crate::{configs, forms, trees};
 use probe_words::{Answers, no_order};
 use std::alloc::Global;
 use std::io;
@@ -29,6 +29,7 @@ impl Answers for Held<'_> {
             Some(("style", text)) => styled(self.rt, text),
             Some(("tree", order)) => Ok(trees::answer(alloc, &mut self.tree, order)?),
             Some(("config", order)) => Ok(configs::answer(alloc, &mut self.tree, order)?),
+            Some(("form", order)) => Ok(forms::answer(alloc, order)?),
             _ => Ok(no_order(alloc)?),
         }
     }
