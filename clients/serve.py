@@ -30,7 +30,8 @@ status. On SIGTERM, SIGINT or SIGHUP no more clients and commands are taken, tho
 performed and answered, the socket is removed, and the status is 0. Shortly before the session was sent as much as it
 takes, it is ended and another one started; clients don't notice. If another run holds the store just then, the new
 session is tried again for `--max-lock-wait` seconds. The program is CONFSTORE, or `confstore` on the PATH.
-With `--metrics` the server tells its health and counters (`serve_metrics.py`).
+With `--metrics` the server tells its health and counters (`serve_metrics.py`). A client that sends `watch: N` is told
+the changes from the number N on, as they are made (`serve_watch.py`).
 """
 
 from __future__ import annotations
@@ -59,6 +60,7 @@ sys.dont_write_bytecode = True
 from serve_metrics import Monitor, address, listening  # noqa: E402
 from serve_socket import FAILED, Fault, Listener, Signals, clients_with_room, open_standard_streams  # noqa: E402
 from serve_socket import reason, say, shown, tell_manager, write_error  # noqa: E402
+from serve_watch import Watcher, Watchers  # noqa: E402
 
 LONGEST = 16_777_216  # bytes of a command
 LONGEST_ANSWER = 67_108_864  # bytes
@@ -76,7 +78,7 @@ FOREVER = 1e9  # seconds that no bound has
 
 # How commands begin whose answers are short, after `---`, and how many bytes are looked at for that.
 LOOKED_AT = 16
-SHORT = tuple(word + end for word in (b"set:", b"delete:", b"import:", b"batch:") for end in (b" ", b"\n"))
+SHORT = tuple(word + end for word in (b"set:", b"delete:", b"import:", b"batch:", b"if:") for end in (b" ", b"\n"))
 
 # What the session says where another run holds the store.
 LOCKED = b"confstore: Locked"
@@ -262,11 +264,13 @@ class Client:
         self.waits_for_long = False
         self.has_sent_all = False
         self.is_gone = False
+        self.watcher: Optional[Watcher] = None
         self.came = self.read_last = self.active = self.asked = time.monotonic()
 
     def may_send(self) -> bool:
         """Whether its next command may go to the session."""
-        return bool(self.heard.end) and not self.unsaid and not self.waits_for_long and self.due < MOST_DUE
+        is_free = not self.unsaid and not self.waits_for_long and self.watcher is None
+        return bool(self.heard.end) and is_free and self.due < MOST_DUE
 
     def wants_long(self) -> bool:
         """Whether the answer to its next command may be long."""
@@ -304,6 +308,11 @@ class Client:
         self.waits_for_long = False
         self.unsaid = self.unsaid + answer if self.unsaid else answer
 
+    def tell(self, part: bytes) -> None:
+        """Gives it a part of what it watches."""
+        self.active = self.read_last = time.monotonic()
+        self.unsaid = bytearray(part)
+
     def say(self) -> bool:
         """Sends it what it takes now. Whether it may go on."""
         try:
@@ -326,6 +335,8 @@ class Client:
         self.heard, self.unsaid = Pieces(), bytearray()
 
     def is_done(self) -> bool:
+        if self.watcher is not None:
+            return not self.unsaid and (self.watcher.is_over or self.has_sent_all or bool(self.heard.end))
         return self.has_sent_all and not self.unsaid and not self.due and not self.heard.end
 
     def is_idle(self) -> bool:
@@ -387,6 +398,7 @@ class Server:
         self.long_commands = Places(bounds.long_commands)
         self.long_answers = Places(bounds.long_answers)
         self.monitor = Monitor(words[-1], self.clients, self.hindrance)
+        self.watchers = Watchers(words[-1])
         self.others_since: Optional[float] = None  # when others began to wait to be taken
         self.takes_none_until = 0.0
         self.complained = -float(QUIET)
@@ -493,6 +505,8 @@ class Server:
         self.clients.remove(client)
         self.long_commands.leave(client)
         self.long_answers.leave(client)
+        if client.watcher is not None:
+            self.watchers.leave(client.watcher)
 
     def take_answers(self, _events: int) -> None:
         given, may_be_more = self.session.read()
@@ -537,7 +551,9 @@ class Server:
 
     def has_turn(self, client: Client) -> bool:
         """Whether a client may send its command now: one whose answer may be long waits for the answers before."""
-        return not client.wants_long() or (not client.due and self.long_answers.ask(client))
+        if not client.wants_long():
+            return True
+        return not client.due and not self.watchers.begin(client) and self.long_answers.ask(client)
 
     def finish_session(self) -> None:
         """Ends the session once what it was sent is written."""
@@ -575,11 +591,12 @@ class Server:
             if self.session.takes_commands:
                 wanted = WRITE if self.session.unsent else 0
                 self.watch(self.session.commands, wanted, lambda _: self.session.write())
+        is_more = not self.is_ending() and self.watchers.turn()
         self.watch_clients()
         if self.listener is not None:
             takes = not self.is_full(now) and not self.is_ending()
             self.watch(self.listener.socket.fileno(), READ if takes else 0, self.accept)
-        for key, events in self.selector.select(LOOK):
+        for key, events in self.selector.select(0 if is_more else LOOK):
             key.data(events)
 
     def watch_clients(self) -> None:
@@ -676,6 +693,7 @@ class Server:
     def close(self) -> None:
         """Ends the session, however this program ends."""
         self.monitor.close()
+        self.watchers.close()
         if not self.session.is_over:
             self.session.wait()
 

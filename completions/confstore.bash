@@ -1,16 +1,20 @@
 # Completion of confstore for bash: `source` it, or put it as `confstore` where bash-completion looks for such files.
 
-_confstore_words='init import set delete checkpoint run export names get log verify salvage format check help'
+_confstore_words='init import set delete copy rename checkpoint run export names get keys exists log verify salvage backup format check help'
 
 _confstore_options() {
+    local conditions='--if-value --if-absent --if-count'
     case $1 in
     run) echo '--group --checkpoint-after --help' ;;
-    import) echo '--init --explain --help' ;;
-    set) echo '--yaml --whole --explain --help' ;;
-    delete) echo '--whole --help' ;;
-    names) echo '--at --help' ;;
-    get) echo '--raw --at --help' ;;
-    log) echo '--yaml --at --help' ;;
+    import) echo "--init --explain $conditions --help" ;;
+    set) echo "--yaml --file --whole --explain $conditions --help" ;;
+    delete) echo "--whole $conditions --help" ;;
+    copy | rename) echo "$conditions --help" ;;
+    export) echo '--json --plain --help' ;;
+    names) echo '--json --at --help' ;;
+    get) echo '--raw --no-newline --json --plain --default --at --help' ;;
+    keys | exists) echo '--at --help' ;;
+    log) echo '--values --yaml --at --help' ;;
     format) echo '-i --in-place --drop-comments --check --explain --help' ;;
     check) echo '--explain --help' ;;
     *) echo '--help' ;;
@@ -37,7 +41,7 @@ _confstore() {
     fi
     for ((index = 2; index < COMP_CWORD; index++)); do
         case ${COMP_WORDS[index]} in
-        --checkpoint-after | --at) index=$((index + 1)) ;;
+        --checkpoint-after | --at | --default | --file | --if-value | --if-count) index=$((index + 1)) ;;
         -?*) ;;
         *)
             place=$((place + 1))
@@ -46,7 +50,12 @@ _confstore() {
         esac
     done
     case ${COMP_WORDS[COMP_CWORD - 1]} in
-    --checkpoint-after | --at) return ;;
+    --checkpoint-after | --at | --default | --if-value | --if-count) return ;;
+    --file)
+        compopt -o filenames
+        mapfile -t COMPREPLY < <(compgen -f -- "$current")
+        return
+        ;;
     esac
     if [[ $current == -* ]]; then
         mapfile -t COMPREPLY < <(compgen -W "$(_confstore_options "$word")" -- "$current")
@@ -57,10 +66,10 @@ _confstore() {
         compopt -o filenames
         mapfile -t COMPREPLY < <(compgen -f -- "$current")
         ;;
-    export:1 | import:1 | set:1 | delete:1 | get:1)
+    export:1 | import:1 | set:1 | delete:1 | copy:1 | copy:2 | rename:1 | rename:2 | get:1 | keys:1 | exists:1)
         mapfile -t COMPREPLY < <(compgen -W "$(_confstore_names "$folder")" -- "$current")
         ;;
-    *:0 | salvage:1)
+    *:0 | salvage:1 | backup:1)
         compopt -o filenames
         mapfile -t COMPREPLY < <(compgen -d -- "$current")
         ;;

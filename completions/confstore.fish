@@ -1,7 +1,8 @@
 # Completion of confstore for fish: put it into a folder of `fish_complete_path`.
 
-set -l stores run export import set delete checkpoint init names get log verify salvage
-set -l named export import set delete get
+set -l stores run export import set delete copy rename checkpoint init names get keys exists log verify salvage backup
+set -l named export import set delete copy rename get keys exists
+set -l conditional import set delete copy rename
 
 # The words after the subcommand that are no options and no option's value.
 function __confstore_places
@@ -10,7 +11,7 @@ function __confstore_places
     for word in (commandline -opc)[3..-1]
         if test $is_value = 1
             set is_value 0
-        else if contains -- $word --checkpoint-after --at
+        else if contains -- $word --checkpoint-after --at --default --file --if-value --if-count
             set is_value 1
         else if not string match -q -- '-?*' $word
             set -a places $word
@@ -41,12 +42,17 @@ complete -c confstore -n __fish_use_subcommand -a run -d 'Perform the commands o
 complete -c confstore -n __fish_use_subcommand -a export -d 'Write a configuration in the one style'
 complete -c confstore -n __fish_use_subcommand -a names -d 'Write the names of the configurations'
 complete -c confstore -n __fish_use_subcommand -a get -d 'Write the value at a pointer'
+complete -c confstore -n __fish_use_subcommand -a keys -d 'Write the keys of what is at a pointer'
+complete -c confstore -n __fish_use_subcommand -a exists -d 'Tell by the status whether something is there'
 complete -c confstore -n __fish_use_subcommand -a log -d 'Write the commands since the last checkpoint'
 complete -c confstore -n __fish_use_subcommand -a verify -d 'Write whether a store can be opened'
 complete -c confstore -n __fish_use_subcommand -a salvage -d 'Make a store of what comes before the damage'
+complete -c confstore -n __fish_use_subcommand -a backup -d 'Make a store with the same records'
 complete -c confstore -n __fish_use_subcommand -a import -d 'Put the tree of a text under a name'
 complete -c confstore -n __fish_use_subcommand -a set -d 'Set the value at a pointer'
 complete -c confstore -n __fish_use_subcommand -a delete -d 'Take out a value, or a configuration'
+complete -c confstore -n __fish_use_subcommand -a copy -d 'Put a copy of a configuration under another name'
+complete -c confstore -n __fish_use_subcommand -a rename -d 'Give a configuration another name'
 complete -c confstore -n __fish_use_subcommand -a checkpoint -d 'Make the store file as short as its state'
 complete -c confstore -n __fish_use_subcommand -a init -d 'Make an empty store'
 complete -c confstore -n __fish_use_subcommand -a format -d 'Write a text in the one style'
@@ -55,16 +61,26 @@ complete -c confstore -n __fish_use_subcommand -a help -d 'Say what a word does'
 
 complete -c confstore -n "__confstore_at 0 $stores" -a '(__fish_complete_directories)'
 complete -c confstore -n "__confstore_at 1 $named" -a '(__confstore_names)'
-complete -c confstore -n '__confstore_at 1 salvage' -a '(__fish_complete_directories)'
+complete -c confstore -n '__confstore_at 1 salvage backup' -a '(__fish_complete_directories)'
+complete -c confstore -n '__confstore_at 2 copy rename' -a '(__confstore_names)'
 complete -c confstore -n '__confstore_at 2 import' -F
 complete -c confstore -n '__fish_seen_subcommand_from run' -l group -d 'Sync once for all commands at hand'
 complete -c confstore -n '__fish_seen_subcommand_from run' -l checkpoint-after -x -d 'Make checkpoints meanwhile'
 complete -c confstore -n '__fish_seen_subcommand_from import' -l init -d 'Make a store where there is none'
 complete -c confstore -n '__fish_seen_subcommand_from set' -l yaml -d 'Read the value as a text'
+complete -c confstore -n '__fish_seen_subcommand_from set' -l file -r -F -d 'Take the text of a file'
+complete -c confstore -n "__fish_seen_subcommand_from $conditional" -l if-value -x -d 'Change only if this text is there'
+complete -c confstore -n "__fish_seen_subcommand_from $conditional" -l if-absent -d 'Change only if nothing is there'
+complete -c confstore -n "__fish_seen_subcommand_from $conditional" -l if-count -x -d 'Change only after so many commands'
 complete -c confstore -n '__fish_seen_subcommand_from set delete' -l whole -d 'Allow the empty pointer'
 complete -c confstore -n '__fish_seen_subcommand_from import set format check' -l explain -d 'Show the line at fault of a refused text'
-complete -c confstore -n '__fish_seen_subcommand_from names get log' -l at -x -d 'Read the store as it was after a command'
+complete -c confstore -n '__fish_seen_subcommand_from names get keys exists log' -l at -x -d 'Read the store as it was after a command'
 complete -c confstore -n '__fish_seen_subcommand_from get' -l raw -d 'Write a text as it is'
+complete -c confstore -n '__fish_seen_subcommand_from get' -l no-newline -d 'Write no line feed after it'
+complete -c confstore -n '__fish_seen_subcommand_from get export names' -l json -d 'Write a JSON text'
+complete -c confstore -n '__fish_seen_subcommand_from get export' -l plain -d 'Write numbers without quotes'
+complete -c confstore -n '__fish_seen_subcommand_from get' -l default -x -d 'Write a text where nothing is there'
+complete -c confstore -n '__fish_seen_subcommand_from log' -l values -d 'Write values as JSON texts'
 complete -c confstore -n '__fish_seen_subcommand_from log' -l yaml -d 'Write the records as they stand'
 complete -c confstore -n '__fish_seen_subcommand_from format check' -F
 complete -c confstore -n '__fish_seen_subcommand_from format' -s i -l in-place -d 'Replace each file that would change'

@@ -2,17 +2,22 @@
 # files.
 # python/pages_of_confstorectl.py makes this file of the table of words.
 
-_confstorectl_words='import set delete batch checkpoint export names get log verify watch help'
+_confstorectl_words='import set delete copy rename batch checkpoint export names keys get exists log verify watch help'
 
 _confstorectl_options() {
     case $1 in
-    import) echo '--init --explain --socket --wait --help' ;;
-    set) echo '--yaml --whole --explain --socket --wait --help' ;;
-    delete) echo '--whole --socket --wait --help' ;;
+    import) echo '--init --explain --if-value --if-absent --if-count --socket --wait --help' ;;
+    set) echo '--yaml --file --whole --explain --if-value --if-absent --if-count --socket --wait --help' ;;
+    delete) echo '--whole --if-value --if-absent --if-count --socket --wait --help' ;;
+    copy) echo '--if-value --if-absent --if-count --socket --wait --help' ;;
+    rename) echo '--if-value --if-absent --if-count --socket --wait --help' ;;
     batch) echo '--explain --socket --wait --help' ;;
-    names) echo '--at --socket --wait --help' ;;
-    get) echo '--raw --at --socket --wait --help' ;;
-    log) echo '--yaml --at --socket --wait --help' ;;
+    export) echo '--json --plain --socket --wait --help' ;;
+    names) echo '--json --at --socket --wait --help' ;;
+    keys) echo '--at --socket --wait --help' ;;
+    get) echo '--raw --no-newline --json --plain --default --at --socket --wait --help' ;;
+    exists) echo '--at --socket --wait --help' ;;
+    log) echo '--values --yaml --at --socket --wait --help' ;;
     watch) echo '--yaml --from --socket --wait --help' ;;
     *) echo '--socket --wait --help' ;;
     esac
@@ -30,7 +35,7 @@ _confstorectl() {
     COMPREPLY=()
     for ((index = 1; index < COMP_CWORD; index++)); do
         case ${COMP_WORDS[index]} in
-        --at | --from | --socket | --wait) index=$((index + 1)) ;;
+        --at | --default | --file | --from | --if-count | --if-value | --socket | --wait) index=$((index + 1)) ;;
         -?*) ;;
         *)
             place=$((place + 1))
@@ -40,12 +45,12 @@ _confstorectl() {
         esac
     done
     case ${COMP_WORDS[COMP_CWORD - 1]} in
-    --socket)
+    --file | --socket)
         compopt -o filenames
         mapfile -t COMPREPLY < <(compgen -f -- "$current")
         return
         ;;
-    --at | --from | --wait) return ;;
+    --at | --default | --from | --if-count | --if-value | --wait) return ;;
     esac
     if [[ $current == -* ]]; then
         [ -n "$word" ] || more=--version
@@ -58,7 +63,7 @@ _confstorectl() {
         compopt -o filenames
         mapfile -t COMPREPLY < <(compgen -f -- "$current")
         ;;
-    import:1 | set:1 | delete:1 | export:1 | get:1 | watch:1)
+    import:1 | set:1 | delete:1 | copy:1 | rename:1 | export:1 | keys:1 | get:1 | exists:1 | watch:1 | copy:2 | rename:2)
         mapfile -t COMPREPLY < <(compgen -W "$(_confstorectl_names "$folder")" -- "$current")
         ;;
     *:0)

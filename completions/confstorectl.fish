@@ -8,7 +8,7 @@ function __confstorectl_places
     for word in (commandline -opc)[2..-1]
         if test $is_value = 1
             set is_value 0
-        else if contains -- $word --at --from --socket --wait
+        else if contains -- $word --at --default --file --from --if-count --if-value --socket --wait
             set is_value 1
         else if not string match -q -- '-?*' $word
             set -a places $word
@@ -48,14 +48,21 @@ complete -c confstorectl -n '__confstorectl_at -1' \
     -a set -d 'Sets the value at a JSON Pointer of a configuration'
 complete -c confstorectl -n '__confstorectl_at -1' \
     -a delete -d 'Removes a configuration, or what is at a JSON Pointer of it'
+complete -c confstorectl -n '__confstorectl_at -1' \
+    -a copy -d 'Puts a copy of a configuration under another name'
+complete -c confstorectl -n '__confstorectl_at -1' -a rename -d 'Gives a configuration another name'
 complete -c confstorectl -n '__confstorectl_at -1' -a batch -d 'Makes all edits of a list, or none of them'
 complete -c confstorectl -n '__confstorectl_at -1' \
     -a checkpoint -d 'Makes the store file as short as its state'
-complete -c confstorectl -n '__confstorectl_at -1' -a export -d 'Writes a configuration in the one style'
+complete -c confstorectl -n '__confstorectl_at -1' -a export -d 'Writes a configuration'
 complete -c confstorectl -n '__confstorectl_at -1' \
     -a names -d 'Writes the names of the configurations, a line each'
 complete -c confstorectl -n '__confstorectl_at -1' \
+    -a keys -d 'Writes the keys of a mapping, or the indexes of a list, a line each'
+complete -c confstorectl -n '__confstorectl_at -1' \
     -a get -d 'Writes the value at a JSON Pointer of a configuration'
+complete -c confstorectl -n '__confstorectl_at -1' \
+    -a exists -d 'Tells whether something is at a JSON Pointer, by the status'
 complete -c confstorectl -n '__confstorectl_at -1' -a log -d 'Writes the commands since the last checkpoint'
 complete -c confstorectl -n '__confstorectl_at -1' \
     -a verify -d 'Reads the whole store file, and writes whether it can be opened'
@@ -69,22 +76,73 @@ complete -c confstorectl -n '__confstorectl_is import' -l init \
     -d 'Makes a store in the folder, if it has none'
 complete -c confstorectl -n '__confstorectl_is import' -l explain \
     -d 'Shows the line at fault of a refused text, and says what to do'
+complete -c confstorectl -n '__confstorectl_is import' -l if-value -x \
+    -d 'Changes the store only if this text is at the place that is changed'
+complete -c confstorectl -n '__confstorectl_is import' -l if-absent \
+    -d 'Changes the store only if nothing is at the place that is changed'
+complete -c confstorectl -n '__confstorectl_is import' -l if-count -x \
+    -d 'Changes the store only if it has accepted N commands'
 complete -c confstorectl -n '__confstorectl_is set' -l yaml \
     -d 'Reads VALUE, or standard input if that is `-`, as a YAML text'
+complete -c confstorectl -n '__confstorectl_is set' -l file -r -F \
+    -d 'Takes the bytes of FILE, or of standard input for `-`, as the text, in place of VALUE'
 complete -c confstorectl -n '__confstorectl_is set' -l whole \
     -d 'Allows the pointer "", which stands for the whole configuration'
 complete -c confstorectl -n '__confstorectl_is set' -l explain \
     -d 'Shows the line at fault of a refused text, and says what to do'
+complete -c confstorectl -n '__confstorectl_is set' -l if-value -x \
+    -d 'Changes the store only if this text is at the place that is changed'
+complete -c confstorectl -n '__confstorectl_is set' -l if-absent \
+    -d 'Changes the store only if nothing is at the place that is changed'
+complete -c confstorectl -n '__confstorectl_is set' -l if-count -x \
+    -d 'Changes the store only if it has accepted N commands'
 complete -c confstorectl -n '__confstorectl_is delete' -l whole \
     -d 'Allows the pointer "", which stands for the whole configuration'
+complete -c confstorectl -n '__confstorectl_is delete' -l if-value -x \
+    -d 'Changes the store only if this text is at the place that is changed'
+complete -c confstorectl -n '__confstorectl_is delete' -l if-absent \
+    -d 'Changes the store only if nothing is at the place that is changed'
+complete -c confstorectl -n '__confstorectl_is delete' -l if-count -x \
+    -d 'Changes the store only if it has accepted N commands'
+complete -c confstorectl -n '__confstorectl_is copy' -l if-value -x \
+    -d 'Changes the store only if this text is at the place that is changed'
+complete -c confstorectl -n '__confstorectl_is copy' -l if-absent \
+    -d 'Changes the store only if nothing is at the place that is changed'
+complete -c confstorectl -n '__confstorectl_is copy' -l if-count -x \
+    -d 'Changes the store only if it has accepted N commands'
+complete -c confstorectl -n '__confstorectl_is rename' -l if-value -x \
+    -d 'Changes the store only if this text is at the place that is changed'
+complete -c confstorectl -n '__confstorectl_is rename' -l if-absent \
+    -d 'Changes the store only if nothing is at the place that is changed'
+complete -c confstorectl -n '__confstorectl_is rename' -l if-count -x \
+    -d 'Changes the store only if it has accepted N commands'
 complete -c confstorectl -n '__confstorectl_is batch' -l explain \
     -d 'Shows the line at fault of a refused text, and says what to do'
+complete -c confstorectl -n '__confstorectl_is export' -l json \
+    -d 'Writes a JSON text on one line; each text is a string'
+complete -c confstorectl -n '__confstorectl_is export' -l plain \
+    -d 'Writes texts as 80, true and null without quotes, for readers with types'
+complete -c confstorectl -n '__confstorectl_is names' -l json -d 'Writes a JSON array on one line'
 complete -c confstorectl -n '__confstorectl_is names' -l at -x \
+    -d 'Reads the store as it was after command number N'
+complete -c confstorectl -n '__confstorectl_is keys' -l at -x \
     -d 'Reads the store as it was after command number N'
 complete -c confstorectl -n '__confstorectl_is get' -l raw \
     -d 'Writes a text as it is, with a line feed after it'
+complete -c confstorectl -n '__confstorectl_is get' -l no-newline \
+    -d 'Writes no line feed after the text; needs `--raw`'
+complete -c confstorectl -n '__confstorectl_is get' -l json \
+    -d 'Writes a JSON text on one line; each text is a string'
+complete -c confstorectl -n '__confstorectl_is get' -l plain \
+    -d 'Writes texts as 80, true and null without quotes, for readers with types'
+complete -c confstorectl -n '__confstorectl_is get' -l default -x \
+    -d 'Writes TEXT where nothing is at the place; `--default=TEXT` if it begins with `-`'
 complete -c confstorectl -n '__confstorectl_is get' -l at -x \
     -d 'Reads the store as it was after command number N'
+complete -c confstorectl -n '__confstorectl_is exists' -l at -x \
+    -d 'Reads the store as it was after command number N'
+complete -c confstorectl -n '__confstorectl_is log' -l values \
+    -d 'Writes the value of each import and set, too, as a JSON text'
 complete -c confstorectl -n '__confstorectl_is log' -l yaml \
     -d 'Writes the records as they stand in store.yaml'
 complete -c confstorectl -n '__confstorectl_is log' -l at -x \
@@ -93,11 +151,12 @@ complete -c confstorectl -n '__confstorectl_is watch' -l yaml \
     -d 'Writes the records as they stand in store.yaml'
 complete -c confstorectl -n '__confstorectl_is watch' -l from -x \
     -d 'Begins with change number N, which may have been made already'
-complete -c confstorectl -n '__confstorectl_at 0 import set delete batch checkpoint export names get log verify watch' \
+complete -c confstorectl -n '__confstorectl_at 0 import set delete copy rename batch checkpoint export names keys get exists log verify watch' \
     -a '(__fish_complete_directories)'
 complete -c confstorectl -n '__confstorectl_at 2 import' -F
 complete -c confstorectl -n '__confstorectl_at 1 batch' -F
-complete -c confstorectl -n '__confstorectl_at 1 import set delete export get watch' \
+complete -c confstorectl -n '__confstorectl_at 1 import set delete copy rename export keys get exists watch' \
     -a '(__confstorectl_names)'
+complete -c confstorectl -n '__confstorectl_at 2 copy rename' -a '(__confstorectl_names)'
 complete -c confstorectl -n '__confstorectl_at 0 help' \
-    -a 'import set delete batch checkpoint export names get log verify watch'
+    -a 'import set delete copy rename batch checkpoint export names keys get exists log verify watch'

@@ -29,6 +29,7 @@ WIDTH = 110
 ALL = list(WORDS.values())
 OPTIONS: List[Option] = list(dict.fromkeys(option for word in ALL for option in (*word.options, *COMMON)))
 WITH_VALUE = sorted({option.name for option in OPTIONS if option.value})
+OF_FILES = sorted({option.name for option in OPTIONS if option.value in ("PATH", "FILE")})
 HELP_ABOUT = "Says what a word does"
 
 
@@ -55,9 +56,10 @@ def for_bash() -> str:
         options="\n".join(cases),
         common=names_of(COMMON),
         values=" | ".join(WITH_VALUE),
-        no_files=" | ".join(name for name in WITH_VALUE if name != "--socket"),
+        of_files=" | ".join(OF_FILES),
+        no_files=" | ".join(name for name in WITH_VALUE if name not in OF_FILES),
         files=" | ".join(places("FILE")),
-        names=" | ".join(places("NAME")),
+        names=" | ".join([*places("NAME"), *places("TO")]),
         version=VERSION.name,
     )
 
@@ -98,7 +100,7 @@ _confstorectl() {{
         esac
     done
     case ${{COMP_WORDS[COMP_CWORD - 1]}} in
-    --socket)
+    {of_files})
         compopt -o filenames
         mapfile -t COMPREPLY < <(compgen -f -- "$current")
         return
@@ -129,11 +131,14 @@ _confstorectl() {{
 complete -F _confstorectl confstorectl
 """
 
-ZSH_PLACES = {"FOLDER": "folder:_files -/", "NAME": "name:_confstorectl_names", "FILE": "file:_files"}
+ZSH_PLACES = {
+    "FOLDER": "folder:_files -/", "NAME": "name:_confstorectl_names", "TO": "name:_confstorectl_names",
+    "FILE": "file:_files",
+}  # fmt: skip
 
 
 def zsh_option(option: Option) -> str:
-    action = "_files" if option.name == "--socket" else ""
+    action = "_files" if option.name in OF_FILES else ""
     value = f":{option.value.lower()}:{action}" if option.value else ""
     return f"'{option.name}[{option.about}]{value}'"
 
@@ -199,7 +204,7 @@ _confstorectl "$@"
 
 
 def fish_option(condition: str, option: Option) -> str:
-    value = " -r -F" if option.name == "--socket" else " -x" if option.value else ""
+    value = " -r -F" if option.name in OF_FILES else " -x" if option.value else ""
     return f"complete -c confstorectl{condition} -l {option.name[2:]}{value} -d '{option.about}'"
 
 
@@ -221,7 +226,8 @@ def for_fish() -> str:
         rows += [fish_option(f" -n '__confstorectl_is {word.name}'", option) for option in word.options]
     for argument, action in (("FOLDER", "-a '(__fish_complete_directories)'"), ("FILE", "-F")):
         rows += [f"complete -c confstorectl -n {place} {action}" for place in fish_places(argument)]
-    rows += [f"complete -c confstorectl -n {place} -a '(__confstorectl_names)'" for place in fish_places("NAME")]
+    for argument in ("NAME", "TO"):
+        rows += [f"complete -c confstorectl -n {place} -a '(__confstorectl_names)'" for place in fish_places(argument)]
     rows.append(f"complete -c confstorectl -n '__confstorectl_at 0 help' -a '{' '.join(WORDS)}'")
     return FISH.format(made=MADE, values=" ".join(WITH_VALUE), rows="\n".join(map(fish_lines, [*starts, *rows])))
 
@@ -298,7 +304,7 @@ def roff(text: str) -> str:
 def roff_usage(word: Word) -> str:
     """A usage: what is typed in bold, and what stands for something else in italics."""
     usage = escaped(word.usage.partition(" ")[2])
-    return re.sub(r"[A-Z]+|(?:\\-\\-)?[a-z]+", lambda found: roff_part(found.group()), usage)
+    return re.sub(r"[A-Z]+|(?:\\-\\-)?[a-z]+(?:\\-[a-z]+)*", lambda found: roff_part(found.group()), usage)
 
 
 def roff_part(part: str) -> str:

@@ -175,10 +175,11 @@ def try_names(failures: Failures) -> None:
     }
     found = {title: set(re.findall(r"`(\w+)`", " ".join(rows))) for title, rows in tables.items()}
     reasons = set(faults.REASONS)
-    refusals = (found["Of a text"] | found["Of a command"]) - reasons - {"Comments"}
+    of_get = {"NotText", "NotCollection"}  # of the program's words that write a value in another form
+    refusals = (found["Of a text"] | found["Of a command"]) - reasons - {"Comments"} - of_get
     failures.expect("refusals", refusals, set(faults.REFUSALS))
     failures.expect("reasons", found["Of a text"] & reasons, reasons)
-    ends = found["Of a store and of the program"] - {"TooLong", "Reopen"}
+    ends = found["Of a store and of the program"] - {"TooLong", "Reopen", "Unmet"} - of_get
     failures.expect("ends", ends, set(faults.ENDS))
 
 
@@ -298,6 +299,12 @@ REFUSED: list[tuple[Result, str, Any, str]] = [
     ({"name": "web", "value": "x", "text": "x"}, "BadTask", None, "`value` beside `text` for 'web'"),
     ({"name": "web", "path": "/v", "value": "x", "state": "absent"}, "BadTask", None, "`value` with `state: absent`"),
     ({"name": "web", "value": "x", "edits": []}, "BadTask", None, "`edits` beside an edit"),
+    ({"name": "web", "if_absent": True, "edits": []}, "BadTask", None, "`edits` beside an edit"),
+    ({"name": "web", "value": "x", "if_value": "y", "if_absent": True}, "BadTask", None, "`if_value` beside"),
+    ({"name": "web", "path": "/v", "value": "x", "if_value": "1"}, "Unmet", None,
+     "the condition on '/v' of 'web': Unmet: "),
+    ({"name": "web", "path": "/v", "value": "x", "if_absent": True}, "Unmet", None,
+     "the condition on '/v' of 'web': Unmet: "),
     ({"name": "web", "src": "/none/there"}, "MissingFile", None,
      "/none/there: No such file or directory: MissingFile: "),
     ({"name": "web", "value": "x" * 4_194_303}, "ConfigLarge", None, "'web': ConfigLarge: "),
@@ -335,6 +342,58 @@ def try_reading(name: str, modules: Modules, where: Result, failures: Failures) 
     for options, wanted in rows:
         found = modules.run("confstore_info", **where, **options)
         failures.expect(f"{name}: reading {options}", {key: found.get(key) for key in wanted}, wanted)
+
+
+# Tasks with conditions, each with how it ends: whether something has changed, or the fault. They are done in order, on
+# what the tasks above left.
+CONDITIONAL: list[tuple[Result, Any]] = [
+    ({"path": "/v", "value": "1.11", "if_value": "1.10"}, True),
+    ({"path": "/v", "value": "1.11", "if_value": "1.10"}, False),
+    ({"path": "/v", "value": "1.12", "if_value": "1.10"}, "Unmet"),
+    ({"path": "/a", "value": "x", "if_absent": True}, True),
+    ({"path": "/a", "value": "x", "if_absent": True}, False),
+    ({"path": "/a", "value": "y", "if_absent": True}, "Unmet"),
+    ({"path": "/a", "state": "absent", "if_value": "y"}, "Unmet"),
+    ({"path": "/a", "state": "absent", "if_value": "x"}, True),
+    ({"edits": [{"path": "/b", "value": ["x"], "if_absent": True}, {"path": "/v", "value": "2", "if_value": "1"}]},
+     "Unmet"),
+    ({"edits": [{"path": "/b", "value": ["x"], "if_absent": True}, {"path": "/v", "value": "2", "if_value": "1.11"}]},
+     True),
+    ({"edits": [{"path": "/b", "value": ["x"], "if_absent": True}, {"path": "/v", "value": "3", "if_value": "2"}]},
+     True),
+    ({"path": "/b/-", "value": "y", "if_absent": True}, True),
+    ({"name": "mail", "value": {"tls": "yes"}, "if_absent": True}, True),
+    ({"name": "mail", "state": "absent", "if_value": {"tls": "no"}}, "Unmet"),
+    ({"name": "mail", "state": "absent", "if_value": {"tls": "yes"}}, True),
+]  # fmt: skip
+
+
+def has_conditions(top: str) -> bool:
+    """Whether the program knows conditions: then it refuses the name in this one."""
+    with tempfile.TemporaryDirectory(dir=top) as folder:
+        given = b'if:\n  - absent: "-"\ndelete: a\npath: /\n...\n'
+        done = subprocess.run([PROGRAM, "run", folder], input=given, capture_output=True, check=False)
+    return b"refused: BadName" in done.stdout
+
+
+def try_conditions(name: str, modules: Modules, where: Result, failures: Failures) -> None:
+    """Tasks with conditions, in check mode and really; and the count of commands, which check mode does not look at."""
+    if not has_conditions(os.path.dirname(where.get("folder") or where["socket"])):
+        print(f"left out: {name}: conditions, which this program has not")
+        return
+    for task, wanted in CONDITIONAL:
+        for check in (True, False):
+            ended = modules.change(check=check, **where, **{"name": "web", **task})
+            found = ended.get("fault", ended.get("changed"))
+            failures.expect(f"{name}: {task}, {'in check mode' if check else 'done'}", found, wanted)
+    left = {"v": "3", "x": "two\nlines\n", "t": {"s": {}}, "b": ["x", "y"]}
+    read = modules.run("confstore_info", **where, name="web").get("value")
+    failures.expect(f"{name}: what the conditions left", read, left)
+    count = modules.change(**where, name="web", path="/v", value="4").get("count", 0)
+    for number, wanted in ((count - 1, "Unmet"), (count, True), (count, "Unmet")):
+        ended = modules.change(**where, name="web", path="/v", value=f"5{wanted}", if_count=number)
+        failures.expect(f"{name}: if_count {number}", ended.get("fault", ended.get("changed")), wanted)
+    modules.change(**where, name="web", edits=[{"path": "/v", "value": "1.10"}, {"path": "/b", "state": "absent"}])
 
 
 def try_held(name: str, modules: Modules, folder: str, failures: Failures) -> None:
@@ -416,6 +475,7 @@ def try_modules(interpreter: str, top: str, failures: Failures) -> None:
         try_tasks(name, modules, {"folder": folder, "create": True}, file, failures)
         try_refusals(name, modules, {"folder": folder}, file, failures)
         try_reading(name, modules, {"folder": folder}, failures)
+        try_conditions(name, modules, {"folder": folder}, failures)
         try_held(name, modules, folder, failures)
         try_together(name, modules, os.path.join(top, f"together-{name}"), failures)
         try_places(name, modules, top, failures)
@@ -425,6 +485,7 @@ def try_modules(interpreter: str, top: str, failures: Failures) -> None:
             try_tasks(f"{name}, socket", modules, where, file, failures)
             try_refusals(f"{name}, socket", modules, where, file, failures)
             try_reading(f"{name}, socket", modules, where, failures)
+            try_conditions(f"{name}, socket", modules, where, failures)
 
 
 # ---- Ansible

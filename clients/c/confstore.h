@@ -87,7 +87,7 @@ enum confstore_status {
     CONFSTORE_SESSION_LONG,  /* SessionLong: so was the whole input */
     CONFSTORE_INPUT_FAILED,  /* Input */
     CONFSTORE_OUTPUT_FAILED, /* Output */
-    /* Of a watch, which is over too, and of a record. */
+    /* Of a watch, which is over too, and of a record or the value of a condition. */
     CONFSTORE_NOT_IN_STYLE /* it is not written as the program writes it: by hand, or it is none */
 };
 
@@ -103,6 +103,12 @@ struct confstore_bytes {
 
 /* Frees the bytes, and makes them empty. */
 void confstore_bytes_free(struct confstore_bytes *bytes);
+
+/* Bytes that belong to somebody else. */
+struct confstore_part {
+    const char *data;
+    size_t length;
+};
 
 /* Makes room for so many more bytes; and writes them at the end. */
 enum confstore_status confstore_bytes_reserve(struct confstore_bytes *bytes, size_t more);
@@ -163,6 +169,29 @@ enum confstore_status confstore_begin_edit(struct confstore_bytes *command, cons
 enum confstore_status confstore_write_edit_pair(struct confstore_bytes *command, const char *key, const char *text,
                                                 size_t length);
 
+/* What a condition says of a store. */
+enum confstore_condition_kind {
+    CONFSTORE_IF_TEXT,   /* at `path` of the configuration `name` is the text `value` */
+    CONFSTORE_IF_VALUE,  /* there is the tree `value`, written as an answer of kind CONFSTORE_SAID_VALUE has it */
+    CONFSTORE_IF_ABSENT, /* there is nothing; and where the path is empty, no configuration has the name */
+    CONFSTORE_IF_COUNT   /* so many commands were accepted as `count` says */
+};
+
+/* A condition. The parts that its kind does not name are not looked at. */
+struct confstore_condition {
+    enum confstore_condition_kind kind;
+    struct confstore_part name, path, value;
+    uint64_t count;
+};
+
+/* Makes the bytes the start of a command, or of a batch, that is performed only where all of so many conditions hold.
+ * They are looked at in order, right before the command. Where one does not hold, the answer is CONFSTORE_SAID_UNMET,
+ * and nothing is changed. CONFSTORE_NOT_IN_STYLE: the value of a CONFSTORE_IF_VALUE is none. */
+enum confstore_status confstore_begin_when(struct confstore_bytes *command,
+                                           const struct confstore_condition *conditions, size_t count);
+enum confstore_status confstore_begin_batch_when(struct confstore_bytes *command,
+                                                 const struct confstore_condition *conditions, size_t count);
+
 /* Reads back a scalar of the one style, with the line feed that ends it, and writes its text at the end of the bytes.
  * What is there already stays. Where a text ends in at most one line feed, the one that ends the scalar may be missing.
  */
@@ -174,7 +203,8 @@ enum confstore_said {
     CONFSTORE_SAID_REFUSED, /* `refused`: nothing changed; `value` is the word, as NoConfig */
     CONFSTORE_SAID_VALUE,   /* `value`: `value` is the tree, in the one style */
     CONFSTORE_SAID_TEXT,    /* `text`: `value` is a scalar: read it by confstore_read_text */
-    CONFSTORE_SAID_NAMES    /* `names`: `value` is a list in the one style */
+    CONFSTORE_SAID_NAMES,   /* `names`: `value` is a list in the one style */
+    CONFSTORE_SAID_UNMET    /* `refused: Unmet`: a condition of the command does not hold, and nothing changed */
 };
 
 /* An answer. `value` points into the answer's own bytes, and is what follows its key: from the same line for a scalar
@@ -230,12 +260,6 @@ enum confstore_status confstore_watch_next(struct confstore_watch *watch, int ti
 
 /* Ends a watch, and frees it. NULL is closed already. */
 void confstore_watch_close(struct confstore_watch *watch);
-
-/* Bytes that belong to somebody else. */
-struct confstore_part {
-    const char *data;
-    size_t length;
-};
 
 enum confstore_edit_kind { CONFSTORE_EDIT_IMPORT, CONFSTORE_EDIT_SET, CONFSTORE_EDIT_DELETE };
 

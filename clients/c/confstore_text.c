@@ -212,6 +212,86 @@ enum confstore_status confstore_end(struct confstore_bytes *command) {
     return push(command, "...\n", 4) ? CONFSTORE_OK : CONFSTORE_NO_MEMORY;
 }
 
+/* Conditions. */
+
+/* Writes a number as a text. */
+static enum confstore_status write_count(struct confstore_bytes *to, uint64_t count) {
+    char digits[20];
+    size_t at = sizeof digits;
+    do digits[--at] = (char)('0' + count % 10);
+    while ((count /= 10) > 0);
+    return write_pair(to, FIRST_OF_EDIT, "count", digits + at, sizeof digits - at);
+}
+
+/* Whether the bytes are what follows the key of an answer: the rest of its line, or whole lines that are indented. */
+static bool is_value(const char *value, size_t length) {
+    if (length == 0 || value[length - 1] != '\n' || value[0] == '\n') return false;
+    for (size_t at = 0; at < length;) {
+        const char *feed = memchr(value + at, '\n', length - at);
+        size_t end = (size_t)(feed - value);
+        bool is_deeper = end - at >= 2 && value[at] == ' ' && value[at + 1] == ' ';
+        if (end > at && !is_deeper && (at > 0 || value[0] == ' ')) return false;
+        at = end + 1;
+    }
+    return true;
+}
+
+/* Writes the value of an answer as that of a condition: each whole line of it is indented by as much more as the lines
+ * of a condition are. */
+static enum confstore_status write_value(struct confstore_bytes *to, const char *value, size_t length) {
+    static const char KEY[] = OTHER_OF_EDIT "value:";
+    size_t before = to->length;
+    if (!is_value(value, length)) return CONFSTORE_NOT_IN_STYLE;
+    bool is_done = push(to, KEY, sizeof KEY - 1) && push_byte(to, value[0] == ' ' ? '\n' : ' ');
+    for (size_t at = 0; is_done && at < length;) {
+        size_t end = (size_t)((const char *)memchr(value + at, '\n', length - at) - value);
+        bool is_whole = end > at && value[at] == ' ';
+        is_done = (!is_whole || push_spaces(to, strlen(OTHER_OF_EDIT))) && push(to, value + at, end + 1 - at);
+        at = end + 1;
+    }
+    return written(to, before, is_done);
+}
+
+static enum confstore_status write_condition(struct confstore_bytes *to, const struct confstore_condition *condition) {
+    const struct confstore_part *name = &condition->name, *path = &condition->path, *value = &condition->value;
+    if (condition->kind == CONFSTORE_IF_COUNT) return write_count(to, condition->count);
+    const char *word = condition->kind == CONFSTORE_IF_ABSENT ? "absent" : "test";
+    enum confstore_status status = write_pair(to, FIRST_OF_EDIT, word, name->data, name->length);
+    if (status == CONFSTORE_OK) status = write_pair(to, OTHER_OF_EDIT, "path", path->data, path->length);
+    if (status != CONFSTORE_OK || condition->kind == CONFSTORE_IF_ABSENT) return status;
+    if (condition->kind == CONFSTORE_IF_VALUE) return write_value(to, value->data, value->length);
+    return write_pair(to, OTHER_OF_EDIT, "value", value->data, value->length);
+}
+
+/* Makes the bytes the start of a command with conditions, and with a line after them. */
+static enum confstore_status begin_when(struct confstore_bytes *command, const struct confstore_condition *conditions,
+                                        size_t count, const char *line) {
+    static const char START[] = "---\n", IF[] = "if:\n";
+    size_t before = command->length;
+    bool is_done = push(command, START, sizeof START - 1) && (count == 0 || push(command, IF, sizeof IF - 1));
+    enum confstore_status status = is_done ? CONFSTORE_OK : CONFSTORE_NO_MEMORY;
+    for (size_t number = 0; status == CONFSTORE_OK && number < count; number++)
+        status = write_condition(command, &conditions[number]);
+    if (status == CONFSTORE_OK && !push(command, line, strlen(line))) status = CONFSTORE_NO_MEMORY;
+    size_t length = command->length - before;
+    command->length = before;
+    if (status == CONFSTORE_OK) {
+        memmove(command->data, command->data + before, length);
+        command->length = length;
+    }
+    return status;
+}
+
+enum confstore_status confstore_begin_when(struct confstore_bytes *command,
+                                           const struct confstore_condition *conditions, size_t count) {
+    return begin_when(command, conditions, count, "");
+}
+
+enum confstore_status confstore_begin_batch_when(struct confstore_bytes *command,
+                                                 const struct confstore_condition *conditions, size_t count) {
+    return begin_when(command, conditions, count, "batch:\n");
+}
+
 /* Writes a character in UTF-8. */
 static bool push_character(struct confstore_bytes *to, uint32_t number) {
     if (number < 0x80) return push_byte(to, (char)number);
@@ -309,6 +389,10 @@ enum confstore_status confstore_read_text(const char *written, size_t length, st
 
 /* Answers. */
 
+static bool is_same(const char *text, size_t length, const char *other) {
+    return length == strlen(other) && !memcmp(text, other, length);
+}
+
 /* Reads a count in double quotes, with its line feed. */
 static bool read_count(const char *value, size_t length, uint64_t *count) {
     if (length < 4 || value[0] != '"' || value[length - 2] != '"' || value[length - 1] != '\n') return false;
@@ -334,6 +418,8 @@ enum confstore_status confstore_read_answer(const char *answer, size_t length, s
         if (said->kind == CONFSTORE_SAID_OK && !read_count(said->value, said->length, &said->count))
             return CONFSTORE_BAD_ANSWER;
         if (said->kind == CONFSTORE_SAID_REFUSED && !is_word(said->value, --said->length)) return CONFSTORE_BAD_ANSWER;
+        if (said->kind == CONFSTORE_SAID_REFUSED && is_same(said->value, said->length, "Unmet"))
+            said->kind = CONFSTORE_SAID_UNMET;
         return CONFSTORE_OK;
     }
     return CONFSTORE_BAD_ANSWER;

@@ -38,6 +38,11 @@ void changed(void);
 void values(struct confstore *store);
 void line_feeds(struct confstore *store);
 
+/* What is tried of conditions: as they are written, over a store, and by clients of a server. */
+void conditions_written(void);
+void conditions(struct confstore *store);
+void adders(const char *served);
+
 /* What is tried of forked processes, and of programs that say too much. */
 void forks(const char *program, const char *served);
 void endless_programs(void);

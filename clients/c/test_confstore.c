@@ -196,6 +196,7 @@ static void all_of(struct confstore *store) {
     values(store);
     line_feeds(store);
     refusals(store);
+    conditions(store);
     many_at_once(store);
     a_window(store);
 }
@@ -397,6 +398,7 @@ int main(int count, char **words) {
     signal(SIGPIPE, SIG_DFL);
     scalars();
     changed();
+    conditions_written();
     expect_status("open", confstore_open(program, folder_of("store"), PATIENCE, &store), CONFSTORE_OK);
     if (store) all_of(store);
     expect_status("close", confstore_close(store, &status), CONFSTORE_OK);
@@ -416,6 +418,7 @@ int main(int count, char **words) {
         expect_status("connect", confstore_connect(words[3], PATIENCE, &store), CONFSTORE_OK);
         if (store) all_of(store);
         expect_status("disconnect", confstore_close(store, NULL), CONFSTORE_OK);
+        adders(words[3]);
     }
     expect("every file is closed", open_files(), files);
     expect("every process is taken", waitpid(-1, NULL, WNOHANG), -1);

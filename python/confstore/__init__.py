@@ -15,6 +15,7 @@ session's promise. See `Store`, `AsyncStore` and `Reader` here, and `confstore.f
 from typing import TYPE_CHECKING, Any, List
 
 from . import faults
+from .conditions import Absent, Condition, Count, Test
 from .faults import *  # noqa: F403
 from .faults import ConfstoreError, Refused, SessionEnded
 from .following import Changes, Cut, Replaced
@@ -31,8 +32,9 @@ __version__ = "0.2.0"
 
 # What `help` shows, in this order. The other exceptions are in `faults`, and can be imported from here too.
 __all__ = [
-    "Store", "Batch", "AsyncStore", "AsyncBatch", "Reader", "View", "Changes", "Cut", "Replaced", "Record", "Edit",
-    "Place", "Tree", "document", "from_text", "to_text", "ConfstoreError", "Refused", "SessionEnded",
+    "Store", "Batch", "AsyncStore", "AsyncBatch", "Test", "Absent", "Count", "Condition", "Reader", "View", "Changes",
+    "Cut", "Replaced", "Record", "Edit", "Place", "Tree", "document", "from_text", "to_text", "ConfstoreError",
+    "Refused", "SessionEnded",
 ]  # fmt: skip
 
 

@@ -3,13 +3,16 @@
 from __future__ import annotations
 
 import asyncio
+import copy
 import os
-from typing import Any, List, Mapping, Optional, Type, Union, overload
+import time
+from typing import Any, Callable, Dict, List, Mapping, Optional, Sequence, Type, Union, overload
 
-from .commands import CHECKPOINT, NAMES, Answers, delete_of, get_of, import_of, put_of, set_of
+from .commands import CHECKPOINT, NAMES, Answers, delete_of, get_of, import_of, put_of, refused, set_of
+from .conditions import PROBE, Condition, Test, at_place, move_of, under
 from .edits import Edits
 from .faults import BadCommand, BadName, Closed, ConfstoreError, EmptyBatch, NoConfig, NoSuchPlace, NotIndex, NotText
-from .faults import Unsupported
+from .faults import Refused, Unmet, Unsupported
 from .mapping import MISSING, NOWHERE, D
 from .places import make_folder, need_folder
 from .session import Session
@@ -20,9 +23,9 @@ from .style import Tree, document
 class AsyncBatch(Edits):
     """Edits that are performed together when their `async with` is left, or not at all: `AsyncStore.batch` makes it."""
 
-    def __init__(self, store: "AsyncStore") -> None:
+    def __init__(self, store: "AsyncStore", when: Sequence[Condition]) -> None:
         super().__init__()
-        self._store = store
+        self._store, self._when = store, when
         #: The count of accepted commands after the batch, once it was performed.
         self.count: Optional[int] = None
 
@@ -31,7 +34,7 @@ class AsyncBatch(Edits):
 
     async def __aexit__(self, kind: Optional[Type[BaseException]], *_: object) -> None:
         if kind is None and self._edits:
-            self.count = await self._store._perform_batch(self._edits)
+            self.count = await self._store._perform_batch(self._edits, self._when)
 
 
 class AsyncStore(Answers):
@@ -108,21 +111,81 @@ class AsyncStore(Answers):
         command = get_of(name, path)
         return self._value_in(await self._ask(command), "value", command)
 
-    async def import_text(self, name: str, text: str) -> int:
+    async def _change(self, command: Dict[str, Tree], conditions: Sequence[Condition]) -> int:
+        """Has a command performed where conditions hold. The new count."""
+        if not conditions:
+            return await self._count(command)
+        try:
+            return await self._count(under(conditions, command))
+        except BadCommand:
+            await self._need_conditions()
+            raise
+
+    async def import_text(
+        self, name: str, text: str, *,
+        if_value: Tree = MISSING, if_absent: bool = False, if_count: Optional[int] = None,
+    ) -> int:  # fmt: skip
         """Reads a text of YAML and puts its tree under a name, which may be new."""
-        return await self._count(import_of(name, text))
+        return await self._change(import_of(name, text), at_place(name, "", if_value, if_absent, if_count))
 
-    async def put(self, name: str, tree: Tree) -> int:
+    async def put(
+        self, name: str, tree: Tree, *,
+        if_value: Tree = MISSING, if_absent: bool = False, if_count: Optional[int] = None,
+    ) -> int:  # fmt: skip
         """Puts a tree under a name, which may be new."""
-        return await self._count(put_of(name, tree))
+        return await self._change(put_of(name, tree), at_place(name, "", if_value, if_absent, if_count))
 
-    async def set(self, name: str, path: str, tree: Tree) -> int:
+    async def set(
+        self, name: str, path: str, tree: Tree, *,
+        if_value: Tree = MISSING, if_absent: bool = False, if_count: Optional[int] = None,
+    ) -> int:  # fmt: skip
         """Puts a tree at a path (RFC 6901) of a configuration; the step `-` appends to a list."""
-        return await self._count(set_of(name, path, tree))
+        return await self._change(set_of(name, path, tree), at_place(name, path, if_value, if_absent, if_count))
 
-    async def delete(self, name: str, path: str = "") -> int:
+    async def delete(
+        self, name: str, path: str = "", *,
+        if_value: Tree = MISSING, if_absent: bool = False, if_count: Optional[int] = None,
+    ) -> int:  # fmt: skip
         """Takes out what is at a path of a configuration, or the whole of it if the path is empty."""
-        return await self._count(delete_of(name, path))
+        return await self._change(delete_of(name, path), at_place(name, path, if_value, if_absent, if_count))
+
+    async def copy(
+        self, source: str, target: str, *,
+        if_value: Tree = MISSING, if_absent: bool = False, if_count: Optional[int] = None,
+    ) -> int:  # fmt: skip
+        """Puts what a configuration is under another name too, as `Store.copy` does."""
+        return await self._move("copy", source, target, at_place(target, "", if_value, if_absent, if_count))
+
+    async def rename(
+        self, source: str, target: str, *,
+        if_value: Tree = MISSING, if_absent: bool = False, if_count: Optional[int] = None,
+    ) -> int:  # fmt: skip
+        """Puts a configuration under another name in place of its own, as `Store.rename` does."""
+        return await self._move("rename", source, target, at_place(target, "", if_value, if_absent, if_count))
+
+    async def _move(self, word: str, source: str, target: str, conditions: Sequence[Condition]) -> int:
+        deadline = time.monotonic() + self._timeout
+        try:
+            while True:
+                tree = await self._read_at(source, "")
+                try:
+                    command, still = move_of(word, source, target, tree), Test(source, "", tree)
+                    return await self._change(command, [*conditions, still])
+                except Unmet:
+                    if time.monotonic() > deadline or (conditions and not await self._hold(conditions)):
+                        raise
+        except Refused as fault:
+            raise refused(fault.word, {word: source}, self._program) from None
+
+    async def _hold(self, conditions: Sequence[Condition]) -> bool:
+        """Whether conditions hold, as of `Store`."""
+        try:
+            await self._change({"batch": []}, conditions)
+        except Unmet:
+            return False
+        except EmptyBatch:
+            pass
+        return True
 
     @overload
     async def get(self, name: str, path: str = "") -> Tree: ...
@@ -162,15 +225,38 @@ class AsyncStore(Answers):
         """Writes a new `store.yaml` of the state alone. The log begins anew with it."""
         return await self._count(CHECKPOINT)
 
-    def batch(self) -> AsyncBatch:
-        """Lists edits in `async with`, and performs them together when it is left, or not at all."""
-        return AsyncBatch(self)
+    def batch(self, *, when: Sequence[Condition] = ()) -> AsyncBatch:
+        """Lists edits in `async with`, and performs them together when it is left, or not at all; also where a
+        condition does not hold."""
+        return AsyncBatch(self, when)
 
-    async def update(self, trees: Mapping[str, Tree]) -> None:
-        """Puts each tree under its name: all in one batch, so all of them or none."""
+    @overload
+    async def update(self, other: Mapping[str, Tree], /) -> None: ...
+
+    @overload
+    async def update(self, name: str, path: str, function: Callable[[Tree], Tree], /) -> int: ...
+
+    async def update(self, other: Any, /, *place: Any) -> Any:
+        """Puts each tree under its name: all in one batch, so all of them or none. With a name, a path and a function
+        it sets what is at the path to what the function makes of it, as `Store.update` does."""
+        if place:
+            path, function = place
+            return await self._update_at(other, path, function)
         async with self.batch() as batch:
-            for name, tree in trees.items():
+            for name, tree in other.items():
                 batch.put(name, tree)
+        return None
+
+    async def _update_at(self, name: str, path: str, function: Callable[[Tree], Tree]) -> int:
+        deadline = time.monotonic() + self._timeout
+        while True:
+            tree = await self._read_at(name, path)
+            made = function(copy.deepcopy(tree))
+            try:
+                return await self.set(name, path, made, if_value=tree)
+            except Unmet:
+                if time.monotonic() > deadline:
+                    raise
 
     async def clear(self) -> None:
         """Deletes all configurations in one batch, as `Store.clear` does."""
@@ -183,13 +269,20 @@ class AsyncStore(Answers):
             except NoConfig:
                 continue
 
-    async def _perform_batch(self, edits: List[Tree]) -> int:
-        command: Tree = {"batch": edits}
+    async def _perform_batch(self, edits: List[Tree], conditions: Sequence[Condition]) -> int:
         try:
-            return await self._count(command)
+            return await self._change({"batch": edits}, conditions)
         except BadCommand:
             await self._need_batches()
             raise
+
+    async def _need_conditions(self) -> None:
+        try:
+            await self._count(PROBE)
+        except BadName:
+            pass
+        except BadCommand:
+            raise Unsupported("this program has no conditions (`if`)") from None
 
     async def _need_batches(self) -> None:
         try:

@@ -68,9 +68,10 @@ def about(word: str, name: Optional[str], path: Optional[str]) -> str:
 
 def refused(word: str, command: Tree, program: Optional[str]) -> Refused:
     """The exception of a command that was refused by a word."""
-    if not isinstance(command, dict) or not command:
+    pairs = [pair for pair in command.items() if pair[0] != "if"] if isinstance(command, dict) else []
+    if not isinstance(command, dict) or not pairs:
         return refusal(word)
-    kind, first = next(iter(command.items()))
+    kind, first = pairs[0]
     name = text_of(first) if isinstance(first, str) and first else None
     path = command.get("path")
     path = text_of(path) if isinstance(path, str) else None

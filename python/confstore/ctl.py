@@ -19,14 +19,18 @@ import time
 from typing import Callable, Dict, List, Optional, Sequence
 
 from .commands import CHECKPOINT, NAMES, delete_of, get_of, import_of, is_name, set_of
+from .conditions import under
 from .ctl_asked import Asked, Help, Version, asked_of
-from .ctl_faults import DEVICE, OF_TEXTS, Fault, TextFault, unread
+from .ctl_changes import conditions_of, move
+from .ctl_faults import DEVICE, NOTHING_THERE, OF_TEXTS, REFUSED, Fault, TextFault, unread
 from .ctl_help import help_of, help_of_all
+from .ctl_outputs import has_form, output_of, output_of_default
 from .ctl_program import Source, edits_of, program_if_any, run, styled, tree_of
-from .ctl_sockets import NO_SERVER, Command, Connection, Place, Reply, SessionReply, answer_of, place_of
-from .ctl_streams import ClosedPipe, hold_closed, is_error_terminal, read_text, write, write_error
+from .ctl_sockets import NO_SERVER, Command, Connection, Place, SessionReply, answer_of, place_of
+from .ctl_streams import MOST_INPUT, ClosedPipe, hold_closed, is_error_terminal, read_text, write, write_error
 from .ctl_watch import watch
-from .ctl_words import AT, BATCH, EXPLAIN, IMPORT, LOOKING_BACK, RAW, READING, SET, WATCH, YAML_VALUE
+from .ctl_words import AT, BATCH, EXISTS, EXPLAIN, FROM_FILE, IMPORT, LOOKING_BACK, MOVING, READING, SET, WATCH
+from .ctl_words import YAML_VALUE, Option
 from .session import LONGEST_COMMAND
 from .style import Tree, document
 
@@ -55,6 +59,8 @@ class Work:
         self._command: Optional[Command] = None
         if asked.word in (IMPORT, BATCH):
             self._take_file(asked.argument("FILE") or "-")
+        elif asked.word is SET and asked.has(FROM_FILE):
+            self._take_file(asked.options[FROM_FILE.name])
         elif asked.word is SET and asked.has(YAML_VALUE):
             self._take_value(asked.arguments["VALUE"])
 
@@ -86,7 +92,7 @@ class Work:
     def command(self) -> Command:
         """The command of a session. Raises the `Fault` of a text that is refused."""
         if self._command is None:
-            self._command = _COMMANDS[self.asked.word.name](self)
+            self._command = under(conditions_of(self.asked), _COMMANDS[self.asked.word.name](self))
         return self._command
 
     def may_try_again(self, fault: Fault) -> bool:
@@ -110,10 +116,8 @@ class Work:
 
     def _words(self) -> List[str]:
         """The words for the program. What is read is on its standard input."""
-        asked, options = self.asked, []
-        for option in asked.word.options:
-            if asked.has(option):
-                options += [option.name, asked.options[option.name]] if option.value else [option.name]
+        asked = self.asked
+        options = [part for option in asked.word.options if asked.has(option) for part in self._parts(option)]
         arguments = dict(asked.arguments)
         if self.text is not None:
             arguments.pop("FILE", None)
@@ -121,16 +125,35 @@ class Work:
                 arguments["VALUE"] = "-"
         return [asked.word.name, *options, "--", *arguments.values()]
 
+    def _parts(self, option: Option) -> List[str]:
+        """An option for the program."""
+        value = "-" if option is FROM_FILE else self.asked.options[option.name]
+        if not option.value:
+            return [option.name]
+        return [f"{option.name}={value}"] if value.startswith("-") and value != "-" else [option.name, value]
+
     def by_socket(self, place: Place) -> int:
         """Asks the server. The status."""
         with Connection(place) as connection:
+            if self.asked.word in MOVING:
+                move(self.asked, lambda command: answer_of(connection.ask(command), command, program_if_any()))
+                return 0
             answer = connection.ask(self.command)
         try:
             reply = answer_of(answer, self.command, program_if_any())
         except Fault as fault:
-            raise self._with_place(fault) from None
-        write(_OUTPUTS.get(self.asked.word.name, _nothing)(self, reply))
+            return self._without(fault)
+        write(output_of(self.asked, reply))
         return 0
+
+    def _without(self, fault: Fault) -> int:
+        """The status where the server refused the command, as where nothing is at the place. Raises the `Fault` where
+        that is one."""
+        default = output_of_default(self.asked)
+        if fault.kind not in NOTHING_THERE or (self.asked.word is not EXISTS and default is None):
+            raise self._with_place(fault) from None
+        write(default or b"")
+        return REFUSED if self.asked.word is EXISTS else 0
 
     def _with_place(self, fault: Fault) -> Fault:
         """The fault of a text that a server refused, as the program tells of it, if there is one."""
@@ -169,13 +192,31 @@ def _import_command(work: Work) -> Command:
 
 def _set_command(work: Work) -> Command:
     given = work.asked.arguments
-    value: Tree = given["VALUE"] if work.text is None else tree_of(work.text, work.source)
-    return set_of(given["NAME"], given["POINTER"], value)
+    return set_of(given["NAME"], given["POINTER"], _value_of(work))
+
+
+def _value_of(work: Work) -> Tree:
+    """The value that is to be set. A file that is not UTF-8, or that is too long, is refused by the program."""
+    if work.text is None:
+        return work.asked.arguments["VALUE"]
+    if work.asked.has(YAML_VALUE):
+        return tree_of(work.text, work.source)
+    try:
+        if len(work.text) < MOST_INPUT:
+            return work.text.decode()
+    except UnicodeDecodeError:
+        pass
+    return styled(work.text, work.source).decode()
 
 
 def _batch_command(work: Work) -> Command:
     assert work.text is not None
     return {"batch": edits_of(work.text, work.source)}
+
+
+def _export_command(work: Work) -> Command:
+    name = work.asked.arguments["NAME"]
+    return get_of(name, "") if has_form(work.asked) else {"export": name}
 
 
 _COMMANDS: Dict[str, Callable[[Work], Command]] = {
@@ -184,7 +225,9 @@ _COMMANDS: Dict[str, Callable[[Work], Command]] = {
     "batch": _batch_command,
     "delete": lambda work: delete_of(work.asked.arguments["NAME"], work.asked.argument("POINTER")),
     "get": lambda work: get_of(work.asked.arguments["NAME"], work.asked.argument("POINTER")),
-    "export": lambda work: {"export": work.asked.arguments["NAME"]},
+    "keys": lambda work: get_of(work.asked.arguments["NAME"], work.asked.argument("POINTER")),
+    "exists": lambda work: get_of(work.asked.arguments["NAME"], work.asked.argument("POINTER")),
+    "export": _export_command,
     "names": lambda _: dict(_mapping(NAMES)),
     "checkpoint": lambda _: dict(_mapping(CHECKPOINT)),
 }
@@ -193,35 +236,6 @@ _COMMANDS: Dict[str, Callable[[Work], Command]] = {
 def _mapping(command: Tree) -> Command:
     assert isinstance(command, dict)
     return command
-
-
-# ---- what the words write
-
-
-def _nothing(_work: Work, _reply: Reply) -> bytes:
-    return b""
-
-
-def _value(work: Work, reply: Reply) -> bytes:
-    tree = reply.tree() if work.asked.has(RAW) else None
-    return f"{tree}\n".encode() if isinstance(tree, str) else reply.styled()
-
-
-def _text(_work: Work, reply: Reply) -> bytes:
-    text = reply.tree()
-    if not isinstance(text, str):
-        raise Fault("BadAnswer", "the text of an export is a collection")
-    return text.encode()
-
-
-def _names(_work: Work, reply: Reply) -> bytes:
-    names = reply.tree()
-    if not isinstance(names, list):
-        raise Fault("BadAnswer", "the names are no list")
-    return "".join(f"{name}\n" for name in names).encode()
-
-
-_OUTPUTS: Dict[str, Callable[[Work, Reply], bytes]] = {"get": _value, "export": _text, "names": _names}
 
 
 # ---- the whole

@@ -6,7 +6,8 @@ import re
 from typing import Dict, List, NamedTuple, Sequence
 
 from .ctl_faults import Fault, shown
-from .ctl_words import AT, COMMON, FROM, HELP, SOCKET, VERSION, WAIT, WHOLE, WORDS, Option, Word
+from .ctl_words import AT, COMMON, FROM, FROM_FILE, HELP, IF_ABSENT, IF_COUNT, IF_VALUE, JSON, NO_NEWLINE, PLAIN, RAW
+from .ctl_words import SET, SOCKET, VALUES, VERSION, WAIT, WHOLE, WORDS, YAML_RECORDS, YAML_VALUE, Option, Word
 
 _OPTIONS: Dict[str, Option] = {
     option.name: option for word in WORDS.values() for option in (*word.options, *COMMON, VERSION)
@@ -18,6 +19,16 @@ _SECONDS = re.compile(r"[0-9]+(\.[0-9]*)?|\.[0-9]+")
 
 # The greatest number that a command can have.
 GREATEST = 2**64 - 1
+
+# Options of which a word has one at most.
+_EXCLUDING = (
+    (IF_VALUE, IF_ABSENT),
+    (YAML_VALUE, FROM_FILE),
+    (RAW, JSON),
+    (RAW, PLAIN),
+    (JSON, PLAIN),
+    (VALUES, YAML_RECORDS),
+)
 
 
 class Asked(NamedTuple):
@@ -113,6 +124,8 @@ class _Cut:
             if not self._left:
                 raise wrong(f"{name} wants {option.value}", self._word())
             value = self._left.pop()
+            if option not in COMMON and value.startswith("-") and value != "-" and not _NUMBER.fullmatch(value):
+                raise wrong(f"{name} wants {option.value}; {name}={shown(value)} gives it that", self._word())
         self.options[name] = value
 
 
@@ -136,6 +149,7 @@ def asked_of(words: Sequence[str]) -> "Asked | Help | Version":
     _check_options(word, cut.options)
     asked = Asked(word, _arguments_of(word, cut.arguments[1:]), cut.options)
     _check_pointer(asked)
+    _check_together(asked)
     return asked
 
 
@@ -167,6 +181,7 @@ def _check_options(word: Word, options: Dict[str, str]) -> None:
             raise wrong(f"{word.name} has no option {name}", word)
     _check_number(word, AT.name, options.get(AT.name, "0"))
     _check_number(word, FROM.name, options.get(FROM.name, "0"))
+    _check_number(word, IF_COUNT.name, options.get(IF_COUNT.name, "0"))
     seconds = options.get(WAIT.name, "0")
     if not _SECONDS.fullmatch(seconds):
         raise wrong(f"{WAIT.name} wants a number of seconds, not {shown(seconds)}", word)
@@ -184,3 +199,14 @@ def _check_pointer(asked: Asked) -> None:
         raise wrong(f"an empty POINTER needs {WHOLE.name}", asked.word)
     if pointer and asked.has(WHOLE):
         raise wrong(f'{WHOLE.name} needs the POINTER ""', asked.word)
+
+
+def _check_together(asked: Asked) -> None:
+    """Raises `WrongWords` for options that exclude each other, and for a value that is not given, or twice."""
+    for one, other in _EXCLUDING:
+        if asked.has(one) and asked.has(other):
+            raise wrong(f"{one.name} beside {other.name}", asked.word)
+    if asked.has(NO_NEWLINE) and not asked.has(RAW):
+        raise wrong(f"{NO_NEWLINE.name} needs {RAW.name}", asked.word)
+    if asked.word is SET and ("VALUE" in asked.arguments) == asked.has(FROM_FILE):
+        raise wrong(f"either VALUE or {FROM_FILE.name} is needed", asked.word)

@@ -39,9 +39,14 @@ _HINTS: Dict[str, str] = {
     "NoSuchCommand": "`confstorectl verify` says which commands the file has",
     "Device": "the folder is missing or can't be used, or its device failed",
     "IdTaken": "send the command again",
-    "NotText": "a text has a lone surrogate",
+    "NotText": "the value is a list or a mapping: leave out --raw",
+    "NotCollection": "a text has neither keys nor indexes",
+    "Unmet": "a condition does not hold, so nothing was changed",
     "MissingProgram": "install confstore, or name it in CONFSTORE",
 }
+
+# The names of a fault where nothing is at a place.
+NOTHING_THERE = frozenset(("NoConfig", "NoSuchPlace", "NotIndex"))
 
 # The names of what is wrong with a text.
 OF_TEXTS = frozenset("TooLong NotUtf8 Syntax Documents KeyNotText KeyTwice TooDeep LargeInStyle".split())

@@ -2,10 +2,11 @@
 
 from __future__ import annotations
 
+import re
 import textwrap
 from typing import Iterator, List, Sequence, Tuple
 
-from .ctl_words import ABOUT, COMMON, DESCRIPTION, FAULTS, GROUPS, STATUSES, VERSION, WORDS, Option
+from .ctl_words import ABOUT, COMMON, DESCRIPTION, FAULTS, GROUPS, STATUSES, VERSION, WORDS, Option, Word
 
 WIDTH = 100
 
@@ -44,10 +45,17 @@ def help_of_all() -> str:
     return "".join(parts)
 
 
+def _usage_of(word: Word) -> str:
+    """How a word is written, in lines that end at no space within brackets."""
+    usage = re.sub(r"(\[[^]]*) ", "\\1\0", word.usage)
+    filled = textwrap.fill(usage, WIDTH, subsequent_indent=" " * 4, break_long_words=False, break_on_hyphens=False)
+    return filled.replace("\0", " ")
+
+
 def help_of(name: str) -> str:
     """The help of a word."""
     word = WORDS[name]
-    parts = [f"{word.about}\n\nUsage: {word.usage}\n"]
+    parts = [f"{word.about}\n\nUsage: {_usage_of(word)}\n"]
     parts.append(_rows("Arguments", [(argument.name, argument.about) for argument in word.arguments]))
     parts.append(_rows("Options", _shapes([*word.options, *COMMON])))
     parts.append("".join(_paragraphs(word.details)))

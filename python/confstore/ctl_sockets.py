@@ -12,6 +12,7 @@ import errno
 import json
 import os
 import re
+import select
 import socket
 import stat
 import time
@@ -22,7 +23,7 @@ import yaml
 from .ctl_faults import Fault, fault_of, shown
 from .commands import refused
 from .faults import BadAnswer, ConfstoreError
-from .other import Cutter
+from .other import Cutter, await_event
 from .session import LONGEST_ANSWER, LONGEST_COMMAND
 from .style import Tree, document, to_text, trees_of
 
@@ -44,6 +45,13 @@ STORES, SOCKETS = "/var/lib/confstore", "/run/confstore"
 # What JSON and YAML both have to have escaped, or what a reader of the one might not take as the other does.
 _ESCAPED = re.compile("[\x80-\x9f\u2028\u2029\ufeff\ufffe\uffff]")
 _KEY = re.compile(rb"---\n([a-z]+):")
+
+# What a replicated node takes for no command, and why.
+_NOT_BY_NODES = {
+    "checkpoint": "a replicated node makes its checkpoints itself",
+    "if": "a replicated node takes no conditions, nor the words that need them",
+    "watch": "a replicated node tells no changes: watch its folder",
+}
 
 
 class Place(NamedTuple):
@@ -148,6 +156,7 @@ class Connection:
         self._socket = socket.socket(socket.AF_UNIX)
         self._socket.settimeout(PATIENCE)
         self._heard = bytearray()
+        self._cutter = Cutter()
         self._count = 0  # of the bytes of the answer
         try:
             self._connect()
@@ -192,6 +201,30 @@ class Connection:
 
     def __exit__(self, *_: object) -> None:
         self.close()
+
+    def send(self, command: Command) -> None:
+        """Sends a command, whose answers are taken by `pieces_within`."""
+        try:
+            self._socket.sendall(line_of(command) + b"...\n")
+        except OSError as error:
+            raise self._cut_off(error.strerror or str(error)) from None
+
+    def pieces_within(self, seconds: float) -> List[bytes]:
+        """The documents that have come, after so many seconds at most. Raises a `Fault` where none can come."""
+        if not await_event(self._socket.fileno(), select.POLLIN, seconds):
+            return []
+        try:
+            part = self._socket.recv(PART)
+        except OSError as error:
+            raise self._cut_off(error.strerror or str(error)) from None
+        if not part:
+            raise self._cut_off("it closed the connection")
+        pieces = self._cutter.cut(part)
+        if self._cutter.rest[:1] == b"{":
+            raise Fault("Unsupported", _NOT_BY_NODES["watch"])
+        if len(self._cutter.rest) > LONGEST_ANSWER:
+            raise Fault("BadAnswer", f"a document has more than {LONGEST_ANSWER} bytes")
+        return pieces
 
     def ask(self, command: Command) -> Reply:
         """The answer to a command. Raises a `Fault` where none comes."""
@@ -268,8 +301,14 @@ def _refusal_of(reply: Reply, command: Command, program: Optional[str]) -> Fault
     word = reply.tree()
     if not isinstance(word, str):
         raise Fault("BadAnswer", "a refusal has no name")
-    if isinstance(reply, NodeReply) and word == "BadCommand" and "checkpoint" in command:
-        return Fault("Unsupported", "a replicated node makes its checkpoints itself")
+    if isinstance(reply, NodeReply):
+        for key, about in _NOT_BY_NODES.items():
+            if word == "BadCommand" and key in command:
+                return Fault("Unsupported", about)
+        if word == "NotText":
+            return Fault(word, "a text has a lone surrogate")
+    if word == "BadCommand" and "if" in command:
+        return Fault(word, "the server takes no such command; its program may be one without conditions")
     try:
         fault = fault_of(refused(word, command, program))
     except ConfstoreError as error:

@@ -54,62 +54,118 @@ FROM = Option("--from", "Begins with change number N, which may have been made a
 RAW = Option("--raw", "Writes a text as it is, with a line feed after it")
 INIT = Option("--init", "Makes a store in the folder, if it has none")
 WHOLE = Option("--whole", 'Allows the pointer "", which stands for the whole configuration')
+IF_VALUE = Option("--if-value", "Changes the store only if this text is at the place that is changed", "TEXT")
+IF_ABSENT = Option("--if-absent", "Changes the store only if nothing is at the place that is changed")
+IF_COUNT = Option("--if-count", "Changes the store only if it has accepted N commands", "N")
 EXPLAIN = Option("--explain", "Shows the line at fault of a refused text, and says what to do")
 YAML_VALUE = Option("--yaml", "Reads VALUE, or standard input if that is `-`, as a YAML text")
+FROM_FILE = Option(
+    "--file", "Takes the bytes of FILE, or of standard input for `-`, as the text, in place of VALUE", "FILE"
+)
 YAML_RECORDS = Option("--yaml", "Writes the records as they stand in store.yaml")
+VALUES = Option("--values", "Writes the value of each import and set, too, as a JSON text")
+DEFAULT = Option(
+    "--default", "Writes TEXT where nothing is at the place; `--default=TEXT` if it begins with `-`", "TEXT"
+)
+NO_NEWLINE = Option("--no-newline", "Writes no line feed after the text; needs `--raw`")
+JSON = Option("--json", "Writes a JSON text on one line; each text is a string")
+JSON_NAMES = Option("--json", "Writes a JSON array on one line")
+PLAIN = Option("--plain", "Writes texts as 80, true and null without quotes, for readers with types")
+
+# Those of each word that changes what is at one place.
+CONDITIONS = (IF_VALUE, IF_ABSENT, IF_COUNT)
 
 FOLDER = Argument("FOLDER", "The store's folder")
 NAME = Argument("NAME", "The name of the configuration")
 POINTER = Argument("POINTER", "A JSON Pointer (RFC 6901), as /port or /tags/0")
 WHOLE_POINTER = Argument("POINTER", "A JSON Pointer, as /port; the whole configuration if it is left out", True)
-VALUE = Argument("VALUE", "The value; after `--` if it begins with `-` and is no number")
+VALUE = Argument("VALUE", "The value; after `--` if it begins with `-` and is no number", True)
+TO = Argument("TO", "The other name; after `--` if it begins with `-`")
 FILE = Argument("FILE", "The file of the text; standard input if it is left out or `-`", True)
 WATCHED_NAME = Argument("NAME", "The configuration; all of them if it is left out", True)
 
 IMPORT = Word(
     "import",
     "Reads a YAML text, and puts its tree under a name",
-    (INIT, EXPLAIN),
+    (INIT, EXPLAIN, *CONDITIONS),
     (FOLDER, NAME, FILE),
     (
         "A configuration that has the name is replaced. Nothing is printed where it is done. Comments and quotes are"
         " not kept, and `3` is written `\"3\"`. A folder without a store is refused (NotAStore), and stays as it is,"
-        " unless `--init` is given.",
+        " unless `--init` is given. If a condition does not hold, nothing changes (Unmet).",
     ),
     (
         "confstorectl import store web web.yaml",
         "confstorectl import --init store web web.yaml",
+        "confstorectl import store web web.yaml --if-absent",
         "printf 'port: 80\\n' | confstorectl import store web",
     ),
 )
 SET = Word(
     "set",
     "Sets the value at a JSON Pointer of a configuration",
-    (YAML_VALUE, WHOLE, EXPLAIN),
+    (YAML_VALUE, FROM_FILE, WHOLE, EXPLAIN, *CONDITIONS),
     (FOLDER, NAME, POINTER, VALUE),
     (
         "VALUE is the text itself. With `--yaml` it is read as a YAML text, so that a list or a mapping can be set;"
-        " then `-` stands for standard input. The pointer \"\" needs `--whole`: it stands for the whole configuration."
+        " then `-` stands for standard input. With `--file` in place of VALUE, the bytes of FILE are the text, also a"
+        " line feed at their end; they have to be UTF-8. The pointer \"\" needs `--whole`: it stands for the whole"
+        " configuration."
         " The step `-` stands for the place behind the last element of a list. Nothing is printed where it is done.",
+        "If a condition does not hold, nothing changes (Unmet).",
     ),
     (
         "confstorectl set store web /port 80",
         "confstorectl set store web /tags '[a, b]' --yaml",
         "confstorectl set store web /tags/- c",
+        "confstorectl set store web /port 81 --if-value 80",
+        "confstorectl set store web /key --file key.pem",
     ),
 )
 DELETE = Word(
     "delete",
     "Removes a configuration, or what is at a JSON Pointer of it",
-    (WHOLE,),
+    (WHOLE, *CONDITIONS),
     (FOLDER, NAME, WHOLE_POINTER),
     (
         "Nothing is printed where it is done. Without POINTER the whole configuration is removed; the pointer \"\""
-        " needs `--whole`.",
+        " needs `--whole`. If a condition does not hold, nothing changes (Unmet).",
     ),
     (
         "confstorectl delete store web /tags/0",
         "confstorectl delete store web",
+        "confstorectl delete store web --if-count 12",
+    ),
+)
+COPY = Word(
+    "copy",
+    "Puts a copy of a configuration under another name",
+    CONDITIONS,
+    (FOLDER, NAME, TO),
+    (
+        "A configuration that has the name TO is replaced, unless `--if-absent` is given. All of it is done or nothing,"
+        " in one command. Nothing is printed where it is done. If a condition does not hold, nothing changes (Unmet);"
+        " `--if-value` and `--if-absent` look at TO.",
+    ),
+    (
+        "confstorectl copy store web web-old",
+        "confstorectl copy store web web-old --if-absent",
+    ),
+)
+RENAME = Word(
+    "rename",
+    "Gives a configuration another name",
+    CONDITIONS,
+    (FOLDER, NAME, TO),
+    (
+        "A configuration that has the name TO is replaced, unless `--if-absent` is given; it keeps the place of TO"
+        " among the names, and a new name comes last. All of it is done or nothing, in one command. Nothing is printed"
+        " where it is done. If a condition does not hold, nothing changes (Unmet); `--if-value` and `--if-absent` look"
+        " at TO.",
+    ),
+    (
+        "confstorectl rename store web site",
+        "confstorectl rename store web site --if-absent",
     ),
 )
 BATCH = Word(
@@ -137,16 +193,23 @@ CHECKPOINT = Word(
 )
 EXPORT = Word(
     "export",
-    "Writes a configuration in the one style",
-    (),
+    "Writes a configuration",
+    (JSON, PLAIN),
     (FOLDER, NAME),
-    (),
-    ("confstorectl export store web",),
+    (
+        "The configuration is written in the one style, which quotes `80` and `true`, since they are texts. With"
+        " `--json` it is a JSON text, each text a string. With `--plain` such texts stand without quotes, so that"
+        " readers with types take them for numbers; then they do so with a version 1.10, too.",
+    ),
+    (
+        "confstorectl export store web",
+        "confstorectl export store web --json",
+    ),
 )
 NAMES = Word(
     "names",
     "Writes the names of the configurations, a line each",
-    (AT,),
+    (JSON_NAMES, AT),
     (FOLDER,),
     (),
     (
@@ -157,23 +220,59 @@ NAMES = Word(
 GET = Word(
     "get",
     "Writes the value at a JSON Pointer of a configuration",
-    (RAW, AT),
+    (RAW, NO_NEWLINE, JSON, PLAIN, DEFAULT, AT),
     (FOLDER, NAME, WHOLE_POINTER),
-    ("The value is written in the one style.",),
+    (
+        "The value is written in the one style. With `--raw` a text is written as it is, with a line feed after it, or"
+        " with nothing after it for `--no-newline`; a list or a mapping is refused (NotText). With `--json` the value"
+        " is a JSON text, each text a string. With `--plain` texts as 80 and true stand without quotes, for readers"
+        " with types. With `--default` that text is written where no configuration has the name, or nothing is at the"
+        " pointer.",
+    ),
     (
         "confstorectl get store web /port --raw",
         "confstorectl get store web",
         "confstorectl get store web /port --at 12",
+        "confstorectl get store web /port --raw --default 80",
     ),
+)
+KEYS = Word(
+    "keys",
+    "Writes the keys of a mapping, or the indexes of a list, a line each",
+    (AT,),
+    (FOLDER, NAME, WHOLE_POINTER),
+    (
+        "A key that begins with a double quote or holds what is not shown, as a line break, is written in double"
+        " quotes, and so is the empty one. A text has no keys (NotCollection).",
+    ),
+    (
+        "confstorectl keys store web",
+        "confstorectl keys store web /tags",
+    ),
+)
+EXISTS = Word(
+    "exists",
+    "Tells whether something is at a JSON Pointer, by the status",
+    (AT,),
+    (FOLDER, NAME, WHOLE_POINTER),
+    (
+        "Nothing is written. The status is 0 if something is at the pointer, and 1 if nothing is there or no"
+        " configuration has the name. Without POINTER it is 0 if the configuration is there.",
+    ),
+    ("confstorectl exists store web /port && echo there",),
 )
 LOG = Word(
     "log",
     "Writes the commands since the last checkpoint",
-    (YAML_RECORDS, AT),
+    (VALUES, YAML_RECORDS, AT),
     (FOLDER,),
-    ("Each command is one line, as `2 set web \"/port\"`: its number, what it did, and where.",),
+    (
+        "Each command is one line, as `2 set web \"/port\"`: its number, what it did, and where. With `--values` the"
+        " value of an import or a set follows as a JSON text, as `2 set web \"/port\" \"80\"`.",
+    ),
     (
         "confstorectl log store",
+        "confstorectl log store --values",
         "confstorectl log store --yaml",
     ),
 )
@@ -193,7 +292,8 @@ WATCH = Word(
     (
         "Each change is one line, as of `log`; with `--yaml` it is its record, which has the values. With a name, and a"
         " pointer, these are the changes that may change what is there. It begins after the last change that there is,"
-        " and goes on over checkpoints and over servers that end and begin, until it is ended.",
+        " and goes on over checkpoints and over servers that end and begin, until it is ended. Where the folder can't"
+        " be read, the server at the socket tells the changes, and is waited for a minute where it ends.",
         "Where a checkpoint dropped changes before they were seen, the line `5-9 cut` stands in their place; with"
         " `--yaml` it is a document with the key `cut`, and the numbers `first` and `last`. The line"
         " `after 4 replaced`, or the key `replaced`, says that the store has another history than before, as that of a"
@@ -206,8 +306,9 @@ WATCH = Word(
     ),
 )
 
-CHANGING = (IMPORT, SET, DELETE, BATCH, CHECKPOINT)
-READING = (EXPORT, NAMES, GET)
+CHANGING = (IMPORT, SET, DELETE, COPY, RENAME, BATCH, CHECKPOINT)
+MOVING = (COPY, RENAME)
+READING = (EXPORT, NAMES, KEYS, GET, EXISTS)
 LOOKING_BACK = (LOG, VERIFY, WATCH)
 
 WORDS: Dict[str, Word] = {word.name: word for word in (*CHANGING, *READING, *LOOKING_BACK)}
@@ -230,7 +331,7 @@ DESCRIPTION = (
     " FOLDER/confstore.sock if a server listens there; and of a FOLDER in /var/lib/confstore it is"
     " /run/confstore/NAME/socket. With one that is given FOLDER only counts for the words and options that look into"
     " the file of a store: `log`, `verify`, `watch` and `--at`. These read the folder, also beside a server, by the"
-    " program, which is CONFSTORE or confstore on the PATH.",
+    " program, which is CONFSTORE or confstore on the PATH; where the folder can't be read, `watch` asks the server.",
     "With `--wait SECONDS` a word that finds the store locked, or no server at a socket that is given, tries again for"
     " so long. An argument that begins with `-` comes after `--`.",
 )

@@ -20,7 +20,7 @@ __all__ = [
     "JournalLong", "KeyNotText", "KeyTwice", "LargeInStyle", "Locked", "MissingFolder", "MissingProgram", "NoConfig",
     "NoSuchCommand", "NoSuchPlace", "NotAStore", "NotATree", "NotIndex", "NotStarted", "NotText", "NotUtf8",
     "OutOfMemory", "OutputFailed", "RecordLong", "Refused", "SessionEnded", "SessionLong", "StoreFull", "Syntax",
-    "TimedOut", "TooDeep", "TooLong", "TooLongToSend", "Unknown", "Unsupported", "UnusablePath",
+    "TimedOut", "TooDeep", "TooLong", "TooLongToSend", "Unknown", "Unmet", "Unsupported", "UnusablePath",
 ]  # fmt: skip
 
 
@@ -67,6 +67,12 @@ class BadCommand(Refused):
     """The command is none, or its value is nested too deep for one."""
 
     because = "it is no command, or its value is nested too deep for one"
+
+
+class Unmet(Refused):
+    """A condition of the command does not hold."""
+
+    because = "a condition of the command does not hold"
 
 
 class BadName(Refused, ValueError):
@@ -309,9 +315,9 @@ class Unsupported(ConfstoreError):
 REFUSALS: Dict[str, Type[Refused]] = {
     kind.__name__: kind
     for kind in (
-        BadCommand, BadName, NoConfig, BadPath, NoSuchPlace, NotIndex, TooLong, NotUtf8, Syntax, Documents, KeyNotText,
-        KeyTwice, TooDeep, LargeInStyle, ConfigLarge, StoreFull, JournalLong, CountFull, EmptyBatch, RecordLong,
-        NoSuchCommand,
+        BadCommand, Unmet, BadName, NoConfig, BadPath, NoSuchPlace, NotIndex, TooLong, NotUtf8, Syntax, Documents,
+        KeyNotText, KeyTwice, TooDeep, LargeInStyle, ConfigLarge, StoreFull, JournalLong, CountFull, EmptyBatch,
+        RecordLong, NoSuchCommand,
     )
 }  # fmt: skip
 

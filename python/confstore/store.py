@@ -2,14 +2,18 @@
 
 from __future__ import annotations
 
+import copy
 import operator
 import os
+import time
 from types import TracebackType
-from typing import Any, Callable, List, MutableMapping, Optional, Sequence, Tuple, Type, overload
+from typing import Any, Callable, Dict, List, MutableMapping, Optional, Sequence, Tuple, Type, overload
 
-from .commands import CHECKPOINT, NAMES, Answers, delete_of, get_of, import_of, put_of, set_of
+from .commands import CHECKPOINT, NAMES, Answers, delete_of, get_of, import_of, put_of, refused, set_of
+from .conditions import PROBE, Condition, Test, at_place, move_of, under
 from .edits import Edits
-from .faults import BadCommand, BadName, Closed, ConfstoreError, EmptyBatch, NoConfig, Unsupported, refusal
+from .faults import BadCommand, BadName, Closed, ConfstoreError, EmptyBatch, NoConfig, Refused, Unmet, Unsupported
+from .faults import refusal
 from .mapping import MISSING, MISSING_HERE, Configurations, D, Missing
 from .places import find_program, make_folder, need_folder, path_of
 from .reader import Reader, View
@@ -20,6 +24,7 @@ from .style import Tree, document
 # How many seconds a call may take, unless a store is opened with another number.
 TIMEOUT = 60.0
 
+
 def words_of(path: "str | os.PathLike[str]", program: Optional[str], checkpoint_after: Optional[int]) -> List[str]:
     """The words of a program that is a session over a folder."""
     more = [] if checkpoint_after is None else ["--checkpoint-after", format(operator.index(checkpoint_after), "d")]
@@ -29,9 +34,9 @@ def words_of(path: "str | os.PathLike[str]", program: Optional[str], checkpoint_
 class Batch(Edits):
     """Edits that are performed together when its block is left, or not at all. `Store.batch` makes one."""
 
-    def __init__(self, perform: Callable[[List[Tree]], int]) -> None:
+    def __init__(self, perform: Callable[[List[Tree], Sequence[Condition]], int], when: Sequence[Condition]) -> None:
         super().__init__()
-        self._perform = perform
+        self._perform, self._when = perform, when
         #: The count of accepted commands after the batch, once it was performed.
         self.count: Optional[int] = None
 
@@ -40,7 +45,7 @@ class Batch(Edits):
 
     def __exit__(self, kind: Optional[Type[BaseException]], *_: object) -> None:
         if kind is None and self._edits:
-            self.count = self._perform(self._edits)
+            self.count = self._perform(self._edits, self._when)
 
 
 class Store(Answers, Configurations, MutableMapping[str, Tree]):
@@ -169,21 +174,88 @@ class Store(Answers, Configurations, MutableMapping[str, Tree]):
         command = get_of(name, path)
         return self._value_in(self._ask(command), "value", command)
 
-    def import_text(self, name: str, text: str) -> int:
+    def _change(self, command: Dict[str, Tree], conditions: Sequence[Condition]) -> int:
+        """Has a command performed where conditions hold. The new count."""
+        if not conditions:
+            return self._count(command)
+        try:
+            return self._count(under(conditions, command))
+        except BadCommand:
+            self._need_conditions()
+            raise
+
+    def import_text(
+        self, name: str, text: str, *,
+        if_value: Tree = MISSING, if_absent: bool = False, if_count: Optional[int] = None,
+    ) -> int:  # fmt: skip
         """Reads a text of YAML and puts its tree under a name, which may be new."""
-        return self._count(import_of(name, text))
+        return self._change(import_of(name, text), at_place(name, "", if_value, if_absent, if_count))
 
-    def put(self, name: str, tree: Tree) -> int:
+    def put(
+        self, name: str, tree: Tree, *,
+        if_value: Tree = MISSING, if_absent: bool = False, if_count: Optional[int] = None,
+    ) -> int:  # fmt: skip
         """Puts a tree under a name, which may be new."""
-        return self._count(put_of(name, tree))
+        return self._change(put_of(name, tree), at_place(name, "", if_value, if_absent, if_count))
 
-    def set(self, name: str, path: str, tree: Tree) -> int:
-        """Puts a tree at a path (RFC 6901) of a configuration; the step `-` appends to a list."""
-        return self._count(set_of(name, path, tree))
+    def set(
+        self, name: str, path: str, tree: Tree, *,
+        if_value: Tree = MISSING, if_absent: bool = False, if_count: Optional[int] = None,
+    ) -> int:  # fmt: skip
+        """Puts a tree at a path (RFC 6901) of a configuration; the step `-` appends to a list.
 
-    def delete(self, name: str, path: str = "") -> int:
+        With `if_value` it does so only where the value there is that tree, with `if_absent` where nothing is there, and
+        with `if_count` where the store has accepted exactly so many commands. Else it raises `Unmet`, and nothing is
+        changed. So do the other calls that change something. `batch` takes any conditions.
+        """
+        return self._change(set_of(name, path, tree), at_place(name, path, if_value, if_absent, if_count))
+
+    def delete(
+        self, name: str, path: str = "", *,
+        if_value: Tree = MISSING, if_absent: bool = False, if_count: Optional[int] = None,
+    ) -> int:  # fmt: skip
         """Takes out what is at a path of a configuration, or the whole of it if the path is empty."""
-        return self._count(delete_of(name, path))
+        return self._change(delete_of(name, path), at_place(name, path, if_value, if_absent, if_count))
+
+    def copy(
+        self, source: str, target: str, *,
+        if_value: Tree = MISSING, if_absent: bool = False, if_count: Optional[int] = None,
+    ) -> int:  # fmt: skip
+        """Puts what a configuration is under another name too, in one step. The conditions are on that name, whose
+        configuration is replaced if there is one."""
+        return self._move("copy", source, target, at_place(target, "", if_value, if_absent, if_count))
+
+    def rename(
+        self, source: str, target: str, *,
+        if_value: Tree = MISSING, if_absent: bool = False, if_count: Optional[int] = None,
+    ) -> int:  # fmt: skip
+        """Puts a configuration under another name in place of its own, in one step. The conditions are on the new name,
+        whose configuration is replaced if there is one."""
+        return self._move("rename", source, target, at_place(target, "", if_value, if_absent, if_count))
+
+    def _move(self, word: str, source: str, target: str, conditions: Sequence[Condition]) -> int:
+        """A `copy` or a `rename`: read, and performed while what was read is there; else it is tried again."""
+        deadline = time.monotonic() + self._timeout
+        try:
+            while True:
+                tree = self[source]
+                try:
+                    return self._change(move_of(word, source, target, tree), [*conditions, Test(source, "", tree)])
+                except Unmet:
+                    if time.monotonic() > deadline or (conditions and not self._hold(conditions)):
+                        raise
+        except Refused as fault:
+            raise refused(fault.word, {word: source}, self._program) from None
+
+    def _hold(self, conditions: Sequence[Condition]) -> bool:
+        """Whether conditions hold. It asks for an empty batch, which is refused after they were looked at."""
+        try:
+            self._change({"batch": []}, conditions)
+        except Unmet:
+            return False
+        except EmptyBatch:
+            pass
+        return True
 
     def export(self, name: str) -> str:
         """The text of a configuration in the one style."""
@@ -198,21 +270,22 @@ class Store(Answers, Configurations, MutableMapping[str, Tree]):
         """Writes a new `store.yaml` of the state alone. The log begins anew with it."""
         return self._count(CHECKPOINT)
 
-    def batch(self) -> Batch:
+    def batch(self, *, when: Sequence[Condition] = ()) -> Batch:
         """A context that lists edits, and performs them together when it is left, or not at all:
 
-            with store.batch() as batch:
+            with store.batch(when=[Absent("web", "/tls"), Test("web", "/port", "80")]) as batch:
                 batch.set("web", "/port", "81")
                 batch.delete("old")
 
-        If the block raises, nothing is sent, and if one edit is refused, none of them changes anything. A batch without
-        edits sends nothing. Afterwards `batch.count` is the new count.
+        If the block raises, nothing is sent, and if one edit is refused, none of them changes anything. Nor does any
+        where a condition does not hold of the store before the batch: then it raises `Unmet`. A batch without edits
+        sends nothing. Afterwards `batch.count` is the new count.
         """
-        return Batch(self._perform_batch)
+        return Batch(self._perform_batch, when)
 
-    def _perform_batch(self, edits: List[Tree]) -> int:
+    def _perform_batch(self, edits: List[Tree], conditions: Sequence[Condition]) -> int:
         try:
-            return self._count({"batch": edits})
+            return self._change({"batch": edits}, conditions)
         except BadCommand:
             self._need_batches()
             raise
@@ -242,6 +315,15 @@ class Store(Answers, Configurations, MutableMapping[str, Tree]):
             pass
         except BadCommand:
             raise Unsupported("this program has no command `batch`") from None
+
+    def _need_conditions(self) -> None:
+        """Raises `Unsupported` if the program has no conditions: one that has them refuses the name in this one."""
+        try:
+            self._count(PROBE)
+        except BadName:
+            pass
+        except BadCommand:
+            raise Unsupported("this program has no conditions (`if`)") from None
 
     def _need_reader(self) -> Reader:
         if self._reader is None:
@@ -291,14 +373,47 @@ class Store(Answers, Configurations, MutableMapping[str, Tree]):
                 return names[-1], tree
         raise refusal("NoConfig", "`popitem` of an empty store")
 
-    def update(self, other: Any = (), /, **more: Tree) -> None:
+    @overload
+    def update(self, other: Any = (), /, **more: Tree) -> None: ...
+
+    @overload
+    def update(self, name: str, path: str, function: Callable[[Tree], Tree], /) -> int: ...
+
+    def update(self, other: Any = (), /, *place: Any, **more: Tree) -> Any:
         """Puts each tree of a mapping, or of pairs, under its name: all in one batch, so all of them or none.
 
         Without trees it sends nothing. It raises `TooLongToSend` where they are together longer than a command may be.
+
+        With a name, a path and a function it sets what is at the path to what the function makes of it, and returns the
+        new count:
+
+        >>> with Store(folder) as store:
+        ...     store["hits"] = {"web": "41"}
+        ...     count = store.update("hits", "/web", lambda hits: str(int(hits) + 1))
+        ...     print(store.get("hits", "/web"))
+        42
+
+        Where somebody else has changed the value meanwhile, this is tried again with the new one. So the function may
+        be called more than once. After `timeout` seconds it raises `Unmet`.
         """
+        if place:
+            path, function = place
+            return self._update_at(other, path, function)
         with self.batch() as batch:
             for name, tree in dict(other, **more).items():
                 batch.put(name, tree)
+        return None
+
+    def _update_at(self, name: str, path: str, function: Callable[[Tree], Tree]) -> int:
+        deadline = time.monotonic() + self._timeout
+        while True:
+            tree = self.get(name, path)
+            made = function(copy.deepcopy(tree))
+            try:
+                return self.set(name, path, made, if_value=tree)
+            except Unmet:
+                if time.monotonic() > deadline:
+                    raise
 
     def clear(self) -> None:
         """Deletes all configurations in one batch, so all of them or none.

@@ -7,13 +7,16 @@ style, so a text of it is exactly as long as the store counts it.
 from __future__ import annotations
 
 import re
-from typing import Any, Dict, Iterator, List, Optional, Tuple, Union
+from typing import Any, Callable, Dict, Iterator, List, Optional, Tuple, Union
 
 import yaml
 
 from .faults import BadAnswer, NotATree, NotText, TooDeep
 
 Tree = Union[str, List["Tree"], Dict[str, "Tree"]]
+
+# Writes a text as a value, whose lines are indented by so many spaces.
+Scalar = Callable[[str, int], str]
 
 # How deep a tree is looked at. A store keeps less; what is deeper may be endless.
 DEEPEST = 200
@@ -27,12 +30,18 @@ _NO_WORDS = frozenset("null true false yes no on off y n".split())
 
 # What has to be spelled in double quotes: all that is not shown, and the two signs that are spelled there.
 _SHOWN = "\x20-\x7e\xa0-\u2027\u202a-\ud7ff\ue000-\ufefe\uff00-\ufffd\U00010000-\U0010ffff"
-_SPELLED = re.compile(rf'[^{_SHOWN}]|["\\]')
+SPELLED = re.compile(rf'[^{_SHOWN}]|["\\]')
 _LINES = re.compile(rf"[{_SHOWN}\n]*")
 _ESCAPES = {
     "\0": "\\0", "\a": "\\a", "\b": "\\b", "\t": "\\t", "\n": "\\n", "\v": "\\v", "\f": "\\f", "\r": "\\r",
     "\x1b": "\\e", '"': '\\"', "\\": "\\\\",
 }  # fmt: skip
+
+# What YAML's core schema (1.2.2, 10.3.2) reads as null, a truth value, an integer or a float.
+_TYPED = re.compile(
+    r"null|Null|NULL|~|true|True|TRUE|false|False|FALSE|[-+]?\.(inf|Inf|INF)|\.(nan|NaN|NAN)|0o[0-7]+|0x[0-9a-fA-F]+"
+    r"|[-+]?(\.[0-9]+|[0-9]+(\.[0-9]*)?)([eE][-+]?[0-9]+)?"
+)
 
 _LOADER: Any = getattr(yaml, "CBaseLoader", yaml.BaseLoader)
 _parse: Any = yaml.parse
@@ -60,7 +69,7 @@ def _check_text(text: str) -> None:
 
 def quoted(text: str) -> str:
     """A text in double quotes, as the one style has it there."""
-    return f'"{_SPELLED.sub(_escape, text)}"'
+    return f'"{SPELLED.sub(_escape, text)}"'
 
 
 def _word_or_quoted(text: str) -> str:
@@ -91,9 +100,9 @@ def _is_leaf(tree: Tree) -> bool:
     return isinstance(tree, str) or len(tree) == 0
 
 
-def _leaf(tree: Tree, indentation: int) -> str:
+def _leaf(tree: Tree, indentation: int, write: Scalar) -> str:
     if isinstance(tree, str):
-        return scalar(tree, indentation)
+        return write(tree, indentation)
     return "[]" if isinstance(tree, list) else "{}"
 
 
@@ -117,7 +126,7 @@ def _pairs(tree: Dict[str, Tree]) -> Iterator[Tuple[str, Tree]]:
         yield text, value
 
 
-def _lines(tree: Tree, indentation: int, depth: int) -> List[str]:
+def _lines(tree: Tree, indentation: int, depth: int, write: Scalar) -> List[str]:
     """The lines of a collection that is not empty, the first one without its indentation."""
     lines: List[str] = []
     margin = " " * indentation
@@ -125,9 +134,9 @@ def _lines(tree: Tree, indentation: int, depth: int) -> List[str]:
         for item in tree:
             _check(item, depth)
             if _is_leaf(item):
-                lines.append(f"{margin}- {_leaf(item, indentation + 2)}")
+                lines.append(f"{margin}- {_leaf(item, indentation + 2, write)}")
             else:
-                lines.append(f"{margin}- " + "\n".join(_lines(item, indentation + 2, depth + 1)))
+                lines.append(f"{margin}- " + "\n".join(_lines(item, indentation + 2, depth + 1, write)))
     elif isinstance(tree, dict):
         for key, value in _pairs(tree):
             _check(value, depth)
@@ -135,9 +144,9 @@ def _lines(tree: Tree, indentation: int, depth: int) -> List[str]:
             written = _word_or_quoted(key)
             start = f"{margin}{written}:" if len(written) <= LONGEST_KEY else f"{margin}? {written}\n{margin}:"
             if _is_leaf(value):
-                lines.append(f"{start} {_leaf(value, indentation + 2)}")
+                lines.append(f"{start} {_leaf(value, indentation + 2, write)}")
             else:
-                inner = _lines(value, indentation + 2, depth + 1)
+                inner = _lines(value, indentation + 2, depth + 1, write)
                 lines.append(f"{start}\n{margin}  " + "\n".join(inner))
     lines[0] = lines[0][indentation:]
     return lines
@@ -149,10 +158,25 @@ def to_text(tree: Tree) -> str:
     Raises `NotATree` for what is no str, list or dict (a number has to be written as a str), `NotText` for a lone
     surrogate, and `TooDeep` for a tree more than 200 deep, as one that contains itself.
     """
+    return _written(tree, scalar)
+
+
+def _written(tree: Tree, write: Scalar) -> str:
+    """The text of a tree whose texts are written so as values."""
     _check(tree, 0)
     if _is_leaf(tree):
-        return _leaf(tree, 2) + "\n"
-    return "\n".join(_lines(tree, 0, 1)) + "\n"
+        return _leaf(tree, 2, write) + "\n"
+    return "\n".join(_lines(tree, 0, 1, write)) + "\n"
+
+
+def to_plain_text(tree: Tree) -> str:
+    """The text of a tree for readers with types, byte by byte what `confstore export --plain` prints for it: the one
+    style, but values such as `80` and `true` stand without quotes. Raises as `to_text` does."""
+    return _written(tree, _plain_scalar)
+
+
+def _plain_scalar(text: str, indentation: int) -> str:
+    return text if _TYPED.fullmatch(text) else scalar(text, indentation)
 
 
 def document(command: Tree) -> bytes:

@@ -57,6 +57,10 @@ class Words(unittest.TestCase):
             ("delete s web '' --whole", ("delete", {**set_port, "POINTER": ""}, {"--whole": ""})),
             ("delete s --whole web", ("delete", {"FOLDER": "s", "NAME": "web"}, {"--whole": ""})),
             ("get s web ''", ("get", {**set_port, "POINTER": ""}, {})),
+            ("set s web /port --file x", ("set", set_port, {"--file": "x"})),
+            ("set s web /port 80 --if-value -5", ("set", {**set_port, "VALUE": "80"}, {"--if-value": "-5"})),
+            ("delete s web --if-value=-x", ("delete", {"FOLDER": "s", "NAME": "web"}, {"--if-value": "-x"})),
+            ("copy s web old --if-absent", ("copy", {"FOLDER": "s", "NAME": "web", "TO": "old"}, {"--if-absent": ""})),
             ("import s web --init", ("import", {"FOLDER": "s", "NAME": "web"}, {"--init": ""})),
             ("batch --explain s x", ("batch", {"FOLDER": "s", "FILE": "x"}, {"--explain": ""})),
             ("get s web", ("get", {"FOLDER": "s", "NAME": "web"}, {})),
@@ -77,6 +81,11 @@ class Words(unittest.TestCase):
             "names s --wait -1", "names s --wait inf", "names s --socket ''", "log s --from 1", "help nothing",
             "help get set", "watch s --from ''", "set s web '' x", "delete s web ''", "set --whole s web /port x",
             "delete --whole s web /port", "get --whole s web", "delete --explain s web", "set --init s web /port x",
+            "set s web /port", "set s web /port x --file y", "set s web /port --file y --yaml", "copy s web",
+            "copy s web old /x", "rename s web old --if-count x", "delete s web --if-value x --if-absent",
+            "set s web /port x --if-value -x", "get s web --no-newline", "get s web --raw --json",
+            "get s web --default -x", "names s --if-count 1", "exists s", "keys s web --raw",
+            "log s --values --yaml", "names s --values",
         ):  # fmt: skip
             with self.subTest(line):
                 with self.assertRaises(Fault) as caught:
@@ -102,7 +111,7 @@ class Words(unittest.TestCase):
         for word in WORDS.values():
             for example in word.examples:
                 with self.subTest(example):
-                    (_, _, line) = example.rpartition("| ")
+                    line = example.rpartition("| ")[2].partition(" && ")[0]
                     self.assertEqual(self.asked(line.partition(" ")[2])[0], word.name)
 
     def test_help_has_all(self) -> None:

@@ -10,7 +10,7 @@ import unittest
 from typing import Any
 
 from confstore import ConfstoreError, NotATree, NotText, TooDeep, Tree, document, from_text, to_text
-from confstore.style import scalar
+from confstore.style import scalar, to_plain_text
 
 # Texts with what they are as values, indented by two, worked out by hand from docs/STYLE.md.
 SCALARS = [
@@ -153,6 +153,21 @@ class Style(unittest.TestCase):
             )
             self.assertEqual((done.stdout.decode(), done.stderr), (text, b""), repr(tree))
             self.assertEqual(from_text(text), tree)
+
+    def test_plain(self) -> None:
+        """What YAML's core schema (1.2.2, 10.3.2) reads as something else than a text stands without quotes, and gives
+        the same tree where all is read as texts."""
+        typed = "null Null NULL ~ true True TRUE false False FALSE 0 80 -5 +5 007 0o17 0x1F 1.10 .5 1. -1.e3 1E+5"
+        typed += " .inf .Inf .INF -.inf +.INF .nan .NaN .NAN"
+        untyped = "nULL tRUE yes No on 0o8 0xG 1_000 1.2.3 . + - 1e e5 1e+ ..5 -0x1F 0o .InF +.nan inf 80a"
+        for word in typed.split():
+            self.assertEqual(to_plain_text({"k": [word]}), f"k:\n  - {word}\n")
+        for word in ["", " 80", "80 ", *untyped.split()]:
+            self.assertEqual(to_plain_text({"k": [word]}), to_text({"k": [word]}))
+        self.assertEqual(to_plain_text({"80": "80"}), '"80": 80\n')
+        chance = random.Random(7)
+        for tree in (random_tree(chance, 4) for _ in range(300)):
+            self.assertEqual(from_text(to_plain_text([tree, *typed.split()])), [tree, *typed.split()])
 
     def test_refused(self) -> None:
         endless: list[Tree] = []

@@ -22,15 +22,24 @@ _INDEX = re.compile(r"0|[1-9][0-9]*")
 Read = Callable[[str], Optional[Tree]]
 
 
+class Condition(NamedTuple):
+    """What has to be at a path of a configuration before the task for an edit to be made: a tree, or nothing there."""
+
+    name: str
+    path: str
+    tree: Optional[Tree]
+
+
 class Wish(NamedTuple):
     """What a task wants at a path of a configuration: a tree, or nothing there. `has_parents` says that what is missing
-    above the path is made."""
+    above the path is made. Where it is lacking, and the condition does not hold, the task fails."""
 
     name: str
     path: str
     tree: Optional[Tree]
     is_present: bool = True
     has_parents: bool = False
+    condition: Optional[Condition] = None
 
 
 class Edit(NamedTuple):
@@ -138,6 +147,7 @@ class Plan:
         self.before: Dict[str, Optional[Tree]] = {}
         self.after: Dict[str, Optional[Tree]] = {}
         self.edits: List[Edit] = []
+        self.conditions: List[Condition] = []  # of the edits
         self._read = read
 
     def add(self, wish: Wish) -> None:
@@ -145,6 +155,7 @@ class Plan:
         steps = steps_of(wish.name, wish.path)
         if wish.name not in self.before:
             self.before[wish.name] = self.after[wish.name] = self._read(wish.name)
+        made = len(self.edits)
         try:
             if not wish.is_present:
                 self._remove(wish, steps)
@@ -155,6 +166,15 @@ class Plan:
         except Fault as fault:
             about = fault.about or f"{wish.path!r} of {wish.name!r}"
             raise Fault(fault.name, about, fault.place) from None
+        if wish.condition is not None and len(self.edits) > made:
+            self._require(wish.condition, steps)
+
+    def _require(self, condition: Condition, steps: List[str]) -> None:
+        """Adds a condition of an edit. Raises `Fault` where it does not hold of what was there before the task."""
+        found = _found_at(self.before[condition.name], steps)
+        if not _is_same(found, condition.tree):
+            raise Fault("Unmet", f"the condition on {condition.path!r} of {condition.name!r}")
+        self.conditions.append(condition)
 
     def _make(self, edit: Edit, after: Optional[Tree]) -> None:
         self.edits.append(edit)
@@ -214,6 +234,14 @@ class Plan:
                 self._make(edit, edited(config, [*steps, str(index)], None))
 
 
+def _found_at(config: Optional[Tree], steps: List[str]) -> Optional[Tree]:
+    """What is at a path, or None where nothing is."""
+    try:
+        return None if config is None else value_at(config, steps)
+    except (Missing, Fault):
+        return None
+
+
 def _around(config: Tree, steps: List[str]) -> Tree:
     """The collection in which the last step of a path is to put a value."""
     try:
@@ -266,6 +294,7 @@ def plan_of(wishes: List[Wish], read: Read) -> Plan:
     changed = [name for name, tree in plan.before.items() if not _is_same(tree, plan.after[name])]
     if not changed:
         plan.edits.clear()  # each edit was taken back by a later one
+        plan.conditions.clear()
     for name in changed:
         tree = plan.after[name]
         if tree is not None:

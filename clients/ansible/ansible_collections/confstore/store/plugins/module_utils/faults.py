@@ -16,6 +16,7 @@ REFUSALS: Dict[str, Tuple[str, str]] = {
     "LargeInStyle": ("the tree would have more than 4,194,304 bytes", "make more than one configuration of it"),
     "BadCommand": ("the store takes no such command", "look whether the program or the server is an old one"),
     "EmptyBatch": ("the batch has no edit", "leave it out"),
+    "Unmet": ("a condition of the task does not hold of the store", "look what is there, and run the task again"),
     "BadName": (
         "the name is not 1 to 64 of `a` to `z`, `0` to `9`, `_` and `-`, a letter first", "use another name",
     ),

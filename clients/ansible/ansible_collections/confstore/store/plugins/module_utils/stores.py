@@ -13,9 +13,9 @@ import subprocess
 import tempfile
 import threading
 from types import ModuleType
-from typing import IO, Any, Dict, List, NamedTuple, Optional
+from typing import IO, Any, Dict, List, NamedTuple, Optional, Sequence
 
-from ansible_collections.confstore.store.plugins.module_utils.edits import Edit
+from ansible_collections.confstore.store.plugins.module_utils.edits import Condition, Edit
 from ansible_collections.confstore.store.plugins.module_utils.faults import REFUSALS, Fault, Place
 from ansible_collections.confstore.store.plugins.module_utils.style import Tree, from_text, to_text
 
@@ -78,8 +78,9 @@ class Store:
         """The names of the configurations, in order."""
         raise NotImplementedError
 
-    def perform(self, edits: List[Edit]) -> int:
-        """Makes all edits as one command, or none. Returns its number."""
+    def perform(self, edits: List[Edit], conditions: Sequence[Condition] = (), count: Optional[int] = None) -> int:
+        """Makes all edits as one command, or none; also where a condition does not hold, or where the store has another
+        count of commands, if one is given. Returns the command's number."""
         raise NotImplementedError
 
     def close(self) -> None:
@@ -336,10 +337,14 @@ class BySession(Store):
         names = self._ask({"names": ""}, "names")
         return [str(name) for name in names]
 
-    def perform(self, edits: List[Edit]) -> int:
+    def perform(self, edits: List[Edit], conditions: Sequence[Condition] = (), count: Optional[int] = None) -> int:
         commands = [_command_of(edit) for edit in edits]
-        count = self._ask(commands[0] if len(commands) == 1 else {"batch": list(commands)}, "ok")
-        return int(str(count))
+        wanted = [_tree_of(condition) for condition in conditions]
+        if count is not None:
+            wanted.append({"count": str(count)})
+        if wanted:
+            return int(str(self._ask({"if": wanted, "batch": list(commands)}, "ok")))
+        return int(str(self._ask(commands[0] if len(commands) == 1 else {"batch": list(commands)}, "ok")))
 
     def close(self) -> None:
         self._other.close()
@@ -353,8 +358,15 @@ def _command_of(edit: Edit) -> Dict[str, Tree]:
     return {"set": edit.name, "path": edit.path, "value": edit.tree}
 
 
+def _tree_of(condition: Condition) -> Tree:
+    """A condition as a session takes it."""
+    if condition.tree is None:
+        return {"absent": condition.name, "path": condition.path}
+    return {"test": condition.name, "path": condition.path, "value": condition.tree}
+
+
 def _about(command: Dict[str, Tree]) -> str:
-    kind, first = next(iter(command.items()))
+    kind, first = next(pair for pair in command.items() if pair[0] != "if")
     return f"`{kind}` of {first!r}" if isinstance(first, str) else f"a batch of {len(first)}"
 
 
@@ -390,15 +402,19 @@ class ByPackage(Store):
         names: List[str] = self._called(self._store.names)
         return names
 
-    def perform(self, edits: List[Edit]) -> int:
-        count: int = self._called(self._one if len(edits) == 1 else self._batch, edits)
-        return count
+    def perform(self, edits: List[Edit], conditions: Sequence[Condition] = (), count: Optional[int] = None) -> int:
+        if not conditions and count is None:
+            return int(self._called(self._one if len(edits) == 1 else self._batch, edits))
+        if not hasattr(_package(), "Test"):
+            raise Fault("Unsupported", "conditions by the Python package of this host")
+        when = [_condition_of(condition) for condition in conditions]
+        return int(self._called(self._batch, edits, when=when + ([] if count is None else [_package().Count(count)])))
 
     def _one(self, edits: List[Edit]) -> int:
         return int(_make(self._store, edits[0]))
 
-    def _batch(self, edits: List[Edit]) -> int:
-        with self._store.batch() as batch:
+    def _batch(self, edits: List[Edit], **when: Any) -> int:
+        with self._store.batch(**when) as batch:
             for edit in edits:
                 _make(batch, edit)
         return int(batch.count)
@@ -406,6 +422,13 @@ class ByPackage(Store):
     def close(self) -> None:
         if not isinstance(self._store, _package().Reader):
             self._store.close()
+
+
+def _condition_of(condition: Condition) -> Any:
+    """A condition of the package."""
+    if condition.tree is None:
+        return _package().Absent(condition.name, condition.path)
+    return _package().Test(condition.name, condition.path, condition.tree)
 
 
 def _make(maker: Any, edit: Edit) -> Any:

@@ -78,10 +78,25 @@ options:
     description: Makes the mappings above I(path) that are missing, and the configuration.
     type: bool
     default: false
+  if_value:
+    description:
+      - The edit is only made where this tree is at I(path) before the task. Else, where it is lacking, the task fails
+        with the fault C(Unmet), and nothing is changed. It is a tree as I(value).
+      - The store looks at it right before the change, so nobody can come between. In check mode the module looks.
+    type: raw
+  if_absent:
+    description: The edit is only made where nothing is at I(path) before the task. Else it is as of I(if_value).
+    type: bool
+    default: false
+  if_count:
+    description:
+      - The task is only done where the store has accepted exactly so many commands, as I(count) of an earlier task
+        says. Else it fails with the fault C(Unmet), if something is lacking. In check mode this is not looked at.
+    type: int
   edits:
     description:
-      - Several edits, made one after the other, as one batch. Each has I(path), I(value), I(text), I(src), I(state) and
-        I(parents), and I(name) unless the task has one.
+      - Several edits, made one after the other, as one batch. Each has I(path), I(value), I(text), I(src), I(state),
+        I(parents), I(if_value) and I(if_absent), and I(name) unless the task has one.
     type: list
     elements: dict
     suboptions:
@@ -108,6 +123,13 @@ options:
         default: present
       parents:
         description: As I(parents).
+        type: bool
+        default: false
+      if_value:
+        description: As I(if_value).
+        type: raw
+      if_absent:
+        description: As I(if_absent).
         type: bool
         default: false
 requirements:
@@ -161,6 +183,14 @@ EXAMPLES = r"""
         state: absent
       - name: mail
         value: {host: mail.example.org, port: "25"}
+
+- name: A version goes on only from the one that this was written for
+  confstore.store.confstore:
+    socket: /run/app/socket
+    name: web
+    path: /version
+    value: "1.11"
+    if_value: "1.10"
 
 - name: A secret, which Ansible does not show
   confstore.store.confstore:
@@ -216,7 +246,7 @@ from contextlib import closing
 from typing import Any, Dict, List, Optional, Tuple
 
 from ansible.module_utils.basic import AnsibleModule
-from ansible_collections.confstore.store.plugins.module_utils.edits import Plan, Wish, plan_of, tree_of
+from ansible_collections.confstore.store.plugins.module_utils.edits import Condition, Plan, Wish, plan_of, tree_of
 from ansible_collections.confstore.store.plugins.module_utils.faults import Fault
 from ansible_collections.confstore.store.plugins.module_utils.stores import (
     Empty,
@@ -237,6 +267,8 @@ EDIT_OPTIONS: Dict[str, Dict[str, Any]] = {
     "src": {"type": "path"},
     "state": {"type": "str", "choices": ["present", "absent"], "default": "present"},
     "parents": {"type": "bool", "default": False},
+    "if_value": {"type": "raw"},
+    "if_absent": {"type": "bool", "default": False},
 }
 OPTIONS: Dict[str, Dict[str, Any]] = {
     **EDIT_OPTIONS,
@@ -246,6 +278,7 @@ OPTIONS: Dict[str, Dict[str, Any]] = {
     "program": {"type": "path"},
     "timeout": {"type": "float", "default": 60.0},
     "wait": {"type": "float", "default": 10.0},
+    "if_count": {"type": "int"},
     "edits": {"type": "list", "elements": "dict", "options": EDIT_OPTIONS},
 }
 SOURCES = ("value", "text", "src")
@@ -285,14 +318,24 @@ def wish_of(edit: Dict[str, Any], name: Optional[str], target: Target) -> Wish:
         raise Fault("BadTask", f"none of `value`, `text` and `src` for {edit['name']!r}")
     if given and not is_present and not path.endswith("/-"):
         raise Fault("BadTask", f"`{given[0]}` with `state: absent` at {path!r}, which does not end in `/-`")
-    return Wish(edit["name"], path, wanted_tree(edit, target), is_present, edit["parents"])
+    return Wish(edit["name"], path, wanted_tree(edit, target), is_present, edit["parents"], condition_of(edit))
+
+
+def condition_of(edit: Dict[str, Any]) -> Optional[Condition]:
+    """The condition of an edit, if it has one."""
+    if edit["if_value"] is None:
+        return Condition(edit["name"], edit["path"], None) if edit["if_absent"] else None
+    if edit["if_absent"]:
+        raise Fault("BadTask", f"`if_value` beside `if_absent` for {edit['name']!r}")
+    return Condition(edit["name"], edit["path"], tree_of(edit["if_value"]))
 
 
 def wishes_of(options: Dict[str, Any], target: Target) -> List[Wish]:
     """What the task wants, in order."""
     if options["edits"] is None:
         return [wish_of(options, None, target)]
-    if any(options[source] is not None for source in SOURCES) or options["path"] or options["state"] != "present":
+    given = any(options[source] is not None for source in (*SOURCES, "if_value")) or options["if_absent"]
+    if given or options["path"] or options["state"] != "present":
         raise Fault("BadTask", "`edits` beside an edit of the task's own")
     if not options["edits"]:
         return []
@@ -325,6 +368,7 @@ class Task:
         self._target = Target(options["folder"], options["socket"], options["program"], options["timeout"])
         self._may_create: bool = options["create"]
         self._wait: float = options["wait"]
+        self._count: Optional[int] = options["if_count"]
         self._wishes = wishes_of(options, self._target)
 
     def check(self) -> Plan:
@@ -339,7 +383,7 @@ class Task:
         """
         with closing(self._session()) as store:
             plan = plan_of(self._wishes, store.read)
-            return plan, store.perform(plan.edits) if plan.edits else None
+            return plan, store.perform(plan.edits, plan.conditions, self._count) if plan.edits else None
 
     def _session(self) -> Store:
         """The store, made if it is missing, and held once another run has let it go."""

@@ -1,0 +1,107 @@
+"""What the words of confstorectl that read write of an answer, as confstore does."""
+
+from __future__ import annotations
+
+import re
+from typing import Callable, Dict, Optional
+
+from .ctl_asked import Asked
+from .ctl_faults import Fault
+from .ctl_sockets import Reply
+from .ctl_words import DEFAULT, JSON, NO_NEWLINE, PLAIN, RAW
+from .style import SPELLED, Tree, quoted, to_plain_text, to_text
+
+# The letters of JSON's escapes (RFC 8259, 7).
+_LETTERS = {"\b": "b", "\t": "t", "\n": "n", "\f": "f", "\r": "r", '"': '"', "\\": "\\"}
+
+
+def json_text(tree: Tree) -> str:
+    """A tree as a JSON text on one line: what the one style spells in double quotes is an escape."""
+    if isinstance(tree, str):
+        return f'"{SPELLED.sub(_json_escape, tree)}"'
+    if isinstance(tree, list):
+        return f"[{','.join(map(json_text, tree))}]"
+    return f"{{{','.join(f'{json_text(key)}:{json_text(value)}' for key, value in tree.items())}}}"
+
+
+def _json_escape(found: "re.Match[str]") -> str:
+    sign = found.group()
+    return f"\\{_LETTERS[sign]}" if sign in _LETTERS else f"\\u{ord(sign):04X}"
+
+
+def json_line(tree: Tree) -> bytes:
+    """The same with a line feed after it."""
+    return f"{json_text(tree)}\n".encode()
+
+
+def _raw(asked: Asked, tree: Tree) -> bytes:
+    if not isinstance(tree, str):
+        raise Fault("NotText")
+    end = "" if asked.has(NO_NEWLINE) else "\n"
+    return f"{tree}{end}".encode()
+
+
+def _value(asked: Asked, reply: Reply) -> bytes:
+    return _in_form(asked, reply.tree()) if has_form(asked) else reply.styled()
+
+
+def _in_form(asked: Asked, tree: Tree) -> bytes:
+    """A tree in the form that is asked for."""
+    if asked.has(JSON):
+        return json_line(tree)
+    if asked.has(RAW):
+        return _raw(asked, tree)
+    return (to_plain_text(tree) if asked.has(PLAIN) else to_text(tree)).encode()
+
+
+def has_form(asked: Asked) -> bool:
+    """Whether another form than the one style is asked for."""
+    return asked.has(JSON) or asked.has(RAW) or asked.has(PLAIN)
+
+
+def _text(asked: Asked, reply: Reply) -> bytes:
+    if has_form(asked):
+        return _in_form(asked, reply.tree())
+    text = reply.tree()
+    if not isinstance(text, str):
+        raise Fault("BadAnswer", "the text of an export is a collection")
+    return text.encode()
+
+
+def _names(asked: Asked, reply: Reply) -> bytes:
+    names = reply.tree()
+    if not isinstance(names, list):
+        raise Fault("BadAnswer", "the names are no list")
+    return json_line(names) if asked.has(JSON) else "".join(f"{name}\n" for name in names).encode()
+
+
+def _keys(_asked: Asked, reply: Reply) -> bytes:
+    tree = reply.tree()
+    if isinstance(tree, str):
+        raise Fault("NotCollection")
+    keys = map(str, range(len(tree))) if isinstance(tree, list) else map(_key_line, tree)
+    return "".join(f"{key}\n" for key in keys).encode()
+
+
+def _key_line(key: str) -> str:
+    """A key as it is, or in double quotes where that would be no line of its own."""
+    is_line = key != "" and key[0] != '"' and SPELLED.search(key.replace('"', "").replace("\\", "")) is None
+    return key if is_line else quoted(key)
+
+
+_OUTPUTS: Dict[str, Callable[[Asked, Reply], bytes]] = {
+    "get": _value, "export": _text, "names": _names, "keys": _keys,
+}  # fmt: skip
+
+
+def output_of(asked: Asked, reply: Reply) -> bytes:
+    """What a word writes of the answer to it."""
+    write = _OUTPUTS.get(asked.word.name)
+    return write(asked, reply) if write else b""
+
+
+def output_of_default(asked: Asked) -> Optional[bytes]:
+    """What a word writes where nothing is at the place, or None where that is a fault."""
+    if not asked.has(DEFAULT):
+        return None
+    return _in_form(asked, asked.options[DEFAULT.name])

@@ -1,0 +1,256 @@
+"""What confstorectl asks of a server, what it makes of the answers, and how it takes changes that a server tells."""
+
+from __future__ import annotations
+
+import json
+import os
+import unittest
+from typing import Any, Iterable
+
+from confstore import Record
+from confstore.ctl_faults import Fault
+from confstore.ctl_outputs import json_text
+from confstore.ctl_served import Served
+from confstore.ctl_sockets import Place
+from confstore.ctl_watch import line_of
+from confstore.following import Told
+from confstore.style import Tree, document
+
+from .test_ctl import PATIENCE, SocketTest
+
+OK = b'---\nok: "5"\n...\n'
+UNMET = b"---\nrefused: Unmet\n...\n"
+EMPTY = b"---\nrefused: EmptyBatch\n...\n"
+VALUE = b'---\nvalue:\n  port: "80"\n...\n'
+
+
+class AnswerTest(SocketTest):
+    def answered(self, *answers: bytes) -> None:
+        """Has the next client answered so, in place of the one before."""
+        if os.path.exists(self.path):
+            os.remove(self.path)
+        self.heard.clear()
+        self.listen(*answers)
+
+    def asked(self) -> list[Any]:
+        """The commands that were asked."""
+        return [json.loads(line) for line in self.heard]
+
+
+class Changes(AnswerTest):
+    def test_conditions(self) -> None:
+        web = {"test": "web", "path": "/port", "value": "80"}
+        rows: list[tuple[list[str], Any]] = [
+            (["set", "S", "web", "/port", "81", "--if-value", "80"],
+             {"if": [web], "set": "web", "path": "/port", "value": "81"}),
+            (["set", "S", "web", "/port", "81", "--if-absent"],
+             {"if": [{"absent": "web", "path": "/port"}], "set": "web", "path": "/port", "value": "81"}),
+            (["delete", "S", "web", "--if-count", "017"], {"if": [{"count": "17"}], "delete": "web", "path": ""}),
+            (["delete", "S", "web", "/port", "--if-value", "80", "--if-count", "2"],
+             {"if": [web, {"count": "2"}], "delete": "web", "path": "/port"}),
+            (["import", "S", "web", "--if-absent", "TEXT"],
+             {"if": [{"absent": "web"}], "import": "web", "text": "a: b\n"}),
+            (["set", "S", "web", "/port", "--file", "TEXT"], {"set": "web", "path": "/port", "value": "a: b\n"}),
+        ]  # fmt: skip
+        text = os.path.join(self.top, "text")
+        with open(text, "w", encoding="utf-8") as file:
+            file.write("a: b\n")
+        for words, command in rows:
+            with self.subTest(words):
+                for answer, status, errors in ((OK, 0, ""), (UNMET, 1, "confstorectl: Unmet: ")):
+                    self.answered(answer)
+                    found = self.perform(*(text if word == "TEXT" else word for word in words))
+                    self.assertEqual((found[0], found[1], found[2][: len(errors)]), (status, b"", errors))
+                    self.assertEqual(self.asked(), [command])
+
+    def test_copy_and_rename(self) -> None:
+        still = {"test": "web", "path": "", "value": {"port": "80"}}
+        put: dict[str, Any] = {"import": "old", "text": 'port: "80"\n'}
+        commands: dict[str, dict[str, Any]] = {"copy": put, "rename": {"batch": [{"delete": "web", "path": ""}, put]}}
+        for word, command in commands.items():
+            self.answered(VALUE, OK)
+            self.assertEqual(self.perform(word, "S", "web", "old"), (0, b"", ""))
+            self.assertEqual(self.asked(), [{"get": "web", "path": ""}, {"if": [still], **command}])
+            self.answered(VALUE, UNMET, VALUE, OK)
+            self.assertEqual(self.perform(word, "S", "web", "old"), (0, b"", ""))
+            self.assertEqual(len(self.heard), 4)
+            wanted = [{"absent": "old"}, {"count": "4"}]
+            self.answered(EMPTY, VALUE, OK)
+            self.assertEqual(self.perform(word, "S", "web", "old", "--if-absent", "--if-count", "4"), (0, b"", ""))
+            self.assertEqual(self.asked()[0], {"if": wanted, "batch": []})
+            self.assertEqual(self.asked()[2], {"if": [*wanted, still], **command})
+            self.answered(EMPTY, VALUE, UNMET, UNMET)
+            self.assertEqual(self.fault(word, "S", "web", "old", "--if-absent"), (1, "Unmet"))
+            self.answered(b"---\nrefused: NoConfig\n...\n")
+            self.assertEqual(self.fault(word, "S", "web", "old"), (1, "NoConfig"))
+            self.answered(VALUE, b"---\nrefused: BadName\n...\n")
+            self.assertEqual(self.fault(word, "S", "web", "9"), (1, "BadName"))
+
+    def test_a_node_takes_no_conditions(self) -> None:
+        self.answered(b'{"refused": "BadCommand"}\n')
+        self.assertEqual(self.fault("set", "S", "web", "/a", "b", "--if-count", "1"), (1, "Unsupported"))
+
+    def test_a_file_that_is_no_text(self) -> None:
+        file = os.path.join(self.top, "key.pem")
+        with open(file, "wb") as target:
+            target.write(b"ab\xff")
+        self.answered(OK)
+        status, _, errors = self.perform("set", "S", "web", "/key", "--file", file)
+        # The server may have heard that somebody came and went, and no command.
+        self.assertEqual((status, errors.split()[1][:7], b"".join(self.heard)), (1, "NotUtf8", b""))
+
+
+class Readings(AnswerTest):
+    def test_what_is_written(self) -> None:
+        tree = b"---\nvalue:\n  a:\n    - x\n  \"b\\n\": \"\\x85\\u2028\\e\"\n...\n"
+        text, index = b"---\nvalue: x\n...\n", b"---\nrefused: NotIndex\n...\n"
+        none = b"---\nrefused: NoSuchPlace\n...\n"
+        rows: list[tuple[list[str], bytes, int, bytes]] = [
+            (["get", "S", "web", "--json"], tree, 0, b'{"a":["x"],"b\\n":"\\u0085\\u2028\\u001B"}\n'),
+            (["get", "S", "web", "--plain"], b'---\nvalue:\n  "80": "80"\n  a:\n    - "1.10"\n    - "1_0"\n...\n', 0,
+             b'"80": 80\na:\n  - 1.10\n  - "1_0"\n'),
+            (["export", "S", "web", "--plain"], b'---\nvalue: "true"\n...\n', 0, b"true\n"),
+            (["get", "S", "web", "/a", "--default", "80", "--plain"], none, 0, b"80\n"),
+            (["get", "S", "web", "--raw"], text, 0, b"x\n"),
+            (["get", "S", "web", "--raw", "--no-newline"], text, 0, b"x"),
+            (["get", "S", "web", "--default", "y"], text, 0, b"x\n"),
+            (["get", "S", "web", "/a", "--default", "80"], none, 0, b'"80"\n'),
+            (["get", "S", "web", "/a", "--default", "80", "--raw"], none, 0, b"80\n"),
+            (["get", "S", "web", "/a", "--default", "80", "--json"], none, 0, b'"80"\n'),
+            (["get", "S", "web", "/a", "--default", "", "--raw", "--no-newline"], index, 0, b""),
+            (["keys", "S", "web"], tree, 0, b'a\n"b\\n"\n'),
+            (["keys", "S", "web", "/a"], b"---\nvalue:\n  - x\n  - []\n...\n", 0, b"0\n1\n"),
+            (["keys", "S", "web", "/a"], b"---\nvalue: {}\n...\n", 0, b""),
+            (["exists", "S", "web"], tree, 0, b""),
+            (["exists", "S", "web", "/a"], none, 1, b""),
+            (["exists", "S", "web", "/a"], index, 1, b""),
+            (["exists", "S", "web"], b"---\nrefused: NoConfig\n...\n", 1, b""),
+            (["names", "S", "--json"], b"---\nnames:\n  - a\n  - b\n...\n", 0, b'["a","b"]\n'),
+            (["names", "S", "--json"], b'{"names": []}\n', 0, b"[]\n"),
+            (["export", "S", "web", "--json"], tree, 0, b'{"a":["x"],"b\\n":"\\u0085\\u2028\\u001B"}\n'),
+        ]  # fmt: skip
+        for words, answer, status, output in rows:
+            with self.subTest(words):
+                self.answered(answer)
+                self.assertEqual(self.perform(*words), (status, output, ""))
+
+    def test_what_is_refused(self) -> None:
+        tree, bad = b"---\nvalue: []\n...\n", b"---\nrefused: BadName\n...\n"
+        for words, answer, fault in (
+            (["get", "S", "web", "--raw"], tree, "NotText"),
+            (["keys", "S", "web"], b"---\nvalue: x\n...\n", "NotCollection"),
+            (["get", "S", "9", "--default", "x"], bad, "BadName"), (["exists", "S", "9"], bad, "BadName"),
+            (["keys", "S", "web", "/a"], b"---\nrefused: NoSuchPlace\n...\n", "NoSuchPlace"),
+        ):  # fmt: skip
+            with self.subTest(words):
+                self.answered(answer)
+                self.assertEqual(self.fault(*words), (1, fault))
+
+    def test_json(self) -> None:
+        """Python's own reader reads each text back."""
+        signs = "".join(map(chr, [*range(0x180), *range(0x2000, 0x2070), 0xD7FF, 0xE000, 0xFEFF, 0xFFFE, 0x10FFFF]))
+        trees: list[Tree] = ["", signs, [], {}, [[], {"": {}}], {signs: [signs, {"a": ["b"]}]}]
+        for tree in trees:
+            text = json_text(tree)
+            self.assertEqual(json.loads(text), tree)
+            self.assertEqual(json_text(json.loads(text)), text)
+            self.assertNotRegex(text, "[\0-\x1f\x7f-\x9f\u2028\u2029\ufeff]")
+
+
+def record(number: int, value: str = "x") -> bytes:
+    return document({"at": str(number), "set": "web", "path": "/n", "value": value})
+
+
+def begun(number: int) -> bytes:
+    return document({"watch": str(number)})
+
+
+class ToldChanges(AnswerTest):
+    """Changes as a server tells them."""
+
+    def serves(self, start: int | None, *documents: bytes) -> Served:
+        self.answered(b"".join(documents))
+        served = Served(Place(self.path, True), start, 0, PATIENCE)
+        self.addCleanup(served.close)
+        return served
+
+    def lines(self, served: Served, count: int) -> list[str]:
+        """So many lines of what is told, at least."""
+        told: list[Told] = []
+        while len(told) < count:
+            told += served.look()
+        for event, text in told:
+            self.assertEqual(text, record(event.number, _value_of(event)) if isinstance(event, Record) else b"")
+        return [line_of(event) for event, _ in told]
+
+    def again(self, *documents: bytes) -> None:
+        self.answered(b"".join(documents))
+
+    def test_changes(self) -> None:
+        cut = document({"cut": {"first": "3", "last": "5"}})
+        served = self.serves(2, begun(2), record(2), cut, record(6), record(7))
+        wanted = ['2 set web "/n"', "3-5 cut", '6 set web "/n"', '7 set web "/n"']
+        self.assertEqual(self.lines(served, 4), wanted)
+        self.assertEqual(self.asked(), [{"watch": "2"}])
+
+    def test_a_connection_that_ends(self) -> None:
+        """The next one begins with the change that was told last, which is not told again."""
+        served = self.serves(None, begun(5), record(5), record(6))
+        self.assertEqual(self.lines(served, 2), ['5 set web "/n"', '6 set web "/n"'])
+        self.assertEqual(self.asked(), [{"watch": ""}])
+        self.again(begun(6), record(6), record(7))
+        self.assertEqual(self.lines(served, 1), ['7 set web "/n"'])
+        self.assertEqual(self.asked(), [{"watch": "6"}])
+        self.again(begun(7), document({"cut": {"first": "7", "last": "9"}}), record(10))
+        self.assertEqual(self.lines(served, 2), ["8-9 cut", '10 set web "/n"'])
+
+    def test_another_history(self) -> None:
+        served = self.serves(1, begun(1), record(1), record(2))
+        self.assertEqual(self.lines(served, 2), ['1 set web "/n"', '2 set web "/n"'])
+        self.again(begun(2), record(2, "other"), record(3))
+        self.assertEqual(self.lines(served, 3), ["after 1 replaced", '2 set web "/n"', '3 set web "/n"'])
+        self.again(begun(3), document({"replaced": {"after": "1"}}), record(2))
+        self.assertEqual(self.lines(served, 2), ["after 1 replaced", '2 set web "/n"'])
+
+    def test_before_the_first_change(self) -> None:
+        served = self.serves(None, begun(5))
+        self.assertEqual(served.look(), [])
+        self.again(begun(5), record(5))
+        self.assertEqual(self.lines(served, 1), ['5 set web "/n"'])
+        self.assertEqual(self.asked(), [{"watch": "5"}])
+
+    def test_servers_that_tell_nothing(self) -> None:
+        rows: Iterable[tuple[bytes, str]] = (
+            (document({"refused": "BadCommand"}), "Unsupported"), (document({"refused": "NotInStyle"}), "NotInStyle"),
+            (b'{"refused": "BadCommand"}\n', "Unsupported"), (document({"refused": "Other"}), "BadAnswer"),
+            (document("moon"), "BadAnswer"), (document({"cut": {"first": "x", "last": "1"}}), "BadAnswer"),
+            (b"[\n...\n", "BadAnswer"), (document({"at": "x"}), "BadAnswer"), (document({"watch": ["1"]}), "BadAnswer"),
+        )  # fmt: skip
+        for answer, name in rows:
+            with self.subTest(answer):
+                served = self.serves(None, answer)
+                with self.assertRaises(Fault) as caught:
+                    self.lines(served, 1)
+                self.assertEqual(caught.exception.name, name)
+                served.close()
+
+    def test_no_server(self) -> None:
+        with self.assertRaises(Fault) as caught:
+            Served(Place(self.path, True), None, 0.3, PATIENCE)
+        self.assertEqual(caught.exception.name, "Disconnected")
+        served = self.serves(None, begun(1))
+        served._patience = 0.3
+        with self.assertRaises(Fault) as caught:
+            os.remove(self.path)
+            self.lines(served, 1)
+        self.assertEqual(caught.exception.name, "Disconnected")
+
+
+def _value_of(event: Record) -> str:
+    value = event.edits[0].tree
+    assert isinstance(value, str)
+    return value
+
+
+if __name__ == "__main__":
+    unittest.main()
