@@ -1,7 +1,7 @@
 #!/usr/bin/env python3
 """Times the base of a store: writing it in a checkpoint, and opening a store that is a base alone.
 
-Stores are made whose base has some 56 MiB: of service files, of Kubernetes' files, and of a few long texts. For each it
+Stores are made whose base has 46 to 60 MiB: of service files, of Kubernetes' files, and of a few long texts. For each it
 prints the processor time of a checkpoint and of opening, and the greatest memory of a session that opens the store, as
 a multiple of the base: what is mapped and what is resident. A checkpoint's time is that of a session with it, less that
 of a session without. With `-i` instructions a byte are printed, as valgrind counts them on a base of some 4 MiB.
@@ -25,8 +25,9 @@ from lib.programs import MEMORY, MIB, PROGRAM, need_program
 from lib.runs import seconds_in
 from lib.stores import CHECKPOINT, perform, session_instructions, session_usage
 
-# About how many bytes a base has, and one whose instructions are counted.
-SIZE = 56 * MIB
+# How many bytes the texts of a base have, and of one whose instructions are counted. In the base they take up to a
+# quarter more.
+SIZE = 48 * MIB
 COUNTED = 4 * MIB
 # How many bytes of a corpus a configuration has.
 CONFIGURATION = 256 * 1024

@@ -47,6 +47,7 @@ LINES = [
     ("import store app fil", "import store app file.yaml"),
     ("verif", "verify"),
     ("log --ya", "log --yaml"),
+    ("log --va", "log --values"),
     ("get --at 1 --ra", "get --at 1 --raw"),
     ("get store we", "get store web"),
     ("get --at 1 store we", "get --at 1 store web"),

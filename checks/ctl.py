@@ -4,15 +4,18 @@
 - **Words.** Each row of `lib/ctl_rows.py` is done four times, on stores of their own: by confstore, by confstorectl
   without a server, through the socket of `clients/serve.py`, and through a node of a replicated store. The status, the
   output, the name of the fault and the other lines on standard error are those of confstore, and in the end so is the
-  store's file, byte by byte. (A node's store has its own marks, and a node takes neither a checkpoint nor the words
-  that look into the file.) A folder without a store gets none.
+  store's file, byte by byte. (A node's store has its own marks, and a node takes neither a checkpoint nor conditions
+  nor the words that look into the file.) A folder without a store gets none.
+- **The table of words** of confstorectl has the arguments and options that the help of confstore has.
 - **Streams** that are closed, full, or that nobody reads, and a terminal, where more is said of a refused text.
 - **Waiting** for a store that is locked, and for a server that is not there; and which socket is taken.
 - **Clients.** Sixteen of them append 50 texts each to one list: it has all of them, those of each in their order. So
-  do four without a server, which wait for each other.
+  do four without a server, which wait for each other. Sixteen add one to the same number a hundred times each, where
+  nobody came between: it ends at 1,600. Four without a server do the same.
 - **Watching.** 10,000 changes, 20 checkpoints and five restarts of the server, after its session was killed or it was
-  told to end: `watch` and `Reader.follow` say each change once, and none as cut where it was told before the checkpoint
-  came. Where checkpoints come at once, or a watch is stopped meanwhile, each change is said once, or that it was cut.
+  told to end: `watch`, by the folder and by the socket, and `Reader.follow` say each change once, and none as cut where
+  it was told before the checkpoint came. Where checkpoints come at once, or a watch is stopped meanwhile, each change
+  is said once, or that it was cut.
 - **Pages.** The completions and the man page are those of the table of words, and keys are pressed in each shell.
 
 Run it from the repository's root after the program is built; it needs PyYAML, and takes one minute or two:
@@ -43,6 +46,7 @@ from concurrent.futures import ThreadPoolExecutor
 from typing import Any, NamedTuple
 
 from lib.ctl_rows import NODE_ROWS, ROWS, Row
+from lib.ctl_table import Table, table_of_ctl, table_of_program
 from lib.store_runs import PROGRAM, TOP, Failures, need_program, read_file, write_file
 
 sys.path.insert(0, os.path.join(TOP, "python"))
@@ -58,11 +62,15 @@ CTL = [sys.executable, "-m", "confstore.ctl"]
 SERVER = os.path.join(TOP, "clients", "serve.py")
 PAGES = os.path.join(TOP, "python", "pages_of_confstorectl.py")
 
+# The words that a program has alone which takes a store as it is in its folder, or no store at all.
+OF_PROGRAM_ALONE = {"init", "run", "salvage", "backup", "format", "check", "help"}
+
 # How long anything here is waited for, in seconds.
 PATIENCE = 60
 
 CLIENTS, APPENDS = 16, 50
 CLIENTS_ALONE, APPENDS_ALONE = 4, 10
+ADDS, ADDS_ALONE = 100, 10
 CHANGES, CHECKPOINTS, RESTARTS = 10_000, 20, 5
 
 # How many checkpoints come once all changes before them were told, and before how many of the last ones the watch is
@@ -100,6 +108,29 @@ for number in range(int(count)):
     status = perform_words(["--wait", "30", "set", folder, "app", "/list/-", f"{client}-{number}"])
     if status:
         sys.exit(status)
+"""
+
+
+# What a client runs that adds one to a number. Its output is a file in which each word writes from the start.
+ADDING_CLIENT = """
+import os, sys, tempfile
+from confstore.ctl import perform_words
+folder, count = sys.argv[1:]
+output = tempfile.TemporaryFile(buffering=0)
+os.dup2(output.fileno(), 1)
+made = 0
+while made < int(count):
+    output.seek(0)
+    output.truncate()
+    status = perform_words(["--wait", "30", "get", folder, "app", "/n", "--raw"])
+    output.seek(0)
+    old = output.read().decode().strip()
+    status = status or perform_words(
+        ["--wait", "30", "set", folder, "app", "/n", str(int(old) + 1), "--if-value", old]
+    )
+    if status > 1:
+        sys.exit(status)
+    made += status == 0
 """
 
 
@@ -265,27 +296,53 @@ def node_on(top: str, folder: str) -> Iterator[str]:
         etcd.close()
 
 
+def known(rows: Sequence[Row]) -> list[Row]:
+    """The rows whose words and options the program has, of those that confstorectl has."""
+    of_program, of_ctl = table_of_program(PROGRAM), table_of_ctl()
+    return [row for row in rows if not lacking(row, of_program, of_ctl)]
+
+
+def lacking(row: Row, of_program: Table, of_ctl: Table) -> bool:
+    """Whether the program lacks a word or an option of a row that confstorectl has."""
+    word = row.words[0]
+    if word == "batch" or word not in of_ctl:
+        return False
+    options = {given.partition("=")[0] for given in row.words[1:]} & set(of_ctl[word].options)
+    return word not in of_program or bool(options - set(of_program[word].options))
+
+
+def try_table(_top: str, failures: Failures) -> None:
+    """Both programs have the same words, but those that the lists below name, with the same options and arguments."""
+    of_program, of_ctl = table_of_program(PROGRAM), table_of_ctl()
+    mine, theirs = set(of_ctl) - {"batch", "watch"}, set(of_program) - OF_PROGRAM_ALONE
+    failures.expect("the words", sorted(mine), sorted(theirs))
+    for word in sorted(mine & theirs):
+        failures.expect(f"the options of {word}", of_ctl[word].options, of_program[word].options)
+        failures.expect(f"the arguments of {word}", of_ctl[word].arguments, of_program[word].arguments)
+
+
 def try_words(top: str, failures: Failures) -> None:
     fill(top)
     os.mkdir(os.path.join(top, "empty"))
+    rows, node_rows = known(ROWS), known(NODE_ROWS)
     model = Side(top, "model", "confstore", [PROGRAM])
     alone = Side(top, "alone", "confstorectl", [])
     served = Side(top, "served", "confstorectl", [])
     node_model = Side(top, "node-model", "confstore", [PROGRAM])
     with serving(os.path.join(served.folder, "confstore.sock"), served.folder):
-        threads = [threading.Thread(target=side.do, args=(ROWS, top)) for side in (model, alone, served)]
+        threads = [threading.Thread(target=side.do, args=(rows, top)) for side in (model, alone, served)]
         for thread in threads:
             thread.start()
         os.mkdir(os.path.join(top, "node-store"))
         with node_on(top, os.path.join(top, "node-store")) as at:
             asked = Side(top, "node", "confstorectl", ["--socket", at])
-            node_model.do(NODE_ROWS, top)
-            asked.do(NODE_ROWS, top)
+            node_model.do(node_rows, top)
+            asked.do(node_rows, top)
         for thread in threads:
             thread.join()
-    compare(asked, node_model, NODE_ROWS, failures)
-    compare(alone, model, ROWS, failures)
-    compare(served, model, ROWS, failures)
+    compare(asked, node_model, node_rows, failures)
+    compare(alone, model, rows, failures)
+    compare(served, model, rows, failures)
     files = [read_file(os.path.join(side.folder, "store.yaml")) for side in (model, alone, served)]
     failures.expect("the file without a server", files[1] == files[0], True)
     failures.expect("the file of the server", files[2] == files[0], True)
@@ -405,14 +462,36 @@ def append_all(folder: str, clients: int, appends: int, failures: Failures) -> N
         failures.expect(f"those of client {number}", mine, [f"c{number}-{turn}" for turn in range(appends)])
 
 
+def add_all(folder: str, clients: int, adds: int, failures: Failures) -> None:
+    """Clients that add one to one number so many times each, by conditions."""
+    errors = [tempfile.TemporaryFile() for _ in range(clients)]
+    started = [
+        subprocess.Popen([sys.executable, "-c", ADDING_CLIENT, folder, str(adds)], env=ENVIRONMENT, stderr=error)
+        for error in errors
+    ]
+    failures.expect("the statuses of those who add", [client.wait(2 * PATIENCE) for client in started], [0] * clients)
+    told: set[str] = set()
+    for error in errors:
+        with error:
+            error.seek(0)
+            told |= {line.partition(": ")[2].partition(": ")[0] for line in error.read().decode().splitlines()}
+    failures.expect("what they are told", told <= {"Unmet"}, True)
+    failures.expect("the number", Reader(folder, program=PROGRAM).get("app", "/n"), str(clients * adds))
+
+
 def try_clients(top: str, failures: Failures) -> None:
     served, alone = os.path.join(top, "served"), os.path.join(top, "alone")
     for folder in (served, alone):
         with Store(folder, make=True, program=PROGRAM) as store:
-            store["app"] = {"list": []}
+            store["app"] = {"list": [], "n": "0"}
+    has_conditions = "--if-value" in table_of_program(PROGRAM)["set"].options
     with serving(os.path.join(served, "confstore.sock"), served):
         append_all(served, CLIENTS, APPENDS, failures)
+        if has_conditions:
+            add_all(served, CLIENTS, ADDS, failures)
     append_all(alone, CLIENTS_ALONE, APPENDS_ALONE, failures)
+    if has_conditions:
+        add_all(alone, CLIENTS_ALONE, ADDS_ALONE, failures)
 
 
 # ---- watching
@@ -442,19 +521,19 @@ class Writer:
 
 
 class Watched:
-    """What those who watch the store have told."""
+    """What those who watch the store have told: `watch` by the folder, and by the socket, and `follow`."""
 
-    def __init__(self, output: str) -> None:
-        self.output = output
+    def __init__(self, *outputs: str) -> None:
+        self.outputs = outputs
         self.followed: list[str] = []
         self.wrong: list[str] = []
 
-    def lines(self) -> list[str]:
-        """The lines of `watch`, as far as they are whole."""
-        return read_file(self.output).decode().split("\n")[:-1]
+    def lines(self) -> list[list[str]]:
+        """The lines of each `watch`, as far as they are whole."""
+        return [read_file(output).decode().split("\n")[:-1] for output in self.outputs]
 
     def have_come_to(self, number: int) -> bool:
-        return all(lines and last_in(lines[-1]) >= number for lines in (self.lines(), self.followed))
+        return all(lines and last_in(lines[-1]) >= number for lines in (*self.lines(), self.followed))
 
 
 def last_in(line: str) -> int:
@@ -517,26 +596,32 @@ def follow(reader: Reader, watched: Watched) -> None:
 
 
 def try_watching(top: str, failures: Failures) -> None:
-    folder, output = os.path.join(top, "watched"), os.path.join(top, "watch.txt")
+    folder, outputs = os.path.join(top, "watched"), [os.path.join(top, name) for name in ("folder.txt", "socket.txt")]
     with Store(folder, make=True, program=PROGRAM) as store:
         store["web"] = {"n": "1"}
-    writer, watched = Writer(folder, os.path.join(folder, "confstore.sock")), Watched(output)
+    writer, watched = Writer(folder, os.path.join(folder, "confstore.sock")), Watched(*outputs)
     thread = threading.Thread(target=follow, args=(Reader(folder, program=PROGRAM), watched), daemon=True)
-    with open(output, "wb") as target:
-        watch = subprocess.Popen([*CTL, "watch", folder, "--from", "1"], stdout=target, env=ENVIRONMENT)
+    by_socket = [*CTL, "--wait", "30", "--socket", writer.at, "watch", os.path.join(top, "none")]
+    watches = []
+    for words, output in (([*CTL, "watch", folder], outputs[0]), (by_socket, outputs[1])):
+        with open(output, "wb") as target:
+            watches.append(subprocess.Popen([*words, "--from", "1"], stdout=target, env=ENVIRONMENT))
     try:
         thread.start()
-        calm = change_all(writer, watch, watched, failures)
-        failures.expect("all come to the end", until(lambda: watched.have_come_to(CHANGES)), True)
+        calm = change_all(writer, watches[0], watched, failures)
+        with serving(writer.at, folder):
+            failures.expect("all come to the end", until(lambda: watched.have_come_to(CHANGES)), True)
         thread.join(PATIENCE)
     finally:
-        watch.send_signal(signal.SIGINT)
-        failures.expect("the watch ends as it is told", watch.wait(PATIENCE), -signal.SIGINT)
+        for watch in watches:
+            watch.send_signal(signal.SIGINT)
+            failures.expect("the watch ends as it is told", watch.wait(PATIENCE), -signal.SIGINT)
     failures.expect("the values", watched.wrong, [])
-    lines_of_watch = watched.lines()
-    is_cut = any(line.endswith(" cut") for line in lines_of_watch)
+    told_by_folder, told_by_socket = watched.lines()
+    is_cut = any(line.endswith(" cut") for line in told_by_folder)
     failures.expect("the watch was cut while it was stopped", is_cut, True)
-    for name, lines in (("watch", lines_of_watch), ("follow", watched.followed)):
+    all_told = (("watch", told_by_folder), ("watch by the socket", told_by_socket), ("follow", watched.followed))
+    for name, lines in all_told:
         seen = numbers_of(lines, failures)
         failures.expect(f"{name}: those before a calm checkpoint", seen[:calm] == list(range(1, calm + 1)), True)
         print(f"{name}: {len(seen)} of {CHANGES} changes were told, and {CHANGES - len(seen)} cut")
@@ -588,6 +673,10 @@ LINES = [
     ("import --ini", "import --init"),
     ("delete --who", "delete --whole"),
     ("set --yaml --exp", "set --yaml --explain"),
+    ("set --if-v", "set --if-value"),
+    ("set --file fil", "set --file file.yaml"),
+    ("copy store web ap", "copy store web app"),
+    ("exi", "exists"),
 ]
 
 
@@ -635,7 +724,9 @@ def main() -> int:
     need_program()
     failures = Failures()
     with tempfile.TemporaryDirectory() as top:
-        trials = (try_words, try_streams, try_waiting, try_clients, try_watching, try_one_watch, try_pages)
+        trials = (
+            try_table, try_words, try_streams, try_waiting, try_clients, try_watching, try_one_watch, try_pages,
+        )  # fmt: skip
         for trial in trials:
             room = os.path.join(top, trial.__name__)
             os.mkdir(room)

@@ -1,5 +1,5 @@
 #!/usr/bin/env python3
-"""Tries the settings of docs/STYLE.md, the hook of git, and the two examples.
+"""Tries the settings of docs/STYLE.md and clients/editors, the hook of git, and the two examples.
 
 Vim and Emacs run in batch mode, as far as they are installed, and read lines as `confstore check` prints them; the
 patterns for VS Code are tried on the same lines. Those that the program prints of files are among them.
@@ -148,7 +148,8 @@ def by_emacs(top: str, lines: Sequence[Line], failures: Failures) -> list[tuple[
 
 def by_code(lines: Sequence[str]) -> list[Place | None]:
     """What the patterns for VS Code find in the lines, of which each takes the first that fits."""
-    patterns = [matcher["pattern"] for matcher in json.loads(block_of("json"))["tasks"][0]["problemMatcher"]]
+    tasks = json.loads(read_file(os.path.join(TOP, "clients", "editors", "tasks.json")))["tasks"]
+    patterns = [matcher["pattern"] for matcher in tasks[0]["problemMatcher"]]
     return [found_by(patterns, line) for line in lines]
 
 

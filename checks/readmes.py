@@ -157,6 +157,7 @@ def walk_python(room: Room) -> None:
     room.shell("printf 'server: a\\n' > dns.yaml")
     expect("the first example", room.python(page.take("from confstore import Store\n\nwith")), "a ['web', 'dns']\n")
     page.take(">>> from confstore import Store")  # a doctest: python/tests/test_mapping.py
+    page.take(">>> from confstore import Absent")  # the same
     room.shell("confstore import /var/lib/app dns dns.yaml")
     walk_asyncio(room, page.take("async with"))
     walk_following(room, page.take("from confstore import Cut"))

@@ -8,7 +8,7 @@ answers to the commands before the one that met it. A new session has to find th
 the one that met it changed nothing. Where opening drops bytes, a line says so: of the session, or of the new one if
 memory ran out before.
 
-Run it from the repository's root after the program is built. It takes some 20 seconds, and needs a C compiler:
+Run it from the repository's root after the program is built. It takes some 30 seconds, and needs a C compiler:
 
     ./confstore --version && python3 checks/refuse_session_allocations.py
 
@@ -24,7 +24,7 @@ import sys
 import tempfile
 from collections.abc import Mapping
 
-from lib.stories import BATCHES, LARGE, LOOK, NEW, TORN, Story
+from lib.stories import BATCHES, CONDITIONS, LARGE, LOOK, NEW, TORN, Story
 from lib.store_runs import Ended, Failures, compiled, dropped, need_program, read_file, rest_of, session, write_file
 
 OUT_OF_MEMORY = "confstore: OutOfMemory\n"
@@ -93,9 +93,10 @@ def refuse_each(top: str, story: Story, failures: Failures) -> None:
 def main() -> int:
     need_program()
     failures = Failures()
+    single = (NEW, TORN, BATCHES, CONDITIONS)
     with tempfile.TemporaryDirectory() as top:
         compiled("refuse.c", top)
-        for story in (NEW, TORN, BATCHES, NEW.in_groups(), TORN.in_groups(), BATCHES.in_groups(), LARGE):
+        for story in (*single, *(story.in_groups() for story in single), LARGE):
             refuse_each(top, story, failures)
     return failures.report()
 

@@ -9,6 +9,7 @@
 - Faults: folders and names, few descriptors, a manager that isn't there, closed standard streams: a line, and no trace.
 - Signals, kills, and clients that leave in the middle.
 - Health and counters over HTTP, beside what the trial did, and those who ask too much.
+- Those who watch the changes: what they are told, over checkpoints and renewed sessions, and those who do it badly.
 - The unit of systemd: it is verified, and the server runs under its filter of system calls.
 
 Run it from the repository's root after the program is built; it takes some two minutes:
@@ -40,9 +41,10 @@ from typing import Optional
 
 from lib.server_metrics import Health, Hostile, Metrics, Requests, told_by
 from lib.server_sockets import Access, Names, shut_out
+from lib.server_watches import HostileWatches, Watches
 from lib.servers import BOUNDED, MEGABYTE, NAMES, PATIENCE, PROGRAM, PYTHON, SERVER, TOP, Client, ServerTest, accepts
 
-__all__ = ["Access", "Health", "Hostile", "Metrics", "Names", "Requests"]
+__all__ = ["Access", "Health", "Hostile", "HostileWatches", "Metrics", "Names", "Requests", "Watches"]
 
 UNIT = os.path.join(TOP, "packaging", "confstore@.service")
 

@@ -25,10 +25,11 @@ as_root=
 [ "$(id -u)" -eq 0 ] || as_root=fakeroot
 # The scripts, those that take longest first, each with the commands that it needs.
 SCRIPTS=(
-    "checks/readers.py" "checks/fail_calls.py cc" "checks/sessions.py cc" "checks/kills.py" "checks/release.py xz"
-    "python/tests" "checks/completions.py" "checks/many_clients.py" "checks/fail_file_calls.py cc"
-    "checks/refuse_session_allocations.py cc" "checks/refuse_allocations.sh cc" "packaging/deb/try.sh dpkg-deb $as_root"
-    "checks/editors.py git" "checks/names.py" "checks/program.py" "checks/guide.py" "checks/edits.py"
+    "checks/readers.py" "checks/fail_calls.py cc" "checks/fail_word_calls.py cc" "checks/sessions.py cc"
+    "checks/kills.py" "checks/release.py xz" "python/tests" "checks/completions.py" "checks/many_clients.py"
+    "checks/fail_file_calls.py cc" "checks/refuse_session_allocations.py cc" "checks/refuse_word_allocations.py cc"
+    "checks/refuse_allocations.sh cc" "packaging/deb/try.sh dpkg-deb $as_root" "checks/editors.py git"
+    "checks/names.py" "checks/program.py" "checks/guide.py" "checks/edits.py"
 )
 passed=0
 failed=0

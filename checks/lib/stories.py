@@ -112,6 +112,35 @@ BATCHES = Story(
     [looked(0, None), looked(1, 'port: "81"'), looked(2, "x: v\n  z: w"), looked(3, None)],
 )
 
+# Commands with conditions over a new folder. The second and the fourth have one that does not hold.
+CONDITIONS = Story(
+    "conditions",
+    {},
+    [
+        (
+            'if:\n  - absent: app\n  - count: "0"\nimport: app\ntext: "port: 80"\n...\n',
+            '---\nok: "1"\n...\n',
+        ),
+        (
+            'if:\n  - absent: app\n    path: /tls\n  - count: "0"\nimport: app\ntext: "port: 80"\n...\n',
+            "---\nrefused: Unmet\n...\n",
+        ),
+        (
+            'if:\n  - test: app\n    path: ""\n    value:\n      port: 80\nbatch:\n'
+            "  - set: app\n    path: /port\n    value: 81\n...\n",
+            '---\nok: "2"\n...\n',
+        ),
+        (
+            'if:\n  - test: app\n    path: /port\n    value: "80"\nbatch:\n'
+            '  - import: app\n    text: "port: 82"\n...\n',
+            "---\nrefused: Unmet\n...\n",
+        ),
+        ('if:\n  - absent: app\n    path: /a~1b\ndelete: app\npath: ""\n...\n', '---\nok: "3"\n...\n'),
+    ],
+    [True, False, True, False, True],
+    [looked(0, None), looked(1, 'port: "80"'), looked(2, 'port: "81"'), looked(3, None)],
+)
+
 # A store whose base takes several slices. Each command has as many bytes of a comment as a read may bring, so that no
 # two are in one group, and a checkpoint goes on between them.
 TEXT = "x" * 9_000

@@ -1,0 +1,219 @@
+#!/usr/bin/env python3
+"""Random commands with conditions through the built program, beside the model of lib/store_model.py.
+
+Each store gets some commands over few names. Most begin with conditions, of which some hold and some do not: a value that
+is there or nearly is, a place that is empty or is not, the count or one beside it, names and pointers that can't be ones,
+and lists that are no conditions. Each answer has to be the model's, and at the end the file has to mean the state of the
+model: a record holds no condition. Every second session is one in groups.
+
+    checks/conditions.py [COMMANDS]
+
+It needs the built program and PyYAML, and takes some seconds for 10,000 commands with conditions. The last line is 'N
+passed, M failed', and the status is 0 if M is 0.
+"""
+
+from __future__ import annotations
+
+import json
+import os
+import random
+import re
+import sys
+import tempfile
+from collections import Counter
+from collections.abc import Sequence
+from typing import Any
+
+from lib.store_model import NAME, Configs, Refused, Tree, edited, index_of, meaning, steps_of
+from lib.store_runs import GROUPED, SINGLE, Failures, need_program, read_file, session
+
+# A command, an edit or a condition as JSON, which is YAML too.
+Document = dict[str, Any]
+
+COMMANDS = int(sys.argv[1]) if len(sys.argv) > 1 else 10_000
+# How many commands a store gets.
+LENGTH = 50
+NAMES = ("a", "b", "c", "d", "Bad")
+PATHS = ("", "/k", "/l", "/l/-", "/l/0", "/l/7", "/l/k", "/k/x", "no", "/~2")
+VALUES: tuple[Any, ...] = ("x", "80", {"k": "v", "l": ["m", "n"]}, [], "", {"k": ["v"]}, {"l": ["m"]})
+# What stands under `if` in a document that is no command.
+NO_CONDITIONS: tuple[Any, ...] = (
+    [], "x", {"count": "1"}, [[]], [{}], [{"count": "01"}], [{"count": "-1"}], [{"count": str(2**64)}],
+    [{"test": "a", "value": "x"}], [{"path": "", "absent": "a"}], [{"count": "1", "path": ""}], [{"absent": ["a"]}],
+)  # fmt: skip
+COUNT = re.compile(r"[0-9]+")
+
+
+def as_tree(value: Any) -> Tree:
+    """A value of JSON as a tree of the model."""
+    if isinstance(value, dict):
+        return tuple((key, as_tree(inner)) for key, inner in value.items())
+    return [as_tree(inner) for inner in value] if isinstance(value, list) else str(value)
+
+
+def as_json(tree: Tree) -> Any:
+    """A tree of the model as a value of JSON."""
+    if isinstance(tree, tuple):
+        return {key: as_json(inner) for key, inner in tree}
+    return [as_json(inner) for inner in tree] if isinstance(tree, list) else tree
+
+
+def value_at(configs: Configs, name: str, path: str) -> Tree | None:
+    """The value at a place; `None` if there is none. Raises Refused for a path that is no pointer."""
+    steps, tree = steps_of(path), configs.get(name)
+    for step in steps:
+        if isinstance(tree, list):
+            try:
+                tree = tree[index_of(tree, step)]
+            except Refused:
+                return None
+        else:
+            tree = dict(tree).get(step) if isinstance(tree, tuple) else None
+    return tree
+
+
+def fault_of(configs: Configs, count: int, condition: Document) -> str | None:
+    """Why a condition does not hold; `None` if it does."""
+    if "count" in condition:
+        return None if condition["count"] == str(count) else "Unmet"
+    name = condition.get("test", condition.get("absent"))
+    if not NAME.fullmatch(name):
+        return "BadName"
+    try:
+        found = value_at(configs, name, condition.get("path", ""))
+    except Refused:
+        return "BadPath"
+    if "absent" in condition:
+        return None if found is None else "Unmet"
+    return None if found == as_tree(condition["value"]) else "Unmet"
+
+
+def some_name(chance: random.Random) -> str:
+    return chance.choice(NAMES if chance.random() < 0.05 else NAMES[:4])
+
+
+def some_edit(chance: random.Random) -> Document:
+    name, path, value = some_name(chance), chance.choice(PATHS), chance.choice(VALUES)
+    kind = chance.randrange(10)
+    if kind < 4:
+        return {"import": name, "text": json.dumps(value)}
+    return {"set": name, "path": path, "value": value} if kind < 8 else {"delete": name, "path": path}
+
+
+def some_condition(chance: random.Random, configs: Configs, count: int) -> Document:
+    """A condition that may hold of this state, or nearly does."""
+    name, path = some_name(chance), chance.choice(PATHS if chance.random() < 0.2 else PATHS[:8])
+    kind = chance.randrange(8)
+    if kind < 2:
+        return {"count": str(max(count + chance.choice((0, 0, 0, 0, 1, -1)), 0))}
+    if kind < 4:
+        return {"absent": name, "path": path} if chance.random() < 0.8 else {"absent": name}
+    value = chance.choice(VALUES)
+    try:
+        there = value_at(configs, name, path)
+    except Refused:
+        there = None
+    if there is not None and chance.random() < 0.8:
+        value = as_json(there)
+    return {"test": name, "path": path, "value": value}
+
+
+def performed(configs: Configs, edits: Sequence[Document]) -> Configs:
+    """What edits make of the configurations. Raises Refused."""
+    if not edits:
+        raise Refused
+    for edit in edits:
+        keys = tuple("tree" if key == "text" else key for key in edit)
+        values = [as_tree(json.loads(value) if key == "text" else value) for key, value in edit.items()]
+        configs = edited(configs, keys, values)
+    return configs
+
+
+class Commands:
+    """Random commands for a store, with what each has to be answered, and the state after all of them."""
+
+    def __init__(self, chance: random.Random) -> None:
+        self.texts: list[str] = []
+        self.wanted: list[str] = []
+        self.configs: Configs = {}
+        self.count = self.conditional = 0
+        for _ in range(LENGTH):
+            self.add(chance)
+
+    def add(self, chance: random.Random) -> None:
+        is_batch = chance.random() < 0.4
+        edits = [some_edit(chance) for _ in range(chance.choice((0, 1, 2, 3)) if is_batch else 1)]
+        command: Document = {"batch": edits} if is_batch else edits[0]
+        kind = chance.random()
+        if kind < 0.05:
+            self.note({"if": chance.choice(NO_CONDITIONS), **command}, "refused: BadCommand")
+        elif kind < 0.2:
+            self.perform(command, edits)
+        else:
+            conditions = [some_condition(chance, self.configs, self.count) for _ in range(chance.choice((1, 1, 2, 3)))]
+            self.conditional += 1
+            self.judge({"if": conditions, **command}, conditions, edits)
+
+    def note(self, command: Document, wanted: str) -> None:
+        self.texts.append(json.dumps(command) + "\n...\n")
+        self.wanted.append(wanted)
+
+    def judge(self, command: Document, conditions: Sequence[Document], edits: Sequence[Document]) -> None:
+        """The command is performed if all conditions hold; otherwise the first that does not is answered."""
+        for condition in conditions:
+            fault = fault_of(self.configs, self.count, condition)
+            if fault:
+                self.note(command, f"refused: {fault}")
+                return
+        self.perform(command, edits)
+
+    def perform(self, command: Document, edits: Sequence[Document]) -> None:
+        try:
+            self.configs = performed(self.configs, edits)
+            self.count += 1
+            self.note(command, f'ok: "{self.count}"')
+        except Refused:
+            self.note(command, "refused" if edits else "refused: EmptyBatch")
+
+
+def is_right(found: str, wanted: str) -> bool:
+    """Whether an answer is the wanted one. Where a command is refused for its edits, any of their refusals is right."""
+    others = ("refused: Unmet", "refused: BadCommand", "refused: EmptyBatch")
+    return found.startswith("refused: ") and found not in others if wanted == "refused" else found == wanted
+
+
+def try_store(chance: random.Random, top: str, words: Sequence[str], failures: Failures, about: str) -> Commands:
+    """Sends random commands to a store, and looks at the answers and at what its file means."""
+    folder = os.path.join(top, "folder")
+    os.mkdir(folder)
+    commands = Commands(chance)
+    status, answers, errors = session(folder, "".join(commands.texts).encode(), words)
+    failures.expect(f"{about}: status", (status, errors), (0, ""))
+    found = [answer.split("\n")[1] for answer in answers.decode().split("...\n")[:-1]]
+    failures.expect(f"{about}: answers", len(found), len(commands.wanted))
+    for number, (one, wanted) in enumerate(zip(found, commands.wanted)):
+        name = f"{about}, command {number}: {commands.texts[number]!r} is answered {one} and not {wanted}"
+        failures.expect(name, is_right(one, wanted), True)
+    configs, count, rest = meaning(read_file(os.path.join(folder, "store.yaml")))
+    failures.expect(f"{about}: state", (configs, count, rest), (commands.configs, commands.count, 0))
+    failures.expect(f"{about}: order", list(configs), list(commands.configs))
+    return commands
+
+
+def main() -> int:
+    need_program()
+    failures, done, number = Failures(), 0, 0
+    answers: Counter[str] = Counter()
+    while done < COMMANDS:
+        with tempfile.TemporaryDirectory() as top:
+            words = SINGLE if number % 2 else GROUPED
+            commands = try_store(random.Random(number), top, words, failures, f"store {number}")
+        done, number = done + commands.conditional, number + 1
+        answers.update(COUNT.sub("N", wanted) for wanted in commands.wanted)
+    counted = ", ".join(f"{count} {answer}" for answer, count in sorted(answers.items()))
+    print(f"{done} commands with conditions in {number} stores; of all commands: {counted}")
+    return failures.report()
+
+
+if __name__ == "__main__":
+    sys.exit(main())

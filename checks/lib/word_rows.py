@@ -1,0 +1,112 @@
+"""Runs of each word of the program on a small store, with what it has to write and what it has to leave, by hand."""
+
+from __future__ import annotations
+
+import os
+from dataclasses import dataclass, field
+
+from .store_runs import EMPTY, read_file, write_file
+
+TEXT = b'host: example\nport: "8080"\ntls:\n  - a\n  - "no"\n'
+JSON = b'{"host":"example","port":"8080","tls":["a","no"]}\n'
+PLAIN = TEXT.replace(b'"8080"', b"8080")
+
+
+def indented(text: bytes, by: int) -> bytes:
+    return b"".join(b" " * by + line for line in text.splitlines(keepends=True))
+
+
+def record(number: int, words: bytes) -> bytes:
+    return b'---\nat: "%d"\n%s...\n' % (number, words)
+
+
+STORE = EMPTY + record(1, b"import: web\ntree:\n" + indented(TEXT, 2))
+# The same state as a base alone.
+BASE = b'---\nstore: confstore-2\nat: "1"\nconfigs:\n  web:\n' + indented(TEXT, 4) + b"...\n"
+STATE = b'state: whole\nbase: "0"\ncommands: "1"\ndropped: "0"\n'
+SET = record(2, b'set: web\npath: "/port"\nvalue: "81"\n')
+DELETE = record(2, b'delete: web\npath: "/tls"\n')
+IMPORT = record(2, b"import: mail\ntree:\n  a: b\n")
+COPY = record(2, b"import: mail\ntree:\n" + indented(TEXT, 2))
+RENAME = record(2, b'batch:\n  - delete: web\n    path: ""\n  - import: mail\n    tree:\n' + indented(TEXT, 6))
+
+
+@dataclass(frozen=True)
+class Word:
+    """A run of a word: what it has to write, its status, what store.yaml and further files then hold; and its input.
+    `file` is a FILE that a line about memory may name. `ends_by_writing` is whether files are made before it writes."""
+
+    words: str
+    output: bytes = b""
+    status: int = 0
+    store: bytes = STORE
+    made: dict[str, bytes] = field(default_factory=dict)
+    input: bytes = b""
+    file: str = "confstore"
+    ends_by_writing: bool = False
+
+    def files(self) -> dict[str, bytes]:
+        return {**FILES, **self.made, "S/store.yaml": self.store}
+
+
+FILES = {"S/store.yaml": STORE, "FILE": b"port:   80\nhost: [a]\n", "VALUE": b"81"}
+
+WORDS = [
+    Word("get S web", TEXT),
+    Word("get S web /port --raw", b"8080\n"),
+    Word("get S web /tls/0 --raw --no-newline", b"a"),
+    Word("get S web --json", JSON),
+    Word("get S web --plain", PLAIN),
+    Word("get S web --at 1", TEXT),
+    Word("get S web /none --default x", b"x\n"),
+    Word("export S web", TEXT),
+    Word("export S web --json", JSON),
+    Word("export S web --plain", PLAIN),
+    Word("names S", b"web\n"),
+    Word("names S --json", b'["web"]\n'),
+    Word("keys S web", b"host\nport\ntls\n"),
+    Word("keys S web /tls", b"0\n1\n"),
+    Word("exists S web /tls/1"),
+    Word("exists S web /tls/2", status=1),
+    Word("log S", b"1 import web\n"),
+    Word("log S --values", b"1 import web " + JSON),
+    Word("log S --yaml", STORE[len(EMPTY) :]),
+    Word("verify S", STATE),
+    Word("set S web /port 81", store=STORE + SET),
+    Word("set S web /port --file VALUE", store=STORE + SET, file="VALUE"),
+    Word("set S web /port 81 --if-value 8080 --if-count 1", store=STORE + SET),
+    Word("set S web /port --yaml -", store=STORE + SET, input=b'"81"\n', file="-"),
+    Word("delete S web /tls", store=STORE + DELETE),
+    Word("import S mail -", store=STORE + IMPORT, input=b"a: b\n", file="-"),
+    Word("import S mail - --if-absent", store=STORE + IMPORT, input=b"a:   b\n", file="-"),
+    Word("copy S web mail", store=STORE + COPY),
+    Word("rename S web mail", store=STORE + RENAME),
+    Word("checkpoint S", store=BASE),
+    Word("run S", b'---\nok: "2"\n...\n', store=STORE + SET, input=b"---\nset: web\npath: /port\nvalue: 81\n...\n"),
+    Word("init NEW", made={"NEW/store.yaml": EMPTY}),
+    Word("salvage S NEW", STATE, made={"NEW/store.yaml": BASE}, ends_by_writing=True),
+    Word("backup S NEW", made={"NEW/store.yaml": STORE}),
+    Word("format -i FILE", made={"FILE": b'port: "80"\nhost:\n  - a\n'}, file="FILE"),
+    Word("check FILE", b"FILE:1: S4 the text first differs from the one style here\n", status=1, file="FILE"),
+]
+
+
+def files_in(folder: str) -> dict[str, bytes]:
+    """Each file below a folder but `store.lock`, and each empty folder, which holds nothing."""
+    found: dict[str, bytes] = {}
+    for at, folders, names in os.walk(folder):
+        names = [name for name in names if name != "store.lock"]
+        inside = os.path.relpath(at, folder)
+        if not folders and not names:
+            found[inside + "/"] = b""
+        for name in names:
+            found[os.path.normpath(os.path.join(inside, name))] = read_file(os.path.join(at, name))
+    return found
+
+
+def new_folder(path: str) -> str:
+    """A new folder with the store and the files that the words name."""
+    os.makedirs(os.path.join(path, "S"))
+    for name, content in FILES.items():
+        write_file(os.path.join(path, name), content)
+    return path
