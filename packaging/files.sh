@@ -14,6 +14,7 @@ put_files() { # PROGRAM FOLDER
     put 755 "$1" "$2/bin/confstore" &&
         put 755 "$top/clients/serve.py" "$2/lib/confstore/serve.py" &&
         put 644 "$top/clients/serve_metrics.py" "$2/lib/confstore/serve_metrics.py" &&
+        put 644 "$top/clients/serve_watch.py" "$2/lib/confstore/serve_watch.py" &&
         put 644 "$top/clients/serve_socket.py" "$2/lib/confstore/serve_socket.py" &&
         put 644 "$top/packaging/confstore@.service" "$2/lib/systemd/system/confstore@.service" &&
         put 644 "$top/packaging/confstore.sysusers" "$2/lib/sysusers.d/confstore.conf" &&

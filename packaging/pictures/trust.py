@@ -16,7 +16,7 @@ BOXES: dict[str, tuple[float, float, Colours, str, list[str]]] = {
     "program": (325, 160, GREEN, "The code and its proofs",
                 ["crates/*/src, crates/*/proofs:", "proved, and not trusted"]),
     "definitions": (630, 160, BLUE, "Definitions and contracts",
-                    ["crates/*/specs, ensures clauses:", "read them, some 7,000 lines"]),
+                    ["crates/*/specs, ensures clauses:", "read them, some 9,200 lines"]),
     "toolchain": (630, 290, YELLOW, "The Rattle toolchain",
                   ["prover, std's statements,", "ported crates, two compilers"]),
     "system": (325, 290, YELLOW, "The system", ["C library, streams, allocation,", "what Host's calls do"]),
