@@ -6,6 +6,7 @@ use Rattle.std.proofs.lemmas.Bool.{eqb-true, eqb-false}
 use Rattle.std.proofs.lemmas.List.{get_or-set_same, get_or-set_other, length-set, get_or_append_left, length_push, at_drop_more}
 use Rattle.std.proofs.lemmas.List.Edits.{length-insert, length-remove, get_or-remove_below, get_or-remove_above}
 use Rattle.tree_path.specs.declared.key_table.KeyTable.{KeyTable}
+use Rattle.tree_path.specs.Chains.{KeepsOthers, LeadsTo}
 use Rattle.tree_path.specs.Tables.{below, place_at, Rise, StandsAt, on_chain, chain_of, bucket_of, next_hash, hash_after, IsListed, Lists}
 use Rattle.tree_path.proofs.Steps.{below_true, below_false}
 
@@ -114,6 +115,109 @@ chain-new links x n =
     (eq-eqb (suc (length links)) (suc (length links)) refl)
     ∙ ap (λ v. (n == length links) || on_chain (links ++ x ∷ []) (length links) v n) (pushed links x)
     ∙ ap (λ b. (n == length links) || b) (chain-push links x (length links) x n (omega arith))
+
+-- ---- chains without a number
+
+-- what is on a chain after its first number
+after-first : (links : List ℕ) (number n : ℕ) → number < length links → (n ≡ number → ⊥)
+    → on_chain links (length links) (suc number) n ≡ true → on_chain links (length links) (get_or links number 0) n ≡ true
+after-first links number n within other on =
+    let from = chain-start links (length links) (suc number) n on in
+    let rest = ⊎_elim (λ same. absurd (other same)) (λ more. more) (chain-next links number n from) in
+    let low = chain-above links number (get_or links number 0) n rest in
+    chain-skip links (length links) (get_or links number 0) n (omega (arith, low, within)) ∙ chain-start links number (get_or links number 0) n rest
+
+-- a table whose first link to a number leads on to the next one
+pub head-unlinked : (old new : KeyTable) (bucket number : ℕ) → bucket < length old.newest.items → number < length old.before.items
+    → get_or old.newest.items bucket 0 ≡ suc number → new.newest.items ≡ set old.newest.items bucket (get_or old.before.items number 0)
+    → new.before.items ≡ old.before.items → KeepsOthers number old new
+head-unlinked old new bucket number inside within first newest before = record {
+  buckets = ap length newest ∙ length-set old.newest.items bucket (get_or old.before.items number 0);
+  numbers = ap length before;
+  others = λ key n other on.
+      ap (λ xs. on_chain xs (length xs) (chain_of new.newest.items key) n) before
+      ∙ ap (λ link. on_chain old.before.items (length old.before.items) link n) (head key)
+      ∙ kept (bucket_of (length old.newest.items) key) n other on;
+}
+  where
+    head : (key : List ℕ) → chain_of new.newest.items key
+        ≡ get_or (set old.newest.items bucket (get_or old.before.items number 0)) (bucket_of (length old.newest.items) key) 0
+    head key =
+        ap (λ xs. chain_of xs key) newest
+        ∙ ap (λ size. get_or (set old.newest.items bucket (get_or old.before.items number 0)) (bucket_of size key) 0)
+        (length-set old.newest.items bucket (get_or old.before.items number 0))
+
+    kept : (own n : ℕ) → (n ≡ number → ⊥) → on_chain old.before.items (length old.before.items) (get_or old.newest.items own 0) n ≡ true
+        → on_chain old.before.items (length old.before.items) (get_or (set old.newest.items bucket (get_or old.before.items number 0)) own 0) n ≡ true
+    kept own n other on =
+        let links = old.before.items in
+        let next = get_or links number 0 in
+        let P : Bool → Type 0 = λ b. (own == bucket) ≡ b → on_chain links (length links) (get_or (set old.newest.items bucket next) own 0) n ≡ true in
+        (elim (own == bucket) as P [
+          | true ↦ λ e.
+              let same = eqb-true own bucket e in
+              ap (λ link. on_chain links (length links) link n)
+              (ap (λ k. get_or (set old.newest.items bucket next) k 0) same ∙ get_or-set_same old.newest.items bucket next 0 inside)
+              ∙ after-first links number n within other
+              (subst (λ link. on_chain links (length links) link n ≡ true) (ap (λ k. get_or old.newest.items k 0) same ∙ first) on)
+          | false ↦ λ e.
+              ap (λ link. on_chain links (length links) link n) (get_or-set_other old.newest.items bucket own next 0 (eqb-false own bucket e)) ∙ on
+        ]) refl
+
+-- what is on a chain after a number, once that number's link or another's passes a number over
+passed-after : (links : List ℕ) (newer number m n : ℕ) → LeadsTo links newer (suc number) → (n ≡ number → ⊥)
+    → ((link : ℕ) → on_chain links m link n ≡ true → on_chain (set links newer (get_or links number 0)) m link n ≡ true)
+    → on_chain links m (get_or links m 0) n ≡ true
+    → on_chain (set links newer (get_or links number 0)) m (get_or (set links newer (get_or links number 0)) m 0) n ≡ true
+passed-after links newer number m n leads other kept on =
+    let next = get_or links number 0 in
+    let P : Bool → Type 0 = λ b. (m == newer) ≡ b → on_chain (set links newer next) m (get_or (set links newer next) m 0) n ≡ true in
+    (elim (m == newer) as P [
+      | true ↦ λ e.
+          let same = eqb-true m newer e in
+          let led = subst (λ link. on_chain links m link n ≡ true) (ap (λ k. get_or links k 0) same ∙ leads.1) on in
+          let above = chain-above links m (suc number) n led in
+          let rest = ⊎_elim (λ same. absurd (other same)) (λ more. more) (chain-next links number n (chain-start links m (suc number) n led)) in
+          let low = chain-above links number next n rest in
+          ap (λ link. on_chain (set links newer next) m link n)
+          (ap (λ k. get_or (set links newer next) k 0) same ∙ get_or-set_same links newer next 0 leads.0)
+          ∙ kept next (chain-skip links m next n (omega (arith, low, above)) ∙ chain-start links number next n rest)
+      | false ↦ λ e.
+          ap (λ link. on_chain (set links newer next) m link n) (get_or-set_other links newer m next 0 (eqb-false m newer e))
+          ∙ kept (get_or links m 0) on
+    ]) refl
+
+-- so no other number leaves a chain
+chain-passed : (links : List ℕ) (newer number m link n : ℕ) → LeadsTo links newer (suc number) → (n ≡ number → ⊥)
+    → on_chain links m link n ≡ true → on_chain (set links newer (get_or links number 0)) m link n ≡ true
+chain-passed links newer number zero link n leads other on = on
+chain-passed links newer number (suc m) link n leads other on =
+    let next = get_or links number 0 in
+    let kept : (link : ℕ) → on_chain links m link n ≡ true → on_chain (set links newer next) m link n ≡ true =
+    λ link on. chain-passed links newer number m link n leads other on in
+    let P : Bool → Type 0 = λ b. cond b ((n == m) || on_chain links m (get_or links m 0) n) (on_chain links m link n) ≡ true
+    → cond b ((n == m) || on_chain (set links newer next) m (get_or (set links newer next) m 0) n) (on_chain (set links newer next) m link n) ≡ true in
+    let Q : Bool → Type 0 = λ b. (b || on_chain links m (get_or links m 0) n) ≡ true
+    → (b || on_chain (set links newer next) m (get_or (set links newer next) m 0) n) ≡ true in
+    (elim (link == suc m) as P [
+      | true ↦ elim (n == m) as Q [ true ↦ λ _. refl | false ↦ passed-after links newer number m n leads other kept ]
+      | false ↦ kept link
+    ]) on
+
+-- a table in which another number's link passes a number over
+pub newer-unlinked : (old new : KeyTable) (newer number : ℕ) → LeadsTo old.before.items newer (suc number)
+    → new.newest.items ≡ old.newest.items → new.before.items ≡ set old.before.items newer (get_or old.before.items number 0)
+    → KeepsOthers number old new
+newer-unlinked old new newer number leads newest before =
+    let links = old.before.items in
+    let next = get_or links number 0 in record {
+      buckets = ap length newest;
+      numbers = ap length before ∙ length-set links newer next;
+      others = λ key n other on.
+          ap₂ (λ xs heads. on_chain xs (length xs) (chain_of heads key) n) before newest
+          ∙ ap (λ size. on_chain (set links newer next) size (chain_of old.newest.items key) n) (length-set links newer next)
+          ∙ chain-passed links newer number (length links) (chain_of old.newest.items key) n leads other on;
+    }
 
 -- ---- removed numbers
 
@@ -314,20 +418,20 @@ ListedIn newest before m removed place key =
 -- a table from which a key was removed
 pub lists-removed : (table new : KeyTable) (keys : List (List ℕ)) (place i : ℕ) → Lists table keys → place < length keys
     → i ≤ length table.removed.items → StandsAt table.removed.items (place + i) i
-    → new.newest.items ≡ table.newest.items → new.before.items ≡ table.before.items → new.removed.items ≡ insert table.removed.items i (place + i)
+    → KeepsOthers (place + i) table new → new.removed.items ≡ insert table.removed.items i (place + i)
     → Lists new (remove keys place)
-lists-removed table new keys place i lists within inside stands newest before removed =
+lists-removed table new keys place i lists within inside stands chains removed =
     let rs = table.removed.items in
     let links = table.before.items in
     let less = length-remove keys place within in
     let more = length-insert rs i (place + i) inside in
     let total = lists.numbers in record {
-      some = subst (λ xs. 0 < length xs) (sym newest) lists.some;
-      numbers = ap length before ∙ counted (length links) (length keys) (length (remove keys place)) (length rs) (length (insert rs i (place + i))) total less more ∙ sym (ap (λ xs. length (remove keys place) + length xs) removed);
+      some = subst (λ n. 0 < n) (sym chains.buckets) lists.some;
+      numbers = chains.numbers ∙ counted (length links) (length keys) (length (remove keys place)) (length rs) (length (insert rs i (place + i))) total less more ∙ sym (ap (λ xs. length (remove keys place) + length xs) removed);
       rise = subst (λ xs. Rise 0 (length new.before.items) xs) (sym removed)
-          (subst (λ xs. Rise 0 (length xs) (insert rs i (place + i))) (sym before)
+          (subst (λ size. Rise 0 size (insert rs i (place + i))) (sym chains.numbers)
           (rise-insert rs 0 (length links) (place + i) i lists.rise inside (omega arith) (bounded (length links) (length keys) (length rs) total within inside) stands));
-      listed = λ q lt. seen q (here q (omega (arith, less, lt)));
+      listed = λ q lt. let h = here q (omega (arith, less, lt)) in (h.0, h.1, ap (λ xs. place_at xs h.0) removed ∙ h.2);
     }
   where
     counted : (l k k' r r' : ℕ) → l ≡ k + r → k' + 1 ≡ k → r' ≡ r + 1 → l ≡ k' + r'
@@ -336,35 +440,39 @@ lists-removed table new keys place i lists within inside stands newest before re
     bounded : (l k r : ℕ) → l ≡ k + r → place < k → i ≤ r → place + i < l
     bounded l k r a b c = omega (arith, a, b, c)
 
-    here : (q : ℕ) → q + 1 < length keys + 0 → ListedIn table.newest.items table.before.items (length table.before.items) (insert table.removed.items i (place + i)) q (get_or (remove keys place) q [])
+    -- a number with another place is on the chain that it was on
+    kept : (key : List ℕ) (n q : ℕ) → place_at table.removed.items n ≡ q → (q ≡ place → ⊥)
+        → on_chain table.before.items (length table.before.items) (chain_of table.newest.items key) n ≡ true
+        → on_chain new.before.items (length new.before.items) (chain_of new.newest.items key) n ≡ true
+    kept key n q is other on =
+        let own = number-placed table.removed.items (length table.before.items) place i lists.rise inside stands in
+        chains.others key n (λ same. other (sym is ∙ ap (place_at table.removed.items) same ∙ own)) on
+
+    here : (q : ℕ) → q + 1 < length keys + 0
+        → ListedIn new.newest.items new.before.items (length new.before.items) (insert table.removed.items i (place + i)) q (get_or (remove keys place) q [])
     here q lt =
-        let P : Bool → Type 0 = λ b. nat_lt q place ≡ b → ListedIn table.newest.items table.before.items (length table.before.items) (insert table.removed.items i (place + i)) q (get_or (remove keys place) q []) in
+        let P : Bool → Type 0 = λ b. nat_lt q place ≡ b
+        → ListedIn new.newest.items new.before.items (length new.before.items) (insert table.removed.items i (place + i)) q (get_or (remove keys place) q []) in
         (elim (nat_lt q place) as P [
           | true ↦ λ e.
               let before_it = below_true q place e in
               let old = lists.listed q (omega (arith, lt)) in (
                 old.0,
-                subst (λ key. on_chain table.before.items (length table.before.items) (chain_of table.newest.items key) old.0 ≡ true)
-                    (sym (get_or-remove_below keys place [] q before_it within)) old.1,
+                subst (λ key. on_chain new.before.items (length new.before.items) (chain_of new.newest.items key) old.0 ≡ true)
+                    (sym (get_or-remove_below keys place [] q before_it within))
+                    (kept (get_or keys q []) old.0 q old.2 (λ same. omega (arith, same, before_it)) old.1),
                 place-before table.removed.items (length table.before.items) place i old.0 q lists.rise inside stands old.2 before_it,
               )
           | false ↦ λ e.
               let after_it = below_false q place e in
               let old = lists.listed (q + 1) (omega (arith, lt)) in (
                 old.0,
-                subst (λ key. on_chain table.before.items (length table.before.items) (chain_of table.newest.items key) old.0 ≡ true)
-                    (sym (get_or-remove_above keys place [] q after_it within)) old.1,
+                subst (λ key. on_chain new.before.items (length new.before.items) (chain_of new.newest.items key) old.0 ≡ true)
+                    (sym (get_or-remove_above keys place [] q after_it within))
+                    (kept (get_or keys (q + 1) []) old.0 (q + 1) old.2 (λ same. omega (arith, same, after_it)) old.1),
                 place-after table.removed.items (length table.before.items) place i old.0 q lists.rise inside stands old.2 after_it,
               )
         ]) refl
-
-    seen : (q : ℕ) → ListedIn table.newest.items table.before.items (length table.before.items) (insert table.removed.items i (place + i)) q (get_or (remove keys place) q []) → IsListed new q (get_or (remove keys place) q [])
-    seen q h = (
-      h.0,
-      subst (λ xs. on_chain new.before.items (length new.before.items) (chain_of xs (get_or (remove keys place) q [])) h.0 ≡ true) (sym newest)
-          (subst (λ xs. on_chain xs (length xs) (chain_of table.newest.items (get_or (remove keys place) q [])) h.0 ≡ true) (sym before) h.1),
-      ap (λ xs. place_at xs h.0) removed ∙ h.2,
-    )
 
 -- a table to which a key was added
 pub lists-added : (table new : KeyTable) (keys : List (List ℕ)) (key : List ℕ) (bucket : ℕ) → Lists table keys

@@ -1,3 +1,4 @@
+pub mod Chains
 pub mod Paths
 pub mod Steps
 pub mod Tables

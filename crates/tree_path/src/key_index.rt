@@ -143,11 +143,12 @@ impl KeyIndex {
         requires index { Indexes self.old (tree_of tree.now) }
         ensures { (u : Meant) → delete (tree_of tree.now) path.now ≡ Ok u → Indexes self.new u }
     {
-        match self.reach(tree, path.tokens(), places) {
+        let tokens = path.tokens();
+        match self.reach(tree, tokens, places) {
             Reach::Around => self.forget(),
             Reach::Key => {
                 if let Some(place) = places.last {
-                    self.note_removed(place);
+                    self.note_removed(place, last_of(tokens));
                 }
             }
             Reach::Below => {}
@@ -170,9 +171,9 @@ impl KeyIndex {
         }
     }
 
-    /// Takes note of a removed key, which was at this place. An index whose table is worn then, or for which memory
-    /// runs out, knows nothing.
-    fn note_removed(&mut self, place: usize)
+    /// Takes note of a removed key, which was at this place. An index for which memory runs out knows nothing.
+    fn note_removed(&mut self, place: usize, key: &str)
+        requires { IfSome self.old.table (λ table. 0 < length table.newest.items) }
         ensures steps { self.new.steps ≡ self.old.steps }
         ensures table { IfSome self.new.table (λ new. (old : KeyTable) × (self.old.table ≡ Some old)
             × ((keys : List (List ℕ)) → Lists old keys → place < length keys
@@ -181,7 +182,7 @@ impl KeyIndex {
         let Some(mut table) = self.table.take() else {
             return;
         };
-        if table.remove(place).is_ok() && !table.is_worn() {
+        if table.remove(place, key).is_ok() {
             self.table = Some(table);
         }
     }

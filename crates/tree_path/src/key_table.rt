@@ -1,10 +1,11 @@
 // The places of the keys of one mapping, by a hash of each key.
-ghost use Rattle.std.specs.Prelude.{◌≡◌, ◌<◌, ◌≤◌, ◌+◌, ◌-◌, ◌++◌, ℕ, true, Some, IfOk, OnOk, List, [], ◌∷◌, length};
+ghost use Rattle.std.specs.Prelude.{◌≡◌, ◌<◌, ◌≤◌, ◌+◌, ◌-◌, ◌++◌, ℕ, true, Some, IfOk, IfSome, OnOk, List, [], ◌∷◌, length};
 ghost use Rattle.std.specs.List.{remove};
 ghost use Rattle.std.specs.Str.{chars};
 ghost use Rattle.yaml_grammar.specs.Trees.{members_distinct};
 ghost use Rattle.yaml_data.specs.Seen.{members_of};
 ghost use Rattle.tree_path.specs.Steps.{key_place};
+ghost use Rattle.tree_path.specs.Chains.{KeepsOthers, LeadsTo};
 ghost use Rattle.tree_path.specs.Tables.{Lists, Rise, StandsAt, bucket_of, keys_of, on_chain, place_at};
 
 use std::alloc::{AllocError, Global};
@@ -22,7 +23,7 @@ const FACTOR: u32 = 0x0100_0193;
 pub struct KeyTable {
     /// For each bucket one more than the number of its newest key; 0 if it has none.
     newest: Vec<u32>,
-    /// For each number one more than that of the key before it in its bucket; 0 for the first.
+    /// For each number one more than that of the key before it on its bucket's chain; 0 for the first.
     before: Vec<u32>,
     /// The removed numbers, in order.
     removed: Vec<u32>,
@@ -77,6 +78,7 @@ impl KeyTable {
     fn link_after(&self, link: u32) -> u32
         requires { 0 < link }
         ensures falls { result < link }
+        ensures leads { 0 < result → LeadsTo self.now.before.items (link - 1) result }
         ensures kept { (n : ℕ) → on_chain self.now.before.items link link n ≡ true
             → (n ≡ link - 1 → ⊥)
             → on_chain self.now.before.items result result n ≡ true }
@@ -107,8 +109,9 @@ impl KeyTable {
         Ok(())
     }
 
-    /// Removes the key at a place. It fails if memory runs out.
-    pub(crate) fn remove(&mut self, place: usize) -> Result<(), AllocError>
+    /// Removes a key, which is at this place. It fails if memory runs out.
+    pub(crate) fn remove(&mut self, place: usize, key: &str) -> Result<(), AllocError>
+        requires { 0 < length self.old.newest.items }
         ensures { OnOk result ((keys : List (List ℕ)) → Lists self.old keys → place < length keys
             → Lists self.new (remove keys place)) }
     {
@@ -117,15 +120,50 @@ impl KeyTable {
             return Err(AllocError);
         };
         self.removed.insert(before, number)?;
+        let bucket = self.bucket(key);
+        self.unlink(bucket, number as usize);
         Ok(())
     }
 
-    /// Whether the table should be made anew: it has more keys than buckets, or so many keys were removed that the
-    /// chains that they are on cost more than a new table.
+    /// Takes a number off the chain of a bucket, if it is on it.
+    fn unlink(&mut self, bucket: usize, number: usize)
+        requires { bucket < length self.old.newest.items }
+        ensures removed { self.new.removed ≡ self.old.removed }
+        ensures chains { KeepsOthers number self.old self.new }
+    {
+        if number >= self.before.len() {
+            return;
+        }
+        let next = self.before[number];
+        if self.newest[bucket] as usize == number + 1 {
+            self.newest[bucket] = next;
+            return;
+        }
+        if let Some(newer) = self.newer_than(bucket, number) {
+            self.before[newer] = next;
+        }
+    }
+
+    /// The number on the chain of a bucket from which a link leads to this one; `None` if none does.
+    fn newer_than(&self, bucket: usize, number: usize) -> Option<usize>
+        requires bucket { bucket < length self.now.newest.items }
+        requires number { number < length self.now.before.items }
+        ensures { IfSome result (λ newer. LeadsTo self.now.before.items newer (number + 1)) }
+    {
+        let mut link = self.newest[bucket];
+        while link > 0 {
+            let next = self.link_after(link);
+            if next as usize == number + 1 {
+                return Some((link - 1) as usize);
+            }
+            link = next;
+        }
+        None
+    }
+
+    /// Whether the table should be made anew: it has given out more numbers than it has buckets.
     pub(crate) fn is_worn(&self) -> bool {
-        let removed = self.removed.len();
-        let keys = self.before.len();
-        keys > self.newest.len() || removed.saturating_mul(removed) > keys.saturating_mul(8)
+        self.before.len() > self.newest.len()
     }
 
     /// The bucket of a key.
