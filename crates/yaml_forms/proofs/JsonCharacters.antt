@@ -1,14 +1,14 @@
 -- What is written for a character of a string fits between double quotes, and means that character.
-use Rattle.std.proofs.Common.{◌≡◌, refl, sym, ◌∙◌, ap, subst, inl, inr, arith, ◌<◌, ◌≤◌}
-use Rattle.std.specs.Prelude.{ℕ, ◌/◌, ◌%◌, Bool, true, false, ◌&&◌, ◌||◌, ◌==◌, List, [], ◌∷◌, ◌++◌}
+use Rattle.std.proofs.Common.{◌≡◌, refl, sym, ap, subst, inl, inr, arith, ◌<◌}
+use Rattle.std.specs.Prelude.{ℕ, ◌/◌, ◌%◌, true, false, ◌||◌, ◌==◌, List, [], ◌∷◌, ◌++◌}
 use Rattle.std.specs.List.{list_all}
-use Rattle.std.proofs.lemmas.Bool.{cond_both, and_parts, and_from, or_cases, or_right, or_from, not_from_false, eqb-true, le-leb, agree_below_at, false≢true, cases_lt, ne_eqb}
-use Rattle.yaml_chars.specs.Classes.{is_in, code_point, printable}
+use Rattle.std.proofs.lemmas.Bool.{cond_both, and_parts, and_from, or_cases, eqb-true, agree_below_at, false≢true}
+use Rattle.yaml_chars.specs.Classes.{code_point}
 use Rattle.yaml_grammar.specs.Texts.{IsText}
-use Rattle.yaml_grammar.specs.FlowScalars.{escape, number, hex_digit, digit_of, hex_value}
+use Rattle.yaml_grammar.specs.FlowScalars.{escape, number}
 use Rattle.yaml_grammar.specs.Style.{shown, hex, letter_escape}
-use Rattle.yaml_recognizers.proofs.OneStyle.QuotedChars.{Quotes, item_quotes}
-use Rattle.yaml_recognizers.proofs.OneStyle.Characters.{to_range, every_joined, code_point_high}
+use Rattle.yaml_recognizers.proofs.OneStyle.QuotedChars.{Quotes, item_quotes, long_number, unshown_low}
+use Rattle.yaml_recognizers.proofs.OneStyle.Characters.{every_joined}
 use Rattle.yaml_recognizers.proofs.OneStyle.Presented as style
 use Rattle.yaml_forms.specs.Json.{has_letter, json_char, json_chars, json_string}
 use Rattle.yaml_forms.proofs.JsonPresented.{item_of}
@@ -38,55 +38,6 @@ lettered c h = elim (or_cases (c == 8) _ h) [
   ]
 ]
 
--- ---- escapes by a number
-
--- the digit means the number
-abbrev digit_right : ℕ → Bool
-digit_right d = hex_digit (hex d) && (digit_of (hex d) == d) && code_point (hex d)
-
--- the digit of a number below 16
-record Digit (d : ℕ) : Type 0 where
-  fits : hex_digit (hex d) ≡ true
-  means : digit_of (hex d) ≡ d
-  stands : code_point (hex d) ≡ true
-
--- the digit of a number below 16 means it
-digit : (d : ℕ) → d < 16 → Digit d
-digit d h =
-    let p : (hex_digit (hex d) && (digit_of (hex d) == d) ≡ true) × (code_point (hex d) ≡ true) = and_parts _ _ (agree_below_at digit_right (λ x. true) 16 d refl h) in
-    let q : (hex_digit (hex d) ≡ true) × (digit_of (hex d) == d ≡ true) = and_parts _ _ p.0 in
-    record { fits = q.0; means = eqb-true _ d q.1; stands = p.1 }
-
--- a character below 0x10000 is written by four digits
-numbered : (c : ℕ) → code_point c ≡ true → c < 0x10000
-    → Quotes c (number 117 (hex (c / 4096) ∷ hex (c / 256 % 16) ∷ hex (c / 16 % 16) ∷ hex (c % 16) ∷ []))
-numbered c t h =
-    let a : Digit (c / 4096) = digit (c / 4096) (omega arith) in
-    let b : Digit (c / 256 % 16) = digit (c / 256 % 16) (omega arith) in
-    let d : Digit (c / 16 % 16) = digit (c / 16 % 16) (omega arith) in
-    let e : Digit (c % 16) = digit (c % 16) (omega arith) in
-    let value : hex_value 0 (hex (c / 4096) ∷ hex (c / 256 % 16) ∷ hex (c / 16 % 16) ∷ hex (c % 16) ∷ []) ≡ c = omega (arith, a.means, b.means, d.means, e.means) in
-    (and_from _ _ (and_from _ _ refl (and_from _ _ a.fits (and_from _ _ b.fits (and_from _ _ d.fits (and_from _ _ e.fits refl))))) (ap code_point value ∙ t), value)
-
--- a greater number is another one
-above : (k c : ℕ) → k < c → c == k ≡ false
-above k c h = ne_eqb c k (λ e. omega (arith, e))
-
--- a character above xFFFF is shown
-shown_above : (c : ℕ) → code_point c ≡ true → 0x10000 ≤ c → shown c ≡ true
-shown_above c t h =
-    let plain : printable c ≡ true = or_right _ _ (to_range 0x10000 0x10ffff c h (code_point_high c t)) in
-    let other : is_in c (0x2028 ∷ 0x2029 ∷ 0xfeff ∷ []) ≡ false =
-    or_from _ _ (above 0x2028 c (omega arith)) (or_from _ _ (above 0x2029 c (omega arith)) (or_from _ _ (above 0xfeff c (omega arith)) refl)) in
-    or_right _ _ (and_from _ _ (and_from _ _ (le-leb 0xa0 c (omega arith)) plain) (not_from_false _ other))
-
--- a character that isn't shown is below 0x10000
-unshown_low : (c : ℕ) → code_point c ≡ true → shown c ≡ false → c < 0x10000
-unshown_low c t s = elim (cases_lt c 0x10000) [
-  | inl h ↦ h
-  | inr h ↦ absurd (false≢true (sym s ∙ shown_above c t h))
-]
-
 -- ---- all of them
 
 -- what is written for a character fits and means it
@@ -95,7 +46,7 @@ json_quotes c t =
     let styled : Quotes c (style.item_of c) = item_quotes c t in
     cond_both ((c == 34) || (c == 92)) _ _ (Quotes c) (λ e. rw e at styled) (λ n.
     cond_both (shown c) _ _ (Quotes c) (λ s. rw (n, s) at styled) (λ s.
-    cond_both (has_letter c) _ _ (Quotes c) (λ l. lettered c l) (λ l. numbered c t (unshown_low c t s))))
+    cond_both (has_letter c) _ _ (Quotes c) (λ l. lettered c l) (λ l. long_number c t (unshown_low c t s))))
 
 -- ---- strings are texts
 
@@ -118,14 +69,18 @@ letter_text c h = elim (or_cases (c == 8) _ h) [
   ]
 ]
 
+-- the digit of a number below 16 is a character
+digit_text : (d : ℕ) → d < 16 → code_point (hex d) ≡ true
+digit_text d h = agree_below_at (λ d. code_point (hex d)) (λ x. true) 16 d refl h
+
 -- the escape of a character below 0x10000 is a text
 number_text : (c : ℕ) → c < 0x10000 → IsText (92 ∷ 117 ∷ hex (c / 4096) ∷ hex (c / 256 % 16) ∷ hex (c / 16 % 16) ∷ hex (c % 16) ∷ [])
 number_text c h =
-    let a : Digit (c / 4096) = digit (c / 4096) (omega arith) in
-    let b : Digit (c / 256 % 16) = digit (c / 256 % 16) (omega arith) in
-    let d : Digit (c / 16 % 16) = digit (c / 16 % 16) (omega arith) in
-    let e : Digit (c % 16) = digit (c % 16) (omega arith) in
-    and_from _ _ refl (and_from _ _ refl (and_from _ _ a.stands (and_from _ _ b.stands (and_from _ _ d.stands (and_from _ _ e.stands refl)))))
+    let a = digit_text (c / 4096) (omega arith) in
+    let b = digit_text (c / 256 % 16) (omega arith) in
+    let d = digit_text (c / 16 % 16) (omega arith) in
+    let e = digit_text (c % 16) (omega arith) in
+    and_from _ _ refl (and_from _ _ refl (and_from _ _ a (and_from _ _ b (and_from _ _ d (and_from _ _ e refl)))))
 
 -- what is written for a character is a text
 char_text : (c : ℕ) → code_point c ≡ true → IsText (json_char c)

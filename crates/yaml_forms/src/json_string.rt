@@ -1,14 +1,12 @@
 // Texts as strings of JSON (RFC 8259, 7).
-ghost use Rattle.std.specs.Prelude.{◌≡◌, ◌≤◌, ◌<◌, ◌^◌, ◌∷◌, [], true, false, length, take, OnOk, MatchOption};
-ghost use Rattle.std.specs.List.{list_all};
+ghost use Rattle.std.specs.Prelude.{◌≡◌, ◌<◌, ◌^◌, ◌∷◌, [], true, false, OnOk, MatchOption};
 ghost use Rattle.std.specs.Str.{chars};
 ghost use Rattle.yaml_chars.specs.Signs.{backslash};
 ghost use Rattle.yaml_grammar.specs.Style.{hex, letter_escape};
-ghost use Rattle.yaml_writer.specs.Runs.{stands_alone};
 ghost use Rattle.yaml_forms.specs.Json.{has_letter, json_char, json_chars, json_string, number_escape};
 
 use crate::shown::is_shown;
-use yaml_writer::Sink;
+use yaml_writer::{Sink, unescaped_len};
 
 /// Writes a text as a string of JSON (RFC 8259, 7), with its quotes. Characters that the one style shows as themselves
 /// stand as they are, but `"` and `\`. Any other one is an escape: `\"`, `\\`, `\b`, `\t`, `\n`, `\f` or `\r`, or `\u`
@@ -27,7 +25,7 @@ fn write_json_chars<S: Sink>(text: &str, sink: &mut S) -> Result<(), S::Fault>
 {
     let mut rest = text;
     while let Some(c) = rest.chars().next() {
-        let run = run_len(rest);
+        let run = unescaped_len(rest);
         if run > 0 {
             sink.put_text(&rest[..run])?;
             rest = &rest[run..];
@@ -37,26 +35,6 @@ fn write_json_chars<S: Sink>(text: &str, sink: &mut S) -> Result<(), S::Fault>
         }
     }
     Ok(())
-}
-
-/// How many bytes at the start are ASCII characters that need no escape.
-fn run_len(text: &str) -> usize
-    ensures within { result ≤ length text.now }
-    ensures alone { list_all stands_alone (take result text.now) ≡ true }
-{
-    let bytes = text.as_bytes();
-    let mut len = 0;
-    while len < bytes.len() && is_alone(bytes[len]) {
-        len += 1;
-    }
-    len
-}
-
-/// Whether a byte is an ASCII character that needs no escape.
-fn is_alone(byte: u8) -> bool
-    ensures { result ≡ stands_alone byte }
-{
-    matches!(byte, b' '..=b'~') && byte != b'"' && byte != b'\\'
 }
 
 /// Writes a character between the quotes: as itself, or as an escape.

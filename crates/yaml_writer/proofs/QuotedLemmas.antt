@@ -25,11 +25,25 @@ number_escape-four c h =
     let fourth : c % 16 ≡ c % 256 % 16 = omega arith in
     rw (lt-leb c 255 h) (rw (first, third, fourth) refl)
 
--- what is between the quotes for one text and then another
-pub quoted_chars-append : (xs ys : List ℕ) → quoted_chars (xs ++ ys) ≡ quoted_chars xs ++ quoted_chars ys
-quoted_chars-append [] ys = refl
-quoted_chars-append (x ∷ xs) ys =
-    ap (λ cs. quoted_char x ++ cs) (quoted_chars-append xs ys) ∙ sym (append_assoc (quoted_char x) (quoted_chars xs) (quoted_chars ys))
+-- characters written one by one, where those that mean themselves are written as they are
+pub record Spells (one : ℕ → List ℕ) (all : List ℕ → List ℕ) : Type 0 where
+  pub none : all [] ≡ []
+  pub more : (c : ℕ) (cs : List ℕ) → all (c ∷ cs) ≡ one c ++ all cs
+  pub alone : (c : ℕ) → stands_alone c ≡ true → one c ≡ c ∷ []
+
+-- one text, and then another
+spelled-append : {one : ℕ → List ℕ} {all : List ℕ → List ℕ} → Spells one all → (xs ys : List ℕ) → all (xs ++ ys) ≡ all xs ++ all ys
+spelled-append {one} {all} spells [] ys = ap (λ cs. cs ++ all ys) (sym spells.none)
+spelled-append {one} {all} spells (x ∷ xs) ys =
+    spells.more x (xs ++ ys) ∙ ap (λ cs. one x ++ cs) (spelled-append spells xs ys) ∙ sym (append_assoc (one x) (all xs) (all ys))
+    ∙ ap (λ cs. cs ++ all ys) (sym (spells.more x xs))
+
+-- characters that mean themselves are written as they are
+spelled-alone : {one : ℕ → List ℕ} {all : List ℕ → List ℕ} → Spells one all → (cs : List ℕ) → list_all stands_alone cs ≡ true → all cs ≡ cs
+spelled-alone spells [] e = spells.none
+spelled-alone spells (c ∷ cs) e =
+    let parts = and_parts (stands_alone c) (list_all stands_alone cs) e in
+    spells.more c cs ∙ ap₂ (λ prefix rest. prefix ++ rest) (spells.alone c parts.0) (spelled-alone spells cs parts.1)
 
 -- a character that means itself is ASCII
 pub stands_alone-below : (c : ℕ) → stands_alone c ≡ true → c < 128
@@ -38,31 +52,31 @@ stands_alone-below c e = grind (arith, nat_tests)
 quoted_char-alone : (c : ℕ) → stands_alone c ≡ true → quoted_char c ≡ c ∷ []
 quoted_char-alone c e = grind (arith, nat_tests)
 
--- characters that mean themselves are written as they are
+-- what is between double quotes
+pub quoted_spells : Spells quoted_char quoted_chars
+quoted_spells = record { none = refl; more = λ c cs. refl; alone = quoted_char-alone }
+
 pub quoted_chars-alone : (cs : List ℕ) → list_all stands_alone cs ≡ true → quoted_chars cs ≡ cs
-quoted_chars-alone [] e = refl
-quoted_chars-alone (c ∷ cs) e =
-    let parts = and_parts (stands_alone c) (list_all stands_alone cs) e in
-    ap₂ (λ prefix rest. prefix ++ rest) (quoted_char-alone c parts.0) (quoted_chars-alone cs parts.1)
+quoted_chars-alone = spelled-alone quoted_spells
 
 -- a run at the start of a text means itself, and the text may be cut after it
 pub run_IsUtf8 : (bs : List ℕ) → list_all stands_alone bs ≡ true → IsUtf8 bs
 run_IsUtf8 bs alone = IsUtf8-from_ascii bs (every-IsAscii stands_alone stands_alone-below bs alone)
 
 -- a run of such characters at the start of bytes is written as it is
-pub quoted_run : (bs : List ℕ) (n : ℕ) → IsUtf8 bs → list_all stands_alone (take n bs) ≡ true
-    → chars (take n bs) ++ quoted_chars (chars (drop n bs)) ≡ quoted_chars (chars bs)
-quoted_run bs n utf8 alone =
+pub spelled_run : {one : ℕ → List ℕ} {all : List ℕ → List ℕ} → Spells one all → (bs : List ℕ) (n : ℕ) → list_all stands_alone (take n bs) ≡ true
+    → chars (take n bs) ++ all (chars (drop n bs)) ≡ all (chars bs)
+spelled_run {one} {all} spells bs n alone =
     let same = chars-IsAscii (take n bs) (every-IsAscii stands_alone stands_alone-below (take n bs) alone) in
-    ap (λ cs. cs ++ quoted_chars (chars (drop n bs))) (same ∙ sym (quoted_chars-alone (take n bs) alone) ∙ ap quoted_chars (sym same))
-    ∙ sym (quoted_chars-append (chars (take n bs)) (chars (drop n bs)))
-    ∙ ap quoted_chars (sym (chars-append (take n bs) (drop n bs) (run_IsUtf8 (take n bs) alone)))
-    ∙ ap (λ cs. quoted_chars (chars cs)) (take-append-drop n bs)
+    ap (λ cs. cs ++ all (chars (drop n bs))) (same ∙ sym (spelled-alone spells (take n bs) alone) ∙ ap all (sym same))
+    ∙ sym (spelled-append spells (chars (take n bs)) (chars (drop n bs)))
+    ∙ ap all (sym (chars-append (take n bs) (drop n bs) (run_IsUtf8 (take n bs) alone)))
+    ∙ ap (λ cs. all (chars cs)) (take-append-drop n bs)
 
 -- one character is written, and then the rest
-pub quoted_one : (bs rest : List ℕ) (c : ℕ) → IsUtf8 bs → bs ≡ encode_utf8 c ++ rest
-    → quoted_char c ++ quoted_chars (chars rest) ≡ quoted_chars (chars bs)
-quoted_one bs rest c utf8 e = sym (ap quoted_chars (chars_past_char bs rest c utf8 e))
+pub spelled_one : {one : ℕ → List ℕ} {all : List ℕ → List ℕ} → Spells one all → (bs rest : List ℕ) (c : ℕ) → IsUtf8 bs → bs ≡ encode_utf8 c ++ rest
+    → one c ++ all (chars rest) ≡ all (chars bs)
+spelled_one {one} {all} spells bs rest c utf8 e = sym (spells.more c (chars rest)) ∙ sym (ap all (chars_past_char bs rest c utf8 e))
 
 -- the bytes may be cut after such a run
 pub run_boundary : (bs : List ℕ) (n : ℕ) → IsUtf8 bs → n ≤ length bs → list_all stands_alone (take n bs) ≡ true → IsCharBoundary bs n

@@ -1,5 +1,5 @@
 // Texts in double quotes (YAML 1.2.2, 7.3.1).
-ghost use Rattle.std.specs.Prelude.{◌≡◌, ◌≤◌, ◌<◌, ◌/◌, ◌%◌, ◌^◌, ◌∷◌, [], true, false, ◌==◌, ◌||◌, length, take, OnOk, MatchOption};
+ghost use Rattle.std.specs.Prelude.{◌≡◌, ◌≤◌, ◌<◌, ◌/◌, ◌%◌, ◌^◌, ◌∷◌, [], true, false, ◌==◌, ◌||◌, length, slice_index, take, OnOk, MatchOption};
 ghost use Rattle.std.specs.Str.{chars};
 ghost use Rattle.yaml_chars.specs.Classes.{in_range};
 ghost use Rattle.yaml_chars.specs.Signs.{null, bell, carriage_return, escape_char, backslash};
@@ -21,11 +21,19 @@ pub fn write_quoted<S: Sink>(text: &str, sink: &mut S) -> Result<(), S::Fault>
     sink.put_char('"')
 }
 
+/// Whether all these bytes are ASCII characters that need no escape between double quotes.
+#[inline(always)]
+pub fn stand_alone(bytes: &[u8]) -> bool
+    ensures { result ≡ list_all stands_alone bytes.now }
+{
+    are_all::<LoneBytes>(bytes)
+}
+
 /// Writes what is between the quotes: at once if it is ASCII that needs no escape.
 fn write_between_quotes<S: Sink>(text: &str, sink: &mut S) -> Result<(), S::Fault>
     ensures { OnOk result (S.Takes sink.old (quoted_chars (chars text.now)) sink.new) }
 {
-    if are_all::<LoneBytes>(text.as_bytes()) {
+    if stand_alone(text.as_bytes()) {
         return sink.put_text(text);
     }
     write_quoted_chars(text, sink)
@@ -37,7 +45,7 @@ fn write_quoted_chars<S: Sink>(text: &str, sink: &mut S) -> Result<(), S::Fault>
 {
     let mut rest = text;
     while let Some(c) = rest.chars().next() {
-        let run = run_len(rest);
+        let run = unescaped_len(rest);
         if run > 0 {
             sink.put_text(&rest[..run])?;
             rest = &rest[run..];
@@ -49,10 +57,12 @@ fn write_quoted_chars<S: Sink>(text: &str, sink: &mut S) -> Result<(), S::Fault>
     Ok(())
 }
 
-/// How many bytes at the start are ASCII characters that need no escape.
-fn run_len(text: &str) -> usize
+/// How many bytes at the start of a text are ASCII characters that need no escape between double quotes.
+pub fn unescaped_len(text: &str) -> usize
     ensures within { result ≤ length text.now }
     ensures alone { list_all stands_alone (take result text.now) ≡ true }
+    ensures ends { result < length text.now
+        → stands_alone (slice_index text.now result) ≡ false }
 {
     let bytes = text.as_bytes();
     let mut len = sixteens_len(bytes);
@@ -68,7 +78,7 @@ fn sixteens_len(bytes: &[u8]) -> usize
     ensures alone { list_all stands_alone (take result bytes.now) ≡ true }
 {
     let mut len = 0;
-    while bytes.len() - len >= 16 && are_all::<LoneBytes>(&bytes[len..len + 16]) {
+    while bytes.len() - len >= 16 && stand_alone(&bytes[len..len + 16]) {
         len += 16;
     }
     len

@@ -80,7 +80,7 @@ digit d h =
     (p.0, eqb-true _ d p.1)
 
 -- a character below 0x10000 is written by four digits
-long_number : (c : ℕ) → code_point c ≡ true → c < 0x10000
+pub long_number : (c : ℕ) → code_point c ≡ true → c < 0x10000
     → Quotes c (number 117 (hex (c / 4096) ∷ hex (c / 256 % 16) ∷ hex (c / 16 % 16) ∷ hex (c % 16) ∷ []))
 long_number c t h =
     let a : (hex_digit (hex (c / 4096)) ≡ true) × (digit_of (hex (c / 4096)) ≡ c / 4096) = digit (c / 4096) (omega arith) in
@@ -103,7 +103,7 @@ shown_above c t h =
     or_right _ _ (and_from _ _ (and_from _ _ (le-leb 0xa0 c (omega arith)) plain) (not_from_false _ other))
 
 -- a character that isn't shown is below 0x10000
-unshown_low : (c : ℕ) → code_point c ≡ true → shown c ≡ false → c < 0x10000
+pub unshown_low : (c : ℕ) → code_point c ≡ true → shown c ≡ false → c < 0x10000
 unshown_low c t s = elim (cases_lt c 0x10000) [
   | inl h ↦ h
   | inr h ↦ absurd (false≢true (sym s ∙ shown_above c t h))

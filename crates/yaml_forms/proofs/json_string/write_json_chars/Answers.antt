@@ -1,18 +1,18 @@
 use Rattle.std.proofs.Common.{◌≡◌, ◌++◌, length, take, drop, subst, ap, ap₂, ◌∙◌, sym, arith}
 use Rattle.std.specs.Str.{chars}
 use Rattle.yaml_data.proofs.CharacterLemmas.{boundary_past_char, drop_char, chars_empty}
-use Rattle.yaml_writer.proofs.QuotedLemmas.{run_boundary}
+use Rattle.yaml_writer.proofs.QuotedLemmas.{run_boundary, spelled_run, spelled_one}
 use Rattle.yaml_forms.specs.Json.{json_char, json_chars}
-use Rattle.yaml_forms.proofs.StringLemmas.{json_run, json_one}
+use Rattle.yaml_forms.proofs.StringLemmas.{json_spells}
 use Rattle.yaml_forms.proofs.json_string.write_json_chars.Goals as goal
 
 pub range-requires-clause-end_boundary : goal.range-requires-clause-end_boundary
 range-requires-clause-end_boundary g c =
-    run_boundary c.loop-c.rest.now c.run_len-run.result c.loop-c.invariant.0 c.run_len-run.ensures.within c.run_len-run.ensures.alone
+    run_boundary c.loop-c.rest.now c.unescaped_len-run.result c.loop-c.invariant.0 c.unescaped_len-run.ensures.within c.unescaped_len-run.ensures.alone
 
 pub range_from-rest-requires : goal.range_from-rest-requires
 range_from-rest-requires g c = λ _.
-    run_boundary c.loop-c.rest.now c.run_len-run.result c.loop-c.invariant.0 c.run_len-run.ensures.within c.run_len-run.ensures.alone
+    run_boundary c.loop-c.rest.now c.unescaped_len-run.result c.loop-c.invariant.0 c.unescaped_len-run.ensures.within c.unescaped_len-run.ensures.alone
 
 pub range_from-rest-requires-else-run-gt0 : goal.range_from-rest-requires-else-run-gt0
 range_from-rest-requires-else-run-gt0 g c = λ _.
@@ -22,13 +22,13 @@ range_from-rest-requires-else-run-gt0 g c = λ _.
 pub loop-c-preserved-then-run-gt0 : goal.loop-c-preserved-then-run-gt0
 loop-c-preserved-then-run-gt0 g c =
     let rest = c.loop-c.rest.now in
-    let n = c.run_len-run.result in
+    let n = c.unescaped_len-run.result in
     let prefix : c.range.result.now ≡ take n rest = grind (arith, c.range.ensures.value) in (
       c.range_from-rest.utf8,
       λ end left. c.loop-c.invariant.1 end
           (subst (λ cs. g.S.Sink.Takes c.loop-c.sink cs end)
           (ap₂ (λ xs ys. chars xs ++ json_chars (chars ys)) prefix c.range_from-rest.ensures.value
-          ∙ json_run rest n c.run_len-run.ensures.alone)
+          ∙ spelled_run json_spells rest n c.unescaped_len-run.ensures.alone)
           (g.met.S.Sink.takes_both _ _ _ _ _ c.in_ok-put_text.ensures left)),
     )
 
@@ -40,7 +40,7 @@ loop-c-preserved g c =
       c.range_from-rest-else-run-gt0.utf8,
       λ end left. c.loop-c.invariant.1 end
           (subst (λ cs. g.S.Sink.Takes c.loop-c.sink cs end)
-          (ap (λ xs. json_char c.in-Some.c ++ json_chars (chars xs)) after ∙ json_one rest _ c.in-Some.c c.loop-c.invariant.0 split)
+          (ap (λ xs. json_char c.in-Some.c ++ json_chars (chars xs)) after ∙ spelled_one json_spells rest _ c.in-Some.c c.loop-c.invariant.0 split)
           (g.met.S.Sink.takes_both _ _ _ _ _ c.in_ok-write_json_char.ensures left)),
     )
 

@@ -7,5 +7,5 @@ loop-len-preserved c =
     let n = c.loop-len.len in
     let bytes = c.args.bytes.now in (
       omega (arith, c.loop-len.invariant.0, c.loop-len-test.true),
-      alone_more bytes n c.loop-len.invariant.1 (sym c.are_all.ensures ∙ c.if-are_all.true),
+      alone_more bytes n c.loop-len.invariant.1 (sym c.stand_alone.ensures ∙ c.if-stand_alone.true),
     )

@@ -1,17 +1,17 @@
 use Rattle.std.proofs.Common.{◌≡◌, ◌++◌, length, take, drop, subst, ap, ap₂, ◌∙◌, sym, arith}
 use Rattle.std.specs.Str.{chars}
 use Rattle.yaml_grammar.specs.Style.{quoted_char, quoted_chars}
-use Rattle.yaml_writer.proofs.QuotedLemmas.{run_boundary, quoted_run, quoted_one}
+use Rattle.yaml_writer.proofs.QuotedLemmas.{quoted_spells, run_boundary, spelled_run, spelled_one}
 use Rattle.yaml_data.proofs.CharacterLemmas.{boundary_past_char, drop_char, chars_empty}
 use Rattle.yaml_writer.proofs.quoted.write_quoted_chars.Goals as goal
 
 pub range-requires-clause-end_boundary : goal.range-requires-clause-end_boundary
 range-requires-clause-end_boundary g c =
-    run_boundary c.loop-c.rest.now c.run_len-run.result c.loop-c.invariant.0 c.run_len-run.ensures.within c.run_len-run.ensures.alone
+    run_boundary c.loop-c.rest.now c.unescaped_len-run.result c.loop-c.invariant.0 c.unescaped_len-run.ensures.within c.unescaped_len-run.ensures.alone
 
 pub range_from-rest-requires : goal.range_from-rest-requires
 range_from-rest-requires g c = λ _.
-    run_boundary c.loop-c.rest.now c.run_len-run.result c.loop-c.invariant.0 c.run_len-run.ensures.within c.run_len-run.ensures.alone
+    run_boundary c.loop-c.rest.now c.unescaped_len-run.result c.loop-c.invariant.0 c.unescaped_len-run.ensures.within c.unescaped_len-run.ensures.alone
 
 pub range_from-rest-requires-else-run-gt0 : goal.range_from-rest-requires-else-run-gt0
 range_from-rest-requires-else-run-gt0 g c = λ _.
@@ -21,13 +21,13 @@ range_from-rest-requires-else-run-gt0 g c = λ _.
 pub loop-c-preserved-then-run-gt0 : goal.loop-c-preserved-then-run-gt0
 loop-c-preserved-then-run-gt0 g c =
     let rest = c.loop-c.rest.now in
-    let n = c.run_len-run.result in
+    let n = c.unescaped_len-run.result in
     let prefix : c.range.result.now ≡ take n rest = grind (arith, c.range.ensures.value) in (
       c.range_from-rest.utf8,
       λ end left. c.loop-c.invariant.1 end
           (subst (λ cs. g.S.Sink.Takes c.loop-c.sink cs end)
           (ap₂ (λ xs ys. chars xs ++ quoted_chars (chars ys)) prefix c.range_from-rest.ensures.value
-          ∙ quoted_run rest n c.loop-c.invariant.0 c.run_len-run.ensures.alone)
+          ∙ spelled_run quoted_spells rest n c.unescaped_len-run.ensures.alone)
           (g.met.S.Sink.takes_both _ _ _ _ _ c.in_ok-put_text.ensures left)),
     )
 
@@ -39,7 +39,7 @@ loop-c-preserved g c =
       c.range_from-rest-else-run-gt0.utf8,
       λ end left. c.loop-c.invariant.1 end
           (subst (λ cs. g.S.Sink.Takes c.loop-c.sink cs end)
-          (ap (λ xs. quoted_char c.in-Some.c ++ quoted_chars (chars xs)) after ∙ quoted_one rest _ c.in-Some.c c.loop-c.invariant.0 split)
+          (ap (λ xs. quoted_char c.in-Some.c ++ quoted_chars (chars xs)) after ∙ spelled_one quoted_spells rest _ c.in-Some.c c.loop-c.invariant.0 split)
           (g.met.S.Sink.takes_both _ _ _ _ _ c.in_ok-write_quoted_char.ensures left)),
     )
 

@@ -1,7 +1,7 @@
 use Rattle.std.proofs.Common.{◌≡◌, ◌≤◌, ◌-◌, true, take, length}
 use Rattle.std.specs.List.{list_all}
 use Rattle.yaml_writer.specs.Runs.{stands_alone}
-use Rattle.yaml_writer.proofs.quoted.run_len.Given as goal
+use Rattle.yaml_writer.proofs.quoted.unescaped_len.Given as goal
 
 abbrev pub invariant-loop-len : goal.invariant-loop-len
 invariant-loop-len l = (l.len ≤ length l.bytes) × (list_all stands_alone (take l.len l.bytes) ≡ true)
