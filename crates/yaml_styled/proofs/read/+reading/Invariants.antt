@@ -1,0 +1,33 @@
+use Rattle.std.proofs.Common.{◌+◌, ◌*◌}
+use Rattle.yaml_styled.proofs.RowLemmas.{StartedElements, StartedMembers}
+use Rattle.yaml_styled.proofs.read.+reading.Given as goal
+
+-- the rows so far were read, and the spaces before the next
+abbrev pub invariant-read_elements-rows : goal.invariant-read_elements-rows
+invariant-read_elements-rows g l =
+    StartedElements g.V.Build.Means l.items.items (l.levels + 1) l.indent
+    l.initial.lines.rest.now l.initial.lines.counted l.lines.rest.now l.lines.counted
+
+abbrev pub invariant-read_members-rows : goal.invariant-read_members-rows
+invariant-read_members-rows g l =
+    StartedMembers g.V.Build.Means l.pairs.items (l.levels + 1) l.indent
+    l.initial.lines.rest.now l.initial.lines.counted l.lines.rest.now l.lines.counted
+
+-- rows are a level deeper than what holds them
+abbrev pub decreases-read_rows : goal.decreases-read_rows
+decreases-read_rows g l = 4 * l.levels
+
+abbrev pub decreases-read_elements : goal.decreases-read_elements
+decreases-read_elements g l = 4 * l.levels + 3
+
+abbrev pub decreases-read_members : goal.decreases-read_members
+decreases-read_members g l = 4 * l.levels + 3
+
+abbrev pub decreases-read_element : goal.decreases-read_element
+decreases-read_element g l = 4 * l.levels + 2
+
+abbrev pub decreases-read_value_lines : goal.decreases-read_value_lines
+decreases-read_value_lines g l = 4 * l.levels + 2
+
+abbrev pub decreases-read_below : goal.decreases-read_below
+decreases-read_below g l = 4 * l.levels + 1

@@ -1,0 +1,5 @@
+pub mod Comparing
+pub mod Taking
+pub mod Parts
+pub mod Sounds
+pub mod Styles

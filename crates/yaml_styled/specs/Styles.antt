@@ -1,0 +1,15 @@
+-- What callers know of what was read.
+use Rattle.std.specs.Prelude.{◌≡◌, ℕ, List}
+use Rattle.yaml_grammar.specs.Trees.{Tree}
+use Rattle.yaml_writer.specs.Sizes.{element_size}
+use Rattle.yaml_writer.specs.declared.size.Size.{Size}
+use Rattle.yaml_styled.specs.Comparing.{GoesOn}
+use Rattle.yaml_styled.specs.Sounds.{Sound}
+
+-- a text begins with a tree in the one style, and after it goes on with the rest
+pub record IsStyled (Is : Tree → Type 0) (written : Tree → List ℕ) (size : Size) (text rest : List ℕ) : Type 0 where
+  pub tree : Tree
+  pub is : Is tree
+  pub goes_on : GoesOn text (written tree) rest
+  pub size_is : size ≡ element_size tree
+  pub sound : Sound tree 128
