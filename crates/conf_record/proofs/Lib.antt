@@ -9,3 +9,4 @@ pub mod PieceLemmas
 pub mod TreeLemmas
 pub mod WrittenLemmas
 pub mod EditLines
+pub mod EntryLemmas

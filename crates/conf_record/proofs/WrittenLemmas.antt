@@ -48,18 +48,18 @@ Line = Bor (List ℕ)
 -- ---- texts in UTF-8
 
 -- ASCII is its own bytes, by a test that computes
-ascii_bytes : (cs : List ℕ) → list_all (λ c. nat_lt c 128) cs ≡ true → encode_utf8_all cs ≡ cs
+pub ascii_bytes : (cs : List ℕ) → list_all (λ c. nat_lt c 128) cs ≡ true → encode_utf8_all cs ≡ cs
 ascii_bytes cs e = encodes-IsAscii cs (every-IsAscii (λ c. nat_lt c 128) below cs e)
   where
     below : (c : ℕ) → nat_lt c 128 ≡ true → c < 128
     below c passed = grind (arith, nat_tests)
 
 -- ASCII before a text
-before : (cs xs : List ℕ) → list_all (λ c. nat_lt c 128) cs ≡ true → encode_utf8_all (cs ++ xs) ≡ cs ++ encode_utf8_all xs
+pub before : (cs xs : List ℕ) → list_all (λ c. nat_lt c 128) cs ≡ true → encode_utf8_all (cs ++ xs) ≡ cs ++ encode_utf8_all xs
 before cs xs e = encodes-append cs xs ∙ ap (λ bs. bs ++ encode_utf8_all xs) (ascii_bytes cs e)
 
 -- ASCII after a text
-after : (xs cs : List ℕ) → list_all (λ c. nat_lt c 128) cs ≡ true → encode_utf8_all (xs ++ cs) ≡ encode_utf8_all xs ++ cs
+pub after : (xs cs : List ℕ) → list_all (λ c. nat_lt c 128) cs ≡ true → encode_utf8_all (xs ++ cs) ≡ encode_utf8_all xs ++ cs
 after xs cs e = encodes-append xs cs ∙ ap (λ bs. encode_utf8_all xs ++ bs) (ascii_bytes cs e)
 
 -- ---- numbers

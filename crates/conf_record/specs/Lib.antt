@@ -4,6 +4,6 @@ pub mod SmallCommands
 pub mod Documents
 pub mod Reading
 pub mod EditLines
+pub mod BaseStart
 pub mod Written
-pub mod Comparing
-pub mod ComparingLaws
+pub mod Entries

@@ -12,25 +12,25 @@
 //! lines.
 #![tactic(auto)]
 
+mod base_parts;
 mod base_reader;
 mod base_writer;
 mod command_reader;
-mod comparison;
 mod documents;
 mod edit_lines;
 mod edit_members;
+mod entries;
 mod fields;
 mod laws;
 pub mod lines;
-mod miss;
 mod parts;
 mod read;
 mod record;
 mod record_sink;
-mod tree_lines;
 mod written;
 mod written_base;
 
+pub use base_parts::base_start;
 pub use base_writer::base_text;
 pub use conf_state::{Command, Edit, Names, State, good_name, step};
 pub use documents::{documents_are_read, documents_close};

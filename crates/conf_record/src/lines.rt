@@ -11,10 +11,10 @@ ghost use Rattle.yaml_writer.specs.Runs.{stands_alone};
 ghost use Rattle.conf_state.specs.Commands.{text_of};
 ghost use Rattle.conf_record.specs.Written.{IsLineOf, IsConfigLine, IsNameLine, IsPathLine};
 
-use crate::miss::Miss;
 use conf_state::good_name;
 use json_pointer::is_pointer;
 use std::alloc::Global;
+use yaml_styled::Miss;
 use yaml_tree::{Config, Limits, ScalarStyle, Size, Text, Tree, value_style};
 
 /// What is after a key that the lines begin with, up to the end of that line, and the lines after it. `None` if the

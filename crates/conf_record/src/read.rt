@@ -8,12 +8,12 @@ ghost use Rattle.conf_record.specs.Documents.{IsRecord, IsBase, IsNoRecord, IsNo
 
 use crate::base_reader::base_from;
 use crate::command_reader::record_from;
-use crate::miss::Miss;
 use crate::parts::configurations;
 use crate::written::written_record;
 use crate::written_base::written_base;
 use conf_state::{Command, State};
 use std::alloc::{AllocError, Global};
+use yaml_styled::Miss;
 use yaml_tree::{Limits, ReadFault, Tree, bytes_give_one, read_one, refused_bytes_give_none};
 
 /// Reads a record: the command and its number. The bytes may spell the document in any way (YAML 1.2.2).

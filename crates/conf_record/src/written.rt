@@ -11,10 +11,10 @@ use crate::edit_members::EditMembers;
 use crate::fields::number_from;
 use crate::laws::records_read;
 use crate::lines::{cut_line, line_config, line_name, line_path};
-use crate::miss::Miss;
 use conf_state::{Command, Edit, RECORD_LIMIT};
 use std::alloc::Global;
 use std::str;
+use yaml_styled::Miss;
 
 /// The key of the tree of an import.
 const TREE_KEY: &str = "tree: ";
@@ -130,7 +130,7 @@ fn made_edit(alloc: Global, members: EditMembers<&str, &str>) -> Result<Edit, Mi
 }
 
 /// Whether this is the last line of a document.
-fn is_end(lines: &str) -> bool
+pub(crate) fn is_end(lines: &str) -> bool
     ensures { IsTrue result → lines.now ≡ codes "...\n" }
 {
     lines == "...\n"

@@ -6,6 +6,7 @@ pub mod DraftSteps
 pub mod PlanningLemmas
 pub mod EditLemmas
 pub mod EntryLemmas
+pub mod EntryTextLemmas
 pub mod LimitLemmas
 pub mod LineLemmas
 pub mod PartLemmas
@@ -14,5 +15,6 @@ pub mod RunLaws
 pub mod StateLemmas
 pub mod StepLemmas
 pub mod TakeLemmas
+pub mod TouchedLemmas
 pub mod NameLemmas
 pub mod PlaceLemmas

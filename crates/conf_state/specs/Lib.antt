@@ -15,3 +15,5 @@ pub mod Places
 pub mod Lends
 pub mod Drafts
 pub mod Endings
+pub mod EntryTexts
+pub mod Touched

@@ -12,6 +12,7 @@ mod configs;
 mod draft;
 mod draft_length;
 mod editing;
+mod entries;
 mod fault;
 mod in_place;
 mod laws;

@@ -1,9 +1,25 @@
-use Rattle.std.proofs.Common.{sym, subst, ◌∙◌, refl}
+use Rattle.std.proofs.Common.{◌≡◌, ◌≤◌, sym, subst, ap, ◌∙◌, arith}
+use Rattle.std.proofs.lemmas.Bool.{eqb-false}
+use Rattle.std.specs.Option.{IfSome}
+use Rattle.std.specs.Vec.{vec_len}
+use Rattle.conf_state.specs.Kept.{entries_of}
+use Rattle.conf_state.specs.BaseTexts.{base_bytes}
+use Rattle.conf_state.specs.Limits.{IsState}
+use Rattle.conf_state.specs.States.{Contents}
 use Rattle.conf_record.specs.Documents.{IsBase}
+use Rattle.conf_record.proofs.EntryLemmas.{whole_base, some_entries}
 use Rattle.conf_record.proofs.written_base.written_base.Goals as goal
 
-pub returns : goal.returns
-returns c =
-    let state = c.in_ok-state.state in
-    let same = sym c.in-Ok.ensures.cases.0 ∙ c.if-not-is_base_of.ensures refl in
-    subst (λ bytes. IsBase bytes state) (sym same) (c.documents_are_read.ensures.bases state c.in_ok-state.ensures)
+pub returns-in-Some-2 : goal.returns-in-Some-2
+returns-in-Some-2 c =
+    let state = c.in-Some-2.state in
+    let parts = c.in_ok-parts.parts in
+    let filled = eqb-false (vec_len parts) 0 (sym c.if-is_empty.ensures) in
+    let some = some_entries parts.items (λ none. filled (omega (arith, parts.ok, none))) in
+    let contents : Contents = record { configs = entries_of parts.items; count = c.in-Some.count } in
+    let is = subst (λ made. IfSome made (λ s. (s ≡ contents) × IsState s)) c.in-Some-2.is c.in_ok-state.ensures.some in
+    let numbered = ap (λ s. s.count) is.0 in
+    let small : c.in-Some.count ≤ 18446744073709551615 = omega (arith, is.1.numbered, numbered) in
+    let whole = whole_base c.in-Ok.text.now c.in-Some.lines.now (entries_of parts.items) c.in-Some.count some small c.in-Some.ensures c.in_ok-parts.ensures in
+    let same = sym c.in-Ok.ensures.cases.0 ∙ whole ∙ ap base_bytes (sym is.0) in
+    subst (λ bytes. IsBase bytes state) (sym same) (c.documents_are_read.ensures.bases state is.1)

@@ -1,0 +1,115 @@
+-- Lines of configurations make the base of a state.
+use Rattle.std.proofs.Common.{◌≡◌, ℕ, ◌≤◌, List, [], ◌∷◌, ◌++◌, codes, decimal, length, String, Global, encode_utf8_all, append_assoc, append-nil, refl, sym, ap, ap₂, subst, ◌∙◌, arith}
+use Rattle.std.proofs.lemmas.Fmt.{decimal_is_IsNumeral}
+use Rattle.std.proofs.lemmas.Str.{encodes-append}
+use Rattle.yaml_grammar.specs.Texts.{spaces, byte_len}
+use Rattle.yaml_grammar.specs.Trees.{Tree, text, sequence, mapping}
+use Rattle.yaml_grammar.specs.Style.{key_lines, value_at, members_after, lines_after_dash, style_text}
+use Rattle.yaml_writer.specs.Sizes.{element_size}
+use Rattle.yaml_writer.specs.declared.size.Size.{Size}
+use Rattle.yaml_writer.proofs.SizeLaws.{elements_law, members_law}
+use Rattle.yaml_data.specs.Seen.{tree_of}
+use Rattle.yaml_data.specs.declared.tree.Tree as code
+use Rattle.yaml_styled.specs.Comparing.{GoesOn, goes_on_both}
+use Rattle.yaml_styled.specs.Parts.{IsTree}
+use Rattle.yaml_styled.specs.Sounds.{Sound}
+use Rattle.yaml_styled.specs.Styles.{IsStyled}
+use Rattle.conf_state.specs.BaseTexts.{members, base_text, base_bytes}
+use Rattle.conf_state.specs.Commands.{text_of}
+use Rattle.conf_state.specs.Kept.{entries_of}
+use Rattle.conf_state.specs.States.{Entry, count_limit}
+use Rattle.conf_state.proofs.LineLemmas.{line, number_line, base_lines}
+use Rattle.conf_record.specs.Entries.{IsEntry, AreEntries}
+use Rattle.conf_record.proofs.WrittenLemmas.{ascii_bytes, before, after}
+
+-- a key after its spaces, and the value after it
+pub entry_of : (lines row value rest name : List ℕ) (made : code.Tree) (size : Size) → lines ≡ codes "  " ++ row
+    → GoesOn row (key_lines 2 name) value → IsStyled (λ t. IsTree made t) (λ t. value_at t 2) size value rest
+    → IsEntry lines name (tree_of made) size rest
+entry_of lines row value rest name made size cut key read =
+    let same = sym read.is in
+    let spaced = cut ∙ ap (λ bs. bs ++ row) (sym (ascii_bytes (codes "  ") refl)) in
+    let keyed = goes_on_both lines row value (spaces 2) (key_lines 2 name) spaced key in
+    let all = goes_on_both lines value rest (spaces 2 ++ key_lines 2 name) (value_at read.tree 2) keyed read.goes_on in
+    record {
+      written = subst (λ t. GoesOn lines (spaces 2 ++ key_lines 2 name ++ value_at t 2) rest) same all;
+      size_is = read.size_is ∙ ap element_size same;
+      sound = subst (λ t. Sound t 128) same read.sound;
+    }
+
+-- one configuration more
+members_after-more : (es : List Entry) (name : List ℕ) (t : Tree)
+    → members_after (members es) 2 ++ (spaces 2 ++ key_lines 2 name ++ value_at t 2) ≡ members_after (members (es ++ (name, t) ∷ [])) 2
+members_after-more [] name t = sym (append-nil _)
+members_after-more (e ∷ es) name t =
+    append_assoc (spaces 2 ++ key_lines 2 e.0 ++ value_at e.1 2) (members_after (members es) 2) (spaces 2 ++ key_lines 2 name ++ value_at t 2)
+    ∙ ap (λ cs. (spaces 2 ++ key_lines 2 e.0 ++ value_at e.1 2) ++ cs) (members_after-more es name t)
+
+-- configurations, and then one more
+pub entries_and : (lines left rest : List ℕ) (es : List Entry) (name : List ℕ) (t : Tree) → AreEntries lines es left
+    → GoesOn left (spaces 2 ++ key_lines 2 name ++ value_at t 2) rest → AreEntries lines (es ++ (name, t) ∷ []) rest
+entries_and lines left rest es name t first second =
+    subst (λ written. GoesOn lines written rest) (members_after-more es name t)
+    (goes_on_both lines left rest (members_after (members es) 2) (spaces 2 ++ key_lines 2 name ++ value_at t 2) first second)
+
+-- a configuration of the code, under its name
+abbrev pub Part : Type 0
+Part = String Global × code.Tree
+
+entries_of-more : (ps : List Part) (p : Part) → entries_of (ps ++ p ∷ []) ≡ entries_of ps ++ (text_of p.0, tree_of p.1) ∷ []
+entries_of-more [] p = refl
+entries_of-more (q ∷ ps) p = ap (λ es. (text_of q.0, tree_of q.1) ∷ es) (entries_of-more ps p)
+
+-- the same of the code's
+pub entries_pushed : (lines rest : List ℕ) (ps new : List Part) (p : Part) (name : List ℕ) (t : Tree) → new ≡ ps ++ p ∷ []
+    → text_of p.0 ≡ name → tree_of p.1 ≡ t → AreEntries lines (entries_of ps ++ (name, t) ∷ []) rest → AreEntries lines (entries_of new) rest
+entries_pushed lines rest ps new p name t pushed named is are =
+    let same = ap entries_of pushed ∙ entries_of-more ps p ∙ ap₂ (λ n u. entries_of ps ++ (n, u) ∷ []) named is in
+    subst (λ es. AreEntries lines es rest) (sym same) are
+
+-- some parts are some configurations
+pub some_entries : (ps : List Part) → (length ps ≡ 0 → ⊥) → entries_of ps ≡ [] → ⊥
+some_entries [] some e = some refl
+some_entries (p ∷ ps) some e = cc
+
+-- a configuration is no longer by itself than as an element
+pub style_within : (t : Tree) → byte_len (style_text t) ≤ byte_len (lines_after_dash t 0)
+style_within (text value) = omega arith
+style_within (sequence ts) = omega (arith, elements_law ts 2)
+style_within (mapping ms) = omega (arith, members_law ms 2)
+
+-- ---- the whole
+
+-- configurations as the value of their key
+below_configs : (es : List Entry) → (es ≡ [] → ⊥) → codes "\n" ++ members_after (members es) 2 ≡ value_at (mapping (members es)) 0
+below_configs [] some = absurd (some refl)
+below_configs (e ∷ es) some = refl
+
+regrouped : (ds ms : List ℕ)
+    → ds ++ (codes "\"\nconfigs:\n" ++ (ms ++ codes "...\n"))
+    ≡ (((ds ++ codes "\"\n") ++ codes "configs:") ++ (codes "\n" ++ ms)) ++ codes "...\n"
+regrouped ds ms =
+    sym (append_assoc ((ds ++ codes "\"\n") ++ codes "configs:") (codes "\n" ++ ms) (codes "...\n")
+    ∙ append_assoc (ds ++ codes "\"\n") (codes "configs:") ((codes "\n" ++ ms) ++ codes "...\n")
+    ∙ append_assoc ds (codes "\"\n") (codes "configs:" ++ ((codes "\n" ++ ms) ++ codes "...\n")))
+
+-- the lines of a count and of configurations make the base of their state
+pub whole_base : (bytes lines : List ℕ) (es : List Entry) (count : ℕ) → (es ≡ [] → ⊥) → count ≤ count_limit
+    → bytes ≡ codes "---\nstore: confstore-2\nat: \"" ++ (encode_utf8_all (decimal count) ++ (codes "\"\nconfigs:\n" ++ lines))
+    → AreEntries lines es (codes "...\n") → bytes ≡ base_bytes (record { configs = es; count = count })
+unfolding base_bytes base_text
+whole_base bytes lines es count some small is follows =
+    let ds = decimal count in
+    let ms = members_after (members es) 2 in
+    let ends = ms ++ codes "...\n" in
+    let all = (decimal_is_IsNumeral count (omega arith)).0.1 in
+    let closed = follows ∙ sym (after ms (codes "...\n") refl) in
+    is
+    ∙ ap (λ bs. codes "---\nstore: confstore-2\nat: \"" ++ (encode_utf8_all ds ++ bs))
+    (ap (λ bs. codes "\"\nconfigs:\n" ++ bs) closed ∙ sym (before (codes "\"\nconfigs:\n") ends refl))
+    ∙ ap (λ bs. codes "---\nstore: confstore-2\nat: \"" ++ bs) (sym (encodes-append ds (codes "\"\nconfigs:\n" ++ ends)))
+    ∙ sym (before (codes "---\nstore: confstore-2\nat: \"") (ds ++ (codes "\"\nconfigs:\n" ++ ends)) refl)
+    ∙ ap (λ xs. encode_utf8_all (codes "---\nstore: confstore-2\nat: \"" ++ xs)) (regrouped ds ms)
+    ∙ ap (λ xs. encode_utf8_all (codes "---\n" ++ codes "store: confstore-2\n" ++ xs ++ codes "configs:" ++ (codes "\n" ++ ms) ++ codes "...\n")) (number_line ds all)
+    ∙ ap (λ xs. encode_utf8_all (codes "---\n" ++ codes "store: confstore-2\n" ++ line (codes "at") (text ds) ++ codes "configs:" ++ xs ++ codes "...\n")) (below_configs es some)
+    ∙ ap encode_utf8_all (base_lines (line (codes "at") (text ds)) (value_at (mapping (members es)) 0))

@@ -1,0 +1,17 @@
+use Rattle.std.proofs.Common.{◌≡◌, ap, sym, ◌∙◌, arith}
+use Rattle.std.specs.Str.{chars}
+use Rattle.yaml_grammar.specs.Texts.{byte_len}
+use Rattle.yaml_data.specs.Seen.{tree_of}
+use Rattle.conf_state.specs.EntryTexts.{lines_if_there}
+use Rattle.conf_state.proofs.EntryTextLemmas.{entry-exact}
+use Rattle.conf_state.proofs.state.State.entry_length.Goals as goal
+
+pub returns-in-Some : goal.returns-in-Some
+returns-in-Some c =
+    let name = chars c.args.name.now in
+    entry-exact c.args.self.now name (tree_of c.in-Some.config.now) c.in-Some.ensures.limits (sym c.in-Some.ensures.found) c.entry_length.result c.entry_length.ensures
+
+pub returns-in-None : goal.returns-in-None
+returns-in-None c =
+    let name = chars c.args.name.now in
+    ap (λ found. byte_len (lines_if_there name found)) c.in-None.ensures.found
