@@ -2,6 +2,13 @@ pub mod Meaning
 pub mod First
 pub mod OldStores
 pub mod Staged
+pub mod Stagings
+pub mod Cuttings
+pub mod Early
+pub mod PartTexts
+pub mod Parts
+pub mod Room
+pub mod RoomLaws
 pub mod Durable
 pub mod Grown
 pub mod View

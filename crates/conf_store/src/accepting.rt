@@ -8,11 +8,12 @@ ghost use Rattle.conf_record.specs.RecordsRead.{IsCommand};
 ghost use Rattle.conf_store.specs.Accepting.{IsAccepted, IsOfState};
 ghost use Rattle.conf_store.specs.Calls.{outcome};
 ghost use Rattle.conf_store.specs.Staged.{staged_length, with_more};
+ghost use Rattle.conf_store.specs.Stagings.{IsReady, staged_of};
 
 use crate::staging::Staging;
 use conf_journal::STORE_LIMIT;
 use conf_record::{documents_are_read, documents_close, record_length, record_of_length};
-use conf_state::{Command, Room, State, StoreFault, step, steps_are_counted_or_refused};
+use conf_state::{Command, Room, State, StoreFault, steps_are_counted_or_refused};
 use std::alloc::{AllocError, Global};
 
 /// Performs a command on the state of a store whose file has `size` bytes, and adds its record to the new file of a
@@ -30,19 +31,23 @@ pub fn accept(
     size: u64,
 ) -> Result<(String, u64), StoreFault>
     requires size { size ≤ store_limit }
-    requires staged { staged_length staging.old ≤ store_limit }
+    requires staged { staged_length (staged_of state.old staging.old) ≤ store_limit }
+    requires ready { IsReady state.old.configs staging.old }
     ensures ok { IfOk result (λ r.
         IsAccepted state.old (command_of command) state.new
-        (max size (staged_length staging.old)) (string_bytes r.0)
+        (max size (staged_length (staged_of state.old staging.old))) (string_bytes r.0)
         × (r.1 ≡ state.new.count)) }
-    ensures staged { IfOk result (λ r. staging.new ≡ with_more (string_bytes r.0) staging.old) }
+    ensures staged { IfOk result (λ r. staged_of state.new staging.new
+        ≡ with_more (string_bytes r.0) (staged_of state.old staging.old)) }
     ensures refused { IfErr result (λ fault.
         (fault ≡ StoreFault.OutOfMemory)
-        ⊎ (outcome (max size (staged_length staging.old)) state.old (command_of command)
-        ≡ Err fault)) }
+        ⊎ (outcome (max size (staged_length (staged_of state.old staging.old))) state.old
+        (command_of command) ≡ Err fault)) }
     ensures of_state { IfErr result IsOfState }
     ensures unchanged { OnErr result (state.new ≡ state.old) }
-    ensures unstaged { OnErr result (staging.new ≡ staging.old) }
+    ensures unstaged { OnErr result
+        (staged_of state.new staging.new ≡ staged_of state.old staging.old) }
+    ensures ready { IsReady state.new.configs staging.new }
 {
     documents_are_read();
     documents_close();
@@ -50,17 +55,12 @@ pub fn accept(
     // At the greatest count the record is only measured: the command is refused.
     let number = state.count().saturating_add(1);
     let bytes = record_length(&command, number);
-    let longest = size.max(staging.len() as u64);
+    let longest = size.max(staging.len());
     let room = Room::of(&command, bytes, longest, STORE_LIMIT);
     let record = record_within(alloc, &command, number, bytes, room)?;
-    // Its memory is taken before the state changes.
-    staging.push(record.as_bytes())?;
-    match step(alloc, state, command, room) {
+    match staging.step(alloc, state, command, room, &record) {
         Ok(()) => Ok((record, state.count())),
-        Err(fault) => {
-            staging.take_back(record.len());
-            Err(fault)
-        }
+        Err(fault) => Err(fault),
     }
 }
 

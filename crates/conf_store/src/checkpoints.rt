@@ -14,7 +14,7 @@ use crate::staging::Staging;
 use crate::store::Store;
 use conf_disk::{Disk, DiskFault, Name};
 use conf_journal::{begin_next, held_store_is_left};
-use conf_record::{base_text, documents_are_read, documents_close};
+use conf_record::{documents_are_read, documents_close};
 use conf_state::StoreFault;
 
 impl<D: Disk> Store<D> {
@@ -71,8 +71,9 @@ impl<D: Disk> Store<D> {
     }
 
     /// Begins a checkpoint that is written in slices: makes an empty `next.yaml`, in place of one that is there, and
-    /// keeps the text of a base of the state in memory, at most 67,108,864 bytes. None may run. `store.yaml` stays, and
-    /// what waits still waits. Commands go on, and their records go to the end of both files.
+    /// takes memory for the names of the configurations and the text of the longest. None may run. `store.yaml` stays,
+    /// and what waits still waits. Commands go on, and their records go to the end of both files. Before a command
+    /// changes a configuration for the first time, its text as it is now is made and kept.
     ///
     /// # Errors
     /// `Reopen` if the store has to be opened again. `OutOfMemory` leaves the store and the disk as they were.
@@ -103,13 +104,13 @@ impl<D: Disk> Store<D> {
         if self.reopen {
             return Err(StoreFault::Reopen);
         }
-        let Ok(base) = base_text(self.alloc, &self.state) else {
+        let Ok(staging) = Staging::begun(self.alloc, &self.state) else {
             return Err(StoreFault::OutOfMemory);
         };
         match begin_next(&mut self.disk) {
             Ok(()) => {
-                self.staged_base = base.len() as u64;
-                self.staging = Staging::begun(base);
+                self.staged_base = staging.len();
+                self.staging = staging;
                 Ok(())
             }
             Err(_) => {
@@ -158,10 +159,10 @@ impl<D: Disk> Store<D> {
         if self.reopen {
             return Err(StoreFault::Reopen);
         }
-        match write_slice(&mut self.disk, &mut self.staging) {
+        match write_slice(&mut self.disk, &mut self.staging, &self.state) {
             Ok(Progress::Left { bytes }) => Ok(Progress::Left { bytes }),
             Ok(Progress::Done) => {
-                self.size = self.staging.len() as u64;
+                self.size = self.staging.len();
                 self.base = self.staged_base;
                 self.waits = false;
                 self.staging = Staging::none(self.alloc);

@@ -8,10 +8,13 @@ ghost use Rattle.conf_journal.specs.Store.{LeavesOldStore, LeavesStoreOr};
 ghost use Rattle.conf_store.specs.Durable.{staged_text};
 ghost use Rattle.conf_store.specs.Slices.{SyncedWhenDue, WritesSlice};
 ghost use Rattle.conf_store.specs.Staged.{staged_length};
+ghost use Rattle.conf_store.specs.Stagings.{CanSlice, staged_of};
+ghost use Rattle.conf_state.specs.States.{Contents};
 
 use crate::staging::Staging;
 use conf_disk::{Disk, DiskFault};
 use conf_journal::{append_next, finish_next, runs_of_calls_are_joined, sync_next};
+use conf_state::State;
 
 /// What a slice of a checkpoint did.
 #[derive(Clone, Copy, Debug, PartialEq, Eq)]
@@ -27,25 +30,33 @@ pub enum Progress {
 ///
 /// # Errors
 /// `Device`: `store.yaml` is the old file or the whole new one.
-pub fn write_slice<D: Disk>(disk: &mut D, staging: &mut Staging) -> Result<Progress, DiskFault>
-    requires running { IsSome staging.old }
+pub fn write_slice<D: Disk>(
+    disk: &mut D,
+    staging: &mut Staging,
+    state: &State,
+) -> Result<Progress, DiskFault>
+    requires running { IsSome (staged_of state.now staging.old) }
+    requires ready { CanSlice state.now.configs staging.old }
     requires there { D.model.honest → IsSome (D.model.folder disk.old).now.next }
-    ensures ok { IfOk result (λ progress. WritesSlice D.model disk.old staging.old
-        progress disk.new staging.new) }
-    ensures running { IsSome staging.new }
-    ensures long { staged_length staging.new ≡ staged_length staging.old }
+    ensures ok { IfOk result (λ progress. WritesSlice D.model disk.old
+        (staged_of state.now staging.old) progress disk.new (staged_of state.now staging.new)) }
+    ensures running { IsSome (staged_of state.now staging.new) }
+    ensures ready { CanSlice state.now.configs staging.new }
+    ensures long { staged_length (staged_of state.now staging.new)
+        ≡ staged_length (staged_of state.now staging.old) }
     // A crash leaves an old store, or the whole new file.
     ensures any_moment { D.model.honest → LeavesStoreOr D.model
-        (staged_text (D.model.folder disk.old) staging.old) disk.old disk.new }
+        (staged_text (D.model.folder disk.old) (staged_of state.now staging.old)) disk.old disk.new }
     ensures failures { CountsFailures (D.model.failure_count disk.old) (D.model.failure_count disk.new) result }
     ensures fault { result ≢ Err DiskFault.OutOfMemory }
 {
     runs_of_calls_are_joined::<D>();
-    append_next(disk, staging.next_slice())?;
+    staging.make_slice(state);
+    append_next(disk, staging.slice())?;
     let left = staging.pass_slice();
     if left > 0 {
         sync_if_due(disk, staging)?;
-        return Ok(Progress::Left { bytes: left as u64 });
+        return Ok(Progress::Left { bytes: left });
     }
     finish_next(disk)?;
     Ok(Progress::Done)
@@ -63,7 +74,7 @@ fn sync_if_due<D: Disk>(disk: &mut D, staging: &Staging) -> Result<(), DiskFault
     // A crash leaves an old store.
     ensures any_moment { D.model.honest → LeavesOldStore D.model disk.old disk.new }
     ensures synced { D.model.honest → IsSome (D.model.folder disk.old).now.next →
-        OnOk result (SyncedWhenDue (D.model.folder disk.new) staging.now) }
+        OnOk result ((s : Contents) → SyncedWhenDue (D.model.folder disk.new) (staged_of s staging.now)) }
     ensures failures { D.model.failure_count disk.old < greatest →
         CountsFailures (D.model.failure_count disk.old) (D.model.failure_count disk.new) result }
     ensures fault { result ≢ Err DiskFault.OutOfMemory }

@@ -70,6 +70,7 @@ impl<D: Disk> Model for Store<D> {
     ghost use Rattle.conf_store.specs.Durable.{IsHeld, IsStaging};
     ghost use Rattle.conf_store.specs.Grown.{FileStartsWithBase, StagedStartsWithBase};
     ghost use Rattle.conf_store.specs.Staged.{staged_length};
+    ghost use Rattle.conf_store.specs.Stagings.{IsReady, staged_of};
     ghost use Rattle.conf_store.specs.View.{StoreView, store_view_code};
 
     ghost Value = { StoreView D };
@@ -77,16 +78,17 @@ impl<D: Disk> Model for Store<D> {
     ghost coded = { store_view_code D.code };
 
     ghost view = { λ s.
-        record { disk = s.disk; state = s.state; size = s.size; staged = s.staging; reopen = s.reopen } };
+        record { disk = s.disk; state = s.state; size = s.size; staged = staged_of s.state s.staging; reopen = s.reopen } };
 
     ghost invariant = { λ s. (s.size ≤ store_limit) × IsState s.state
-        × (staged_length s.staging ≤ store_limit)
+        × (staged_length (staged_of s.state s.staging) ≤ store_limit)
         × (D.model.honest → s.reopen ≡ false → IsHeld (D.model.folder s.disk) s.state s.size s.waits
-        × IsStaging (D.model.folder s.disk) s.state s.staging)
-        × (s.base ≤ s.size) × (s.staged_base ≤ staged_length s.staging)
+        × IsStaging (D.model.folder s.disk) s.state (staged_of s.state s.staging))
+        × (s.base ≤ s.size) × (s.staged_base ≤ staged_length (staged_of s.state s.staging))
         × (D.model.honest → s.reopen ≡ false →
         FileStartsWithBase (bytes_under (D.model.folder s.disk) Store) s.base
-        × StagedStartsWithBase (D.model.folder s.disk) s.staging s.staged_base) };
+        × StagedStartsWithBase (D.model.folder s.disk) (staged_of s.state s.staging) s.staged_base)
+        × IsReady s.state.configs s.staging };
 }
 
 impl<D: Disk> Store<D> {

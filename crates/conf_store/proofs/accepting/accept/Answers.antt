@@ -5,6 +5,7 @@ use Rattle.conf_disk.specs.Moments.{greatest}
 use Rattle.conf_state.specs.Commands.{command_of}
 use Rattle.conf_state.specs.States.{count_limit}
 use Rattle.conf_record.specs.Records.{record_bytes, record_text}
+use Rattle.conf_store.specs.Stagings.{staged_of}
 use Rattle.conf_store.specs.Calls.{next_number}
 use Rattle.conf_store.specs.Staged.{staged_length}
 use Rattle.conf_store.proofs.RefusalLemmas.{of-state}
@@ -15,7 +16,7 @@ pub returns-in-Ok-clause-ok : goal.returns-in-Ok-clause-ok
 returns-in-Ok-clause-ok c =
     let s = c.args.state.now in
     let command = command_of c.args.command in
-    let longest = max c.args.size (staged_length c.args.staging.now) in
+    let longest = max c.args.size (staged_length (staged_of c.args.state.now c.args.staging.now)) in
     let number : c.saturating_add-number.result ≡ next_number s = c.saturating_add-number.ensures ∙ ap (λ n. min (n + 1) count_limit) c.count.ensures.count in
     let most : c.max-longest.result ≡ longest = search (rules, c.max-longest.ensures, c.len.ensures) in
     let measured = c.record_length-bytes.ensures ∙ ap (λ n. min (byte_len (record_text command n)) greatest) number in
@@ -30,7 +31,7 @@ pub returns-in-Err-clause-refused : goal.returns-in-Err-clause-refused
 returns-in-Err-clause-refused c =
     let s = c.args.state.now in
     let command = command_of c.args.command in
-    let longest = max c.args.size (staged_length c.args.staging.now) in
+    let longest = max c.args.size (staged_length (staged_of c.args.state.now c.args.staging.now)) in
     let number : c.saturating_add-number.result ≡ next_number s = c.saturating_add-number.ensures ∙ ap (λ n. min (n + 1) count_limit) c.count.ensures.count in
     let most : c.max-longest.result ≡ longest = search (rules, c.max-longest.ensures, c.len.ensures) in
     let measured = c.record_length-bytes.ensures ∙ ap (λ n. min (byte_len (record_text command n)) greatest) number in

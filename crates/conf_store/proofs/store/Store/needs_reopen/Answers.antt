@@ -4,6 +4,7 @@ use Rattle.conf_disk.specs.Folder.{bytes_under}
 use Rattle.conf_disk.specs.declared.disk.Name.TheVariants.{Store}
 use Rattle.conf_state.specs.Commands.{Command}
 use Rattle.conf_state.specs.States.{Contents}
+use Rattle.conf_store.specs.Stagings.{staged_of}
 use Rattle.conf_store.specs.View.{StoreView}
 use Rattle.conf_store.specs.Staged.{staged_length}
 use Rattle.conf_store.specs.Durable.{HasFlushed, AllImagesAfterPrefix, staged_text}
@@ -44,4 +45,4 @@ returns-clause-staged_size g c h on some =
     let inside = c.self.inside in
     let off : inside.reopen ≡ false = ap (λ (s : StoreView g.row.D.Denot). s.reopen) c.self.view_is ∙ on in
     subst (λ (s : StoreView g.row.D.Denot). IsSome s.staged → HasLength (staged_text (d.model.folder s.disk) s.staged) (staged_length s.staged)) c.self.view_is
-    (staging-length (d.model.folder inside.disk) inside.state inside.staging (c.self.invariant.3 h off).1) some
+    (staging-length (d.model.folder inside.disk) inside.state (staged_of inside.state inside.staging) (c.self.invariant.3 h off).1) some

@@ -62,7 +62,7 @@ invariant_of-store g c =
         | goal.in-None+in-Ok-write_base w ↦ (let short = w.in-Ok-write_base.ensures.short in subst (λ (p : ℕ × ℕ). p.0 ≤ store_limit) (sym w.size-is) short)
       ],
       c.in-Ok.ensures.limits,
-      subst (λ x. staged_length x ≤ store_limit) (sym c.none.ensures) (omega arith),
+      subst (λ x. staged_length x ≤ store_limit) (sym (c.none.ensures.none s)) (omega arith),
       λ h same. (
         durable-held (d.model.folder c.match-size.disk) s c.match-size.size.0 false (elim c.match-size.branch [
           | goal.in-Some w ↦
@@ -74,7 +74,7 @@ invariant_of-store g c =
               subst (λ (p : ℕ × ℕ). IsDurable (d.model.folder c.match-size.disk) s p.0) (sym w.size-is)
               (subst (λ (x : g.row.D.Denot). IsDurable (d.model.folder x) s w.in-Ok-write_base.size) (sym w.disk-is) (w.in-Ok-write_base.ensures.durable h))
         ]),
-        subst (IsStaging (d.model.folder c.match-size.disk) s) (sym c.none.ensures) tt,
+        subst (IsStaging (d.model.folder c.match-size.disk) s) (sym (c.none.ensures.none s)) tt,
       ),
       elim c.match-size.branch [
         | goal.in-Some w ↦ subst (λ (p : ℕ × ℕ). p.1 ≤ p.0) (sym w.size-is) (subst (bounded c.in-Ok.found.base) w.in-Some.is c.in-Ok.ensures.bound).1
@@ -93,8 +93,9 @@ invariant_of-store g c =
               subst (λ (p : ℕ × ℕ). FileStartsWithBase (bytes_under (d.model.folder c.match-size.disk) Store) p.1) (sym w.size-is)
               (subst (λ (x : g.row.D.Denot). FileStartsWithBase (bytes_under (d.model.folder x) Store) w.in-Ok-write_base.size) (sym w.disk-is) (w.in-Ok-write_base.ensures.starts h))
         ],
-        subst (λ x. StagedStartsWithBase (d.model.folder c.match-size.disk) x 0) (sym c.none.ensures) tt,
+        subst (λ x. StagedStartsWithBase (d.model.folder c.match-size.disk) x 0) (sym (c.none.ensures.none s)) tt,
       ),
+      c.none.ensures.ready s.configs,
     )
   where
     bounded : ℕ → Option ℕ → Type 0

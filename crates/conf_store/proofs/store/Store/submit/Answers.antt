@@ -7,6 +7,7 @@ use Rattle.conf_disk.specs.declared.disk.Name.TheVariants.{Store}
 use Rattle.conf_journal.specs.Store.{store_limit, file_with_bytes}
 use Rattle.conf_state.specs.Commands.{command_of}
 use Rattle.conf_state.specs.declared.fault.StoreFault.TheVariants.{Reopen, Device}
+use Rattle.conf_store.specs.Stagings.{staged_of}
 use Rattle.conf_store.specs.Meaning.{FileMeans}
 use Rattle.conf_store.specs.Durable.{HasFlushed, AfterPrefix, IsHeld, IsStaging, staged_text}
 use Rattle.conf_store.specs.Grown.{FileStartsWithBase, StagedStartsWithBase}
@@ -38,7 +39,7 @@ pub returns-in-Err-clause-refused : goal.returns-in-Err-clause-refused
 returns-in-Err-clause-refused g c =
     let inside = c.self.inside in
     let command = command_of c.args.command in
-    refusal-returned c.args.self.now (record { disk = inside.disk; state = c.accept.new.state; size = inside.size; staged = c.accept.new.staging; reopen = inside.reopen }) command c.in-Err.fault c.in-Err.ensures.of_state
+    refusal-returned c.args.self.now (record { disk = inside.disk; state = c.accept.new.state; size = inside.size; staged = (staged_of c.accept.new.state c.accept.new.staging); reopen = inside.reopen }) command c.in-Err.fault c.in-Err.ensures.of_state
     (⊎_elim (λ memory. inl memory)
     (λ e. inr (subst (λ (s : StoreView g.row.D.Denot). outcome (journal_length s) s.state command ≡ Err c.in-Err.fault) c.self.view_is e))
     c.in-Err.ensures.refused)
@@ -61,7 +62,7 @@ returns-in-Err-clause-risen g c =
 pub returns-in-Err-clause-unchanged : goal.returns-in-Err-clause-unchanged
 returns-in-Err-clause-unchanged g c some =
     let inside = c.self.inside in
-    ap (λ s. record { disk = inside.disk; state = s; size = inside.size; staged = c.accept.new.staging; reopen = inside.reopen }) c.in-Err.ensures.unchanged
+    ap (λ s. record { disk = inside.disk; state = s; size = inside.size; staged = (staged_of c.accept.new.state c.accept.new.staging); reopen = inside.reopen }) c.in-Err.ensures.unchanged
     ∙ ap (λ s. record { disk = inside.disk; state = inside.state; size = inside.size; staged = s; reopen = inside.reopen }) c.in-Err.ensures.unstaged
     ∙ c.self.view_is
 
@@ -73,14 +74,14 @@ invariant_of-self-in-Ok-append_store g c =
     let inside = c.self.inside in
     let bytes = c.as_bytes.result.now in
     let command = command_of c.args.command in
-    let longest = max inside.size (staged_length inside.staging) in
+    let longest = max inside.size (staged_length (staged_of inside.state inside.staging)) in
     let ok = subst (λ b. IsAccepted inside.state command c.accept.new.state longest b) (sym c.as_bytes.ensures.value) c.in-Ok.ensures.ok.0 in
-    let staged : c.accept.new.staging ≡ with_more bytes inside.staging = c.in-Ok.ensures.staged ∙ ap (λ b. with_more b inside.staging) (sym c.as_bytes.ensures.value) in
+    let staged : (staged_of c.accept.new.state c.accept.new.staging) ≡ with_more bytes (staged_of inside.state inside.staging) = c.in-Ok.ensures.staged ∙ ap (λ b. with_more b (staged_of inside.state inside.staging)) (sym c.as_bytes.ensures.value) in
     let long : c.len.result ≡ length bytes = search rules in
     let short = ok.short in (
       (omega (arith, short, long)),
       ok.kept,
-      subst (λ s. staged_length s ≤ store_limit) (sym staged) (length-more bytes inside.staging store_limit (omega (arith, short))),
+      subst (λ s. staged_length s ≤ store_limit) (sym staged) (length-more bytes (staged_of inside.state inside.staging) store_limit (omega (arith, short))),
       λ h on.
           (let held = c.self.invariant.3 h c.if-self.false in
           let new = c.append_store.new.disk in
@@ -88,10 +89,10 @@ invariant_of-self-in-Ok-append_store g c =
             subst (λ n. IsHeld (d.model.folder new) c.accept.new.state (inside.size + n) true) (sym long)
                 (append-held (d.model.folder inside.disk) (d.model.folder new) inside.state c.accept.new.state command inside.size longest inside.waits bytes held.0 (omega arith) ok (c.in-Ok-append_store.ensures.holds h (Some held.0.file) held.0.holds)),
             subst (λ s. IsStaging (d.model.folder new) c.accept.new.state s) (sym staged)
-                (staging-more (d.model.folder inside.disk) (d.model.folder new) inside.state c.accept.new.state command bytes inside.staging next ok.closes ok.reads ok.done held.1),
+                (staging-more (d.model.folder inside.disk) (d.model.folder new) inside.state c.accept.new.state command bytes (staged_of inside.state inside.staging) next ok.closes ok.reads ok.done held.1),
           )),
       omega (arith, c.self.invariant.4),
-      subst (λ s. inside.staged_base ≤ staged_length s) (sym staged) (length-least bytes inside.staging inside.staged_base c.self.invariant.5),
+      subst (λ s. inside.staged_base ≤ staged_length s) (sym staged) (length-least bytes (staged_of inside.state inside.staging) inside.staged_base c.self.invariant.5),
       λ h on.
           (let starts = c.self.invariant.6 h c.if-self.false in
           let new = c.append_store.new.disk in
@@ -99,8 +100,9 @@ invariant_of-self-in-Ok-append_store g c =
             subst (λ o. FileStartsWithBase o inside.base) (sym (ap (λ (image : Image). image.store) reads))
                 (file-more (bytes_under (d.model.folder inside.disk) Store) bytes inside.base starts.0),
             subst (λ s. StagedStartsWithBase (d.model.folder new) s inside.staged_base) (sym staged)
-                (staged-base-more (d.model.folder inside.disk) (d.model.folder new) bytes inside.staging inside.staged_base (ap (λ (image : Image). image.next) reads) starts.1),
+                (staged-base-more (d.model.folder inside.disk) (d.model.folder new) bytes (staged_of inside.state inside.staging) inside.staged_base (ap (λ (image : Image). image.next) reads) starts.1),
           )),
+      c.in-Ok.ensures.ready,
     )
 
 pub returns-in-Ok-append_store-clause-ok : goal.returns-in-Ok-append_store-clause-ok
@@ -109,12 +111,12 @@ returns-in-Ok-append_store-clause-ok g c =
     let command = command_of c.args.command in
     let ok = c.in-Ok.ensures.ok.0 in
     let long : c.len.result ≡ length (string_bytes c.in-Ok.accepted.0) = search rules in (
-      subst (λ (s : StoreView g.row.D.Denot). Accepts s command (record { disk = c.append_store.new.disk; state = c.accept.new.state; size = inside.size + c.len.result; staged = c.accept.new.staging; reopen = inside.reopen })) c.self.view_is
+      subst (λ (s : StoreView g.row.D.Denot). Accepts s command (record { disk = c.append_store.new.disk; state = c.accept.new.state; size = inside.size + c.len.result; staged = (staged_of c.accept.new.state c.accept.new.staging); reopen = inside.reopen })) c.self.view_is
           (record {
             step = ok.outcome;
             count = ok.count;
             size = ap (λ n. inside.size + n) (long ∙ ap length ok.is);
-            staged = c.in-Ok.ensures.staged ∙ ap (λ b. with_more b inside.staging) ok.is;
+            staged = c.in-Ok.ensures.staged ∙ ap (λ b. with_more b (staged_of inside.state inside.staging)) ok.is;
             reopen = c.if-self.false;
           }),
       c.in-Ok.ensures.ok.1,
@@ -137,9 +139,9 @@ returns-in-Ok-append_store-clause-stages g c h on =
     let command = command_of c.args.command in
     let new = d.model.folder c.append_store.new.disk in
     let record_ = next_record inside.state command in
-    let staged : c.accept.new.staging ≡ with_more record_ inside.staging = c.in-Ok.ensures.staged ∙ ap (λ b. with_more b inside.staging) c.in-Ok.ensures.ok.0.is in
-    subst (λ (s : StoreView g.row.D.Denot). staged_text new c.accept.new.staging ≡ file_with_bytes (staged_text (d.model.folder s.disk) s.staged) (next_record s.state command)) c.self.view_is
-    (ap (staged_text new) staged ∙ text-more (d.model.folder inside.disk) new record_ inside.staging (ap (λ (image : Image). image.next) (c.in-Ok-append_store.ensures.reads h)))
+    let staged : (staged_of c.accept.new.state c.accept.new.staging) ≡ with_more record_ (staged_of inside.state inside.staging) = c.in-Ok.ensures.staged ∙ ap (λ b. with_more b (staged_of inside.state inside.staging)) c.in-Ok.ensures.ok.0.is in
+    subst (λ (s : StoreView g.row.D.Denot). staged_text new (staged_of c.accept.new.state c.accept.new.staging) ≡ file_with_bytes (staged_text (d.model.folder s.disk) s.staged) (next_record s.state command)) c.self.view_is
+    (ap (staged_text new) staged ∙ text-more (d.model.folder inside.disk) new record_ (staged_of inside.state inside.staging) (ap (λ (image : Image). image.next) (c.in-Ok-append_store.ensures.reads h)))
 
 pub returns-in-Ok-append_store-clause-any_moment : goal.returns-in-Ok-append_store-clause-any_moment
 returns-in-Ok-append_store-clause-any_moment g c h on flushed since has =
@@ -147,7 +149,7 @@ returns-in-Ok-append_store-clause-any_moment g c h on flushed since has =
     let inside = c.self.inside in
     let bytes = c.as_bytes.result.now in
     let command = command_of c.args.command in
-    let longest = max inside.size (staged_length inside.staging) in
+    let longest = max inside.size (staged_length (staged_of inside.state inside.staging)) in
     let ok = subst (λ b. IsAccepted inside.state command c.accept.new.state longest b) (sym c.as_bytes.ensures.value) c.in-Ok.ensures.ok.0 in
     let held = c.self.invariant.3 h c.if-self.false in
     subst (λ (s : StoreView g.row.D.Denot). HasFlushed (d.model.folder s.disk) flushed since s.state → LeavesOnly d.model s.disk c.append_store.new.disk (λ image. AfterPrefix flushed since image.store ⊎ FileMeans image.store c.accept.new.state)) c.self.view_is
@@ -160,7 +162,7 @@ returns-in-Ok-append_store-clause-waits g c h on flushed since has =
     let inside = c.self.inside in
     let bytes = c.as_bytes.result.now in
     let command = command_of c.args.command in
-    let longest = max inside.size (staged_length inside.staging) in
+    let longest = max inside.size (staged_length (staged_of inside.state inside.staging)) in
     let ok = subst (λ b. IsAccepted inside.state command c.accept.new.state longest b) (sym c.as_bytes.ensures.value) c.in-Ok.ensures.ok.0 in
     let held = c.self.invariant.3 h c.if-self.false in
     append-flushed (d.model.folder inside.disk) (d.model.folder c.append_store.new.disk) inside.state c.accept.new.state command inside.size longest inside.waits bytes held.0 (omega arith) ok
@@ -191,7 +193,7 @@ returns-clause-any_moment g c h on flushed since has =
     let inside = c.self.inside in
     let bytes = c.as_bytes.result.now in
     let command = command_of c.args.command in
-    let longest = max inside.size (staged_length inside.staging) in
+    let longest = max inside.size (staged_length (staged_of inside.state inside.staging)) in
     let ok = subst (λ b. IsAccepted inside.state command c.accept.new.state longest b) (sym c.as_bytes.ensures.value) c.in-Ok.ensures.ok.0 in
     let held = c.self.invariant.3 h c.if-self.false in
     subst (λ (s : StoreView g.row.D.Denot). HasFlushed (d.model.folder s.disk) flushed since s.state → LeavesOnly d.model s.disk c.append_store.new.disk (λ image. AfterPrefix flushed since image.store ⊎ FileMeans image.store c.accept.new.state)) c.self.view_is
