@@ -1,8 +1,8 @@
 -- A command with conditions: it is as it is without them, or it is refused and changes nothing.
-use Rattle.std.proofs.Common.{◌≡◌, ◌≢◌, ◌⊎◌, inl, inr, ⊎_elim, refl, sym, ap, subst, ◌∙◌, ◌≤◌}
+use Rattle.std.proofs.Common.{◌≡◌, ◌≢◌, inl, inr, refl, sym, ap, subst, ◌∙◌, ◌≤◌}
 use Rattle.std.proofs.lemmas.Bool.{false≢true}
 use Rattle.std.proofs.lemmas.List.{append-nil}
-use Rattle.std.specs.Prelude.{ℕ, Bool, true, false, if◌then◌else◌, List, [], ◌∷◌, ◌++◌, length, Option, Some, None, Result, Ok, Err, IfOk, IfErr, is_ok}
+use Rattle.std.specs.Prelude.{ℕ, true, false, if◌then◌else◌, List, [], ◌∷◌, ◌++◌, length, Option, Some, None, Result, Ok, Err, IfOk, IfErr, is_ok}
 use Rattle.std.specs.Str.{chars, IsUtf8}
 use Rattle.yaml_events.specs.declared.read_fault.ReadFault.{ReadFault}
 use Rattle.yaml_events.specs.declared.read_fault.ReadFault.TheVariants as read_faults
@@ -30,14 +30,14 @@ use Rattle.conf_session.specs.declared.reply.Reply.TheVariants.{Refused}
 use Rattle.conf_session.specs.declared.words.Refusal.{Refusal}
 use Rattle.conf_session.specs.Said.{import_text, single_part}
 use Rattle.conf_session.specs.Requests.{Request, MeansRequest, changing, unread, if_met}
-use Rattle.conf_session.specs.Answers.{Stored, answer, answer_limit, document_bytes, refusal, word, answered, read_answered, condition_answered, refused_answer, unless_failed, stored_after, file_after, staged_after, accepted_command, refused_of, syncs, flushed_after, waiting_after}
-use Rattle.conf_session.specs.Conditional.{AreAlike, OnlyRefuses, RefusesFirst, IsGuarded, ConditionsGuard}
+use Rattle.conf_session.specs.Answers.{Stored, answer, answer_limit, document_bytes, answered, read_answered, condition_answered, refused_answer, unless_failed, stored_after, file_after, staged_after, accepted_command, refused_of, syncs, flushed_after, waiting_after}
+use Rattle.conf_session.specs.Conditional.{RefusesFirst, IsGuarded, ConditionsGuard}
 use Rattle.conf_session.specs.ReadChanges.{IsRequest, EndsByMemory, ReadsAsked, IfMet}
-use Rattle.conf_session.specs.Replies.{Did, DidAsked, Handles, LeavesPrefixes, MeansPrefixes, Performs, Replies, refused_as, unmet_after, unmet_as}
+use Rattle.conf_session.specs.Replies.{DidAsked, Handles, MeansPrefixes, Performs, Replies, refused_as, unmet_after, unmet_as}
 use Rattle.conf_session.specs.Runs.{stored_of}
 use Rattle.conf_session.proofs.AnsweredLemmas.{condition-told}
 use Rattle.conf_session.proofs.LengthLemmas.{refused-short}
-use Rattle.conf_session.proofs.RefusalLemmas.{OnlyMemory, path-memory, read-memory, text-memory}
+use Rattle.conf_session.proofs.RefusalLemmas.{OnlyMemory, path-memory, text-memory}
 use Rattle.conf_session.proofs.RequestLemmas.{unchanged, handles-none, handles-same, text-given, text-refused}
 
 -- ---- where no condition fails
@@ -61,18 +61,18 @@ module _ (now : Stored) (conditions : List Condition) (request : Request) (none 
   met-refused : refused_of now (if_met conditions request) ≡ refused_of now request
   met-refused = ap (λ o. unless_failed o (refused_of now request) (λ f. 1)) none
 
-  met-syncs : (at_once : Bool) → syncs at_once now (if_met conditions request) ≡ syncs at_once now request
-  met-syncs at_once = ap (λ o. unless_failed o (syncs at_once now request) (λ f. false)) none
+  met-syncs : syncs false now (if_met conditions request) ≡ syncs false now request
+  met-syncs = ap (λ o. unless_failed o (syncs false now request) (λ f. false)) none
 
-  met-flushed : (at_once : Bool) (flushed : Contents) → flushed_after at_once now flushed (if_met conditions request ∷ []) ≡ flushed_after at_once now flushed (request ∷ [])
-  met-flushed at_once flushed =
-      ap (λ b. if b then (stored_after now (if_met conditions request)).state else flushed) (met-syncs at_once)
-      ∙ ap (λ (t : Stored). if syncs at_once now request then t.state else flushed) met-stored
+  met-flushed : (flushed : Contents) → flushed_after false now flushed (if_met conditions request ∷ []) ≡ flushed_after false now flushed (request ∷ [])
+  met-flushed flushed =
+      ap (λ b. if b then (stored_after now (if_met conditions request)).state else flushed) (met-syncs)
+      ∙ ap (λ (t : Stored). if syncs false now request then t.state else flushed) met-stored
 
-  met-waiting : (at_once : Bool) (waiting : List Command) → waiting_after at_once now waiting (if_met conditions request ∷ []) ≡ waiting_after at_once now waiting (request ∷ [])
-  met-waiting at_once waiting =
-      ap (λ b. if b then [] else waiting ++ accepted_command now (if_met conditions request)) (met-syncs at_once)
-      ∙ ap (λ cs. if syncs at_once now request then [] else waiting ++ cs) met-accepted
+  met-waiting : (waiting : List Command) → waiting_after false now waiting (if_met conditions request ∷ []) ≡ waiting_after false now waiting (request ∷ [])
+  met-waiting waiting =
+      ap (λ b. if b then [] else waiting ++ accepted_command now (if_met conditions request)) (met-syncs)
+      ∙ ap (λ cs. if syncs false now request then [] else waiting ++ cs) met-accepted
 
   met-replies : (reply : Reply) → Replies now request reply → Replies now (if_met conditions request) reply
   met-replies reply r = record {
@@ -103,15 +103,15 @@ module _ (now : Stored) (conditions : List Condition) (request : Request) (f : C
   unmet-refused : refused_of now (if_met conditions request) ≡ 1
   unmet-refused = ap (λ o. unless_failed o (refused_of now request) (λ g. 1)) some
 
-  unmet-syncs : (at_once : Bool) → syncs at_once now (if_met conditions request) ≡ false
-  unmet-syncs at_once = ap (λ o. unless_failed o (syncs at_once now request) (λ g. false)) some
+  unmet-syncs : syncs false now (if_met conditions request) ≡ false
+  unmet-syncs = ap (λ o. unless_failed o (syncs false now request) (λ g. false)) some
 
-  unmet-flushed : (at_once : Bool) (flushed : Contents) → flushed_after at_once now flushed (if_met conditions request ∷ []) ≡ flushed
-  unmet-flushed at_once flushed = ap (λ b. if b then (stored_after now (if_met conditions request)).state else flushed) (unmet-syncs at_once)
+  unmet-flushed : (flushed : Contents) → flushed_after false now flushed (if_met conditions request ∷ []) ≡ flushed
+  unmet-flushed flushed = ap (λ b. if b then (stored_after now (if_met conditions request)).state else flushed) (unmet-syncs)
 
-  unmet-waiting : (at_once : Bool) (waiting : List Command) → waiting_after at_once now waiting (if_met conditions request ∷ []) ≡ waiting
-  unmet-waiting at_once waiting =
-      ap (λ b. if b then [] else waiting ++ accepted_command now (if_met conditions request)) (unmet-syncs at_once)
+  unmet-waiting : (waiting : List Command) → waiting_after false now waiting (if_met conditions request ∷ []) ≡ waiting
+  unmet-waiting waiting =
+      ap (λ b. if b then [] else waiting ++ accepted_command now (if_met conditions request)) (unmet-syncs)
       ∙ ap (λ cs. waiting ++ cs) unmet-accepted ∙ append-nil waiting
 
   unmet-replies : (reason : Refusal) → condition_answered f ≡ Ok reason → Replies now (if_met conditions request) (Refused reason)
@@ -165,9 +165,9 @@ condition-memory condition.BadName = tt
 condition-memory (condition.Path why) = path-memory why
 condition-memory condition.OutOfMemory = refl
 
-module _ (at_once : Bool) {D : Type 0} (model : DiskModel D) where
-  met-performs : (old new : StoreView D) (conditions : List Condition) (request : Request) → first_fault old.state conditions ≡ None → Performs at_once model old new request
-      → Performs at_once model old new (if_met conditions request)
+module _ {D : Type 0} (model : DiskModel D) where
+  met-performs : (old new : StoreView D) (conditions : List Condition) (request : Request) → first_fault old.state conditions ≡ None → Performs false model old new request
+      → Performs false model old new (if_met conditions request)
   met-performs old new conditions request none p =
       let now = stored_of old in
       let same = met-stored now conditions request none in
@@ -179,13 +179,13 @@ module _ (at_once : Bool) {D : Type 0} (model : DiskModel D) where
         any_moment = λ h flushed waiting has.
             subst (λ cs. LeavesOnly model old.disk new.disk (λ image. AfterPrefix flushed (waiting ++ cs) image.store)) (sym (met-accepted now conditions request none)) (p.any_moment h flushed waiting has);
         waits = λ h on flushed waiting has.
-            subst (λ s. HasFlushed (model.folder new.disk) s (waiting_after at_once now waiting (if_met conditions request ∷ [])) new.state) (sym (met-flushed now conditions request none at_once flushed))
-            (subst (λ cs. HasFlushed (model.folder new.disk) (flushed_after at_once now flushed (request ∷ [])) cs new.state) (sym (met-waiting now conditions request none at_once waiting))
+            subst (λ s. HasFlushed (model.folder new.disk) s (waiting_after false now waiting (if_met conditions request ∷ [])) new.state) (sym (met-flushed now conditions request none flushed))
+            (subst (λ cs. HasFlushed (model.folder new.disk) (flushed_after false now flushed (request ∷ [])) cs new.state) (sym (met-waiting now conditions request none waiting))
             (p.waits h on flushed waiting has));
       }
 
   did-met : (old new : StoreView D) (conditions : List Condition) (A : Request → Type 0) → first_fault old.state conditions ≡ None → (r : Result Reply SessionFault)
-      → DidAsked at_once model old new A r → DidAsked at_once model old new (IfMet conditions A) r
+      → DidAsked model old new A r → DidAsked model old new (IfMet conditions A) r
   did-met old new conditions A none (Ok reply) did =
       (if_met conditions did.0, (did.0, did.1, refl), (met-replies (stored_of old) conditions did.0 none reply did.2.0, did.2.1, met-performs old new conditions did.0 none did.2.2))
   did-met old new conditions A none (Err fault.Device) did = (if_met conditions did.0, (did.0, did.1, refl), (did.2.0, met-performs old new conditions did.0 none did.2.1))
@@ -198,12 +198,12 @@ module _ (at_once : Bool) {D : Type 0} (model : DiskModel D) where
 
   -- no condition failed, and the request was handled
   pub handles-met : (old new : StoreView D) (conditions : List Condition) (A : Request → Type 0) → first_fault old.state conditions ≡ None → (r : Result Reply SessionFault)
-      → Handles at_once model old new A r → Handles at_once model old new (IfMet conditions A) r
-  handles-met old new conditions A none r h = record { did = λ off. did-met old new conditions A none r (h.did off); failures = h.failures; means = h.means }
+      → Handles model old new A r → Handles model old new (IfMet conditions A) r
+  handles-met old new conditions A none r h = record { did = λ off. did-met old new conditions A none r (h.did off); failures = h.failures }
 
   module _ (store : StoreView D) (means : MeansPrefixes model store) (only : (image : Image) → model.honest → model.left store.disk (model.moment store.disk) image → IsImage (model.folder store.disk) image)
       (conditions : List Condition) where
-    unmet-performs : (request : Request) (f : ConditionFault) → first_fault store.state conditions ≡ Some f → store.reopen ≡ false → Performs at_once model store store (if_met conditions request)
+    unmet-performs : (request : Request) (f : ConditionFault) → first_fault store.state conditions ≡ Some f → store.reopen ≡ false → Performs false model store store (if_met conditions request)
     unmet-performs request f some off =
         let now = stored_of store in
         let same = unmet-stored now conditions request f some in
@@ -212,34 +212,34 @@ module _ (at_once : Bool) {D : Type 0} (model : DiskModel D) where
           stored = λ on. sym same;
           reads = λ h on. sym (unmet-file now conditions request f some (bytes_under (model.folder store.disk) Store));
           stages = λ h on. sym (unmet-staged now conditions request f some (staged_text (model.folder store.disk) store.staged));
-          any_moment = unchanged at_once model store off (accepted_command now (if_met conditions request)) only means;
+          any_moment = unchanged model store off (accepted_command now (if_met conditions request)) only means;
           waits = λ h on flushed waiting has.
-              subst (λ s. HasFlushed (model.folder store.disk) s (waiting_after at_once now waiting (if_met conditions request ∷ [])) store.state) (sym (unmet-flushed now conditions request f some at_once flushed))
-              (subst (λ cs. HasFlushed (model.folder store.disk) flushed cs store.state) (sym (unmet-waiting now conditions request f some at_once waiting)) has);
+              subst (λ s. HasFlushed (model.folder store.disk) s (waiting_after false now waiting (if_met conditions request ∷ [])) store.state) (sym (unmet-flushed now conditions request f some flushed))
+              (subst (λ cs. HasFlushed (model.folder store.disk) flushed cs store.state) (sym (unmet-waiting now conditions request f some waiting)) has);
         }
 
     -- a condition failed
     handles-unmet : (A : Request → Type 0) (request : Request) → A request → (f : ConditionFault) → (f ≢ condition.OutOfMemory → first_fault store.state conditions ≡ Some f)
-        → Handles at_once model store store (IfMet conditions A) (refused_as (condition_answered f))
+        → Handles model store store (IfMet conditions A) (refused_as (condition_answered f))
     handles-unmet A request asks f some = by (condition_answered f) refl (condition-memory f)
       where
-        by : (r : Result Refusal SessionFault) → condition_answered f ≡ r → OnlyMemory r → Handles at_once model store store (IfMet conditions A) (refused_as r)
+        by : (r : Result Refusal SessionFault) → condition_answered f ≡ r → OnlyMemory r → Handles model store store (IfMet conditions A) (refused_as r)
         by (Ok reason) is memory =
             let first : first_fault store.state conditions ≡ Some f = some (λ same. let never : (◌≡◌ {A = Result Refusal SessionFault} (Err fault.OutOfMemory) (Ok reason)) = sym (ap condition_answered same) ∙ is in cc never) in
-            handles-same at_once model store means (IfMet conditions A) (Ok (Refused reason)) tt
+            handles-same model store (IfMet conditions A) (Ok (Refused reason)) tt
             (λ off. (if_met conditions request, (request, asks, refl), (unmet-replies (stored_of store) conditions request f first reason is, off, unmet-performs request f first off)))
-        by (Err end) is memory = subst (λ (e : SessionFault). Handles at_once model store store (IfMet conditions A) (Err e)) (sym memory) (handles-none at_once model store means (IfMet conditions A))
+        by (Err end) is memory = subst (λ (e : SessionFault). Handles model store store (IfMet conditions A) (Err e)) (sym memory) (handles-none model store (IfMet conditions A))
 
     -- the same of a command whose texts were read
     pub handles-unmet-read : (read : Result code.Command StoreFault) → EndsByMemory read → (f : ConditionFault) → (f ≢ condition.OutOfMemory → first_fault store.state conditions ≡ Some f)
-        → Handles at_once model store store (IfMet conditions (IsRequest read)) (unmet_as read f)
+        → Handles model store store (IfMet conditions (IsRequest read)) (unmet_as read f)
     handles-unmet-read (Ok command) memory f some = handles-unmet (IsRequest (Ok command)) (changing (command_of command)) refl f some
     handles-unmet-read (Err why) memory f some = by (answered why) refl memory
       where
-        by : (r : Result Refusal SessionFault) → answered why ≡ r → OnlyMemory r → Handles at_once model store store (IfMet conditions (IsRequest (Err why))) (unmet_after r (refused_as (condition_answered f)))
+        by : (r : Result Refusal SessionFault) → answered why ≡ r → OnlyMemory r → Handles model store store (IfMet conditions (IsRequest (Err why))) (unmet_after r (refused_as (condition_answered f)))
         by (Ok reason) is memory = handles-unmet (IsRequest (Err why)) (unread why) (refl, ap is_ok is) f some
-        by (Err end) is memory = subst (λ (e : SessionFault). Handles at_once model store store (IfMet conditions (IsRequest (Err why))) (Err e)) (sym memory)
-            (handles-none at_once model store means (IfMet conditions (IsRequest (Err why))))
+        by (Err end) is memory = subst (λ (e : SessionFault). Handles model store store (IfMet conditions (IsRequest (Err why))) (Err e)) (sym memory)
+            (handles-none model store (IfMet conditions (IsRequest (Err why))))
 
 -- ---- texts that are read before
 

@@ -28,15 +28,18 @@ use Rattle.conf_session.specs.Input.{ahead, piece_or_rest, AdvancesAhead, Advanc
 use Rattle.conf_session.specs.Requests.{Request, Asks}
 use Rattle.conf_session.specs.Answers.{Stored, answer_bytes, output, stored_after_all, accepted_command, accepted_commands, refused_of, flushed_after, waiting_after}
 use Rattle.conf_session.specs.Runs.{TakesUp, stored_of}
-use Rattle.conf_session.specs.Groups.{all_asked}
+use Rattle.conf_session.specs.Groups.{Files, all_asked}
 use Rattle.conf_session.specs.Replies.{DidAsked, MeansPrefixes, Performs, PerformsAll, reply_bytes}
 use Rattle.conf_session.specs.declared.input.Input.{Input}
 use Rattle.conf_session.specs.declared.reply.Reply.{Reply}
 use Rattle.conf_session.specs.declared.unwritten.Unwritten.{Unwritten}
 use Rattle.conf_session.specs.declared.fault.SessionFault.{SessionFault}
 use Rattle.conf_session.specs.declared.fault.SessionFault.TheVariants as fault
-use Rattle.conf_session.specs.Gathering.{answers_limit, last_bytes, unwritten_bytes, HasRoomFor, KeepsAnswer, KeepsAnswers, GathersPiece, LeavesPiece, IsAtPiece, GathersPieces, PerformsTurns, PerformsFlushed, BreaksOff, StopsShort, FlushesAll, SubmitsGroup, EndsGroup, WritesAnswers, CutsAnswers, CutsSending, FailsToWrite, SendsAnswers, PassesGroup, CutsGroup, PerformsGroup, PerformsPiece}
+use Rattle.conf_session.specs.Gathering.{answers_limit, last_bytes, unwritten_bytes, CanTakeGroup, HasRoomFor, KeepsAnswer, KeepsAnswers, GathersPiece, LeavesPiece, GathersPieces, PerformsTurns, PerformsFlushed, BreaksOff, StopsShort, FlushesAll, SubmitsGroup, EndsGroup, WritesAnswers, CutsAnswers, CutsSending, FailsToWrite, SendsAnswers, PassesGroup, CutsGroup, PerformsGroup, PerformsPiece}
 use Rattle.conf_session.proofs.PassedLemmas.{few-accepted, few-refused, continues, prefix-whole, pieces-last, performs-none, performs-more, state-more, moments-more, accepted_commands-last, output-last, refusals-last}
+use Rattle.conf_session.specs.Sinks.{AreAcknowledged, SentSoFar}
+use Rattle.conf_session.proofs.RequestLemmas.{leaves-same}
+use Rattle.conf_session.proofs.SinkLemmas.{kept-acknowledged}
 use Rattle.conf_session.proofs.TurnLemmas.{asked-stored, asked-accepted, files-asked}
 
 -- ---- pieces that are taken up
@@ -139,15 +142,15 @@ room-written held written before after left total room writes =
 
 module _ {D : Type 0} (model : DiskModel D) where
   -- a piece with an answer
-  pub gathers : (at_once : Bool) (old new : StoreView D) (piece : List ℕ) (before after : Unwritten) (reply : Reply) → DidAsked at_once model old new (Asks piece) (Ok reply) → KeepsAnswer before after reply
-      → GathersPiece at_once model old new piece before after
-  gathers at_once old new piece before after reply did keeps =
+  pub gathers : (old new : StoreView D) (piece : List ℕ) (before after : Unwritten) (reply : Reply) → DidAsked model old new (Asks piece) (Ok reply) → KeepsAnswer before after reply
+      → GathersPiece model old new piece before after
+  gathers old new piece before after reply did keeps =
       record { request = did.0; asks = did.1; sound = did.2.1; performs = did.2.2; reply = reply; replies = did.2.0; keeps = keeps }
 
   -- one answer more is kept
-  pub keeps-more : (at_once : Bool) (old now new : StoreView D) (piece : List ℕ) (before mid after : Unwritten) (rs : List Request) → stored_of now ≡ stored_after_all (stored_of old) rs
-      → KeepsAnswers (stored_of old) rs before mid → (one : GathersPiece at_once model now new piece mid after) → KeepsAnswers (stored_of old) (rs ++ one.request ∷ []) before after
-  keeps-more at_once old now new piece before mid after rs here kept one =
+  pub keeps-more : (old now new : StoreView D) (piece : List ℕ) (before mid after : Unwritten) (rs : List Request) → stored_of now ≡ stored_after_all (stored_of old) rs
+      → KeepsAnswers (stored_of old) rs before mid → (one : GathersPiece model now new piece mid after) → KeepsAnswers (stored_of old) (rs ++ one.request ∷ []) before after
+  keeps-more old now new piece before mid after rs here kept one =
       let start = stored_of old in
       let r = one.request in
       let all : output start (rs ++ r ∷ []) ≡ output start rs ++ answer_bytes (stored_of now) r =
@@ -182,12 +185,12 @@ module _ {D : Type 0} (model : DiskModel D) where
   module _ (bytes piece rest : List ℕ) (old now : StoreView D) (before mid : Unwritten) (s : GathersPieces (PerformsAll false model) bytes (piece ++ rest) old now before mid)
       (closes : ClosesOnce piece) (short : length piece ≤ piece_limit) (new : StoreView D) where
     -- the next piece is performed
-    pub submits-more : (after : Unwritten) → GathersPiece false model now new piece mid after → GathersPieces (PerformsAll false model) bytes rest old new before after
+    pub submits-more : (after : Unwritten) → GathersPiece model now new piece mid after → GathersPieces (PerformsAll false model) bytes rest old new before after
     submits-more after one = record {
       requests = s.requests ++ one.request ∷ [];
       takes = takes-more bytes piece rest s.requests one.request s.takes closes short one.asks;
       performs = performs-more false model old now new s.requests one.request s.performs one.performs one.sound;
-      keeps = keeps-more false old now new piece before mid after s.requests s.performs.stored s.keeps one;
+      keeps = keeps-more old now new piece before mid after s.requests s.performs.stored s.keeps one;
     }
 
     -- the device fails at the next piece
@@ -203,7 +206,7 @@ module _ {D : Type 0} (model : DiskModel D) where
 
   -- the next piece has no answer
   pub submits-failing : (bytes piece rest : List ℕ) (old now new : StoreView D) (before mid after : Unwritten) → GathersPieces (PerformsAll false model) bytes (piece ++ rest) old now before mid
-      → ClosesOnce piece → length piece ≤ piece_limit → after ≡ mid → (f : SessionFault) → LeavesPiece false model now new piece f
+      → ClosesOnce piece → length piece ≤ piece_limit → after ≡ mid → (f : SessionFault) → LeavesPiece model now new piece f
       → (input : Input) → SubmitsGroup model bytes input old new before after (Err f)
   submits-failing bytes piece rest old now new before mid after s closes short same fault.OutOfMemory fails input = (
     piece ++ rest,
@@ -219,9 +222,9 @@ module _ {D : Type 0} (model : DiskModel D) where
   submits-failing bytes piece rest old now new before mid after s closes short same (fault.Write written) fails input = absurd fails
 
   -- one answer more has room
-  pub room-more : (at_once : Bool) (old new : StoreView D) (piece rest : List ℕ) (before after : Unwritten) (total : ℕ) → ClosesOnce piece → HasRoomFor before (length (piece ++ rest)) total
-      → GathersPiece at_once model old new piece before after → HasRoomFor after (length rest) total
-  room-more at_once old new piece rest before after total closes room one =
+  pub room-more : (old new : StoreView D) (piece rest : List ℕ) (before after : Unwritten) (total : ℕ) → ClosesOnce piece → HasRoomFor before (length (piece ++ rest)) total
+      → GathersPiece model old new piece before after → HasRoomFor after (length rest) total
+  room-more old new piece rest before after total closes room one =
       let keeps = one.keeps in
       record {
         within = keeps.within;
@@ -360,6 +363,11 @@ module _ {D : Type 0} (model : DiskModel D) where
 
   -- ---- the write
 
+  -- the answers of a group that is flushed may be handed out
+  pub group-acknowledged : (held : Option (List ℕ)) (bytes further : List ℕ) (old new : StoreView D) (before mid : Unwritten) → SentSoFar model held old → unwritten_bytes before ≡ []
+      → GathersPieces (PerformsFlushed model) bytes further old new before mid → AreAcknowledged model held new (unwritten_bytes mid)
+  group-acknowledged held bytes further old new before mid sent none s = kept-acknowledged model held old new s.requests before mid sent none s.keeps s.performs
+
   module _ (held written : Option (List ℕ)) (bytes further : List ℕ) (old new : StoreView D) (before mid : Unwritten) (none : unwritten_bytes before ≡ [])
       (s : GathersPieces (PerformsFlushed model) bytes further old new before mid) where
     pub passes : (after : Unwritten) → WritesAnswers held written mid after → PassesGroup model held written bytes further old new before after
@@ -397,50 +405,132 @@ module _ {D : Type 0} (model : DiskModel D) where
 
   -- ---- a piece that is a group by itself
 
-  module _ (held : Option (List ℕ)) (input : Input) (old new : StoreView D) (before : Unwritten) (at : IsAtPiece input) where
+  -- a request that is flushed is performed with all that waits
+  performs-each : (old new : StoreView D) (r : Request) → PerformsFlushed model old new (r ∷ []) → Performs true model old new r
+  performs-each old new r p = record {
+    state = ap (λ (t : Stored). t.state) p.stored;
+    stored = λ on. p.stored;
+    reads = λ h on. ap (λ (f : Files). f.store) (p.files h);
+    stages = λ h on. ap (λ (f : Files). f.staged) (p.files h);
+    any_moment = λ h flushed waiting has.
+        subst (λ (l : List Command). LeavesOnly model old.disk new.disk (λ image. AfterPrefix flushed (waiting ++ l) image.store)) (append-nil (accepted_command (stored_of old) r)) (p.any_moment h flushed waiting has);
+    waits = λ h on flushed waiting has. subst (λ (s : Contents). HasFlushed (model.folder new.disk) s [] new.state) (ap (λ (t : Stored). t.state) p.stored) (p.flushed h);
+  }
+
+  -- the device failed in a request
+  performs-broken-off : (old new : StoreView D) (r : Request) → new.reopen ≡ true → new.state ≡ (stored_after_all (stored_of old) (r ∷ [])).state
+      → (model.honest → (flushed : Contents) (waiting : List Command) → HasFlushed (model.folder old.disk) flushed waiting old.state
+      → LeavesOnly model old.disk new.disk (λ image. AfterPrefix flushed (waiting ++ accepted_command (stored_of old) r) image.store))
+      → Performs true model old new r
+  performs-broken-off old new r broken state run = record {
+    state = state;
+    stored = λ on. absurd (cc (on, broken));
+    reads = λ h on. absurd (cc (on, broken));
+    stages = λ h on. absurd (cc (on, broken));
+    any_moment = run;
+    waits = λ h on. absurd (cc (on, broken));
+  }
+
+  -- unless the device failed, nothing was changed
+  pub left-means : (old new : StoreView D) (piece : List ℕ) (f : SessionFault) → LeavesPiece model old new piece f → MeansPrefixes model old → MeansPrefixes model new
+  left-means old new piece fault.OutOfMemory same means = leaves-same model old new same means
+  left-means old new piece fault.Device did means = λ h on. absurd (cc (on, did.2.0))
+  left-means old new piece fault.Read did means = absurd did
+  left-means old new piece fault.TooLong did means = absurd did
+  left-means old new piece fault.SessionLong did means = absurd did
+  left-means old new piece fault.Reopen did means = absurd did
+  left-means old new piece (fault.Write written) did means = absurd did
+
+  -- a flush that fails tells so
+  pub flush-broken : (old new : StoreView D) (f : SessionFault) → FlushesAll model old new (Err f) → new.reopen ≡ true
+  flush-broken old new fault.Device stops = stops.broken
+  flush-broken old new fault.OutOfMemory stops = absurd stops
+  flush-broken old new fault.Read stops = absurd stops
+  flush-broken old new fault.TooLong stops = absurd stops
+  flush-broken old new fault.SessionLong stops = absurd stops
+  flush-broken old new fault.Reopen stops = absurd stops
+  flush-broken old new (fault.Write written) stops = absurd stops
+
+  module _ (held : Option (List ℕ)) (input : Input) (old : StoreView D) (before : Unwritten) (can : CanTakeGroup model old input before)
+      (only : (image : Image) → model.honest → model.left old.disk (model.moment old.disk) image → IsImage (model.folder old.disk) image) where
     abbrev all : List ℕ
     all = piece_or_rest input ++ ahead input
 
     takes-one : (r : Request) → Asks (piece_or_rest input) r → TakesUp all (ahead input) (r ∷ [])
-    takes-one r asks = takes-more all (piece_or_rest input) (ahead input) [] r (takes-none all) at.piece at.short asks
+    takes-one r asks = takes-more all (piece_or_rest input) (ahead input) [] r (takes-none all) can.piece.piece can.piece.short asks
 
     -- it is performed, and its answer is kept
-    module _ (mid : Unwritten) (none : unwritten_bytes before ≡ []) (within : length before.text.items ≤ answers_limit) (one : GathersPiece true model old new (piece_or_rest input) before mid) where
-      keeps-one : KeepsAnswers (stored_of old) (one.request ∷ []) before mid
-      keeps-one = keeps-more true old old new (piece_or_rest input) before before mid [] refl (keeps-none (stored_of old) before within) one
+    module _ (mid : Unwritten) (none : unwritten_bytes before ≡ []) (now : StoreView D) (one : GathersPiece model old now (piece_or_rest input) before mid) where
+      submitted : PerformsAll false model old now (one.request ∷ [])
+      submitted = performs-more false model old old now [] one.request (performs-none false model old can.sound only can.means) one.performs one.sound
 
-      pub piece-writing : (written : Option (List ℕ)) (after : Unwritten) (r : Result (Unit {0}) SessionFault) → OnOk r (WritesAnswers held written mid after) → IfErr r (FailsToWrite held written mid)
-          → PerformsPiece model held written input old new before after r
-      piece-writing written after (Ok done) writes fails = (
-        none-kept held written mid after writes,
-        writes.none,
+      keeps-one : KeepsAnswers (stored_of old) (one.request ∷ []) before mid
+      keeps-one = keeps-more old old now (piece_or_rest input) before before mid [] refl (keeps-none (stored_of old) before can.room.within) one
+
+      -- but it is not flushed
+      pub piece-unflushed : (new : StoreView D) (after : Unwritten) (f : SessionFault) → FlushesAll model now new (Err f) → PerformsPiece model held held input old new before after (Err f)
+      piece-unflushed new after fault.Device stops = (
         one.request,
-        one.sound,
-        one.performs,
-        sends held written all (ahead input) (stored_of old) (one.request ∷ []) before mid none (takes-one one.request one.asks) keeps-one after writes,
+        stops.broken,
+        performs-broken-off old new one.request stops.broken (flush-state old now new (one.request ∷ []) submitted stops)
+            (λ h flushed waiting has. subst (λ (l : List Command). LeavesOnly model old.disk new.disk (λ image. AfterPrefix flushed (waiting ++ l) image.store)) (append-nil (accepted_command (stored_of old) one.request))
+            (flush-moments old now new (one.request ∷ []) submitted stops.any_moment h flushed waiting has)),
+        takes-one one.request one.asks,
+        Keeps-refl held,
       )
-      piece-writing written after (Err (fault.Write total)) writes fails = (
-        one.request,
-        one.sound,
-        one.performs,
-        cuts-sending held written all (ahead input) (stored_of old) (one.request ∷ []) before mid none (takes-one one.request one.asks) keeps-one total fails,
-      )
-      piece-writing written after (Err fault.Read) writes fails = absurd fails
-      piece-writing written after (Err fault.TooLong) writes fails = absurd fails
-      piece-writing written after (Err fault.SessionLong) writes fails = absurd fails
-      piece-writing written after (Err fault.OutOfMemory) writes fails = absurd fails
-      piece-writing written after (Err fault.Device) writes fails = absurd fails
-      piece-writing written after (Err fault.Reopen) writes fails = absurd fails
+      piece-unflushed new after fault.OutOfMemory stops = absurd stops
+      piece-unflushed new after fault.Read stops = absurd stops
+      piece-unflushed new after fault.TooLong stops = absurd stops
+      piece-unflushed new after fault.SessionLong stops = absurd stops
+      piece-unflushed new after fault.Reopen stops = absurd stops
+      piece-unflushed new after (fault.Write written) stops = absurd stops
+
+      -- and it is flushed
+      module _ (new : StoreView D) (flush : PerformsTurns model now new []) where
+        flushed-one : PerformsFlushed model old new (one.request ∷ [])
+        flushed-one = all-flushed old now new (one.request ∷ []) submitted flush
+
+        pub piece-acknowledged : SentSoFar model held old → AreAcknowledged model held new (unwritten_bytes mid)
+        piece-acknowledged sent = kept-acknowledged model held old new (one.request ∷ []) before mid sent none keeps-one flushed-one
+
+        pub piece-putting : (written : Option (List ℕ)) (after : Unwritten) (r : Result (Unit {0}) SessionFault) → OnOk r (WritesAnswers held written mid after) → IfErr r (FailsToWrite held written mid)
+            → PerformsPiece model held written input old new before after r
+        piece-putting written after (Ok done) writes fails = (
+          none-kept held written mid after writes,
+          writes.none,
+          one.request,
+          flush.sound,
+          performs-each old new one.request flushed-one,
+          sends held written all (ahead input) (stored_of old) (one.request ∷ []) before mid none (takes-one one.request one.asks) keeps-one after writes,
+        )
+        piece-putting written after (Err (fault.Write total)) writes fails = (
+          one.request,
+          flush.sound,
+          performs-each old new one.request flushed-one,
+          cuts-sending held written all (ahead input) (stored_of old) (one.request ∷ []) before mid none (takes-one one.request one.asks) keeps-one total fails,
+        )
+        piece-putting written after (Err fault.Read) writes fails = absurd fails
+        piece-putting written after (Err fault.TooLong) writes fails = absurd fails
+        piece-putting written after (Err fault.SessionLong) writes fails = absurd fails
+        piece-putting written after (Err fault.OutOfMemory) writes fails = absurd fails
+        piece-putting written after (Err fault.Device) writes fails = absurd fails
+        piece-putting written after (Err fault.Reopen) writes fails = absurd fails
 
     -- it has no answer
-    pub piece-left : (after : Unwritten) (f : SessionFault) → LeavesPiece true model old new (piece_or_rest input) f → PerformsPiece model held held input old new before after (Err f)
-    piece-left after fault.OutOfMemory did = (did, Keeps-refl held)
-    piece-left after fault.Device did = (did.0, did.2.0, did.2.1, takes-one did.0 did.1, Keeps-refl held)
-    piece-left after fault.Read did = absurd did
-    piece-left after fault.TooLong did = absurd did
-    piece-left after fault.SessionLong did = absurd did
-    piece-left after fault.Reopen did = absurd did
-    piece-left after (fault.Write written) did = absurd did
+    pub piece-left : (new : StoreView D) (after : Unwritten) (f : SessionFault) → LeavesPiece model old new (piece_or_rest input) f → PerformsPiece model held held input old new before after (Err f)
+    piece-left new after fault.OutOfMemory did = (did, Keeps-refl held)
+    piece-left new after fault.Device did = (
+      did.0,
+      did.2.0,
+      performs-broken-off old new did.0 did.2.0 did.2.1.state did.2.1.any_moment,
+      takes-one did.0 did.1,
+      Keeps-refl held,
+    )
+    piece-left new after fault.Read did = absurd did
+    piece-left new after fault.TooLong did = absurd did
+    piece-left new after fault.SessionLong did = absurd did
+    piece-left new after fault.Reopen did = absurd did
+    piece-left new after (fault.Write written) did = absurd did
 
   -- nothing is written where the device failed
   pub performs-broken : (held : Option (List ℕ)) (bytes : List ℕ) (input : Input) (old new : StoreView D) (before after : Unwritten) (f : SessionFault) → (f ≡ fault.OutOfMemory → ⊥)

@@ -29,6 +29,7 @@ use Rattle.conf_session.proofs.PassedLemmas.{take-beyond}
 use Rattle.conf_session.proofs.ReadLemmas.{ReadSoFar, read-none, read-as, read-more, ends-here, ends-unanswered, nothing-read}
 use Rattle.conf_session.proofs.ReadLemmas as reading
 use Rattle.conf_session.proofs.TurnLemmas.{stored-joined, output-joined, accepted-joined, refused-joined, due-joined, asked-due, requests-joined, asked-joined, asked-requests, asked-stored, asked-output, asked-accepted, asked-refused, quiet-output, quiet-accepted, quiet-refused, few-acknowledged, performs-joined, moments-after, kept-after, kept-during}
+use Rattle.conf_session.specs.Streams.{streams_of}
 
 -- ---- an output that is cut
 
@@ -91,8 +92,8 @@ module _ {D : Type 0} (model : DiskModel D) (checkpoints : Checkpoints) where
   -- all turns are performed and flushed
   runs-flushed : (given left held written : Option (List ℕ)) (old new : StoreView D) (result : Result Tally SessionFault) (answered : List Turn) (unanswered : List Request)
       → PerformsTurns model old new (answered ++ all_asked unanswered) → (checkpoints ≡ Asked → answered ≡ all_asked (requests_of answered)) → (model.honest → (bytes : ℕ) → checkpoints ≡ After bytes → AreDue bytes (files_of model.folder old) (stored_of old) answered)
-      → GroupedEnds given left held written (stored_of old) answered unanswered result
-      → RunsGrouped model given left held written checkpoints old new result
+      → GroupedEnds (streams_of given left held written) (stored_of old) answered unanswered result
+      → RunsGrouped model (streams_of given left held written) checkpoints old new result
   runs-flushed given left held written old new result answered unanswered performs only due ends = record {
     answered = answered;
     unanswered = unanswered;
@@ -112,8 +113,8 @@ module _ {D : Type 0} (model : DiskModel D) (checkpoints : Checkpoints) where
   -- and none is unanswered
   runs-answered : (given left held written : Option (List ℕ)) (old new : StoreView D) (result : Result Tally SessionFault) (answered : List Turn)
       → PerformsTurns model old new answered → (checkpoints ≡ Asked → answered ≡ all_asked (requests_of answered)) → (model.honest → (bytes : ℕ) → checkpoints ≡ After bytes → AreDue bytes (files_of model.folder old) (stored_of old) answered)
-      → GroupedEnds given left held written (stored_of old) answered [] result
-      → RunsGrouped model given left held written checkpoints old new result
+      → GroupedEnds (streams_of given left held written) (stored_of old) answered [] result
+      → RunsGrouped model (streams_of given left held written) checkpoints old new result
   runs-answered given left held written old new result answered performs only due ends =
       runs-flushed given left held written old new result answered [] (subst (PerformsTurns model old new) (sym (append-nil answered)) performs) only due ends
 
@@ -124,8 +125,8 @@ module _ {D : Type 0} (model : DiskModel D) (checkpoints : Checkpoints) where
       → (model.honest → (flushed : Contents) (waiting : List Command) → HasFlushed (model.folder mid.disk) flushed waiting mid.state
       → LeavesOnly model mid.disk new.disk (λ image. AfterPrefix flushed (waiting ++ accepted_commands (stored_of mid) unanswered) image.store))
       → ((t : ℕ) (image : Image) → model.honest → t ≤ model.moment new.disk → IsImage (model.folder new.disk) image → model.left new.disk t image)
-      → GroupedEnds given left held written (stored_of old) answered unanswered (Err fault.Device)
-      → RunsGrouped model given left held written checkpoints old new (Err fault.Device)
+      → GroupedEnds (streams_of given left held written) (stored_of old) answered unanswered (Err fault.Device)
+      → RunsGrouped model (streams_of given left held written) checkpoints old new (Err fault.Device)
   runs-broken given left held written old mid new answered unanswered performs only due broken state run counts_now ends =
       let start = stored_of old in
       let more = accepted_commands (stored_of mid) unanswered in
@@ -157,7 +158,7 @@ module _ {D : Type 0} (model : DiskModel D) (checkpoints : Checkpoints) where
   -- ---- the start
 
   -- nothing is done
-  pub reopens : (given held : Option (List ℕ)) (store : StoreView D) → (store.reopen ≡ false → ⊥) → RunsGrouped model given given held held checkpoints store store (Err fault.Reopen)
+  pub reopens : (given held : Option (List ℕ)) (store : StoreView D) → (store.reopen ≡ false → ⊥) → RunsGrouped model (streams_of given given held held) checkpoints store store (Err fault.Reopen)
   reopens given held store broken = record {
     answered = [];
     unanswered = [];
@@ -176,7 +177,7 @@ module _ {D : Type 0} (model : DiskModel D) (checkpoints : Checkpoints) where
   -- the first flush fails
   starts-broken : (given held : Option (List ℕ)) (old new : StoreView D) → StopsShort model old new
       → ((t : ℕ) (image : Image) → model.honest → t ≤ model.moment new.disk → IsImage (model.folder new.disk) image → model.left new.disk t image)
-      → RunsGrouped model given given held held checkpoints old new (Err fault.Device)
+      → RunsGrouped model (streams_of given given held held) checkpoints old new (Err fault.Device)
   starts-broken given held old new stops counts_now = record {
     answered = [];
     unanswered = [];
@@ -199,7 +200,7 @@ module _ {D : Type 0} (model : DiskModel D) (checkpoints : Checkpoints) where
 
   pub starts-failing : (given held : Option (List ℕ)) (old new : StoreView D) (f : SessionFault) → FlushesAll model old new (Err f)
       → ((t : ℕ) (image : Image) → model.honest → t ≤ model.moment new.disk → IsImage (model.folder new.disk) image → model.left new.disk t image)
-      → RunsGrouped model given given held held checkpoints old new (Err f)
+      → RunsGrouped model (streams_of given given held held) checkpoints old new (Err f)
   starts-failing given held old new fault.Device stops counts_now = starts-broken given held old new stops counts_now
   starts-failing given held old new fault.OutOfMemory stops counts_now = absurd stops
   starts-failing given held old new fault.Read stops counts_now = absurd stops
@@ -210,7 +211,7 @@ module _ {D : Type 0} (model : DiskModel D) (checkpoints : Checkpoints) where
 
   -- there is no memory for the input
   pub starts-without-memory : (given held : Option (List ℕ)) (old new : StoreView D) → PerformsTurns model old new []
-      → RunsGrouped model given given held held checkpoints old new (Err fault.OutOfMemory)
+      → RunsGrouped model (streams_of given given held held) checkpoints old new (Err fault.OutOfMemory)
   starts-without-memory given held old new performs =
       runs-answered given given held held old new (Err fault.OutOfMemory) [] performs (λ e. refl) (λ h bytes e. tt)
       (refl, nothing-read given held)
@@ -245,19 +246,19 @@ module _ {D : Type 0} (model : DiskModel D) (checkpoints : Checkpoints) where
 
     pub ends-well : (tally : Tally) → AdvancesToEnd mid left was then
         → tally.documents ≡ answers.tally.documents → tally.accepted ≡ answers.tally.accepted → tally.refused ≡ answers.tally.refused → tally.rest ≡ length (piece_of then)
-        → RunsGrouped model given left held between checkpoints old now (Ok tally)
+        → RunsGrouped model (streams_of given left held between) checkpoints old now (Ok tally)
     ends-well tally end d a r rest =
         runs-answered given left held between old now (Ok tally) s.turns s.performs s.only_asked s.due
         (refl, reading.ends-well given mid left held between (requests_of s.turns) sent accepted refused was then answers s.read tally end d a r rest)
 
     -- the input has no further piece for a reason
-    pub ends-in_input : (f : SessionFault) → Advances mid left was then (Err f) → RunsGrouped model given left held between checkpoints old now (Err f)
+    pub ends-in_input : (f : SessionFault) → Advances mid left was then (Err f) → RunsGrouped model (streams_of given left held between) checkpoints old now (Err f)
     ends-in_input f fails = runs-answered given left held between old now (Err f) s.turns s.performs s.only_asked s.due (by f fails)
       where
-        ends : (f : SessionFault) → Advances mid left was then (Err f) → EndsAnswered given left held between (requests_of s.turns) sent accepted refused (Err f)
+        ends : (f : SessionFault) → Advances mid left was then (Err f) → EndsAnswered (streams_of given left held between) (requests_of s.turns) sent accepted refused (Err f)
         ends = reading.ends-in_input given mid left held between (requests_of s.turns) sent accepted refused was then answers s.read
 
-        by : (f : SessionFault) → Advances mid left was then (Err f) → GroupedEnds given left held between start s.turns [] (Err f)
+        by : (f : SessionFault) → Advances mid left was then (Err f) → GroupedEnds (streams_of given left held between) start s.turns [] (Err f)
         by fault.Read fails = (refl, ends fault.Read fails)
         by fault.TooLong fails = (refl, ends fault.TooLong fails)
         by fault.SessionLong fails = (refl, ends fault.SessionLong fails)
@@ -325,7 +326,7 @@ module _ {D : Type 0} (model : DiskModel D) (checkpoints : Checkpoints) where
 
       ends-memory : (written : Option (List ℕ)) (new : StoreView D) (after : Unwritten) (further : List ℕ)
           → PassesGroup model between written group further now new answers after
-          → RunsGrouped model given left held written checkpoints old new (Err fault.OutOfMemory)
+          → RunsGrouped model (streams_of given left held written) checkpoints old new (Err fault.OutOfMemory)
       ends-memory written new after further one =
           let all = groups-more written new after further one in
           let early = ends-here given left held written (requests_of all.turns) (turns_output start all.turns) (length (turns_accepted start all.turns)) (turns_refused start all.turns) further after (bytes_read then) all.read in
@@ -333,7 +334,7 @@ module _ {D : Type 0} (model : DiskModel D) (checkpoints : Checkpoints) where
 
       ends-device : (written : Option (List ℕ)) (new : StoreView D) → BreaksOff model group now new → Keeps between written
           → ((t : ℕ) (image : Image) → model.honest → t ≤ model.moment new.disk → IsImage (model.folder new.disk) image → model.left new.disk t image)
-          → RunsGrouped model given left held written checkpoints old new (Err fault.Device)
+          → RunsGrouped model (streams_of given left held written) checkpoints old new (Err fault.Device)
       ends-device written new breaks keeps counts_now =
           runs-broken given left held written old now new s.turns breaks.requests s.performs s.only_asked s.due breaks.broken breaks.state breaks.any_moment counts_now
           (ends-unanswered given mid left held between (requests_of s.turns) sent accepted refused was then answers s.read advances breaks.further breaks.requests breaks.takes
@@ -341,7 +342,7 @@ module _ {D : Type 0} (model : DiskModel D) (checkpoints : Checkpoints) where
 
       ends-write : (written : Option (List ℕ)) (new : StoreView D) (total : ℕ) → CutsGroup model between written group now new answers.written total
           → answers.written ≤ answers.tally.documents * answer_limit
-          → RunsGrouped model given left held written checkpoints old new (Err (fault.Write total))
+          → RunsGrouped model (streams_of given left held written) checkpoints old new (Err (fault.Write total))
       ends-write written new total cuts room =
           let rs = cuts.requests in
           let c = cuts.cuts in
@@ -383,7 +384,7 @@ module _ {D : Type 0} (model : DiskModel D) (checkpoints : Checkpoints) where
       pub ends-failing : (written : Option (List ℕ)) (new : StoreView D) (input : Input) (after : Unwritten) (f : SessionFault)
           → PerformsGroup model between written group input now new answers after (Err f) → answers.written ≤ answers.tally.documents * answer_limit
           → ((t : ℕ) (image : Image) → model.honest → t ≤ model.moment new.disk → IsImage (model.folder new.disk) image → model.left new.disk t image)
-          → RunsGrouped model given left held written checkpoints old new (Err f)
+          → RunsGrouped model (streams_of given left held written) checkpoints old new (Err f)
       ends-failing written new input after fault.OutOfMemory fails room counts_now = ends-memory written new after fails.0 fails.1
       ends-failing written new input after fault.Device fails room counts_now = ends-device written new fails.0 fails.1 counts_now
       ends-failing written new input after (fault.Write total) fails room counts_now = ends-write written new total fails room
@@ -419,7 +420,7 @@ module _ {D : Type 0} (model : DiskModel D) (checkpoints : Checkpoints) where
     -- the device fails in it
     pub ends-tending : (new : StoreView D) (f : SessionFault) → Tends model checkpoints now new (Err f)
         → ((t : ℕ) (image : Image) → model.honest → t ≤ model.moment new.disk → IsImage (model.folder new.disk) image → model.left new.disk t image)
-        → RunsGrouped model given mid held between checkpoints old new (Err f)
+        → RunsGrouped model (streams_of given mid held between) checkpoints old new (Err f)
     ends-tending new fault.Device stops counts_now =
         runs-broken given mid held between old now new s.turns [] s.performs s.only_asked s.due stops.broken stops.state
         (λ h flushed waiting has. subst (λ (l : List Command). LeavesOnly model now.disk new.disk (λ image. AfterPrefix flushed l image.store)) (sym (append-nil waiting)) (stops.any_moment h flushed waiting has))

@@ -15,6 +15,7 @@ pub mod LinesPresented
 pub mod CommandLineLemmas
 pub mod PartLemmas
 pub mod TurnLemmas
+pub mod SinkLemmas
 pub mod TendLemmas
 pub mod GatherLemmas
 pub mod RoundLemmas

@@ -1,6 +1,6 @@
 -- One request after others.
 use Rattle.std.proofs.Common.{◌≡◌, refl, sym, ◌∙◌, ap, subst, arith, ◌≤◌, append_assoc, length-append}
-use Rattle.std.specs.Prelude.{ℕ, ◌+◌, ◌-◌, suc, Bool, true, false, if◌then◌else◌, List, [], ◌∷◌, ◌++◌, length, take, Option, Some, None, Result, Ok, Err, is_ok}
+use Rattle.std.specs.Prelude.{ℕ, ◌+◌, ◌-◌, suc, Bool, true, false, if◌then◌else◌, List, [], ◌∷◌, ◌++◌, length, take, Option, Some, None, Result, Ok, Err}
 use Rattle.std.proofs.lemmas.List.{append-nil}
 use Rattle.std.proofs.lemmas.List.Elements.{All-push}
 use Rattle.yaml_grammar.specs.Closings.{ClosesOnce}
@@ -153,56 +153,36 @@ leads-all now (x ∷ rs) =
 -- ---- what is flushed, and what waits
 
 -- with one request more
-flushed-last : (at_once : Bool) (now : Stored) (flushed : Contents) (rs : List Request) (r : Request)
-    → flushed_after at_once now flushed (rs ++ r ∷ []) ≡ flushed_after at_once (stored_after_all now rs) (flushed_after at_once now flushed rs) (r ∷ [])
-flushed-last at_once now flushed [] r = refl
-flushed-last at_once now flushed (x ∷ rs) r =
-    flushed-last at_once (stored_after now x) (if syncs at_once now x then (stored_after now x).state else flushed) rs r
+flushed-last : (each : Bool) (now : Stored) (flushed : Contents) (rs : List Request) (r : Request)
+    → flushed_after each now flushed (rs ++ r ∷ []) ≡ flushed_after each (stored_after_all now rs) (flushed_after each now flushed rs) (r ∷ [])
+flushed-last each now flushed [] r = refl
+flushed-last each now flushed (x ∷ rs) r =
+    flushed-last each (stored_after now x) (if syncs each now x then (stored_after now x).state else flushed) rs r
 
-waiting-last : (at_once : Bool) (now : Stored) (waiting : List Command) (rs : List Request) (r : Request)
-    → waiting_after at_once now waiting (rs ++ r ∷ []) ≡ waiting_after at_once (stored_after_all now rs) (waiting_after at_once now waiting rs) (r ∷ [])
-waiting-last at_once now waiting [] r = refl
-waiting-last at_once now waiting (x ∷ rs) r =
-    waiting-last at_once (stored_after now x) (if syncs at_once now x then [] else waiting ++ accepted_command now x) rs r
+waiting-last : (each : Bool) (now : Stored) (waiting : List Command) (rs : List Request) (r : Request)
+    → waiting_after each now waiting (rs ++ r ∷ []) ≡ waiting_after each (stored_after_all now rs) (waiting_after each now waiting rs) (r ∷ [])
+waiting-last each now waiting [] r = refl
+waiting-last each now waiting (x ∷ rs) r =
+    waiting-last each (stored_after now x) (if syncs each now x then [] else waiting ++ accepted_command now x) rs r
 
-quiet-one : (now : Stored) (r : Request) → syncs true now r ≡ false → accepted_command now r ≡ []
-quiet-one now (changing command) quiet = by (outcome (longest now) now.state command) quiet
-  where
-    by : (j : Result Contents StoreFault) → is_ok j ≡ false → accepted_by j command ≡ []
-    by (Ok new) e = cc
-    by (Err fault) e = refl
-quiet-one now (unread fault) quiet = refl
-quiet-one now (getting name path) quiet = refl
-quiet-one now (exporting name) quiet = refl
-quiet-one now naming quiet = refl
-quiet-one now checkpointing quiet = refl
-quiet-one now (if_met conditions r) quiet = by (first_fault now.state conditions) (quiet-one now r) quiet
-  where
-    by : (failed : Option ConditionFault) → (syncs true now r ≡ false → accepted_command now r ≡ []) → unless_failed failed (syncs true now r) (λ fault. false) ≡ false
-        → unless_failed failed (accepted_command now r) (λ fault. []) ≡ []
-    by None met e = met e
-    by (Some fault) met e = refl
-quiet-one now bad quiet = refl
-
--- where none waits and each command is flushed at once, none ever does
+-- where each request is flushed and none waits, none ever does
 none-waits : (now : Stored) (rs : List Request) → waiting_after true now [] rs ≡ []
 none-waits now [] = refl
-none-waits now (x ∷ rs) = by (syncs true now x) refl (none-waits (stored_after now x) rs)
-  where
-    by : (b : Bool) → syncs true now x ≡ b → waiting_after true (stored_after now x) [] rs ≡ []
-        → waiting_after true (stored_after now x) (if b then [] else [] ++ accepted_command now x) rs ≡ []
-    by true e rest = rest
-    by false e rest = ap (λ l. waiting_after true (stored_after now x) l rs) (quiet-one now x e) ∙ rest
+none-waits now (x ∷ rs) = none-waits (stored_after now x) rs
 
--- where nothing waits at the start, all accepted commands are acknowledged
+-- each answer acknowledges all commands that waited, and all that were accepted
 pub acknowledged-all : AllAreAcknowledged
-acknowledged-all now requests = let none = ap length (none-waits now requests) in omega (arith, none)
+acknowledged-all = record {
+  accepted = λ now requests. (let none = ap length (none-waits now requests) in omega (arith, none));
+  waited = λ now waiting request requests.
+      (let none : length (waiting_after true now waiting (request ∷ requests)) ≡ 0 = ap length (none-waits (stored_after now request) requests) in omega (arith, none));
+}
 
 -- one request more acknowledges no fewer commands
 pub acknowledged-more : (now : Stored) (waiting : List Command) (rs : List Request) (r : Request) → acknowledged now waiting rs ≤ acknowledged now waiting (rs ++ r ∷ [])
 acknowledged-more now waiting rs r =
     subst (λ (l : List Command). acknowledged now waiting rs ≤ length (waiting ++ accepted_commands now (rs ++ r ∷ [])) - length l) (sym (waiting-last true now waiting rs r))
-    (by (syncs true (stored_after_all now rs) r))
+    none-left
   where
     grown : length (waiting ++ accepted_commands now (rs ++ r ∷ [])) ≡ length (waiting ++ accepted_commands now rs) + length (accepted_command (stored_after_all now rs) r)
     grown =
@@ -212,13 +192,8 @@ acknowledged-more now waiting rs r =
         let two = length-append waiting (accepted_commands now rs) in
         omega (arith, last, sum, one, two)
 
-    by : (b : Bool) → length (waiting ++ accepted_commands now rs) - length (waiting_after true now waiting rs)
-        ≤ length (waiting ++ accepted_commands now (rs ++ r ∷ []))
-        - length (if b then [] else waiting_after true now waiting rs ++ accepted_command (stored_after_all now rs) r)
-    by true = omega (arith, grown)
-    by false =
-        let sum = length-append (waiting_after true now waiting rs) (accepted_command (stored_after_all now rs) r) in
-        omega (arith, grown, sum)
+    none-left : length (waiting ++ accepted_commands now rs) - length (waiting_after true now waiting rs) ≤ length (waiting ++ accepted_commands now (rs ++ r ∷ [])) - 0
+    none-left = omega (arith, grown)
 
 -- ---- prefixes of commands, with more after them
 
@@ -238,12 +213,12 @@ pub record Continues (start : Contents) (commands : List Command) (flushed : Con
   pub leads : after start first ≡ Ok flushed
 
 -- so it is of what waited and what the requests accept
-pub continues : (at_once : Bool) (now : Stored) (flushed : Contents) (waiting : List Command) (rs : List Request) → after flushed waiting ≡ Ok now.state
-    → Continues flushed (waiting ++ accepted_commands now rs) (flushed_after at_once now flushed rs) (waiting_after at_once now waiting rs)
-continues at_once now flushed waiting [] leads = record { first = []; is = append-nil waiting; leads = refl }
-continues at_once now flushed waiting (x ∷ rs) leads =
-    by (syncs at_once now x) (continues at_once (stored_after now x) (stored_after now x).state [] rs refl)
-    (continues at_once (stored_after now x) flushed (waiting ++ accepted_command now x) rs there)
+pub continues : (each : Bool) (now : Stored) (flushed : Contents) (waiting : List Command) (rs : List Request) → after flushed waiting ≡ Ok now.state
+    → Continues flushed (waiting ++ accepted_commands now rs) (flushed_after each now flushed rs) (waiting_after each now waiting rs)
+continues each now flushed waiting [] leads = record { first = []; is = append-nil waiting; leads = refl }
+continues each now flushed waiting (x ∷ rs) leads =
+    by (syncs each now x) (continues each (stored_after now x) (stored_after now x).state [] rs refl)
+    (continues each (stored_after now x) flushed (waiting ++ accepted_command now x) rs there)
   where
     there : after flushed (waiting ++ accepted_command now x) ≡ Ok (stored_after now x).state
     there = after-joined flushed now.state (stored_after now x).state waiting (accepted_command now x) leads (leads-one now x)
@@ -252,18 +227,18 @@ continues at_once now flushed waiting (x ∷ rs) leads =
     grouped = sym (append_assoc waiting (accepted_command now x) (accepted_commands (stored_after now x) rs))
 
     by : (b : Bool)
-        → Continues (stored_after now x).state (accepted_commands (stored_after now x) rs) (flushed_after at_once (stored_after now x) (stored_after now x).state rs)
-        (waiting_after at_once (stored_after now x) [] rs)
-        → Continues flushed ((waiting ++ accepted_command now x) ++ accepted_commands (stored_after now x) rs) (flushed_after at_once (stored_after now x) flushed rs)
-        (waiting_after at_once (stored_after now x) (waiting ++ accepted_command now x) rs)
+        → Continues (stored_after now x).state (accepted_commands (stored_after now x) rs) (flushed_after each (stored_after now x) (stored_after now x).state rs)
+        (waiting_after each (stored_after now x) [] rs)
+        → Continues flushed ((waiting ++ accepted_command now x) ++ accepted_commands (stored_after now x) rs) (flushed_after each (stored_after now x) flushed rs)
+        (waiting_after each (stored_after now x) (waiting ++ accepted_command now x) rs)
         → Continues flushed (waiting ++ (accepted_command now x ++ accepted_commands (stored_after now x) rs))
-        (flushed_after at_once (stored_after now x) (if b then (stored_after now x).state else flushed) rs)
-        (waiting_after at_once (stored_after now x) (if b then [] else waiting ++ accepted_command now x) rs)
+        (flushed_after each (stored_after now x) (if b then (stored_after now x).state else flushed) rs)
+        (waiting_after each (stored_after now x) (if b then [] else waiting ++ accepted_command now x) rs)
     by true synced waits = record {
       first = (waiting ++ accepted_command now x) ++ synced.first;
       is = grouped ∙ ap (λ l. (waiting ++ accepted_command now x) ++ l) synced.is
-          ∙ sym (append_assoc (waiting ++ accepted_command now x) synced.first (waiting_after at_once (stored_after now x) [] rs));
-      leads = after-joined flushed (stored_after now x).state (flushed_after at_once (stored_after now x) (stored_after now x).state rs) (waiting ++ accepted_command now x) synced.first there synced.leads;
+          ∙ sym (append_assoc (waiting ++ accepted_command now x) synced.first (waiting_after each (stored_after now x) [] rs));
+      leads = after-joined flushed (stored_after now x).state (flushed_after each (stored_after now x) (stored_after now x).state rs) (waiting ++ accepted_command now x) synced.first there synced.leads;
     }
     by false synced waits = record { first = waits.first; is = grouped ∙ waits.is; leads = waits.leads }
 
@@ -297,12 +272,12 @@ prefix-whole start flushed commands waiting file c some =
 
 -- ---- requests that were performed
 
-module _ (at_once : Bool) {D : Type 0} (model : DiskModel D) where
+module _ (each : Bool) {D : Type 0} (model : DiskModel D) where
   -- before the first request, nothing was performed
   pub performs-none : (store : StoreView D) → store.reopen ≡ false
       → ((image : Image) → model.honest → model.left store.disk (model.moment store.disk) image → IsImage (model.folder store.disk) image)
       → (model.honest → store.reopen ≡ false → LeavesPrefixes (model.folder store.disk) store.state)
-      → PerformsAll at_once model store store []
+      → PerformsAll each model store store []
   performs-none store off only means = record {
     sound = off;
     stored = refl;
@@ -313,7 +288,7 @@ module _ (at_once : Bool) {D : Type 0} (model : DiskModel D) where
     waits = λ h flushed waiting has. has;
   }
 
-  module _ (old mid new : StoreView D) (rs : List Request) (r : Request) (before : PerformsAll at_once model old mid rs) (does : Performs at_once model mid new r) where
+  module _ (old mid new : StoreView D) (rs : List Request) (r : Request) (before : PerformsAll each model old mid rs) (does : Performs each model mid new r) where
     pub state-more : new.state ≡ (stored_after_all (stored_of old) (rs ++ r ∷ [])).state
     state-more = does.state ∙ ap (λ t. (stored_after t r).state) before.stored ∙ ap (λ (t : Stored). t.state) (sym (stored-last (stored_of old) rs r))
 
@@ -336,8 +311,8 @@ module _ (at_once : Bool) {D : Type 0} (model : DiskModel D) where
 
     module _ (h : model.honest) (flushed : Contents) (waiting : List Command) (has : HasFlushed (model.folder old.disk) flushed waiting old.state) where
       -- what is flushed before the last request, and what waits
-      continued : Continues flushed (waiting ++ accepted_commands (stored_of old) rs) (flushed_after at_once (stored_of old) flushed rs) (waiting_after at_once (stored_of old) waiting rs)
-      continued = continues at_once (stored_of old) flushed waiting rs has.journal.leads
+      continued : Continues flushed (waiting ++ accepted_commands (stored_of old) rs) (flushed_after each (stored_of old) flushed rs) (waiting_after each (stored_of old) waiting rs)
+      continued = continues each (stored_of old) flushed waiting rs has.journal.leads
 
       -- all commands, with that of the last request
       joined : (waiting ++ accepted_commands (stored_of old) rs) ++ accepted_command (stored_of mid) r ≡ waiting ++ accepted_commands (stored_of old) (rs ++ r ∷ [])
@@ -346,8 +321,8 @@ module _ (at_once : Bool) {D : Type 0} (model : DiskModel D) where
           ∙ ap (λ l. waiting ++ l) (ap (λ t. accepted_commands (stored_of old) rs ++ accepted_command t r) before.stored ∙ sym (accepted_commands-last (stored_of old) rs r))
 
       -- what a crash leaves during the last request
-      last-moments : LeavesOnly model mid.disk new.disk (λ image. AfterPrefix (flushed_after at_once (stored_of old) flushed rs) (waiting_after at_once (stored_of old) waiting rs ++ accepted_command (stored_of mid) r) image.store)
-      last-moments = does.any_moment h (flushed_after at_once (stored_of old) flushed rs) (waiting_after at_once (stored_of old) waiting rs) (before.waits h flushed waiting has)
+      last-moments : LeavesOnly model mid.disk new.disk (λ image. AfterPrefix (flushed_after each (stored_of old) flushed rs) (waiting_after each (stored_of old) waiting rs ++ accepted_command (stored_of mid) r) image.store)
+      last-moments = does.any_moment h (flushed_after each (stored_of old) flushed rs) (waiting_after each (stored_of old) waiting rs) (before.waits h flushed waiting has)
 
       -- and during all
       pub moments-more : LeavesOnly model old.disk new.disk (λ image. AfterPrefix flushed (waiting ++ accepted_commands (stored_of old) (rs ++ r ∷ [])) image.store)
@@ -357,19 +332,19 @@ module _ (at_once : Bool) {D : Type 0} (model : DiskModel D) where
           subst (λ (l : List Command). LeavesOnly model old.disk new.disk (λ image. AfterPrefix flushed l image.store)) joined
           (LeavesOnly-joined model old.disk mid.disk new.disk _ _ _ (before.any_moment h flushed waiting has) last-moments
           (λ image. prefix-longer flushed first second image.store)
-          (λ image. prefix-continued flushed (flushed_after at_once (stored_of old) flushed rs) first (waiting_after at_once (stored_of old) waiting rs) second image.store continued))
+          (λ image. prefix-continued flushed (flushed_after each (stored_of old) flushed rs) first (waiting_after each (stored_of old) waiting rs) second image.store continued))
 
       -- what waits after one request more
-      pub waits-more : new.reopen ≡ false → HasFlushed (model.folder new.disk) (flushed_after at_once (stored_of old) flushed (rs ++ r ∷ [])) (waiting_after at_once (stored_of old) waiting (rs ++ r ∷ [])) new.state
+      pub waits-more : new.reopen ≡ false → HasFlushed (model.folder new.disk) (flushed_after each (stored_of old) flushed (rs ++ r ∷ [])) (waiting_after each (stored_of old) waiting (rs ++ r ∷ [])) new.state
       waits-more off =
-          let f = flushed_after at_once (stored_of old) flushed rs in
-          let w = waiting_after at_once (stored_of old) waiting rs in
-          let flushes = ap (λ t. flushed_after at_once t f (r ∷ [])) before.stored ∙ sym (flushed-last at_once (stored_of old) flushed rs r) in
-          let waits = ap (λ t. waiting_after at_once t w (r ∷ [])) before.stored ∙ sym (waiting-last at_once (stored_of old) waiting rs r) in
-          subst (λ (l : List Command). HasFlushed (model.folder new.disk) (flushed_after at_once (stored_of old) flushed (rs ++ r ∷ [])) l new.state) waits
-          (subst (λ (s : Contents). HasFlushed (model.folder new.disk) s (waiting_after at_once (stored_of mid) w (r ∷ [])) new.state) flushes (does.waits h off f w (before.waits h flushed waiting has)))
+          let f = flushed_after each (stored_of old) flushed rs in
+          let w = waiting_after each (stored_of old) waiting rs in
+          let flushes = ap (λ t. flushed_after each t f (r ∷ [])) before.stored ∙ sym (flushed-last each (stored_of old) flushed rs r) in
+          let waits = ap (λ t. waiting_after each t w (r ∷ [])) before.stored ∙ sym (waiting-last each (stored_of old) waiting rs r) in
+          subst (λ (l : List Command). HasFlushed (model.folder new.disk) (flushed_after each (stored_of old) flushed (rs ++ r ∷ [])) l new.state) waits
+          (subst (λ (s : Contents). HasFlushed (model.folder new.disk) s (waiting_after each (stored_of mid) w (r ∷ [])) new.state) flushes (does.waits h off f w (before.waits h flushed waiting has)))
 
-    pub performs-more : new.reopen ≡ false → PerformsAll at_once model old new (rs ++ r ∷ [])
+    pub performs-more : new.reopen ≡ false → PerformsAll each model old new (rs ++ r ∷ [])
     performs-more off = record {
       sound = off;
       stored = stored-more off;
@@ -379,7 +354,7 @@ module _ (at_once : Bool) {D : Type 0} (model : DiskModel D) where
       waits = λ h flushed waiting has. waits-more h flushed waiting has off;
     }
 
--- ---- what a session keeps, which flushes each command at once
+-- ---- what a session keeps, which flushes with each request
 
 module _ {D : Type 0} (model : DiskModel D) where
   -- a crash after the last request, of which it isn't known how far it came

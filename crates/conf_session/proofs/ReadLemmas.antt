@@ -19,6 +19,7 @@ use Rattle.conf_session.specs.Requests.{Request, AllAsk}
 use Rattle.conf_session.specs.Answers.{Stored, output, accepted_commands, refusals}
 use Rattle.conf_session.specs.Runs.{ArePieces, TakesUp, BeginsWith, EndsAnswered, EndsEarly}
 use Rattle.conf_session.specs.Gathering.{HasRoomFor, SendsAnswers, last_bytes, unwritten_bytes}
+use Rattle.conf_session.specs.Streams.{streams_of}
 
 -- ---- pieces
 
@@ -44,7 +45,7 @@ taken-more given mid left prefix further more one two =
     subst (Consumes given left) (append_assoc prefix further more) (Consumes-trans given mid left (prefix ++ further) more one two)
 
 -- nothing was read and answered
-pub nothing-read : (given held : Option (List ℕ)) → EndsEarly given given held held [] [] []
+pub nothing-read : (given held : Option (List ℕ)) → EndsEarly (streams_of given given held held) [] [] []
 nothing-read given held = record { bytes = []; taken = Consumes-nil given; begins = record { further = []; takes = record { pieces = []; joined = refl; are = none-are } }; out = Appends-nil held }
 
 -- ---- so far
@@ -96,7 +97,7 @@ read-as given left held written requests rs answers bytes accepted a refused r f
 
 -- a session ends as it stands
 pub ends-here : (given left held written : Option (List ℕ)) (requests : List Request) (answers : List ℕ) (accepted refused : ℕ) (further : List ℕ) (kept : Unwritten) (total : ℕ)
-    → ReadSoFar given left held written requests answers accepted refused further kept total → EndsEarly given left held written requests [] answers
+    → ReadSoFar given left held written requests answers accepted refused further kept total → EndsEarly (streams_of given left held written) requests [] answers
 ends-here given left held written requests answers accepted refused further kept total s = record {
   bytes = concat s.pieces ++ further;
   taken = s.taken;
@@ -111,7 +112,7 @@ module _ (given mid left held between : Option (List ℕ)) (requests : List Requ
   -- all was read
   pub ends-well : (tally : Tally) → AdvancesToEnd mid left was then
       → tally.documents ≡ kept.tally.documents → tally.accepted ≡ kept.tally.accepted → tally.refused ≡ kept.tally.refused → tally.rest ≡ length (piece_of then)
-      → EndsAnswered given left held between requests answers accepted refused (Ok tally)
+      → EndsAnswered (streams_of given left held between) requests answers accepted refused (Ok tally)
   ends-well tally end d a r rest = record {
     bytes = concat s.pieces ++ (ahead was ++ end.more);
     rest = piece_of then;
@@ -132,7 +133,7 @@ module _ (given mid left held between : Option (List ℕ)) (requests : List Requ
     unclosed = rest;
   }
 
-  ends-reading : FailsToRead mid left was → EndsAnswered given left held between requests answers accepted refused (Err fault.Read)
+  ends-reading : FailsToRead mid left was → EndsAnswered (streams_of given left held between) requests answers accepted refused (Err fault.Read)
   ends-reading fails = record {
     bytes = concat s.pieces ++ (ahead was ++ fails.more);
     taken = taken-more given mid left (concat s.pieces) (ahead was) fails.more s.taken fails.taken;
@@ -143,7 +144,7 @@ module _ (given mid left held between : Option (List ℕ)) (requests : List Requ
     out = s.out;
   }
 
-  ends-too_long : FindsTooLong mid left was → EndsAnswered given left held between requests answers accepted refused (Err fault.TooLong)
+  ends-too_long : FindsTooLong mid left was → EndsAnswered (streams_of given left held between) requests answers accepted refused (Err fault.TooLong)
   ends-too_long finds = record {
     bytes = concat s.pieces ++ (ahead was ++ finds.more);
     taken = taken-more given mid left (concat s.pieces) (ahead was) finds.more s.taken finds.taken;
@@ -151,7 +152,7 @@ module _ (given mid left held between : Option (List ℕ)) (requests : List Requ
     out = s.out;
   }
 
-  ends-session_long : FindsSessionLong mid left was → EndsAnswered given left held between requests answers accepted refused (Err fault.SessionLong)
+  ends-session_long : FindsSessionLong mid left was → EndsAnswered (streams_of given left held between) requests answers accepted refused (Err fault.SessionLong)
   ends-session_long finds =
       let rest = ahead was ++ finds.more in
       let prefix = concat s.pieces ++ rest in
@@ -178,7 +179,7 @@ module _ (given mid left held between : Option (List ℕ)) (requests : List Requ
   answered-begins : (further : List ℕ) → BeginsWith (concat s.pieces ++ further) (requests ++ [])
   answered-begins further = record { further = further; takes = record { pieces = s.pieces; joined = refl; are = subst (ArePieces s.pieces) (sym (append-nil requests)) s.are } }
 
-  ends-starved : RunsOutOfMemory mid left → EndsAnswered given left held between requests answers accepted refused (Err fault.OutOfMemory)
+  ends-starved : RunsOutOfMemory mid left → EndsAnswered (streams_of given left held between) requests answers accepted refused (Err fault.OutOfMemory)
   ends-starved out = record {
     bytes = concat s.pieces ++ (ahead was ++ out.more);
     taken = taken-more given mid left (concat s.pieces) (ahead was) out.more s.taken out.taken;
@@ -187,7 +188,7 @@ module _ (given mid left held between : Option (List ℕ)) (requests : List Requ
   }
 
   -- the input has no further piece for a reason
-  pub ends-in_input : (f : SessionFault) → Advances mid left was then (Err f) → EndsAnswered given left held between requests answers accepted refused (Err f)
+  pub ends-in_input : (f : SessionFault) → Advances mid left was then (Err f) → EndsAnswered (streams_of given left held between) requests answers accepted refused (Err f)
   ends-in_input fault.Read fails = ends-reading fails
   ends-in_input fault.TooLong fails = ends-too_long fails
   ends-in_input fault.SessionLong fails = ends-session_long fails
@@ -200,7 +201,7 @@ module _ (given mid left held between : Option (List ℕ)) (requests : List Requ
 
   module _ (advances : AdvancesToPiece mid left was then) where
     -- there was a further piece, and nothing came of it
-    pub ends-before : EndsEarly given left held between requests [] answers
+    pub ends-before : EndsEarly (streams_of given left held between) requests [] answers
     ends-before = record {
       bytes = concat s.pieces ++ (ahead was ++ advances.more);
       taken = taken-more given mid left (concat s.pieces) (ahead was) advances.more s.taken advances.taken;
@@ -227,7 +228,7 @@ module _ (given mid left held between : Option (List ℕ)) (requests : List Requ
           let three = length-append (ahead was) advances.more in omega (arith, all, before, grown, one, two, three))
 
       -- they have no answers
-      pub ends-unanswered : (written : Option (List ℕ)) → Appends held written answers → EndsEarly given left held written requests rs answers
+      pub ends-unanswered : (written : Option (List ℕ)) → Appends held written answers → EndsEarly (streams_of given left held written) requests rs answers
       ends-unanswered written out = record {
         bytes = concat (s.pieces ++ takes.pieces) ++ further;
         taken = all-taken;

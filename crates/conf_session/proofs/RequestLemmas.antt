@@ -1,6 +1,6 @@
 -- What one request does.
 use Rattle.std.proofs.Common.{◌≡◌, ◌≢◌, ◌≤◌, ◌⊎◌, inl, inr, ⊎_elim, refl, sym, ◌∙◌, ap, subst, arith, length-append}
-use Rattle.std.specs.Prelude.{ℕ, ◌+◌, min, max, Bool, true, false, List, [], ◌∷◌, ◌++◌, length, decimal, codes, Option, Some, None, option_map, unwrap_or, ◌&&◌, if◌then◌else◌, Result, Ok, Err, is_ok, IfOk, String, string_bytes}
+use Rattle.std.specs.Prelude.{ℕ, ◌+◌, min, max, false, List, [], ◌∷◌, ◌++◌, length, decimal, codes, Option, Some, None, option_map, unwrap_or, Result, Ok, Err, IfOk, String, string_bytes}
 use Rattle.std.specs.Str.{chars, IsUtf8}
 use Rattle.std.specs.declared.alloc.Global.{Global}
 use Rattle.std.proofs.lemmas.Bool.{cases_lt}
@@ -105,16 +105,6 @@ all-after flushed s end waiting command file leads done means =
 pub still : (folder : Folder) (flushed s : Contents) (waiting : List Command) → HasFlushed folder flushed waiting s → HasFlushed folder flushed (waiting ++ []) s
 still folder flushed s waiting has = subst (λ (l : List Command). HasFlushed folder flushed l s) (sym (append-nil waiting)) has
 
-accepted-waits : (at_once : Bool) (folder : Folder) (flushed s : Contents) (more : List Command) → HasFlushed folder (if at_once then s else flushed) (if at_once then [] else more) s
-    → HasFlushed folder (if at_once && true then s else flushed) (if at_once && true then [] else more) s
-accepted-waits true folder flushed s more has = has
-accepted-waits false folder flushed s more has = has
-
-refused-waits : (at_once : Bool) (folder : Folder) (flushed s : Contents) (waiting : List Command) → HasFlushed folder flushed waiting s
-    → HasFlushed folder (if at_once && false then s else flushed) (if at_once && false then [] else waiting ++ []) s
-refused-waits true folder flushed s waiting has = still folder flushed s waiting has
-refused-waits false folder flushed s waiting has = still folder flushed s waiting has
-
 -- ---- failures of the device
 
 -- they did not become fewer before the call
@@ -142,7 +132,7 @@ module _ {D : Type 0} (model : DiskModel D) where
       → CountsFailures model old new r
   failures-none old new r rose other = record { cause = λ e. absurd (other e); risen = rose }
 
-module _ (at_once : Bool) {D : Type 0} (model : DiskModel D) where
+module _ {D : Type 0} (model : DiskModel D) where
   -- a store that is as it was
   pub unchanged : (store : StoreView D) → store.reopen ≡ false → (more : List Command) → ((image : Image) → model.honest → model.left store.disk (model.moment store.disk) image → IsImage (model.folder store.disk) image)
       → (model.honest → store.reopen ≡ false → LeavesPrefixes (model.folder store.disk) store.state)
@@ -154,7 +144,7 @@ module _ (at_once : Bool) {D : Type 0} (model : DiskModel D) where
   -- a request that only reads leaves the store as it is
   pub only-read : (store : StoreView D) → store.reopen ≡ false → (request : Request) → OnlyReads request
       → ((image : Image) → model.honest → model.left store.disk (model.moment store.disk) image → IsImage (model.folder store.disk) image)
-      → (model.honest → store.reopen ≡ false → LeavesPrefixes (model.folder store.disk) store.state) → Performs at_once model store store request
+      → (model.honest → store.reopen ≡ false → LeavesPrefixes (model.folder store.disk) store.state) → Performs false model store store request
   only-read store off (changing command) is only means = absurd is
   only-read store off checkpointing is only means = absurd is
   only-read store off (if_met conditions request) is only means = absurd is
@@ -166,7 +156,7 @@ module _ (at_once : Bool) {D : Type 0} (model : DiskModel D) where
 
   -- ---- a command
 
-  -- a command that is accepted is performed, its record appended and synced
+  -- a command that is accepted is performed, and its record appended
   pub command-performed : (old new : StoreView D) (command : Command) → outcome (journal_length old) old.state command ≡ Ok new.state
       → (new.reopen ≡ false → Accepts old command new)
       → (model.honest → new.reopen ≡ false → bytes_under (model.folder new.disk) Store ≡ file_with_bytes (bytes_under (model.folder old.disk) Store) (next_record old.state command))
@@ -174,8 +164,8 @@ module _ (at_once : Bool) {D : Type 0} (model : DiskModel D) where
       → (model.honest → (flushed : Contents) (waiting : List Command) → HasFlushed (model.folder old.disk) flushed waiting old.state
       → LeavesOnly model old.disk new.disk (λ image. AfterPrefix flushed waiting image.store ⊎ FileMeans image.store new.state))
       → (model.honest → new.reopen ≡ false → (flushed : Contents) (waiting : List Command) → HasFlushed (model.folder old.disk) flushed waiting old.state
-      → HasFlushed (model.folder new.disk) (if at_once then new.state else flushed) (if at_once then [] else waiting ++ command ∷ []) new.state)
-      → Performs at_once model old new (changing command)
+      → HasFlushed (model.folder new.disk) flushed (waiting ++ command ∷ []) new.state)
+      → Performs false model old new (changing command)
   command-performed old new command done accepts grown staged moments flushes =
       let now = stored_of old in
       let here : outcome (longest now) now.state command ≡ Ok new.state = ap (λ n. outcome n old.state command) (longest-of old) ∙ done in
@@ -191,13 +181,12 @@ module _ (at_once : Bool) {D : Type 0} (model : DiskModel D) where
             (LeavesOnly-weaker model old.disk new.disk _ _ (moments h flushed waiting has)
             (λ image. ⊎_elim (prefix-longer flushed waiting (command ∷ []) image.store) (all-after flushed old.state new.state waiting command image.store has.journal.leads leads)));
         waits = λ h on flushed waiting has.
-            subst (λ (r : Result Contents StoreFault). HasFlushed (model.folder new.disk) (if at_once && is_ok r then (stored_after_change now command r).state else flushed) (if at_once && is_ok r then [] else waiting ++ accepted_by r command) new.state) (sym here)
-            (accepted-waits at_once (model.folder new.disk) flushed new.state (waiting ++ command ∷ []) (flushes h on flushed waiting has));
+            subst (λ cs. HasFlushed (model.folder new.disk) flushed (waiting ++ cs) new.state) (sym one) (flushes h on flushed waiting has);
       }
 
   pub command-refused : (store : StoreView D) → store.reopen ≡ false → (command : Command) (f : StoreFault) → outcome (journal_length store) store.state command ≡ Err f
       → ((image : Image) → model.honest → model.left store.disk (model.moment store.disk) image → IsImage (model.folder store.disk) image)
-      → (model.honest → store.reopen ≡ false → LeavesPrefixes (model.folder store.disk) store.state) → Performs at_once model store store (changing command)
+      → (model.honest → store.reopen ≡ false → LeavesPrefixes (model.folder store.disk) store.state) → Performs false model store store (changing command)
   command-refused store off command f refused only means =
       let now = stored_of store in
       let here : outcome (longest now) now.state command ≡ Err f = ap (λ n. outcome n store.state command) (longest-of store) ∙ refused in
@@ -209,8 +198,7 @@ module _ (at_once : Bool) {D : Type 0} (model : DiskModel D) where
         stages = λ h on. sym (ap (file_after_change (staged_text (model.folder store.disk) store.staged) now command) here);
         any_moment = unchanged store off (accepted_command now (changing command)) only means;
         waits = λ h on flushed waiting has.
-            subst (λ (r : Result Contents StoreFault). HasFlushed (model.folder store.disk) (if at_once && is_ok r then (stored_after_change now command r).state else flushed) (if at_once && is_ok r then [] else waiting ++ accepted_by r command) store.state) (sym here)
-            (refused-waits at_once (model.folder store.disk) flushed store.state waiting has);
+            subst (λ cs. HasFlushed (model.folder store.disk) flushed (waiting ++ cs) store.state) (sym (ap (λ r. accepted_by r command) here)) (still (model.folder store.disk) flushed store.state waiting has);
       }
 
   -- ---- a checkpoint
@@ -220,7 +208,7 @@ module _ (at_once : Bool) {D : Type 0} (model : DiskModel D) where
       → (model.honest → (flushed : Contents) (waiting : List Command) → HasFlushed (model.folder old.disk) flushed waiting old.state
       → LeavesOnly model old.disk new.disk (λ image. AfterPrefix flushed waiting image.store))
       → (model.honest → new.reopen ≡ false → HasFlushed (model.folder new.disk) new.state [] new.state)
-      → Performs at_once model old new checkpointing
+      → Performs false model old new checkpointing
   checkpointed old new same long base moments flushes = record {
     state = same;
     stored = λ on. (λ i. record { state = same i; size = (long on).1 i; staged = option_map (λ (s : Staged). s.written + length s.left) ((long on).0 i) });
@@ -234,7 +222,7 @@ module _ (at_once : Bool) {D : Type 0} (model : DiskModel D) where
 
   -- the request is known
   pub did-asked : (old new : StoreView D) (Asked : Request → Type 0) (request : Request) → Asked request → (r : Result Reply SessionFault)
-      → Did at_once model old new request r → DidAsked at_once model old new Asked r
+      → Did model old new request r → DidAsked model old new Asked r
   did-asked old new Asked request is (Ok reply) did = (request, is, did)
   did-asked old new Asked request is (Err fault.Device) did = (request, is, did)
   did-asked old new Asked request is (Err fault.OutOfMemory) did = did
@@ -246,7 +234,7 @@ module _ (at_once : Bool) {D : Type 0} (model : DiskModel D) where
 
   -- what is asked for is told in other words
   pub did-retold : (old new : StoreView D) (A B : Request → Type 0) → ((request : Request) → A request → B request) → (r : Result Reply SessionFault)
-      → DidAsked at_once model old new A r → DidAsked at_once model old new B r
+      → DidAsked model old new A r → DidAsked model old new B r
   did-retold old new A B told (Ok reply) did = (did.0, told did.0 did.1, did.2)
   did-retold old new A B told (Err fault.Device) did = (did.0, told did.0 did.1, did.2)
   did-retold old new A B told (Err fault.OutOfMemory) did = did
@@ -257,43 +245,40 @@ module _ (at_once : Bool) {D : Type 0} (model : DiskModel D) where
   did-retold old new A B told (Err (fault.Write written)) did = absurd did
 
   pub handles-retold : (old new : StoreView D) (A B : Request → Type 0) → ((request : Request) → A request → B request) → (r : Result Reply SessionFault)
-      → Handles at_once model old new A r → Handles at_once model old new B r
-  handles-retold old new A B told r h = record { did = λ off. did-retold old new A B told r (h.did off); failures = h.failures; means = h.means }
+      → Handles model old new A r → Handles model old new B r
+  handles-retold old new A B told r h = record { did = λ off. did-retold old new A B told r (h.did off); failures = h.failures }
 
   -- ---- where the store stays as it is
 
-  module _ (store : StoreView D) (means : MeansPrefixes model store) (Asked : Request → Type 0) where
-    pub handles-same : (r : Result Reply SessionFault) → OnlyMemory r → (store.reopen ≡ false → DidAsked at_once model store store Asked r) → Handles at_once model store store Asked r
-    handles-same r memory did = record {
-      did = did;
-      failures = record { cause = λ e. absurd (no-device r memory e); risen = omega arith };
-      means = λ at. means;
-    }
+  module _ (store : StoreView D) (Asked : Request → Type 0) where
+    pub handles-same : (r : Result Reply SessionFault) → OnlyMemory r → (store.reopen ≡ false → DidAsked model store store Asked r) → Handles model store store Asked r
+    handles-same r memory did = record { did = did; failures = record { cause = λ e. absurd (no-device r memory e); risen = omega arith } }
 
     -- memory ran out
-    pub handles-none : Handles at_once model store store Asked (Err fault.OutOfMemory)
+    pub handles-none : Handles model store store Asked (Err fault.OutOfMemory)
     handles-none = handles-same (Err fault.OutOfMemory) refl (λ off. refl)
 
-    module _ (only : (image : Image) → model.honest → model.left store.disk (model.moment store.disk) image → IsImage (model.folder store.disk) image) where
-      -- a request that only reads is answered
-      pub handles-reading : (request : Request) → Asked request → OnlyReads request → (r : Result Reply SessionFault) → IfOk r (Replies (stored_of store) request) → OnlyMemory r
-          → Handles at_once model store store Asked r
-      handles-reading request asks is r replies memory = handles-same r memory (λ off. by off r replies memory)
-        where
-          by : store.reopen ≡ false → (r : Result Reply SessionFault) → IfOk r (Replies (stored_of store) request) → OnlyMemory r → DidAsked at_once model store store Asked r
-          by off (Ok reply) replies memory = (request, asks, (replies, off, only-read store off request is only means))
-          by off (Err end) replies memory = subst (λ (e : SessionFault). DidAsked at_once model store store Asked (Err e)) (sym memory) refl
+  module _ (store : StoreView D) (means : MeansPrefixes model store) (Asked : Request → Type 0)
+      (only : (image : Image) → model.honest → model.left store.disk (model.moment store.disk) image → IsImage (model.folder store.disk) image) where
+    -- a request that only reads is answered
+    pub handles-reading : (request : Request) → Asked request → OnlyReads request → (r : Result Reply SessionFault) → IfOk r (Replies (stored_of store) request) → OnlyMemory r
+        → Handles model store store Asked r
+    handles-reading request asks is r replies memory = handles-same store Asked r memory (λ off. by off r replies memory)
+      where
+        by : store.reopen ≡ false → (r : Result Reply SessionFault) → IfOk r (Replies (stored_of store) request) → OnlyMemory r → DidAsked model store store Asked r
+        by off (Ok reply) replies memory = (request, asks, (replies, off, only-read store off request is only means))
+        by off (Err end) replies memory = subst (λ (e : SessionFault). DidAsked model store store Asked (Err e)) (sym memory) refl
 
-      -- what is asked for is no command, and is answered by that refusal
-      pub handles-unread : (f : StoreFault) → ((reason : Refusal) → answered f ≡ Ok reason → Asked (unread f)) → OnlyMemory (answered f)
-          → Handles at_once model store store Asked (refused_as (answered f))
-      handles-unread f asks memory = by (answered f) refl memory
-        where
-          by : (r : Result Refusal SessionFault) → answered f ≡ r → OnlyMemory r → Handles at_once model store store Asked (refused_as r)
-          by (Ok reason) is memory =
-              handles-reading (unread f) (asks reason is) tt (Ok (Refused reason))
-              (record { bytes = ap (λ a. document_bytes (refused_answer a)) (sym is); accepted = refl; refused = refl; short = refused-short (answered f) }) tt
-          by (Err end) is memory = subst (λ (e : SessionFault). Handles at_once model store store Asked (Err e)) (sym memory) handles-none
+    -- what is asked for is no command, and is answered by that refusal
+    pub handles-unread : (f : StoreFault) → ((reason : Refusal) → answered f ≡ Ok reason → Asked (unread f)) → OnlyMemory (answered f)
+        → Handles model store store Asked (refused_as (answered f))
+    handles-unread f asks memory = by (answered f) refl memory
+      where
+        by : (r : Result Refusal SessionFault) → answered f ≡ r → OnlyMemory r → Handles model store store Asked (refused_as r)
+        by (Ok reason) is memory =
+            handles-reading (unread f) (asks reason is) tt (Ok (Refused reason))
+            (record { bytes = ap (λ a. document_bytes (refused_answer a)) (sym is); accepted = refl; refused = refl; short = refused-short (answered f) }) tt
+        by (Err end) is memory = subst (λ (e : SessionFault). Handles model store store Asked (Err e)) (sym memory) (handles-none store Asked)
 
 -- an `import` under a good name whose text gives a tree is the command
 pub text-given : (name bytes : List ℕ) (command : Command) → IsUtf8 bytes → IsImportOf name bytes command → MeansRequest (single_part (import_text name (chars bytes))) (changing command)
@@ -333,20 +318,20 @@ refused-reply now kept command f reason refused is = record {
 
 -- ---- requests that are refused, or end the session
 
-module _ (at_once : Bool) {D : Type 0} (model : DiskModel D) where
+module _ {D : Type 0} (model : DiskModel D) where
   settled : (old new : StoreView D) (request : Request) (r : Result Refusal SessionFault) → OnlyMemory r → new ≡ old
-      → ((reason : Refusal) → r ≡ Ok reason → Did at_once model old new request (Ok (Refused reason)))
-      → Did at_once model old new request (refused_as r)
+      → ((reason : Refusal) → r ≡ Ok reason → Did model old new request (Ok (Refused reason)))
+      → Did model old new request (refused_as r)
   settled old new request (Ok reason) memory same reply = reply reason refl
-  settled old new request (Err end) memory same reply = subst (λ (e : SessionFault). Did at_once model old new request (Err e)) (sym memory) same
+  settled old new request (Err end) memory same reply = subst (λ (e : SessionFault). Did model old new request (Err e)) (sym memory) same
 
   -- a command that is refused is answered by its refusal; the device may have failed
   pub did-refused : (old new : StoreView D) (request : Request) (f : StoreFault) → (f ≡ state.Reopen → ⊥)
-      → (f ≡ state.Device → Did at_once model old new request (Err fault.Device)) → (f ≢ state.Device → new ≡ old)
-      → ((reason : Refusal) → f ≢ state.Device → answered f ≡ Ok reason → Did at_once model old new request (Ok (Refused reason)))
-      → Did at_once model old new request (refused_as (answered f))
+      → (f ≡ state.Device → Did model old new request (Err fault.Device)) → (f ≢ state.Device → new ≡ old)
+      → ((reason : Refusal) → f ≢ state.Device → answered f ≡ Ok reason → Did model old new request (Ok (Refused reason)))
+      → Did model old new request (refused_as (answered f))
   did-refused old new request f shut device same reply =
-      ⊎_elim (λ is. subst (λ (x : StoreFault). Did at_once model old new request (refused_as (answered x))) (sym is) (device is))
+      ⊎_elim (λ is. subst (λ (x : StoreFault). Did model old new request (refused_as (answered x))) (sym is) (device is))
       (λ other. settled old new request (answered f) (answered-memory f shut other) (same other) (λ reason. reply reason other)) (is-device f)
 
 -- why a command was refused that is answered by a refusal

@@ -78,7 +78,7 @@ one-more old new bytes e =
 
 module _ {D : Type 0} (model : DiskModel D) (old new : StoreView D) where
   -- a piece that was not performed, or whose command met the device's failure
-  pub fails-by : (piece : List ℕ) (f : SessionFault) (count performed : ℕ) → performed ≡ count → DidAsked false model old new (RoundAsks piece) (Err f)
+  pub fails-by : (piece : List ℕ) (f : SessionFault) (count performed : ℕ) → performed ≡ count → DidAsked model old new (RoundAsks piece) (Err f)
       → FailsPiece model old new piece count (round_fault f performed)
   fails-by piece session.OutOfMemory count performed is did = inl (is, did)
   fails-by piece session.Device count performed is did = (did.2.0, record { request = did.0; asks = did.1; performs = did.2.1 })
@@ -89,7 +89,7 @@ module _ {D : Type 0} (model : DiskModel D) (old new : StoreView D) where
   fails-by piece (session.Write written) count performed is did = absurd did
 
   -- a piece that was performed and answered
-  pub answered : (piece : List ℕ) (reply : Reply) (before after : List (List ℕ)) → DidAsked false model old new (RoundAsks piece) (Ok reply) → after ≡ before ++ reply_bytes reply ∷ []
+  pub answered : (piece : List ℕ) (reply : Reply) (before after : List (List ℕ)) → DidAsked model old new (RoundAsks piece) (Ok reply) → after ≡ before ++ reply_bytes reply ∷ []
       → AnswersPiece model old new piece before after
   answered piece reply before after did is = record {
     takes = record { request = did.0; asks = did.1; performs = did.2.2 };

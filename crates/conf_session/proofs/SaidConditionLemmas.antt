@@ -1,7 +1,7 @@
 -- The conditions of a command, as its document has them.
-use Rattle.std.proofs.Common.{◌≡◌, false, true, refl, sym, ap, subst, ◌∙◌, append_assoc, append-nil, arith}
+use Rattle.std.proofs.Common.{◌≡◌, false, true, refl, sym, ap, ◌∙◌, append_assoc, append-nil, arith}
 use Rattle.std.proofs.lemmas.List.{map-append}
-use Rattle.std.specs.Prelude.{List, [], ◌∷◌, ◌++◌, codes, length, map, Option, Some, None, option_map}
+use Rattle.std.specs.Prelude.{List, [], ◌∷◌, ◌++◌, codes, length, Option, Some, None, option_map}
 use Rattle.yaml_grammar.specs.Trees.{Members, sequence}
 use Rattle.yaml_data.specs.Seen.{tree_of, elements_of}
 use Rattle.yaml_data.specs.declared.tree.Tree as code_tree

@@ -1,5 +1,5 @@
 -- What a command document says, case by case.
-use Rattle.std.proofs.Common.{◌≡◌, ◌<◌, false, true, length, get_or, refl, sym, ap, arith}
+use Rattle.std.proofs.Common.{◌≡◌, false, true, length, get_or, refl, ap}
 use Rattle.std.specs.Prelude.{ℕ, List, [], ◌∷◌, codes, Option, option_and_then}
 use Rattle.std.specs.Str.{chars}
 use Rattle.yaml_grammar.specs.Texts.{same_text}

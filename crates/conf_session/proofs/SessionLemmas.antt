@@ -18,9 +18,13 @@ use Rattle.conf_session.specs.Answers.{Stored, acknowledged, answer_bytes, answe
 use Rattle.conf_session.specs.Runs.{TakesUp, stored_of, Ends, EndsAnswered, Runs}
 use Rattle.conf_session.specs.Replies.{MeansPrefixes, Performs, PerformsAll}
 use Rattle.conf_session.specs.Gathering.{CutsSending, PerformsPiece, SendsAnswers}
+use Rattle.conf_session.specs.Groups.{all_asked}
+use Rattle.conf_session.specs.Sinks.{SentSoFar}
+use Rattle.conf_session.proofs.TurnLemmas.{asked-output, asked-stored}
 use Rattle.conf_session.proofs.PassedLemmas.{performs-none, performs-more, moments-more, waits-more, state-more, stored-more, reads-more, stages-more, kept-all, kept-most, acknowledged-more, accepted_commands-last, output-last, refusals-last, take-beyond}
 use Rattle.conf_session.proofs.ReadLemmas.{ReadSoFar, read-none, read-as, read-more, ends-before, ends-unanswered, nothing-read}
 use Rattle.conf_session.proofs.ReadLemmas as reading
+use Rattle.conf_session.specs.Streams.{streams_of}
 
 -- the pieces that were read are performed and answered
 pub record SoFar {D : Type 0} (model : DiskModel D) (given left held written : Option (List ℕ)) (old new : StoreView D)
@@ -28,6 +32,17 @@ pub record SoFar {D : Type 0} (model : DiskModel D) (given left held written : O
   pub requests : List Request
   pub read : ReadSoFar given left held written requests (output (stored_of old) requests) (length (accepted_commands (stored_of old) requests)) (refusals (stored_of old) requests) further answers total
   pub performs : PerformsAll true model old new requests
+
+-- what was handed out so far
+pub sent-so-far : {D : Type 0} (model : DiskModel D) (given left held written : Option (List ℕ)) (old new : StoreView D) (further : List ℕ) (answers : Unwritten) (total : ℕ)
+    → SoFar model given left held written old new further answers total → SentSoFar model written new
+sent-so-far model given left held written old new further answers total s = record {
+  held = held;
+  start = stored_of old;
+  turns = all_asked s.requests;
+  out = subst (Appends held written) (sym (asked-output (stored_of old) s.requests)) s.read.out;
+  stored = s.performs.stored ∙ sym (asked-stored (stored_of old) s.requests);
+}
 
 module _ {D : Type 0} (model : DiskModel D) where
   -- before the first piece, nothing was read, performed or written
@@ -44,8 +59,8 @@ module _ {D : Type 0} (model : DiskModel D) where
 
   -- a run that ends when all requests so far are performed and answered
   stopped : (given left held written : Option (List ℕ)) (old now : StoreView D) (rs : List Request) → PerformsAll true model old now rs → MeansPrefixes model now → (result : Result Tally SessionFault)
-      → Ends given left held written (stored_of old) rs rs result
-      → Runs model given left held written old now result
+      → Ends (streams_of given left held written) (stored_of old) rs rs result
+      → Runs model (streams_of given left held written) old now result
   stopped given left held written old now rs performs means result ends = record {
     answered = rs;
     performed = rs;
@@ -73,19 +88,19 @@ module _ {D : Type 0} (model : DiskModel D) where
 
     pub ends-well : (tally : Tally) → AdvancesToEnd mid left was then → MeansPrefixes model now
         → tally.documents ≡ answers.tally.documents → tally.accepted ≡ answers.tally.accepted → tally.refused ≡ answers.tally.refused → tally.rest ≡ length (piece_of then)
-        → Runs model given left held between old now (Ok tally)
+        → Runs model (streams_of given left held between) old now (Ok tally)
     ends-well tally end means d a r rest =
         stopped given left held between old now s.requests s.performs means (Ok tally)
         (refl, reading.ends-well given mid left held between s.requests sent (length (accepted_commands start s.requests)) (refusals start s.requests) was then answers s.read tally end d a r rest)
 
     -- the input has no further piece for a reason
-    pub ends-in_input : (f : SessionFault) → Advances mid left was then (Err f) → MeansPrefixes model now → Runs model given left held between old now (Err f)
+    pub ends-in_input : (f : SessionFault) → Advances mid left was then (Err f) → MeansPrefixes model now → Runs model (streams_of given left held between) old now (Err f)
     ends-in_input f fails means = stopped given left held between old now s.requests s.performs means (Err f) (by f fails)
       where
-        ends : (f : SessionFault) → Advances mid left was then (Err f) → EndsAnswered given left held between s.requests sent (length (accepted_commands start s.requests)) (refusals start s.requests) (Err f)
+        ends : (f : SessionFault) → Advances mid left was then (Err f) → EndsAnswered (streams_of given left held between) s.requests sent (length (accepted_commands start s.requests)) (refusals start s.requests) (Err f)
         ends = reading.ends-in_input given mid left held between s.requests sent (length (accepted_commands start s.requests)) (refusals start s.requests) was then answers s.read
 
-        by : (f : SessionFault) → Advances mid left was then (Err f) → Ends given left held between start s.requests s.requests (Err f)
+        by : (f : SessionFault) → Advances mid left was then (Err f) → Ends (streams_of given left held between) start s.requests s.requests (Err f)
         by fault.Read fails = (refl, ends fault.Read fails)
         by fault.TooLong fails = (refl, ends fault.TooLong fails)
         by fault.SessionLong fails = (refl, ends fault.SessionLong fails)
@@ -122,7 +137,7 @@ module _ {D : Type 0} (model : DiskModel D) where
       -- ---- its exits
 
       ends-memory : (written : Option (List ℕ)) (new : StoreView D) → new ≡ now → Keeps between written → MeansPrefixes model new
-          → Runs model given left held written old new (Err fault.OutOfMemory)
+          → Runs model (streams_of given left held written) old new (Err fault.OutOfMemory)
       ends-memory written new same keeps means =
           let early = ends-before given mid left held between s.requests sent (length (accepted_commands start s.requests)) (refusals start s.requests) was then answers s.read advances in
           stopped given left held written old new s.requests (subst (λ (t : StoreView D). PerformsAll true model old t s.requests) (sym same) s.performs) means (Err fault.OutOfMemory) (
@@ -133,7 +148,7 @@ module _ {D : Type 0} (model : DiskModel D) where
       ends-device : (written : Option (List ℕ)) (new : StoreView D) (r : Request) → new.reopen ≡ true → Performs true model now new r
           → TakesUp (piece_of then ++ ahead then) (ahead then) (r ∷ []) → Keeps between written
           → ((t : ℕ) (image : Image) → model.honest → t ≤ model.moment new.disk → IsImage (model.folder new.disk) image → model.left new.disk t image)
-          → Runs model given left held written old new (Err fault.Device)
+          → Runs model (streams_of given left held written) old new (Err fault.Device)
       ends-device written new r broken does takes keeps counts_now = record {
         answered = s.requests;
         performed = s.requests ++ r ∷ [];
@@ -155,7 +170,7 @@ module _ {D : Type 0} (model : DiskModel D) where
       ends-write : (written : Option (List ℕ)) (new : StoreView D) (r : Request) (total : ℕ) → new.reopen ≡ false → Performs true model now new r
           → CutsSending between written (piece_of then ++ ahead then) (stored_of now) (r ∷ []) answers.written total
           → answers.written ≤ answers.tally.documents * answer_limit → MeansPrefixes model new
-          → Runs model given left held written old new (Err (fault.Write total))
+          → Runs model (streams_of given left held written) old new (Err (fault.Write total))
       ends-write written new r total off does cuts room means =
           let rs = s.requests in
           let one = output (stored_of now) (r ∷ []) in
@@ -196,7 +211,7 @@ module _ {D : Type 0} (model : DiskModel D) where
       pub ends-failing : (written : Option (List ℕ)) (new : StoreView D) (after : Unwritten) (f : SessionFault) → PerformsPiece model between written then now new answers after (Err f)
           → answers.written ≤ answers.tally.documents * answer_limit → MeansPrefixes model new
           → ((t : ℕ) (image : Image) → model.honest → t ≤ model.moment new.disk → IsImage (model.folder new.disk) image → model.left new.disk t image)
-          → Runs model given left held written old new (Err f)
+          → Runs model (streams_of given left held written) old new (Err f)
       ends-failing written new after fault.OutOfMemory fails room means counts_now = ends-memory written new fails.0 fails.1 means
       ends-failing written new after fault.Device fails room means counts_now = ends-device written new fails.0 fails.1 fails.2 fails.3 fails.4 counts_now
       ends-failing written new after (fault.Write total) fails room means counts_now = ends-write written new fails.0 total fails.1 fails.2 fails.3 room means
@@ -207,7 +222,7 @@ module _ {D : Type 0} (model : DiskModel D) where
 
   -- ---- nothing is done
 
-  pub reopens : (given held : Option (List ℕ)) (store : StoreView D) → (store.reopen ≡ false → ⊥) → Runs model given given held held store store (Err fault.Reopen)
+  pub reopens : (given held : Option (List ℕ)) (store : StoreView D) → (store.reopen ≡ false → ⊥) → Runs model (streams_of given given held held) store store (Err fault.Reopen)
   reopens given held store broken = record {
     answered = [];
     performed = [];
@@ -224,6 +239,6 @@ module _ {D : Type 0} (model : DiskModel D) where
   pub starts-without-memory : (given held : Option (List ℕ)) (store : StoreView D) → store.reopen ≡ false
       → ((image : Image) → model.honest → model.left store.disk (model.moment store.disk) image → IsImage (model.folder store.disk) image)
       → MeansPrefixes model store
-      → Runs model given given held held store store (Err fault.OutOfMemory)
+      → Runs model (streams_of given given held held) store store (Err fault.OutOfMemory)
   starts-without-memory given held store off only means =
       stopped given given held held store store [] (performs-none true model store off only means) means (Err fault.OutOfMemory) (refl, nothing-read given held)

@@ -131,7 +131,7 @@ leads-turn now begun = refl
 leads-turn now finished = refl
 
 -- the accepted commands lead to the state that is stored after the turns
-leads-turns : (now : Stored) (ts : List Turn) → after now.state (turns_accepted now ts) ≡ Ok (stored_after_turns now ts).state
+pub leads-turns : (now : Stored) (ts : List Turn) → after now.state (turns_accepted now ts) ≡ Ok (stored_after_turns now ts).state
 leads-turns now [] = refl
 leads-turns now (t ∷ ts) =
     after-joined now.state (stored_after_turn now t).state (stored_after_turns now (t ∷ ts)).state (turn_accepted now t) (turns_accepted (stored_after_turn now t) ts) (leads-turn now t) (leads-turns (stored_after_turn now t) ts)

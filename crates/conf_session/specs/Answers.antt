@@ -1,5 +1,5 @@
 -- What a session answers, and what is stored then. All of it is computed from the requests.
-use Rattle.std.specs.Prelude.{◌≡◌, ◌≤◌, ℕ, ◌+◌, ◌-◌, max, Bool, true, false, ◌&&◌, if◌then◌else◌, List, [], ◌∷◌, ◌++◌, length, codes, decimal, Option, Some, None, option_map, unwrap_or, Result, Ok, Err, is_ok, is_some}
+use Rattle.std.specs.Prelude.{◌≡◌, ◌≤◌, ℕ, ◌+◌, ◌-◌, max, Bool, true, false, if◌then◌else◌, List, [], ◌∷◌, ◌++◌, length, codes, decimal, Option, Some, None, option_map, unwrap_or, Result, Ok, Err, is_some}
 use Rattle.std.specs.List.{concat}
 use Rattle.yaml_grammar.specs.Trees.{Tree, text, sequence, mapping, Elements, no_element, element, no_member, member}
 use Rattle.yaml_grammar.specs.Style.{style_text}
@@ -23,7 +23,7 @@ use Rattle.conf_session.specs.declared.fault.SessionFault.{SessionFault}
 use Rattle.conf_session.specs.declared.fault.SessionFault.TheVariants as fault
 use Rattle.conf_session.specs.declared.words.Refusal.{Refusal}
 use Rattle.conf_session.specs.declared.words.Refusal.TheVariants as refused
-use Rattle.conf_conditions.specs.Conditions.{Condition, AllHold, FailsFirst, first_fault}
+use Rattle.conf_conditions.specs.Conditions.{first_fault}
 use Rattle.conf_conditions.specs.declared.fault.ConditionFault.{ConditionFault}
 use Rattle.conf_conditions.specs.declared.fault.ConditionFault.TheVariants as condition
 use Rattle.conf_session.specs.Requests.{Request, changing, unread, getting, exporting, naming, checkpointing, if_met, bad, Asks}
@@ -293,28 +293,28 @@ refusals now (request ∷ requests) = refused_of now request + refusals (stored_
 
 -- ---- what is flushed, and what waits
 
--- Whether a request syncs `store.yaml`, so that no crash takes away what was submitted before. A checkpoint does, and
--- so does an accepted command, where each is flushed at once.
+-- Whether a request syncs `store.yaml`, so that no crash takes away what was submitted before. Each does where `each`
+-- says that all that waits is flushed before its answer; otherwise only a checkpoint does.
 abbrev pub syncs : Bool → Stored → Request → Bool
-syncs at_once now (changing command) = at_once && is_ok (outcome (longest now) now.state command)
-syncs at_once now checkpointing = true
-syncs at_once now (if_met conditions request) =
-    unless_failed (first_fault now.state conditions) (syncs at_once now request) (λ fault. false)
-syncs at_once now request = false
+syncs true now request = true
+syncs false now checkpointing = true
+syncs false now (if_met conditions request) =
+    unless_failed (first_fault now.state conditions) (syncs false now request) (λ fault. false)
+syncs false now request = false
 
 -- the state that is flushed after the requests, where `flushed` was before
 abbrev pub flushed_after : Bool → Stored → Contents → List Request → Contents
-flushed_after at_once now flushed [] = flushed
-flushed_after at_once now flushed (request ∷ requests) =
-    flushed_after at_once (stored_after now request)
-    (if syncs at_once now request then (stored_after now request).state else flushed) requests
+flushed_after each now flushed [] = flushed
+flushed_after each now flushed (request ∷ requests) =
+    flushed_after each (stored_after now request)
+    (if syncs each now request then (stored_after now request).state else flushed) requests
 
 -- the commands that wait after the requests, where `waiting` did before
 abbrev pub waiting_after : Bool → Stored → List Command → List Request → List Command
-waiting_after at_once now waiting [] = waiting
-waiting_after at_once now waiting (request ∷ requests) =
-    waiting_after at_once (stored_after now request)
-    (if syncs at_once now request then [] else waiting ++ accepted_command now request) requests
+waiting_after each now waiting [] = waiting
+waiting_after each now waiting (request ∷ requests) =
+    waiting_after each (stored_after now request)
+    (if syncs each now request then [] else waiting ++ accepted_command now request) requests
 
 -- How many commands no crash takes away once a session has answered the requests, of those that waited at its start and
 -- those that it accepted: all but those that still wait.
@@ -322,7 +322,12 @@ abbrev pub acknowledged : Stored → List Command → List Request → ℕ
 acknowledged now waiting requests =
     length (waiting ++ accepted_commands now requests) - length (waiting_after true now waiting requests)
 
--- where no command waits at the start, these are all that are accepted
-abbrev pub AllAreAcknowledged : Type 0
-AllAreAcknowledged =
-    (now : Stored) (requests : List Request) → acknowledged now [] requests ≡ length (accepted_commands now requests)
+-- the first answer acknowledges what waited, and each answer what was accepted up to it
+pub record AllAreAcknowledged : Type 0 where
+  -- where no command waits at the start, these are all that are accepted
+  pub accepted : (now : Stored) (requests : List Request)
+      → acknowledged now [] requests ≡ length (accepted_commands now requests)
+  -- once a request is answered, these are all that waited, and all that are accepted
+  pub waited : (now : Stored) (waiting : List Command) (request : Request) (requests : List Request)
+      → acknowledged now waiting (request ∷ requests)
+      ≡ length (waiting ++ accepted_commands now (request ∷ requests))

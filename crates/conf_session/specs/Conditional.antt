@@ -1,6 +1,5 @@
 -- What conditions make of a request: it is as it is without them, or it is refused and changes nothing.
-use Rattle.std.specs.Prelude.{◌≡◌, ◌⊎◌, ℕ, Bool, List, [], Option, Some, Ok}
-use Rattle.conf_state.specs.Commands.{Command}
+use Rattle.std.specs.Prelude.{◌≡◌, ◌⊎◌, ℕ, List, [], Option, Some, Ok}
 use Rattle.conf_conditions.specs.Conditions.{Condition, AllHold, FailsFirst}
 use Rattle.conf_conditions.specs.declared.fault.ConditionFault.{ConditionFault}
 use Rattle.conf_session.specs.declared.words.Refusal.{Refusal}

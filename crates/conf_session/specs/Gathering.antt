@@ -1,5 +1,5 @@
 -- One group of a grouped session: the pieces that one read brought are performed, flushed and then answered.
-use Rattle.std.specs.Prelude.{◌≡◌, ℕ, ◌+◌, ◌*◌, ◌<◌, ◌≤◌, true, false, Bool, List, [], ◌∷◌, ◌++◌, length, take, Option, Some, None, Result, Ok, Err}
+use Rattle.std.specs.Prelude.{◌≡◌, ℕ, ◌+◌, ◌*◌, ◌<◌, ◌≤◌, true, false, List, [], ◌∷◌, ◌++◌, length, take, Option, Some, None, Result, Ok, Err}
 use Rattle.std.specs.Io.KnownBytes.{Appends, Keeps}
 use Rattle.yaml_grammar.specs.Closings.{ClosesOnce}
 use Rattle.conf_disk.specs.Models.{DiskModel}
@@ -148,20 +148,19 @@ Tends model checkpoints old new (Err fault) = ⊥
 -- ---- one piece
 
 -- the piece is performed, and its answer is kept
-pub record GathersPiece (at_once : Bool) {D : Type 0} (model : DiskModel D) (old new : StoreView D)
+pub record GathersPiece {D : Type 0} (model : DiskModel D) (old new : StoreView D)
     (piece : List ℕ) (before after : Unwritten) : Type 0 where
   pub request : Request
   pub asks : Asks piece request
   pub sound : new.reopen ≡ false
-  pub performs : Performs at_once model old new request
+  pub performs : Performs false model old new request
   pub reply : Reply
   pub replies : Replies (stored_of old) request reply
   pub keeps : KeepsAnswer before after reply
 
 -- what became of a piece that has no answer
-abbrev pub LeavesPiece : Bool → {D : Type 0} → DiskModel D → StoreView D → StoreView D → List ℕ → SessionFault
-    → Type 0
-LeavesPiece at_once model old new piece fault = DidAsked at_once model old new (Asks piece) (Err fault)
+abbrev pub LeavesPiece : {D : Type 0} → DiskModel D → StoreView D → StoreView D → List ℕ → SessionFault → Type 0
+LeavesPiece model old new piece fault = DidAsked model old new (Asks piece) (Err fault)
 
 -- ---- the pieces of a group
 
@@ -265,7 +264,7 @@ pub record CutsSending (held written : Option (List ℕ)) (bytes : List ℕ) (st
   pub cut : count < length (output start requests)
   pub out : Appends held written (take count (output start requests))
 
--- What became of a piece that is a group by itself: its command is flushed at once, and then it is answered.
+-- What became of a piece that is a group by itself: all that waits is flushed with it, and then it is answered.
 abbrev pub PerformsPiece : {D : Type 0} → DiskModel D → Option (List ℕ) → Option (List ℕ) → Input → StoreView D
     → StoreView D → Unwritten → Unwritten → Result (Unit {0}) SessionFault → Type 0
 PerformsPiece model held written input old new before after (Ok done) =

@@ -20,6 +20,7 @@ use Rattle.conf_session.specs.declared.fault.SessionFault.TheVariants as fault
 use Rattle.conf_session.specs.declared.groups.Checkpoints.{Checkpoints}
 use Rattle.conf_session.specs.declared.groups.Checkpoints.TheVariants.{Asked, After}
 use Rattle.conf_session.specs.declared.session.Tally.{Tally}
+use Rattle.conf_session.specs.Streams.{Streams}
 
 -- ---- turns
 
@@ -120,30 +121,30 @@ AreDue bytes files now (turn ∷ turns) =
 
 -- Exactly so many bytes of the answers were written, at most the limit of an answer for each piece. The first request
 -- whose answer was not written whole is performed, and so are further ones.
-pub record EndsInGroup (given left held written : Option (List ℕ)) (start : Stored) (answered : List Turn)
+pub record EndsInGroup (io : Streams) (start : Stored) (answered : List Turn)
     (unanswered : List Request) (count : ℕ) : Type 0 where
   pub bytes : List ℕ
-  pub taken : Consumes given left bytes
+  pub taken : Consumes io.given io.left bytes
   pub begins : BeginsWith bytes (requests_of answered ++ unanswered)
   pub last : Request
   pub further : List Request
   pub is : unanswered ≡ last ∷ further
-  pub out : Appends held written (take count (turns_output start (answered ++ all_asked unanswered)))
+  pub out : Appends io.held io.written (take count (turns_output start (answered ++ all_asked unanswered)))
   pub whole : length (turns_output start answered) ≤ count
   pub cut : count < length (turns_output start (answered ++ asked last ∷ []))
   pub bound : count ≤ length (requests_of answered ++ unanswered) * answer_limit
 
 -- how a grouped session ends, by its result
-abbrev pub GroupedEnds : Option (List ℕ) → Option (List ℕ) → Option (List ℕ) → Option (List ℕ) → Stored → List Turn
+abbrev pub GroupedEnds : Streams → Stored → List Turn
     → List Request → Result Tally SessionFault → Type 0
-GroupedEnds given left held written start answered unanswered (Err (fault.Write count)) =
-    EndsInGroup given left held written start answered unanswered count
-GroupedEnds given left held written start answered unanswered (Err fault.Device) =
-    EndsEarly given left held written (requests_of answered) unanswered (turns_output start answered)
-GroupedEnds given left held written start answered unanswered (Err fault.Reopen) =
-    Keeps given left × Keeps held written × (answered ≡ []) × (unanswered ≡ [])
-GroupedEnds given left held written start answered unanswered result =
-    (unanswered ≡ []) × EndsAnswered given left held written (requests_of answered) (turns_output start answered)
+GroupedEnds io start answered unanswered (Err (fault.Write count)) =
+    EndsInGroup io start answered unanswered count
+GroupedEnds io start answered unanswered (Err fault.Device) =
+    EndsEarly io (requests_of answered) unanswered (turns_output start answered)
+GroupedEnds io start answered unanswered (Err fault.Reopen) =
+    Keeps io.given io.left × Keeps io.held io.written × (answered ≡ []) × (unanswered ≡ [])
+GroupedEnds io start answered unanswered result =
+    (unanswered ≡ []) × EndsAnswered io (requests_of answered) (turns_output start answered)
     (length (turns_accepted start answered)) (turns_refused start answered) result
 
 -- ---- a grouped session
@@ -156,12 +157,12 @@ acknowledged_turns now waiting (turn ∷ turns) = length (waiting ++ turns_accep
 
 -- A grouped session from one value of a store to the next. `flushed` is the state that is flushed at its start, and
 -- `waiting` are the commands that were submitted since.
-pub record RunsGrouped {D : Type 0} (model : DiskModel D) (given left held written : Option (List ℕ))
+pub record RunsGrouped {D : Type 0} (model : DiskModel D) (io : Streams)
     (checkpoints : Checkpoints)
     (old new : StoreView D) (result : Result Tally SessionFault) : Type 0 where
   pub answered : List Turn
   pub unanswered : List Request
-  pub ends : GroupedEnds given left held written (stored_of old) answered unanswered result
+  pub ends : GroupedEnds io (stored_of old) answered unanswered result
   -- a checkpoint that no request asks for is begun only if that is wanted, and only when it is due
   pub only_asked : checkpoints ≡ Asked → answered ≡ all_asked (requests_of answered)
   pub due : model.honest → (bytes : ℕ) → checkpoints ≡ After bytes

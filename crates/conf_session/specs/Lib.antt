@@ -11,4 +11,6 @@ pub mod PartLines
 pub mod Input
 pub mod Rounds
 pub mod Groups
+pub mod Sinks
 pub mod Gathering
+pub mod Streams

@@ -18,8 +18,6 @@ use Rattle.conf_conditions.specs.declared.fault.ConditionFault.{ConditionFault}
 use Rattle.conf_session.specs.Requests.{Request, changing, checkpointing, if_met}
 use Rattle.conf_session.specs.Answers.{Stored, answered, condition_answered, answer_bytes, answer_limit, refusal, word, stored_after, file_after, staged_after, accepted_command, refused_of, flushed_after, waiting_after, stored_after_all, file_after_all, staged_after_all, accepted_commands}
 use Rattle.conf_session.specs.Runs.{stored_of}
-use Rattle.conf_session.specs.declared.reply.Way.{Way}
-use Rattle.conf_session.specs.declared.reply.Way.TheVariants.{AtOnce, Submitted}
 use Rattle.conf_session.specs.declared.words.Refusal.{Refusal}
 use Rattle.conf_session.specs.declared.reply.Reply.{Reply}
 use Rattle.conf_session.specs.declared.reply.Reply.TheVariants.{Accepted, Done, Refused}
@@ -62,11 +60,6 @@ abbrev pub refuses : Reply → ℕ
 refuses (Refused reason) = 1
 refuses reply = 0
 
--- whether an accepted command is flushed before it is answered
-abbrev pub is_at_once : Way → Bool
-is_at_once AtOnce = true
-is_at_once Submitted = false
-
 -- whatever a crash leaves now means the state after a prefix of the commands that wait
 abbrev pub LeavesPrefixes : Folder → Contents → Type 0
 LeavesPrefixes folder s =
@@ -74,8 +67,8 @@ LeavesPrefixes folder s =
     → AllImagesAfterPrefix folder flushed waiting
 
 -- A request is performed: the state, the lengths and the files are those after it. A crash leaves the state after a
--- prefix of the commands that waited and of this one. `at_once` says whether an accepted command is flushed at once.
-pub record Performs (at_once : Bool) {D : Type 0} (model : DiskModel D) (old new : StoreView D)
+-- prefix of the commands that waited and of this one. `each` says whether all that waits is flushed with it.
+pub record Performs (each : Bool) {D : Type 0} (model : DiskModel D) (old new : StoreView D)
     (request : Request) : Type 0 where
   pub state : new.state ≡ (stored_after (stored_of old) request).state
   pub stored : new.reopen ≡ false → stored_of new ≡ stored_after (stored_of old) request
@@ -91,11 +84,11 @@ pub record Performs (at_once : Bool) {D : Type 0} (model : DiskModel D) (old new
       (λ image. AfterPrefix flushed (waiting ++ accepted_command (stored_of old) request) image.store)
   pub waits : model.honest → new.reopen ≡ false → (flushed : Contents) (waiting : List Command)
       → HasFlushed (model.folder old.disk) flushed waiting old.state
-      → HasFlushed (model.folder new.disk) (flushed_after at_once (stored_of old) flushed (request ∷ []))
-      (waiting_after at_once (stored_of old) waiting (request ∷ [])) new.state
+      → HasFlushed (model.folder new.disk) (flushed_after each (stored_of old) flushed (request ∷ []))
+      (waiting_after each (stored_of old) waiting (request ∷ [])) new.state
 
 -- The requests are performed, one after the other.
-pub record PerformsAll (at_once : Bool) {D : Type 0} (model : DiskModel D) (old new : StoreView D)
+pub record PerformsAll (each : Bool) {D : Type 0} (model : DiskModel D) (old new : StoreView D)
     (requests : List Request) : Type 0 where
   pub sound : new.reopen ≡ false
   pub stored : stored_of new ≡ stored_after_all (stored_of old) requests
@@ -109,8 +102,8 @@ pub record PerformsAll (at_once : Bool) {D : Type 0} (model : DiskModel D) (old 
       (λ image. AfterPrefix flushed (waiting ++ accepted_commands (stored_of old) requests) image.store)
   pub waits : model.honest → (flushed : Contents) (waiting : List Command)
       → HasFlushed (model.folder old.disk) flushed waiting old.state
-      → HasFlushed (model.folder new.disk) (flushed_after at_once (stored_of old) flushed requests)
-      (waiting_after at_once (stored_of old) waiting requests) new.state
+      → HasFlushed (model.folder new.disk) (flushed_after each (stored_of old) flushed requests)
+      (waiting_after each (stored_of old) waiting requests) new.state
 
 -- the answer to the request
 pub record Replies (now : Stored) (request : Request) (reply : Reply) : Type 0 where
@@ -119,26 +112,24 @@ pub record Replies (now : Stored) (request : Request) (reply : Reply) : Type 0 w
   pub refused : refuses reply ≡ refused_of now request
   pub short : length (answer_bytes now request) ≤ answer_limit
 
--- What became of a request. If memory ran out, nothing was changed.
-abbrev pub Did : Bool → {D : Type 0} → DiskModel D → StoreView D
-    → StoreView D → Request → Result Reply SessionFault → Type 0
-Did at_once model old new request (Ok reply) =
-    Replies (stored_of old) request reply × (new.reopen ≡ false)
-    × Performs at_once model old new request
-Did at_once model old new request (Err Device) =
-    (new.reopen ≡ true) × Performs at_once model old new request
-Did at_once model old new request (Err OutOfMemory) = new ≡ old
-Did at_once model old new request (Err fault) = ⊥
+-- What became of a request. Nothing is flushed, but by a checkpoint. If memory ran out, nothing was changed.
+abbrev pub Did : {D : Type 0} → DiskModel D → StoreView D → StoreView D → Request → Result Reply SessionFault → Type 0
+Did model old new request (Ok reply) =
+    Replies (stored_of old) request reply × (new.reopen ≡ false) × Performs false model old new request
+Did model old new request (Err Device) = (new.reopen ≡ true) × Performs false model old new request
+Did model old new request (Err OutOfMemory) = new ≡ old
+Did model old new request (Err fault) = ⊥
 
--- What became of a request for which `Asked` holds. If memory ran out, nothing was changed, and the request may be unknown.
-abbrev pub DidAsked : Bool → {D : Type 0} → DiskModel D → StoreView D → StoreView D → (Request → Type 0)
+-- What became of a request for which `Asked` holds. If memory ran out, nothing was changed, and the request may be
+-- unknown.
+abbrev pub DidAsked : {D : Type 0} → DiskModel D → StoreView D → StoreView D → (Request → Type 0)
     → Result Reply SessionFault → Type 0
-DidAsked at_once model old new Asked (Ok reply) =
-    (request : Request) × Asked request × Did at_once model old new request (Ok reply)
-DidAsked at_once model old new Asked (Err Device) =
-    (request : Request) × Asked request × Did at_once model old new request (Err Device)
-DidAsked at_once model old new Asked (Err OutOfMemory) = new ≡ old
-DidAsked at_once model old new Asked (Err fault) = ⊥
+DidAsked model old new Asked (Ok reply) =
+    (request : Request) × Asked request × Did model old new request (Ok reply)
+DidAsked model old new Asked (Err Device) =
+    (request : Request) × Asked request × Did model old new request (Err Device)
+DidAsked model old new Asked (Err OutOfMemory) = new ≡ old
+DidAsked model old new Asked (Err fault) = ⊥
 
 -- ---- what each call on a store says
 
@@ -154,8 +145,7 @@ pub record CountsFailures {T D : Type 0} (model : DiskModel D) (old new : StoreV
   pub risen : model.failure_count old.disk ≤ model.failure_count new.disk
 
 -- what a call did that makes the reply to a request for which `Asked` holds
-pub record Handles (at_once : Bool) {D : Type 0} (model : DiskModel D) (old new : StoreView D)
-    (Asked : Request → Type 0) (result : Result Reply SessionFault) : Type 0 where
-  pub did : old.reopen ≡ false → DidAsked at_once model old new Asked result
+pub record Handles {D : Type 0} (model : DiskModel D) (old new : StoreView D) (Asked : Request → Type 0)
+    (result : Result Reply SessionFault) : Type 0 where
+  pub did : old.reopen ≡ false → DidAsked model old new Asked result
   pub failures : CountsFailures model old new result
-  pub means : at_once ≡ true → MeansPrefixes model new

@@ -22,6 +22,7 @@ use Rattle.conf_session.specs.declared.fault.SessionFault.TheVariants as fault
 use Rattle.conf_session.specs.Requests.{Request, AllAsk}
 use Rattle.conf_session.specs.Answers.{Stored, answer_limit, output, stored_after_all, file_after_all, staged_after_all, accepted_commands, refusals, flushed_after, waiting_after, acknowledged}
 use Rattle.conf_session.specs.declared.session.Tally.{Tally}
+use Rattle.conf_session.specs.Streams.{Streams}
 
 -- the state of a store, the length of its file, and that of the new file of a running checkpoint
 abbrev pub stored_of : {D : Type 0} → StoreView D → Stored
@@ -73,78 +74,78 @@ pub record ShowsSessionLong (bytes : List ℕ) (requests : List Request) : Type 
 -- ---- how a run ends, by the requests that were answered and the bytes of their answers
 
 -- all was read and answered
-pub record EndsWell (given left held written : Option (List ℕ)) (answered : List Request) (answers : List ℕ)
+pub record EndsWell (io : Streams) (answered : List Request) (answers : List ℕ)
     (accepted refused : ℕ) (tally : Tally) : Type 0 where
   pub bytes : List ℕ
   pub rest : List ℕ
-  pub taken : Consumes given left bytes
-  pub at_end : IsAtEnd left
+  pub taken : Consumes io.given io.left bytes
+  pub at_end : IsAtEnd io.left
   pub within : length bytes ≤ session_limit
   pub input : IsInput bytes answered rest
-  pub out : Appends held written answers
+  pub out : Appends io.held io.written answers
   pub documents : tally.documents ≡ length answered
   pub accepts : tally.accepted ≡ accepted
   pub refuses : tally.refused ≡ refused
   pub unclosed : tally.rest ≡ length rest
 
 -- all pieces that were closed before the fault are answered
-pub record EndsInInput (given left held written : Option (List ℕ)) (answered : List Request) (answers : List ℕ)
+pub record EndsInInput (io : Streams) (answered : List Request) (answers : List ℕ)
     (Shows : List ℕ → List Request → Type 0) : Type 0 where
   pub bytes : List ℕ
-  pub taken : Consumes given left bytes
+  pub taken : Consumes io.given io.left bytes
   pub shows : Shows bytes answered
-  pub out : Appends held written answers
+  pub out : Appends io.held io.written answers
 
 -- a prefix of the pieces is answered, and so many after them aren't
-pub record EndsEarly (given left held written : Option (List ℕ)) (answered unanswered : List Request)
+pub record EndsEarly (io : Streams) (answered unanswered : List Request)
     (answers : List ℕ) : Type 0 where
   pub bytes : List ℕ
-  pub taken : Consumes given left bytes
+  pub taken : Consumes io.given io.left bytes
   pub begins : BeginsWith bytes (answered ++ unanswered)
-  pub out : Appends held written answers
+  pub out : Appends io.held io.written answers
 
 -- Exactly so many bytes of the answers were written, at most the limit of an answer for each piece. The first piece
 -- whose answer was not written whole is performed, and none after it.
-pub record EndsInOutput (given left held written : Option (List ℕ)) (start : Stored)
+pub record EndsInOutput (io : Streams) (start : Stored)
     (answered performed : List Request) (count : ℕ) : Type 0 where
   pub bytes : List ℕ
-  pub taken : Consumes given left bytes
+  pub taken : Consumes io.given io.left bytes
   pub last : Request
   pub begins : BeginsWith bytes (answered ++ last ∷ [])
   pub all : performed ≡ answered ++ last ∷ []
-  pub out : Appends held written (take count (output start performed))
+  pub out : Appends io.held io.written (take count (output start performed))
   pub whole : length (output start answered) ≤ count
   pub cut : count < length (output start performed)
   pub bound : count ≤ length performed * answer_limit
 
 -- How a session ends that answered all that it performed, by its result. `given` and `left` are what the reader has
 -- before and after, `held` and `written` what the writer has, where they are known.
-abbrev pub EndsAnswered : Option (List ℕ) → Option (List ℕ) → Option (List ℕ) → Option (List ℕ) → List Request
+abbrev pub EndsAnswered : Streams → List Request
     → List ℕ → ℕ → ℕ → Result Tally SessionFault → Type 0
-EndsAnswered given left held written answered answers accepted refused (Ok tally) =
-    EndsWell given left held written answered answers accepted refused tally
-EndsAnswered given left held written answered answers accepted refused (Err fault.Read) =
-    EndsInInput given left held written answered answers AsksAll
-EndsAnswered given left held written answered answers accepted refused (Err fault.TooLong) =
-    EndsInInput given left held written answered answers ShowsTooLong
-EndsAnswered given left held written answered answers accepted refused (Err fault.SessionLong) =
-    EndsInInput given left held written answered answers ShowsSessionLong
-EndsAnswered given left held written answered answers accepted refused (Err fault.OutOfMemory) =
-    EndsEarly given left held written answered [] answers
-EndsAnswered given left held written answered answers accepted refused (Err fault) = ⊥
+EndsAnswered io answered answers accepted refused (Ok tally) =
+    EndsWell io answered answers accepted refused tally
+EndsAnswered io answered answers accepted refused (Err fault.Read) =
+    EndsInInput io answered answers AsksAll
+EndsAnswered io answered answers accepted refused (Err fault.TooLong) =
+    EndsInInput io answered answers ShowsTooLong
+EndsAnswered io answered answers accepted refused (Err fault.SessionLong) =
+    EndsInInput io answered answers ShowsSessionLong
+EndsAnswered io answered answers accepted refused (Err fault.OutOfMemory) =
+    EndsEarly io answered [] answers
+EndsAnswered io answered answers accepted refused (Err fault) = ⊥
 
 -- How a run ends, by its result, where these requests were performed.
-abbrev pub Ends : Option (List ℕ) → Option (List ℕ) → Option (List ℕ) → Option (List ℕ) → Stored → List Request
+abbrev pub Ends : Streams → Stored → List Request
     → List Request → Result Tally SessionFault → Type 0
-Ends given left held written start answered performed (Err (fault.Write count)) =
-    EndsInOutput given left held written start answered performed count
-Ends given left held written start answered performed (Err fault.Device) =
+Ends io start answered performed (Err (fault.Write count)) =
+    EndsInOutput io start answered performed count
+Ends io start answered performed (Err fault.Device) =
     (last : Request) × (performed ≡ answered ++ last ∷ [])
-    × EndsEarly given left held written answered (last ∷ []) (output start answered)
-Ends given left held written start answered performed (Err fault.Reopen) =
-    Keeps given left × Keeps held written × (answered ≡ []) × (performed ≡ [])
-Ends given left held written start answered performed result =
-    (performed ≡ answered) × EndsAnswered given left held written answered (output start answered)
+    × EndsEarly io answered (last ∷ []) (output start answered)
+Ends io start answered performed (Err fault.Reopen) =
+    Keeps io.given io.left × Keeps io.held io.written × (answered ≡ []) × (performed ≡ [])
+Ends io start answered performed result =
+    (performed ≡ answered) × EndsAnswered io answered (output start answered)
     (length (accepted_commands start answered)) (refusals start answered) result
 
 -- ---- a run
@@ -160,11 +161,11 @@ pub record AfterAtLeast (s : Contents) (least : ℕ) (commands : List Command) (
 -- A run from one value of a store to the next. `flushed` is the state that is flushed at its start, and `waiting` are
 -- the commands that were submitted since.
 pub record Runs {D : Type 0} (model : DiskModel D)
-    (given left held written : Option (List ℕ)) (old new : StoreView D)
+    (io : Streams) (old new : StoreView D)
     (result : Result Tally SessionFault) : Type 0 where
   pub answered : List Request
   pub performed : List Request
-  pub ends : Ends given left held written (stored_of old) answered performed result
+  pub ends : Ends io (stored_of old) answered performed result
   pub state : new.state ≡ (stored_after_all (stored_of old) performed).state
   pub stored : new.reopen ≡ false → stored_of new ≡ stored_after_all (stored_of old) performed
   -- each accepted command appended its record to `store.yaml`, and each checkpoint put a base in its place

@@ -6,18 +6,20 @@ ghost use Rattle.conf_session.specs.Input.{ahead, piece_or_rest};
 ghost use Rattle.conf_session.specs.Replies.{CountsFailures};
 ghost use Rattle.conf_session.specs.Gathering.{CanGoOn, CanTakeGroup, EndsGroup, FlushesAll, PerformsGroup, SubmitsGroup, Tends, TendsByBeginning, TendsBySlice, unwritten_bytes};
 ghost use Rattle.conf_session.specs.Groups.{RunsGrouped};
+ghost use Rattle.conf_session.specs.Sinks.{SentSoFar};
+ghost use Rattle.conf_session.specs.Streams.{streams_of};
 
 use crate::fault::SessionFault;
 use crate::input::Input;
 use crate::pieces::submit_piece;
-use crate::reply::Way;
 use crate::session::Tally;
+use crate::sink::AnswerSink;
 use crate::unwritten::Unwritten;
 use conf_disk::Disk;
 use conf_state::StoreFault;
 use conf_store::Store;
 use std::alloc::Global;
-use std::io::{Read, Write};
+use std::io::Read;
 
 /// Which checkpoints a grouped session makes.
 #[derive(Clone, Copy, Debug, PartialEq, Eq)]
@@ -65,7 +67,7 @@ fn submit_group<D: Disk>(
     ensures failures { CountsFailures D.model store.old store.new result }
 {
     'pieces: loop {
-        submit_piece(alloc, store, input, Way::Submitted, answers)?;
+        submit_piece(alloc, store, input, answers)?;
         if answers.is_full() || !input.has_piece_ahead() {
             return Ok(());
         }
@@ -106,32 +108,33 @@ fn answer_group<D: Disk>(
     }
 }
 
-/// Performs a group, flushes it, and then writes its answers.
+/// Performs a group, flushes it, and then hands out its answers.
 ///
 /// # Errors
 /// `Write`: all pieces of the group are performed and flushed, and so many bytes of answers were written, with those of
 /// the groups before. `OutOfMemory`: the pieces before the current one are performed, flushed and answered, and that
 /// one changed nothing. `Device`: as [`answer_group`], and nothing is written.
-fn perform_group<D: Disk, W: Write>(
+fn perform_group<D: Disk, S: AnswerSink<D>>(
     alloc: Global,
     store: &mut Store<D>,
     input: &mut Input,
-    writer: &mut W,
+    sink: &mut S,
     answers: &mut Unwritten,
 ) -> Result<(), SessionFault>
     requires can { CanTakeGroup D.model store.old input.old answers.old }
     requires none { unwritten_bytes answers.old ≡ [] }
+    requires sent { SentSoFar D.model (S.taken sink.old) store.old }
     ensures performs { PerformsGroup D.model
-        (W.contents writer.old) (W.contents writer.new)
+        (S.taken sink.old) (S.taken sink.new)
         (piece_or_rest input.old ++ ahead input.old) input.new store.old store.new
         answers.old answers.new result }
     ensures goes_on { OnOk result (CanGoOn input.old input.new answers.new) }
     ensures failures { CountsFailures D.model store.old store.new result }
 {
     match answer_group(alloc, store, input, answers) {
-        Ok(()) => answers.write(writer),
+        Ok(()) => answers.put(store, sink),
         Err(SessionFault::OutOfMemory) => {
-            answers.write(writer)?;
+            answers.put(store, sink)?;
             Err(SessionFault::OutOfMemory)
         }
         Err(fault) => Err(fault),
@@ -213,8 +216,8 @@ fn tend_checkpoint<D: Disk>(
 ///
 /// The input is cut into pieces, and each is answered, as by [`run`](crate::run). All whole pieces that were read
 /// already are one group: each is performed, then one sync flushes all of them, and only then are their answers
-/// written. So a client that sends many commands at once pays one sync for all that one read brought, and a client that
-/// waits for each answer pays as many as with `run`. A group ends early once its answers have 65,536 bytes, and what is
+/// handed out. So a client that sends many commands at once pays one sync for all that one read brought, and a client
+/// that waits for each answer pays as many as with `run`. A group ends early once its answers have 65,536 bytes, and what is
 /// kept for the output is at most that and one answer. Nothing is read while a whole piece is at hand.
 ///
 /// Commands that were submitted before, and wait for a flush, are flushed first.
@@ -224,9 +227,10 @@ fn tend_checkpoint<D: Disk>(
 /// memory for a checkpoint the session goes on, and tries again after a later group. A checkpoint that runs when the
 /// session ends goes on running.
 ///
-/// A crash at any moment leaves the state after a prefix of what waited and of the accepted commands. Once this
-/// returns, that prefix has every command whose answer was written. Unless it returns `Device` or `Reopen`, nothing
-/// waits then.
+/// A crash at any moment leaves the state after a prefix of what waited and of the accepted commands. Once answers are
+/// handed to the sink, that prefix has every command that was accepted up to them: the sink requires so
+/// ([`AnswerSink::put`]), also in a session that is cut off. Once this returns, nothing waits, unless it returns
+/// `Device` or `Reopen`.
 ///
 /// # Errors
 /// All pieces before the fault are performed, flushed and answered, but for `Write` and `Device`.
@@ -234,22 +238,22 @@ fn tend_checkpoint<D: Disk>(
 /// - `Read`: a read failed.
 /// - `TooLong`: a piece, or what comes after the last closing line, has more than 16,777,216 bytes.
 /// - `SessionLong`: the input has more than 1,073,741,824 bytes.
-/// - `Write`: a write failed, or took nothing. All pieces of the group are performed and flushed, also those after the
-///   one whose answer was cut. Nothing more is read.
+/// - `Write`: the sink took only a part of the answers. All pieces of the group are performed and flushed, also those
+///   after the one whose answer was cut. Nothing more is read.
 /// - `OutOfMemory`: the current piece changed nothing.
 /// - `Device`: any number of pieces of the last group are performed without an answer, a crash may still take them
 ///   back, and the store has to be opened again.
 /// - `Reopen` comes only at the start, if the store has to be opened again. Nothing is read or written.
-pub fn run_grouped<D: Disk, R: Read, W: Write>(
+pub fn run_grouped<D: Disk, R: Read, S: AnswerSink<D>>(
     alloc: Global,
     store: &mut Store<D>,
     reader: &mut R,
-    writer: &mut W,
+    sink: &mut S,
     checkpoints: Checkpoints,
 ) -> Result<Tally, SessionFault>
     ensures runs { RunsGrouped D.model
-        (R.remaining reader.old) (R.remaining reader.new) (W.contents writer.old)
-        (W.contents writer.new)
+        (streams_of (R.remaining reader.old) (R.remaining reader.new) (S.taken sink.old)
+        (S.taken sink.new))
         checkpoints store.old store.new result }
     ensures reopen { IsErrOf result SessionFault.Reopen ↔ (store.old.reopen ≡ true) }
     ensures unchanged { IsErrOf result SessionFault.Reopen → store.new ≡ store.old }
@@ -266,7 +270,7 @@ pub fn run_grouped<D: Disk, R: Read, W: Write>(
     let mut input = Input::new(alloc)?;
     let mut answers = Unwritten::new(alloc);
     'groups: while input.advance(reader)? {
-        perform_group(alloc, store, &mut input, writer, &mut answers)?;
+        perform_group(alloc, store, &mut input, sink, &mut answers)?;
         tend_checkpoint(store, checkpoints)?;
     }
     let mut tally = answers.tally;

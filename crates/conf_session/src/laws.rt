@@ -1,6 +1,9 @@
 // Laws of the definitions.
 ghost use Rattle.conf_session.specs.Answers.{AllAreAcknowledged, AnswersAreShort, EachIsAnswered};
 ghost use Rattle.conf_session.specs.Conditional.{ConditionsGuard};
+ghost use Rattle.conf_session.specs.Sinks.{NoneIsTakenBack};
+
+use conf_disk::Disk;
 
 /// No answer is longer than the longest base: 67,108,864 bytes, with its first line and its closing line.
 ///
@@ -17,13 +20,21 @@ pub fn requests_are_answered()
     ensures { EachIsAnswered }
 {}
 
-/// Where no command waits at the start of a session, no crash after it takes away a command that was answered.
+/// No crash after a session takes away a command that was answered.
 ///
 /// A session over a store in which commands wait, submitted and not flushed before it, acknowledges them with its first
-/// command that is accepted, or with its first checkpoint. Until then nothing is acknowledged, and where nothing waits
-/// nothing was accepted.
+/// answer. Until then nothing is acknowledged.
 pub fn answers_acknowledge()
     ensures { AllAreAcknowledged }
+{}
+
+/// No crash takes away a command whose answer was handed to a sink, from that moment on: also of a session that is cut
+/// off.
+///
+/// It speaks of the condition on callers of [`AnswerSink::put`](crate::AnswerSink::put): what that says of the bytes
+/// that are handed out, and what follows from it for a crash then, or while further commands are performed.
+pub fn answers_stand<D: Disk>()
+    ensures { NoneIsTakenBack D.model }
 {}
 
 /// A command with conditions is answered and performed exactly as it is without them, if all of them hold of the state

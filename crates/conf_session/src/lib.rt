@@ -1,11 +1,15 @@
 //! Sessions: a stream of command documents, each answered by one document.
 //!
-//! [`run`] reads the commands, performs them on a store, and writes the answers. Input and output may be any reader and
-//! writer, and the store may be on any disk. [`SessionFault`] says why a session stops before the end of its input.
+//! [`run`] reads the commands, performs them on a store, and hands out the answers. Input and output may be any reader
+//! and writer, and the store may be on any disk. [`SessionFault`] says why a session stops before the end of its input.
 //!
-//! [`run_grouped`] does so in groups: it performs all commands that one read brought, syncs once for them, and then writes
-//! their answers. A group promises less than [`run`] of commands after a cut answer, and of those in hand when the device
-//! fails. It can also write the checkpoints that nobody asked for, in slices between the groups ([`Checkpoints`]).
+//! [`run_grouped`] does so in groups: it performs all commands that one read brought, syncs once for them, and then
+//! hands out their answers. A group promises less than [`run`] of commands after a cut answer, and of those in hand when
+//! the device fails. It can also write the checkpoints that nobody asked for, in slices between the groups
+//! ([`Checkpoints`]).
+//!
+//! Both hand the answers to an [`AnswerSink`], which gets an answer only once no crash takes back what it tells. Each
+//! writer is one.
 //!
 //! [`round`] performs the commands that a server has in hand from many clients, and syncs once for all of them.
 #![tactic(auto)]
@@ -26,11 +30,15 @@ mod reply;
 mod rounds;
 mod said;
 mod session;
+mod sink;
 mod unwritten;
 mod words;
 
 pub use fault::SessionFault;
 pub use groups::{Checkpoints, run_grouped};
-pub use laws::{answers_acknowledge, answers_are_short, conditions_guard, requests_are_answered};
+pub use laws::{
+    answers_acknowledge, answers_are_short, answers_stand, conditions_guard, requests_are_answered,
+};
 pub use rounds::{Piece, RoundFault, round};
 pub use session::{Tally, run};
+pub use sink::AnswerSink;

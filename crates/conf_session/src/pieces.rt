@@ -1,17 +1,19 @@
-// One piece: its command is performed, and its answer is kept or written.
+// One piece: its command is performed, and its answer is kept or handed out.
 ghost use Rattle.std.specs.Prelude.{◌≡◌, ◌+◌, ◌^◌, ◌<◌, ◌++◌, [], true, false, None, OnOk, IfErr, length};
 ghost use Rattle.conf_session.specs.Gathering.{CanGoOn, CanTakeGroup, GathersPiece, HasRoomFor, IsAtPiece, LeavesPiece, PerformsPiece, unwritten_bytes};
 ghost use Rattle.conf_session.specs.Input.{ahead, bytes_read, piece_or_rest};
-ghost use Rattle.conf_session.specs.Replies.{accepts, refuses, reply_bytes, is_at_once, CountsFailures, MeansPrefixes};
+ghost use Rattle.conf_session.specs.Sinks.{SentSoFar};
+ghost use Rattle.conf_session.specs.Replies.{accepts, refuses, reply_bytes, CountsFailures, MeansPrefixes};
 
 use crate::fault::SessionFault;
+use crate::groups::flush_all;
 use crate::input::Input;
-use crate::reply::{Reply, Way, answer_piece};
+use crate::reply::{Reply, answer_piece};
+use crate::sink::AnswerSink;
 use crate::unwritten::Unwritten;
 use conf_disk::Disk;
 use conf_store::Store;
 use std::alloc::Global;
-use std::io::Write;
 
 /// How many commands a reply accepts: 1 or 0.
 pub fn count_accepted(reply: &Reply) -> u64
@@ -45,7 +47,7 @@ pub fn bytes_of(reply: &Reply) -> &[u8]
     }
 }
 
-/// Performs the piece in hand, and keeps its answer.
+/// Performs the piece in hand, and keeps its answer. Nothing is flushed, unless it asks for a checkpoint.
 ///
 /// # Errors
 /// `Reopen` if the store has to be opened again. `OutOfMemory`: the piece changed nothing. `Device`: its command is
@@ -54,7 +56,6 @@ pub(crate) fn submit_piece<D: Disk>(
     alloc: Global,
     store: &mut Store<D>,
     input: &Input,
-    way: Way,
     answers: &mut Unwritten,
 ) -> Result<(), SessionFault>
     requires sound { store.old.reopen ≡ false }
@@ -62,45 +63,47 @@ pub(crate) fn submit_piece<D: Disk>(
     requires no_last { answers.old.last ≡ None }
     requires room { HasRoomFor answers.old
         (length (piece_or_rest input.now ++ ahead input.now)) (bytes_read input.now) }
-    ensures ok { OnOk result (GathersPiece (is_at_once way) D.model store.old store.new
+    ensures ok { OnOk result (GathersPiece D.model store.old store.new
         (piece_or_rest input.now) answers.old answers.new) }
-    ensures fails { IfErr result (LeavesPiece (is_at_once way) D.model store.old store.new
+    ensures fails { IfErr result (LeavesPiece D.model store.old store.new
         (piece_or_rest input.now)) }
     ensures kept { IfErr result (λ _. answers.new ≡ answers.old) }
     ensures room { OnOk result
         (HasRoomFor answers.new (length (ahead input.now)) (bytes_read input.now)) }
     ensures small { answers.new.written + length (unwritten_bytes answers.new) < 2 ^ 64 }
-    ensures means { is_at_once way ≡ true → MeansPrefixes D.model store.new }
     ensures failures { CountsFailures D.model store.old store.new result }
 {
     if store.needs_reopen() {
         return Err(SessionFault::Reopen);
     }
-    let reply = answer_piece(alloc, store, input.piece(), way)?;
+    let reply = answer_piece(alloc, store, input.piece())?;
     answers.keep(reply);
     Ok(())
 }
 
-/// Performs the piece in hand as a group by itself: its command is flushed at once, and then its answer is written.
+/// Performs the piece in hand as a group by itself: all that waits is flushed with it, and then its answer is handed
+/// out.
 ///
 /// # Errors
 /// `Write`: the piece is performed, and `written` counts the bytes of all answers. `OutOfMemory`: the piece changed
 /// nothing. `Device`: its command is performed or not, and the store has to be opened again.
-pub(crate) fn perform_piece<D: Disk, W: Write>(
+pub(crate) fn perform_piece<D: Disk, S: AnswerSink<D>>(
     alloc: Global,
     store: &mut Store<D>,
     input: &Input,
-    writer: &mut W,
+    sink: &mut S,
     answers: &mut Unwritten,
 ) -> Result<(), SessionFault>
     requires can { CanTakeGroup D.model store.old input.now answers.old }
     requires none { unwritten_bytes answers.old ≡ [] }
-    ensures performs { PerformsPiece D.model (W.contents writer.old) (W.contents writer.new)
+    requires sent { SentSoFar D.model (S.taken sink.old) store.old }
+    ensures performs { PerformsPiece D.model (S.taken sink.old) (S.taken sink.new)
         input.now store.old store.new answers.old answers.new result }
     ensures goes_on { OnOk result (CanGoOn input.now input.now answers.new) }
     ensures means { MeansPrefixes D.model store.new }
     ensures failures { CountsFailures D.model store.old store.new result }
 {
-    submit_piece(alloc, store, input, Way::AtOnce, answers)?;
-    answers.write(writer)
+    submit_piece(alloc, store, input, answers)?;
+    flush_all(store)?;
+    answers.put(store, sink)
 }

@@ -8,7 +8,7 @@ ghost use Rattle.conf_session.specs.Rounds.{AnswersPiece, FailsPiece, RoundAsks,
 use crate::fault::SessionFault;
 use crate::groups::flush_all;
 use crate::pieces::bytes_of;
-use crate::reply::{Reply, Way, answer_piece};
+use crate::reply::{Reply, answer_piece};
 use crate::words::Refusal;
 use conf_disk::Disk;
 use conf_store::Store;
@@ -68,13 +68,13 @@ fn submit_piece<D: Disk>(
     piece: &Piece,
 ) -> Result<Reply, SessionFault>
     requires means { MeansPrefixes D.model store.old }
-    ensures { Handles false D.model store.old store.new
+    ensures { Handles D.model store.old store.new
         (RoundAsks piece.now.bytes.items) result }
 {
     if !closes_once(&piece.bytes) {
         return Ok(Reply::Refused(Refusal::BadCommand));
     }
-    answer_piece(alloc, store, &piece.bytes, Way::Submitted)
+    answer_piece(alloc, store, &piece.bytes)
 }
 
 /// Appends the bytes of a reply to the answers.

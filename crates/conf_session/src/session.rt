@@ -2,15 +2,17 @@
 ghost use Rattle.std.specs.Prelude.{◌≡◌, ◌≤◌, ◌⊎◌, ◌↔◌, true, IsErrOf};
 ghost use Rattle.conf_store.specs.Calls.{HasFailed};
 ghost use Rattle.conf_session.specs.Runs.{Runs};
+ghost use Rattle.conf_session.specs.Streams.{streams_of};
 
 use crate::fault::SessionFault;
 use crate::input::Input;
 use crate::pieces::perform_piece;
+use crate::sink::AnswerSink;
 use crate::unwritten::Unwritten;
 use conf_disk::Disk;
 use conf_store::Store;
 use std::alloc::Global;
-use std::io::{Read, Write};
+use std::io::Read;
 
 /// What a session did.
 #[derive(Clone, Copy, Debug, PartialEq, Eq)]
@@ -28,13 +30,15 @@ pub struct Tally {
 /// Performs the commands of a stream, and answers each by one document. Returns what was done.
 ///
 /// The input is cut into pieces after each closing line, a line of exactly `...` and a line feed. Each piece
-/// is one command. It is performed as soon as its closing line was read, and its answer is written before
-/// anything else is read. At most 65,536 bytes are read at a time. A piece that is no command is answered by
-/// `refused: BadCommand`. Bytes after the last closing line are neither performed nor answered.
+/// is one command. It is performed as soon as its closing line was read, and its answer is handed to the sink
+/// before anything else is read. At most 65,536 bytes are read at a time. A piece that is no command is answered
+/// by `refused: BadCommand`. Bytes after the last closing line are neither performed nor answered.
 ///
-/// A crash at any moment leaves the state after a prefix of the accepted commands. Once this returns, that
-/// prefix has every command whose answer was written. Commands that were submitted before, and wait for a
-/// flush, come first: the first command that is accepted acknowledges them too, and so does a checkpoint.
+/// A crash at any moment leaves the state after a prefix of the accepted commands. Once an answer is handed to
+/// the sink, that prefix has every command that was accepted up to it: the sink requires so
+/// ([`AnswerSink::put`]), also in a session that is cut off, and the clause `kept` says so of one that returned.
+/// Commands that were submitted before, and wait for a flush, come first: they are flushed with the first piece,
+/// whatever it asks for.
 ///
 /// # Errors
 /// All pieces before the fault are performed and answered.
@@ -42,20 +46,20 @@ pub struct Tally {
 /// - `Read`: a read failed.
 /// - `TooLong`: a piece, or what comes after the last closing line, has more than 16,777,216 bytes.
 /// - `SessionLong`: the input has more than 1,073,741,824 bytes.
-/// - `Write`: a write failed, or took nothing. The piece whose answer was cut is performed. Nothing after it is
-///   performed or read.
+/// - `Write`: the sink took only a part of an answer. Its piece is performed. Nothing after it is performed or
+///   read.
 /// - `OutOfMemory`: the current piece changed nothing.
 /// - `Device`: the current command is performed or not, and the store has to be opened again.
-/// - `Reopen` comes only at the start, if the store has to be opened again. Nothing is read or written.
-pub fn run<D: Disk, R: Read, W: Write>(
+/// - `Reopen` comes only at the start, if the store has to be opened again. Nothing is read or handed out.
+pub fn run<D: Disk, R: Read, S: AnswerSink<D>>(
     alloc: Global,
     store: &mut Store<D>,
     reader: &mut R,
-    writer: &mut W,
+    sink: &mut S,
 ) -> Result<Tally, SessionFault>
     ensures runs { Runs D.model
-        (R.remaining reader.old) (R.remaining reader.new) (W.contents writer.old)
-        (W.contents writer.new)
+        (streams_of (R.remaining reader.old) (R.remaining reader.new) (S.taken sink.old)
+        (S.taken sink.new))
         store.old store.new result }
     ensures reopen { IsErrOf result SessionFault.Reopen ↔ (store.old.reopen ≡ true) }
     ensures unchanged { IsErrOf result SessionFault.Reopen → store.new ≡ store.old }
@@ -71,7 +75,7 @@ pub fn run<D: Disk, R: Read, W: Write>(
     let mut input = Input::new(alloc)?;
     let mut answers = Unwritten::new(alloc);
     'pieces: while input.advance(reader)? {
-        perform_piece(alloc, store, &input, writer, &mut answers)?;
+        perform_piece(alloc, store, &input, sink, &mut answers)?;
     }
     let mut tally = answers.tally;
     tally.rest = input.piece().len() as u64;

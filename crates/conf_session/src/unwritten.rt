@@ -2,14 +2,16 @@
 ghost use Rattle.std.specs.Prelude.{◌≡◌, ◌+◌, ◌^◌, ◌<◌, ◌≤◌, ◌⊎◌, ◌↔◌, ◌++◌, true, [], None, if◌then◌else◌, OnOk, IfErr, IsSome, length, take};
 ghost use Rattle.std.specs.Io.KnownBytes.{Appends};
 ghost use Rattle.conf_session.specs.Gathering.{FailsToWrite, KeepsAnswer, WritesAnswers, answers_limit, last_bytes, unwritten_bytes};
+ghost use Rattle.conf_session.specs.Sinks.{AreAcknowledged};
 
 use crate::fault::SessionFault;
 use crate::pieces::{bytes_of, count_accepted, count_refused};
 use crate::reply::Reply;
 use crate::session::Tally;
+use crate::sink::AnswerSink;
+use conf_disk::Disk;
+use conf_store::Store;
 use std::alloc::Global;
-use std::io::Write;
-use yaml_docs::write_or_count;
 
 /// The most bytes of answers that are kept, but for the last answer.
 const ANSWERS_LIMIT: usize = 65_536;
@@ -38,22 +40,32 @@ fn bytes_of_last(last: &Option<Reply>) -> &[u8]
     }
 }
 
-/// Writes a text, and then further bytes.
+/// Puts a text, and then further bytes.
 ///
 /// # Errors
-/// If a write fails, or takes nothing: the number of bytes that were written before. These are the first ones.
-fn write_both<W: Write>(writer: &mut W, text: &[u8], last: &[u8]) -> Result<(), u64>
-    requires { length text.now + length last.now < 2 ^ 64 }
+/// If not all bytes are taken: the number of those that are. These are the first ones.
+fn put_both<D: Disk, S: AnswerSink<D>>(
+    store: &Store<D>,
+    sink: &mut S,
+    text: &[u8],
+    last: &[u8],
+) -> Result<(), u64>
+    requires acknowledged { AreAcknowledged D.model (S.taken sink.old) store.now
+        (text.now ++ last.now) }
+    requires small { length text.now + length last.now < 2 ^ 64 }
     ensures whole { OnOk result
-        (Appends (W.contents writer.old) (W.contents writer.new) (text.now ++ last.now)) }
+        (Appends (S.taken sink.old) (S.taken sink.new) (text.now ++ last.now)) }
     ensures cut { IfErr result (λ count. count < length (text.now ++ last.now)) }
     ensures prefix { IfErr result (λ count.
-        Appends (W.contents writer.old) (W.contents writer.new) (take count (text.now ++ last.now))) }
+        Appends (S.taken sink.old) (S.taken sink.new) (take count (text.now ++ last.now))) }
 {
-    if let Err(count) = write_or_count(writer, text) {
+    if let Err(count) = sink.put(store, text) {
         return Err(count as u64);
     }
-    match write_or_count(writer, last) {
+    if last.is_empty() {
+        return Ok(());
+    }
+    match sink.put(store, last) {
         Ok(()) => Ok(()),
         Err(count) => Err(text.len() as u64 + count as u64),
     }
@@ -119,21 +131,26 @@ impl Unwritten {
         self.last.is_some() || self.text.len() >= ANSWERS_LIMIT
     }
 
-    /// Writes all answers, and then keeps none.
+    /// Hands all answers to a sink, and then keeps none. Their commands have to be flushed before.
     ///
     /// # Errors
-    /// `Write`: a write failed, or took nothing. It counts the bytes of all answers that were written, with those
-    /// before.
-    pub fn write<W: Write>(&mut self, writer: &mut W) -> Result<(), SessionFault>
-        requires { self.old.written + length (unwritten_bytes self.old) < 2 ^ 64 }
+    /// `Write`: the sink took only a part. It counts the bytes of all answers that were taken, with those before.
+    pub fn put<D: Disk, S: AnswerSink<D>>(
+        &mut self,
+        store: &Store<D>,
+        sink: &mut S,
+    ) -> Result<(), SessionFault>
+        requires acknowledged { AreAcknowledged D.model (S.taken sink.old) store.now
+            (unwritten_bytes self.old) }
+        requires small { self.old.written + length (unwritten_bytes self.old) < 2 ^ 64 }
         ensures ok { OnOk result
-            (WritesAnswers (W.contents writer.old) (W.contents writer.new) self.old self.new) }
+            (WritesAnswers (S.taken sink.old) (S.taken sink.new) self.old self.new) }
         ensures fails { IfErr result
-            (FailsToWrite (W.contents writer.old) (W.contents writer.new) self.old) }
+            (FailsToWrite (S.taken sink.old) (S.taken sink.new) self.old) }
     {
         let last = bytes_of_last(&self.last);
         let len = self.text.len() as u64 + last.len() as u64;
-        match write_both(writer, &self.text, last) {
+        match put_both(store, sink, &self.text, last) {
             Ok(()) => {
                 self.written += len;
                 self.text.clear();

@@ -22,6 +22,10 @@
 //!   has to be opened again, how many bytes are answered, the count that the file has then, and the count that it has
 //!   if a crash keeps no pending byte. If the disk fails before the session, the answer is why the folder is not
 //!   opened, and the count that the file has then.
+//! - `puts;KIND;PUTS`: a session is cut off when it hands out answers, after so many puts. It is the worked session
+//!   (`single`), the same in groups (`grouped`), or one of two questions to a store in which three commands wait
+//!   (`waiting`). The answer is how it ends, how many bytes were handed out, and how many of the images that a crash
+//!   leaves then have how many commands.
 //! - `each;HOW`: a session for each byte, with its number. The worked session's input ends (`input ends`) or fails
 //!   (`input fails`) there, or its output takes no more (`output full`) or fails (`output fails`). `part read`: the
 //!   input is a part of one command.
@@ -31,6 +35,7 @@ mod batches;
 mod crashes;
 mod cuts;
 mod device;
+mod found;
 mod list_calls;
 mod list_images;
 mod list_openings;
@@ -38,6 +43,7 @@ mod list_stages;
 mod lists;
 mod orders;
 mod pairs;
+mod puts;
 mod run;
 mod session_orders;
 mod states;

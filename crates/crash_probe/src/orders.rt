@@ -4,6 +4,7 @@ use crate::crashes::crash;
 use crate::cuts::each;
 use crate::list_stages::Openings;
 use crate::lists::lists;
+use crate::puts::puts;
 use crate::session_orders::device_of;
 use crate::waiting::waiting;
 use probe_words::{Answers, no_order, number_of};
@@ -30,6 +31,7 @@ fn answer(alloc: Global, order: &str) -> Result<String, AllocError> {
         Some(("lists again", length)) => lists(alloc, number_of(length), Openings::CutOff),
         Some(("device", words)) => device_of(alloc, words),
         Some(("each", words)) => each(alloc, words),
+        Some(("puts", words)) => puts(alloc, words),
         _ => no_order(alloc),
     }
 }

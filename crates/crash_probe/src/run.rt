@@ -31,7 +31,7 @@ const ACTIONS: [(Action, u64); 4] = [
 ];
 
 /// What `a` is after so many commands.
-const STATES: States = States {
+pub(crate) const STATES: States = States {
     name: "a",
     texts: [None, Some("x\n"), Some("z\n"), None],
 };

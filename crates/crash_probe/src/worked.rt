@@ -52,7 +52,7 @@ pub(crate) fn steps() -> [Step; 7] {
 }
 
 /// What `app` is after so many changes.
-const STATES: States = States {
+pub(crate) const STATES: States = States {
     name: "app",
     texts: [None, Some("port: \"80\"\n"), Some("port: \"81\"\n"), None],
 };

@@ -5,7 +5,7 @@ use Rattle.std.proofs.lemmas.Bool.{false≢true}
 use Rattle.std.proofs.lemmas.Result.{err_from_is_err_and}
 use Rattle.conf_session.specs.Input.{ahead, bytes_read, piece_or_rest as piece_of}
 use Rattle.conf_session.specs.Requests.{Asks}
-use Rattle.conf_session.specs.Replies.{DidAsked, is_at_once}
+use Rattle.conf_session.specs.Replies.{DidAsked}
 use Rattle.conf_session.specs.Gathering.{GathersPiece, LeavesPiece}
 use Rattle.conf_session.proofs.RequestLemmas.{failures-none, failures-told}
 use Rattle.conf_session.proofs.GatherLemmas.{gathers, room-more, room-small}
@@ -24,8 +24,8 @@ pub returns-in_err-reply-clause-fails : goal.returns-in_err-reply-clause-fails
 returns-in_err-reply-clause-fails g c =
     let d = g.D.Disk in
     let f = c.in_err-reply.field-0.0 in
-    let fails : LeavesPiece (is_at_once c.args.way) d.model c.args.store.now c.answer_piece.new.store (piece_of c.args.input.now) f =
-    subst (λ (p : List ℕ). LeavesPiece (is_at_once c.args.way) d.model c.args.store.now c.answer_piece.new.store p f) c.piece.ensures (c.in_err-reply.ensures.did c.requires.sound) in
+    let fails : LeavesPiece d.model c.args.store.now c.answer_piece.new.store (piece_of c.args.input.now) f =
+    subst (λ (p : List ℕ). LeavesPiece d.model c.args.store.now c.answer_piece.new.store p f) c.piece.ensures (c.in_err-reply.ensures.did c.requires.sound) in
     let p = err_from_is_err_and c.from_residual.result c.from_residual.ensures.1 in
     rw (p.1, p.2) fails
 
@@ -40,21 +40,19 @@ returns-in_err-reply-clause-failures g c =
 pub returns : goal.returns
 returns g c =
     let d = g.D.Disk in
-    let at_once = is_at_once c.args.way in
     let input = c.args.input.now in
     let old = c.args.store.now in
     let new = c.answer_piece.new.store in
     let after = c.keep.new.self in
-    let one : GathersPiece at_once d.model old new (piece_of input) c.args.answers.now after =
-    gathers d.model at_once old new (piece_of input) c.args.answers.now after c.in_ok-reply.reply
-    (subst (λ (p : List ℕ). DidAsked at_once d.model old new (Asks p) (Ok c.in_ok-reply.reply)) c.piece.ensures (c.in_ok-reply.ensures.did c.requires.sound)) c.keep.ensures in
-    let room = room-more d.model at_once old new (piece_of input) (ahead input) c.args.answers.now after (bytes_read input) c.requires.piece.piece c.requires.room one in
+    let one : GathersPiece d.model old new (piece_of input) c.args.answers.now after =
+    gathers d.model old new (piece_of input) c.args.answers.now after c.in_ok-reply.reply
+    (subst (λ (p : List ℕ). DidAsked d.model old new (Asks p) (Ok c.in_ok-reply.reply)) c.piece.ensures (c.in_ok-reply.ensures.did c.requires.sound)) c.keep.ensures in
+    let room = room-more d.model old new (piece_of input) (ahead input) c.args.answers.now after (bytes_read input) c.requires.piece.piece c.requires.room one in
     record {
       ok = one;
       fails = tt;
       kept = tt;
       room = room;
       small = room-small after (length (ahead input)) (bytes_read input) room;
-      means = c.answer_piece.ensures.means;
       failures = failures-none d.model old new _ c.answer_piece.ensures.failures.risen (λ e. cc e);
     }

@@ -8,7 +8,6 @@ use Rattle.conf_session.specs.Said.{get_at, export_of, said_of}
 use Rattle.conf_conditions.specs.Conditions.{conditions_of}
 use Rattle.conf_session.specs.ReadChanges.{IfMet, IsRequest}
 use Rattle.conf_session.specs.Requests.{MeansRequest, if_met, checkpointing, getting, exporting, naming, bad}
-use Rattle.conf_session.specs.Replies.{Handles, is_at_once}
 use Rattle.conf_session.specs.declared.reply.Reply.TheVariants.{Refused}
 use Rattle.conf_session.specs.declared.words.Refusal.TheVariants.{BadCommand}
 use Rattle.conf_session.proofs.WordLemmas.{refusal-short}
@@ -18,28 +17,28 @@ use Rattle.conf_session.proofs.reply.answer_said.Goals as goal
 pub returns-in-Single : goal.returns-in-Single
 returns-in-Single g c =
     let d = g.D.Disk in
-    handles-retold (is_at_once c.args.way) d.model c.args.store.now c.change_read.new.store (IsRequest c.read_single-read.result) (MeansRequest (said_of c.args.said))
+    handles-retold d.model c.args.store.now c.change_read.new.store (IsRequest c.read_single-read.result) (MeansRequest (said_of c.args.said))
     (λ request is. subst (λ s. MeansRequest s request) (sym (ap said_of c.in-Single.is)) (c.read_single-read.ensures.asked request is)) c.change_read.result c.change_read.ensures
 
 pub returns-in-Batch : goal.returns-in-Batch
 returns-in-Batch g c =
     let d = g.D.Disk in
-    handles-retold (is_at_once c.args.way) d.model c.args.store.now c.change_read-in-Batch.new.store (IsRequest c.read_batch-read.result) (MeansRequest (said_of c.args.said))
+    handles-retold d.model c.args.store.now c.change_read-in-Batch.new.store (IsRequest c.read_batch-read.result) (MeansRequest (said_of c.args.said))
     (λ request is. subst (λ s. MeansRequest s request) (sym (ap said_of c.in-Batch.is)) (c.read_batch-read.ensures.asked request is)) c.change_read-in-Batch.result c.change_read-in-Batch.ensures
 
 pub returns-in-Conditional : goal.returns-in-Conditional
 returns-in-Conditional g c =
     let d = g.D.Disk in
     let conditions = conditions_of c.in-Conditional.conditions.items in
-    handles-retold (is_at_once c.args.way) d.model c.args.store.now c.change_if.new.store (IfMet (conditions_of c.deref.result.now) (IsRequest c.read_change-read.result)) (MeansRequest (said_of c.args.said))
+    handles-retold d.model c.args.store.now c.change_if.new.store (IfMet (conditions_of c.deref.result.now) (IsRequest c.read_change-read.result)) (MeansRequest (said_of c.args.said))
     (λ request is. subst (λ s. MeansRequest s request) (sym (ap said_of c.in-Conditional.is))
     (is.0, c.read_change-read.ensures.asked is.0 is.1, is.2 ∙ ap (λ cs. if_met (conditions_of cs) is.0) c.deref.ensures.value)) c.change_if.result c.change_if.ensures
 
 pub returns-in-Checkpoint : goal.returns-in-Checkpoint
 returns-in-Checkpoint g c =
     let d = g.D.Disk in
-    handles-retold (is_at_once c.args.way) d.model c.args.store.now c.checkpoint.new.store (λ request. request ≡ checkpointing) (MeansRequest (said_of c.args.said))
-    (λ request is. subst (λ s. MeansRequest s request) (sym (ap said_of c.in-Checkpoint.is)) is) c.checkpoint.result (c.checkpoint.ensures (is_at_once c.args.way))
+    handles-retold d.model c.args.store.now c.checkpoint.new.store (λ request. request ≡ checkpointing) (MeansRequest (said_of c.args.said))
+    (λ request is. subst (λ s. MeansRequest s request) (sym (ap said_of c.in-Checkpoint.is)) is) c.checkpoint.result c.checkpoint.ensures
 
 pub returns-in-Get : goal.returns-in-Get
 returns-in-Get g c =
@@ -49,7 +48,7 @@ returns-in-Get g c =
     let path = chars c.deref-in-Get-2.result.now in
     let same : get_at name path ≡ said_of c.args.said =
     ap (λ b. get_at (chars b) path) c.deref-in-Get.ensures ∙ ap (λ b. get_at (chars (text_bytes c.in-Get.name)) (chars b)) c.deref-in-Get-2.ensures ∙ sym (ap said_of c.in-Get.is) in
-    handles-reading (is_at_once c.args.way) d.model store c.requires.means (MeansRequest (said_of c.args.said)) (λ image h is. g.met.D.Disk.only_now store.disk image h is)
+    handles-reading d.model store c.requires.means (MeansRequest (said_of c.args.said)) (λ image h is. g.met.D.Disk.only_now store.disk image h is)
     (getting name path) (subst (λ s. MeansRequest s (getting name path)) same refl) tt c.get_answer.result c.get_answer.ensures.ok c.get_answer.ensures.memory
 
 pub returns-in-Export : goal.returns-in-Export
@@ -58,20 +57,20 @@ returns-in-Export g c =
     let store = c.args.store.now in
     let name = chars c.deref-in-Export.result.now in
     let same : export_of name ≡ said_of c.args.said = ap (λ b. export_of (chars b)) c.deref-in-Export.ensures ∙ sym (ap said_of c.in-Export.is) in
-    handles-reading (is_at_once c.args.way) d.model store c.requires.means (MeansRequest (said_of c.args.said)) (λ image h is. g.met.D.Disk.only_now store.disk image h is)
+    handles-reading d.model store c.requires.means (MeansRequest (said_of c.args.said)) (λ image h is. g.met.D.Disk.only_now store.disk image h is)
     (exporting name) (subst (λ s. MeansRequest s (exporting name)) same refl) tt c.export_answer.result c.export_answer.ensures.ok c.export_answer.ensures.memory
 
 pub returns-in-Nothing : goal.returns-in-Nothing
 returns-in-Nothing g c =
     let d = g.D.Disk in
     let store = c.args.store.now in
-    handles-reading (is_at_once c.args.way) d.model store c.requires.means (MeansRequest (said_of c.args.said)) (λ image h is. g.met.D.Disk.only_now store.disk image h is)
+    handles-reading d.model store c.requires.means (MeansRequest (said_of c.args.said)) (λ image h is. g.met.D.Disk.only_now store.disk image h is)
     bad (subst (λ s. MeansRequest s bad) (sym (ap said_of c.in-Nothing.is)) refl) tt (Ok (Refused BadCommand)) (record { bytes = refl; accepted = refl; refused = refl; short = refusal-short BadCommand }) tt
 
 pub returns-in_err-names_answer-in-Names : goal.returns-in_err-names_answer-in-Names
 returns-in_err-names_answer-in-Names g c =
     let d = g.D.Disk in
-    let none = handles-none (is_at_once c.args.way) d.model c.args.store.now c.requires.means (MeansRequest (said_of c.args.said)) in
+    let none = handles-none d.model c.args.store.now (MeansRequest (said_of c.args.said)) in
     let p = err_from_is_err_and c.from_residual.result c.from_residual.ensures.1 in
     rw (p.1, p.2) none
 
@@ -79,5 +78,5 @@ pub returns-in_ok-names_answer-in-Names : goal.returns-in_ok-names_answer-in-Nam
 returns-in_ok-names_answer-in-Names g c =
     let d = g.D.Disk in
     let store = c.args.store.now in
-    handles-reading (is_at_once c.args.way) d.model store c.requires.means (MeansRequest (said_of c.args.said)) (λ image h is. g.met.D.Disk.only_now store.disk image h is)
+    handles-reading d.model store c.requires.means (MeansRequest (said_of c.args.said)) (λ image h is. g.met.D.Disk.only_now store.disk image h is)
     naming (subst (λ s. MeansRequest s naming) (sym (ap said_of c.in-Names.is)) refl) tt (Ok c.in_ok-names_answer-in-Names.field-0) c.in_ok-names_answer-in-Names.ensures tt

@@ -1,5 +1,5 @@
 -- What the store did with the command.
-use Rattle.std.proofs.Common.{◌≡◌, refl, ap, sym, ◌∙◌, subst, true, ◌+◌, ⊎_elim}
+use Rattle.std.proofs.Common.{◌≡◌, refl, ap, sym, ◌∙◌, subst, true, false, ◌+◌}
 use Rattle.std.proofs.lemmas.Bool.{false≢true}
 use Rattle.std.proofs.lemmas.Result.{err_from_is_err_and}
 use Rattle.std.specs.Prelude.{min, Ok, Err}
@@ -9,16 +9,16 @@ use Rattle.conf_store.specs.Calls.{RefusesCommand, outcome, room_for, journal_le
 use Rattle.conf_store.specs.View.{StoreView}
 use Rattle.conf_session.specs.Requests.{changing}
 use Rattle.conf_session.specs.Answers.{longest}
-use Rattle.conf_session.specs.Replies.{Did, Performs, is_at_once}
+use Rattle.conf_session.specs.Replies.{Did, Performs}
 use Rattle.conf_session.specs.Runs.{stored_of}
-use Rattle.conf_session.proofs.RequestLemmas.{longest-of, count-after, accepted-reply, refused-reply, refused-outcome, did-refused, command-performed, command-refused, synced-leaves, leaves-same, did-asked, handles-none}
-use Rattle.conf_session.proofs.RefusalLemmas.{ended-by-device, is-device}
+use Rattle.conf_session.proofs.RequestLemmas.{longest-of, count-after, accepted-reply, refused-reply, refused-outcome, did-refused, command-performed, command-refused, did-asked, handles-none}
+use Rattle.conf_session.proofs.RefusalLemmas.{ended-by-device}
 use Rattle.conf_session.proofs.reply.change.Goals as goal
 
 pub returns-in_err-answer : goal.returns-in_err-answer
 returns-in_err-answer g c =
     let d = g.D.Disk in
-    let none = handles-none (is_at_once c.args.way) d.model c.args.store.now c.requires.means (λ request. request ≡ changing (command_of c.args.command)) in
+    let none = handles-none d.model c.args.store.now (λ request. request ≡ changing (command_of c.args.command)) in
     let p = err_from_is_err_and c.from_residual.result c.from_residual.ensures.1 in
     rw (p.1, p.2) none
 
@@ -26,7 +26,7 @@ pub returns-in-Ok : goal.returns-in-Ok
 returns-in-Ok g c =
     let d = g.D.Disk in
     let old = c.args.store.now in
-    let new = c.perform.new.store in
+    let new = c.submit.new.self in
     let command = command_of c.args.command in
     let ok = c.in-Ok.ensures.ok.0 in
     let here : outcome (longest (stored_of old)) old.state command ≡ Ok new.state = ap (λ n. outcome n old.state command) (longest-of old) ∙ ok.step in
@@ -39,31 +39,29 @@ returns-in-Ok g c =
         (
           accepted-reply (stored_of old) c.count.ensures.limits new.state command c.in_ok-answer.answer c.saturating_add-next.result here same c.in_ok-answer.ensures,
           ok.reopen,
-          command-performed (is_at_once c.args.way) d.model old new command ok.step (λ on. ok) (λ h on. c.in-Ok.ensures.reads h off) (λ h on. c.in-Ok.ensures.stages h off) (λ h. c.in-Ok.ensures.any_moment h off)
+          command-performed d.model old new command ok.step (λ on. ok) (λ h on. c.in-Ok.ensures.reads h off) (λ h on. c.in-Ok.ensures.stages h off) (λ h. c.in-Ok.ensures.any_moment h off)
               (λ h on. c.in-Ok.ensures.waits h off),
         ),
       );
-      failures = record { cause = λ e. absurd (cc e); risen = c.perform.ensures.risen };
-      means = λ at h on. synced-leaves (d.model.folder new.disk) new.state (c.in-Ok.ensures.now at h);
+      failures = record { cause = λ e. absurd (cc e); risen = c.submit.ensures.risen };
     }
 
 pub returns-in-Err : goal.returns-in-Err
 returns-in-Err g c =
     let d = g.D.Disk in
-    let at_once = is_at_once c.args.way in
     let old = c.args.store.now in
-    let new = c.perform.new.store in
+    let new = c.submit.new.self in
     let command = command_of c.args.command in
     let f = c.in-Err.fault in
     record {
-      did = λ off. did-asked at_once d.model old new (λ request. request ≡ changing command) (changing command) refl c.refused.result
-          (subst (Did at_once d.model old new (changing command)) (sym c.refused.ensures)
-          (did-refused at_once d.model old new (changing command) f (λ e. false≢true (sym off ∙ c.perform.ensures.reopen.0 (c.in-Err.is ∙ ap Err e)))
+      did = λ off. did-asked d.model old new (λ request. request ≡ changing command) (changing command) refl c.refused.result
+          (subst (Did d.model old new (changing command)) (sym c.refused.ensures)
+          (did-refused d.model old new (changing command) f (λ e. false≢true (sym off ∙ c.submit.ensures.reopen.0 (c.in-Err.is ∙ ap Err e)))
           (λ e.
           let broken : new.reopen ≡ true = c.in-Err.ensures.device (ap Err e) in
           let done : outcome (journal_length old) old.state command ≡ Ok new.state = subst (RefusesCommand old command new) e c.in-Err.ensures.refused in (
             broken,
-            command-performed at_once d.model old new command done (λ on. absurd (cc (on, broken))) (λ h on. absurd (cc (on, broken))) (λ h on. absurd (cc (on, broken))) (λ h. c.in-Err.ensures.any_moment h off)
+            command-performed d.model old new command done (λ on. absurd (cc (on, broken))) (λ h on. absurd (cc (on, broken))) (λ h on. absurd (cc (on, broken))) (λ h. c.in-Err.ensures.any_moment h off)
                 (λ h on. absurd (cc (on, broken))),
           ))
           c.in-Err.ensures.unchanged
@@ -73,12 +71,8 @@ returns-in-Err g c =
           let same = c.in-Err.ensures.unchanged other in (
             refused-reply (stored_of old) c.count.ensures.limits command f reason here is,
             ap (λ (s : StoreView g.row.D.Denot). s.reopen) same ∙ off,
-            subst (λ s. Performs at_once d.model old s (changing command)) (sym same)
-                (command-refused at_once d.model old off command f refused (λ image h is. g.met.D.Disk.only_now old.disk image h is) c.requires.means),
+            subst (λ s. Performs false d.model old s (changing command)) (sym same)
+                (command-refused d.model old off command f refused (λ image h is. g.met.D.Disk.only_now old.disk image h is) c.requires.means),
           ))));
-      failures = record { cause = λ e. c.perform.ensures.cause (c.in-Err.is ∙ ap Err (ended-by-device f (sym c.refused.ensures ∙ e))); risen = c.perform.ensures.risen };
-      means = λ at h on.
-          ⊎_elim (λ is. absurd (false≢true (sym on ∙ c.in-Err.ensures.device (ap Err is))))
-          (λ other. leaves-same d.model old new (c.in-Err.ensures.unchanged other) c.requires.means h on)
-          (is-device f);
+      failures = record { cause = λ e. c.submit.ensures.cause (c.in-Err.is ∙ ap Err (ended-by-device f (sym c.refused.ensures ∙ e))); risen = c.submit.ensures.risen };
     }

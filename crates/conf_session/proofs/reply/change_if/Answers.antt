@@ -1,14 +1,14 @@
 use Rattle.std.proofs.Common.{sym, subst}
 use Rattle.conf_conditions.specs.Conditions.{conditions_of}
 use Rattle.conf_session.specs.ReadChanges.{IfMet, IsRequest}
-use Rattle.conf_session.specs.Replies.{Handles, is_at_once}
+use Rattle.conf_session.specs.Replies.{Handles}
 use Rattle.conf_session.proofs.ConditionalLemmas.{handles-met, handles-unmet-read}
 use Rattle.conf_session.proofs.reply.change_if.Goals as goal
 
 pub returns-in-Ok : goal.returns-in-Ok
 returns-in-Ok g c =
     let d = g.D.Disk in
-    handles-met (is_at_once c.args.way) d.model c.args.store.now c.change_read.new.store (conditions_of c.args.conditions.now) (IsRequest c.args.read) c.in-Ok.ensures.ok
+    handles-met d.model c.args.store.now c.change_read.new.store (conditions_of c.args.conditions.now) (IsRequest c.args.read) c.in-Ok.ensures.ok
     c.change_read.result c.change_read.ensures
 
 pub returns-in-Err : goal.returns-in-Err
@@ -16,6 +16,6 @@ returns-in-Err g c =
     let d = g.D.Disk in
     let store = c.args.store.now in
     let conditions = conditions_of c.args.conditions.now in
-    subst (Handles (is_at_once c.args.way) d.model store store (IfMet conditions (IsRequest c.args.read))) (sym c.unmet.ensures)
-    (handles-unmet-read (is_at_once c.args.way) d.model store c.requires.means (λ image h is. g.met.D.Disk.only_now store.disk image h is) conditions
+    subst (Handles d.model store store (IfMet conditions (IsRequest c.args.read))) (sym c.unmet.ensures)
+    (handles-unmet-read d.model store c.requires.means (λ image h is. g.met.D.Disk.only_now store.disk image h is) conditions
     c.args.read c.requires.memory c.in-Err.fault c.in-Err.ensures.refused)

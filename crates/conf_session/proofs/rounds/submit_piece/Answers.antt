@@ -1,5 +1,5 @@
 -- Bytes that are closed once are performed as a piece of a session, and others are no command.
-use Rattle.std.proofs.Common.{false, inl, inr, refl, sym, ◌∙◌, subst}
+use Rattle.std.proofs.Common.{inl, inr, refl, sym, ◌∙◌, subst}
 use Rattle.std.specs.Prelude.{Ok}
 use Rattle.std.proofs.lemmas.Bool.{false≢true}
 use Rattle.yaml_grammar.specs.Closings.{ClosesOnce}
@@ -16,7 +16,7 @@ pub returns-then-not-closes_once : goal.returns-then-not-closes_once
 returns-then-not-closes_once g c =
     let d = g.D.Disk in
     let store = c.args.store.now in
-    handles-reading false d.model store c.requires.means (RoundAsks c.args.piece.now.bytes.items) (λ image h is. g.met.D.Disk.only_now store.disk image h is) bad
+    handles-reading d.model store c.requires.means (RoundAsks c.args.piece.now.bytes.items) (λ image h is. g.met.D.Disk.only_now store.disk image h is) bad
     (inr (λ closes. false≢true (sym c.if-not-closes_once.true ∙ c.closes_once.ensures.1 (subst ClosesOnce (sym c.deref.ensures.value) closes)), refl)) tt
     (Ok (Refused BadCommand)) (record { bytes = refl; accepted = refl; refused = refl; short = refusal-short BadCommand }) tt
 
@@ -27,5 +27,5 @@ returns g c =
     let new = c.answer_piece.new.store in
     let bytes = c.args.piece.now.bytes.items in
     let closes : ClosesOnce bytes = subst ClosesOnce c.deref.ensures.value (c.closes_once.ensures.0 c.if-not-closes_once.false) in
-    handles-retold false d.model old new (Asks bytes) (RoundAsks bytes) (λ request asks. inl (closes, asks)) c.answer_piece.result
-    (subst (λ b. Handles false d.model old new (Asks b) c.answer_piece.result) c.deref-2.ensures.value c.answer_piece.ensures)
+    handles-retold d.model old new (Asks bytes) (RoundAsks bytes) (λ request asks. inl (closes, asks)) c.answer_piece.result
+    (subst (λ b. Handles d.model old new (Asks b) c.answer_piece.result) c.deref-2.ensures.value c.answer_piece.ensures)
