@@ -22,6 +22,7 @@ use Rattle.conf_tools.specs.Stores.{KeepsAnswered}
 use Rattle.conf_tools.specs.declared.changes.Change.{Change}
 use Rattle.conf_tools.specs.declared.stores.Grouping.{Grouping}
 use Rattle.conf_tools.specs.declared.stores.StoreToolFault.TheVariants.{Folder as InFolder, Open, Session, Export, Condition as OnCondition, Refused, StoreExists}
+use Rattle.conf_session.specs.Streams.{Streams}
 
 -- a file means one state at most
 file-one : OneMeaning → (file : Option (List ℕ)) (s t : Contents) → FileMeans file s → FileMeans file t → s ≡ t
@@ -93,15 +94,15 @@ module _ {D : Type 0} (model : DiskModel D)
   kept-unchanged P old new cut_off image stands leaves is = kept-entry P old cut_off [] 0 image stands (none-owed 0 0) (leaves.each image is)
 
   -- a session
-  kept-session : (P : Contents → Type 0) (given left held written : Option (List ℕ)) (grouping : Grouping) (old new : D) (result : Result Tally SessionFault) (ending : Ending) (image : Image) → Stands old P
-      → (keeps : KeepsAnswered model given left held written grouping old new result) → MayLeave model ending old new image
+  kept-session : (P : Contents → Type 0) (io : Streams) (grouping : Grouping) (old new : D) (result : Result Tally SessionFault) (ending : Ending) (image : Image) → Stands old P
+      → (keeps : KeepsAnswered model io grouping old new result) → MayLeave model ending old new image
       → Kept P ending keeps.work.accepted keeps.work.answered image.store
-  kept-session P given left held written grouping old new result returned image stands keeps is =
+  kept-session P io grouping old new result returned image stands keeps is =
       let s = keeps.start.state in
       let least = keeps.returned image is in
       kept-prefix P returned s keeps.work.accepted keeps.work.answered image.store (reads P old s stands keeps.opens.means)
       (record { count = least.count; state = least.state; leads = least.leads; means = least.means }) (λ _. least.enough)
-  kept-session P given left held written grouping old new result cut_off image stands keeps is =
+  kept-session P io grouping old new result cut_off image stands keeps is =
       let s = keeps.start.state in
       ⊎_elim
       (λ was. kept-entry P old cut_off keeps.work.accepted keeps.work.answered image stands (none-owed keeps.work.answered 0) (keeps.while_opening.each image was))
@@ -127,16 +128,16 @@ module _ {D : Type 0} (model : DiskModel D)
   kept-call : (P : Contents → Type 0) (ending : Ending) (call : Call model) (image : Image) → Stands (disk_before model call) P
       → MayLeave model ending (disk_before model call) (disk_behind model call) image
       → Kept P ending (accepted model call) (answered model call) image.store
-  kept-call P ending (running given left held written grouping old (Ok (new, tally)) keeps) image stands is =
-      kept-session P given left held written grouping old new (Ok tally) ending image stands keeps is
-  kept-call P ending (running given left held written grouping old (Err (new, Session fault)) keeps) image stands is =
-      kept-session P given left held written grouping old new (Err fault) ending image stands keeps is
-  kept-call P ending (running given left held written grouping old (Err (new, InFolder fault)) leaves) image stands is = kept-unchanged P old new ending image stands leaves is
-  kept-call P ending (running given left held written grouping old (Err (new, Open fault)) leaves) image stands is = kept-unchanged P old new ending image stands leaves is
-  kept-call P ending (running given left held written grouping old (Err (new, OnCondition fault)) leaves) image stands is = kept-unchanged P old new ending image stands leaves is
-  kept-call P ending (running given left held written grouping old (Err (new, Export fault)) leaves) image stands is = kept-unchanged P old new ending image stands leaves is
-  kept-call P ending (running given left held written grouping old (Err (new, Refused fault)) leaves) image stands is = kept-unchanged P old new ending image stands leaves is
-  kept-call P ending (running given left held written grouping old (Err (new, StoreExists)) leaves) image stands is = kept-unchanged P old new ending image stands leaves is
+  kept-call P ending (running io grouping old (Ok (new, tally)) keeps) image stands is =
+      kept-session P io grouping old new (Ok tally) ending image stands keeps is
+  kept-call P ending (running io grouping old (Err (new, Session fault)) keeps) image stands is =
+      kept-session P io grouping old new (Err fault) ending image stands keeps is
+  kept-call P ending (running io grouping old (Err (new, InFolder fault)) leaves) image stands is = kept-unchanged P old new ending image stands leaves is
+  kept-call P ending (running io grouping old (Err (new, Open fault)) leaves) image stands is = kept-unchanged P old new ending image stands leaves is
+  kept-call P ending (running io grouping old (Err (new, OnCondition fault)) leaves) image stands is = kept-unchanged P old new ending image stands leaves is
+  kept-call P ending (running io grouping old (Err (new, Export fault)) leaves) image stands is = kept-unchanged P old new ending image stands leaves is
+  kept-call P ending (running io grouping old (Err (new, Refused fault)) leaves) image stands is = kept-unchanged P old new ending image stands leaves is
+  kept-call P ending (running io grouping old (Err (new, StoreExists)) leaves) image stands is = kept-unchanged P old new ending image stands leaves is
   kept-call P ending (changing change old (Ok new) keeps) image stands is = kept-change P change old new true ending image stands keeps is
   kept-call P ending (changing change old (Err (new, Refused fault)) keeps) image stands is = kept-change P change old new false ending image stands keeps is
   kept-call P ending (changing change old (Err (new, InFolder fault)) leaves) image stands is = kept-unchanged P old new ending image stands leaves is

@@ -9,3 +9,5 @@ pub mod ChangeLemmas
 pub mod ReadLemmas
 pub mod FoundLemmas
 pub mod FileLemmas
+pub mod OutcomeLemmas
+mod MadeLemmas

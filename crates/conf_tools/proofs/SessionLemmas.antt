@@ -20,6 +20,7 @@ use Rattle.conf_session.specs.declared.session.Tally.{Tally}
 use Rattle.conf_tools.specs.Stores.{Answers, AnswersOn, BeginsWhenDue, KeepsAnswered, OpensOn, SessionRuns, Work}
 use Rattle.conf_tools.specs.declared.stores.Grouping.{Grouping}
 use Rattle.conf_tools.specs.declared.stores.Grouping.TheVariants.{Single, Grouped}
+use Rattle.conf_session.specs.Streams.{Streams}
 
 -- a store that was in order needs to be opened again only after Device
 in-order : (before after : Bool) (result : Result Tally SessionFault) → before ≡ false → ((after ≡ true) ↔ ((before ≡ true) ⊎ IsErrOf result Device)) → result ≢ Err Device → after ≡ false
@@ -35,7 +36,7 @@ all-acknowledged : (now : Stored) (turns : List Turn) → acknowledged_turns now
 all-acknowledged now [] = refl
 all-acknowledged now (turn ∷ turns) = refl
 
-module _ {D : Type 0} (model : DiskModel D) (given left held written : Option (List ℕ))
+module _ {D : Type 0} (model : DiskModel D) (io : Streams)
     (old : D) (store new : StoreView D) (result : Result Tally SessionFault) (opens : OpensOn model old store) where
   -- what `store.yaml` reads as when the store is open
   abbrev file : Option (List ℕ)
@@ -57,7 +58,7 @@ module _ {D : Type 0} (model : DiskModel D) (given left held written : Option (L
 
   -- ---- each command by itself
 
-  module _ (runs : Runs model given left held written store new result) where
+  module _ (runs : Runs model io store new result) where
     abbrev each-work : Work
     each-work = record {
       accepted = accepted_commands (stored_of store) runs.performed;
@@ -65,10 +66,10 @@ module _ {D : Type 0} (model : DiskModel D) (given left held written : Option (L
       file = file_after_all file (stored_of store) runs.performed;
     }
 
-    abbrev each-answers : Answers given left held written (stored_of store) file Single result each-work
+    abbrev each-answers : Answers io (stored_of store) file Single result each-work
     each-answers = record { answered = runs.answered; performed = runs.performed; ends = runs.ends; does = refl }
 
-    each-on : SaysFaults → AnswersOn model given left held written Single old new.disk result
+    each-on : SaysFaults → AnswersOn model io Single old new.disk result
     each-on says = record {
       start = stored_of store;
       file = file;
@@ -81,7 +82,7 @@ module _ {D : Type 0} (model : DiskModel D) (given left held written : Option (L
       cause = failed-since says;
     }
 
-    each-kept : AllAreAcknowledged → model.honest → KeepsAnswered model given left held written Single old new.disk result
+    each-kept : AllAreAcknowledged → model.honest → KeepsAnswered model io Single old new.disk result
     each-kept all h = record {
       start = stored_of store;
       opened = store.disk;
@@ -91,13 +92,13 @@ module _ {D : Type 0} (model : DiskModel D) (given left held written : Option (L
       nothing_waits = opens.flushed h;
       while_opening = opens.at_any_moment h;
       once_open = runs.any_moment h opens.no_reopen store.state [] (opens.flushed h);
-      returned = λ image is. subst (λ n. AfterAtLeast store.state n each-work.accepted image.store) (all (stored_of store) runs.answered)
+      returned = λ image is. subst (λ n. AfterAtLeast store.state n each-work.accepted image.store) (all.accepted (stored_of store) runs.answered)
           (runs.kept h opens.no_reopen store.state [] (opens.flushed h) image is);
     }
 
   -- ---- in groups
 
-  module _ (checkpoints : Checkpoints) (runs : RunsGrouped model given left held written checkpoints store new result) where
+  module _ (checkpoints : Checkpoints) (runs : RunsGrouped model io checkpoints store new result) where
     abbrev turns : List Turn
     turns = runs.answered ++ all_asked runs.unanswered
 
@@ -111,7 +112,7 @@ module _ {D : Type 0} (model : DiskModel D) (given left held written : Option (L
       file = file-after None;
     }
 
-    abbrev groups-answers : Answers given left held written (stored_of store) file (Grouped checkpoints) result groups-work
+    abbrev groups-answers : Answers io (stored_of store) file (Grouped checkpoints) result groups-work
     groups-answers = record { answered = runs.answered; unanswered = runs.unanswered; ends = runs.ends; only_asked = runs.only_asked; does = refl }
 
     groups-due : (wanted : Checkpoints) → checkpoints ≡ wanted → model.honest → BeginsWhenDue wanted (stored_of store) file runs.answered
@@ -119,7 +120,7 @@ module _ {D : Type 0} (model : DiskModel D) (given left held written : Option (L
     groups-due (After bytes) is h =
         subst (λ staged. AreDue bytes (record { store = file; staged = staged_text (model.folder store.disk) staged }) (stored_of store) runs.answered) opens.no_checkpoint (runs.due h bytes is)
 
-    groups-on : SaysFaults → AnswersOn model given left held written (Grouped checkpoints) old new.disk result
+    groups-on : SaysFaults → AnswersOn model io (Grouped checkpoints) old new.disk result
     groups-on says = record {
       start = stored_of store;
       file = file;
@@ -133,7 +134,7 @@ module _ {D : Type 0} (model : DiskModel D) (given left held written : Option (L
       cause = failed-since says;
     }
 
-    groups-kept : model.honest → KeepsAnswered model given left held written (Grouped checkpoints) old new.disk result
+    groups-kept : model.honest → KeepsAnswered model io (Grouped checkpoints) old new.disk result
     groups-kept h = record {
       start = stored_of store;
       opened = store.disk;
@@ -150,13 +151,13 @@ module _ {D : Type 0} (model : DiskModel D) (given left held written : Option (L
   -- ---- either
 
   -- what was answered, and what `store.yaml` reads as
-  pub answers-on : (grouping : Grouping) → SessionRuns model given left held written grouping store new result
-      → SaysFaults → AnswersOn model given left held written grouping old new.disk result
+  pub answers-on : (grouping : Grouping) → SessionRuns model io grouping store new result
+      → SaysFaults → AnswersOn model io grouping old new.disk result
   answers-on Single runs says = each-on runs says
   answers-on (Grouped checkpoints) runs says = groups-on checkpoints runs says
 
   -- what a crash leaves: opening first, and then the session, at whose start nothing waits
-  pub keeps-answered : (grouping : Grouping) → SessionRuns model given left held written grouping store new result
-      → AllAreAcknowledged → model.honest → KeepsAnswered model given left held written grouping old new.disk result
+  pub keeps-answered : (grouping : Grouping) → SessionRuns model io grouping store new result
+      → AllAreAcknowledged → model.honest → KeepsAnswered model io grouping old new.disk result
   keeps-answered Single runs all h = each-kept runs all h
   keeps-answered (Grouped checkpoints) runs all h = groups-kept checkpoints runs h

@@ -1,5 +1,5 @@
 -- What is said of the bytes after the last whole record of a `store.yaml`, which opening drops.
-use Rattle.std.specs.Prelude.{◌≡◌, ℕ, ◌==◌, if◌then◌else◌, List, [], ◌++◌, Option, codes, decimal}
+use Rattle.std.specs.Prelude.{◌≡◌, ◌⊎◌, ℕ, ◌==◌, if◌then◌else◌, List, [], ◌++◌, Option, codes, decimal}
 use Rattle.conf_state.specs.States.{Contents}
 use Rattle.conf_store.specs.Opens.{FileRecoversTo}
 
@@ -15,6 +15,10 @@ dropped_line dropped =
     if dropped == 0 then []
     else if dropped == 1 then codes "confstore: the last byte of store.yaml was dropped: it was no whole record\n"
     else dropped_bytes_line dropped
+
+-- what opening dropped was told in a line, if it dropped anything
+abbrev pub TellsDropped : {E : Type 0} → (E → List ℕ → E → Type 0) → E → E → Type 0
+TellsDropped hears old new = (new ≡ old) ⊎ ((dropped : ℕ) × hears old (dropped_line dropped) new)
 
 -- no bytes follow the last whole record of the file
 abbrev pub HasNoRest : Option (List ℕ) → Type 0

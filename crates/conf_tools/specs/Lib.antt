@@ -16,3 +16,6 @@ pub mod Worlds
 pub mod StoreWords
 pub mod TextWords
 pub mod Performs
+pub mod FaultLines
+pub mod Listening
+pub mod Outcomes

@@ -17,6 +17,7 @@ use Rattle.conf_tools.specs.declared.changes.Change.{Change}
 use Rattle.conf_tools.specs.declared.stores.Grouping.{Grouping}
 use Rattle.conf_tools.specs.declared.stores.StoreToolFault.{StoreToolFault}
 use Rattle.conf_tools.specs.declared.stores.StoreToolFault.TheVariants.{Session, Refused}
+use Rattle.conf_session.specs.Streams.{Streams}
 
 -- ---- one call
 
@@ -24,9 +25,9 @@ use Rattle.conf_tools.specs.declared.stores.StoreToolFault.TheVariants.{Session,
 -- `export_text` or `make_store`. A call that was cut off is given by what it would have returned: an image that it left
 -- is one that this clause allows.
 pub data Call {D : Type 0} (model : DiskModel D) : Type 0 where
-  running : (given left held written : Option (List ℕ)) (grouping : Grouping) (old : D)
+  running : (io : Streams) (grouping : Grouping) (old : D)
       (result : Result (D × Tally) (D × StoreToolFault))
-      (crashes : SurvivesCrashes model given left held written grouping old result)
+      (crashes : SurvivesCrashes model io grouping old result)
       → Call model
   changing : (change : Change) (old : D) (result : Result D (D × StoreToolFault))
       (crashes : ChangeSurvives model old change result) → Call model
@@ -42,31 +43,31 @@ pub data Ending : Type 0 where
 module _ {D : Type 0} (model : DiskModel D) where
   -- the disk before a call
   abbrev pub disk_before : Call model → D
-  disk_before (running given left held written grouping old result crashes) = old
+  disk_before (running io grouping old result crashes) = old
   disk_before (changing change old result crashes) = old
   disk_before (exporting old new crashes) = old
 
   -- the disk after a call
   abbrev pub disk_behind : Call model → D
-  disk_behind (running given left held written grouping old result crashes) = disk_back result
+  disk_behind (running io grouping old result crashes) = disk_back result
   disk_behind (changing change old result crashes) = disk_handed_back result
   disk_behind (exporting old new crashes) = new
 
   -- the commands that a session accepted
-  abbrev pub accepted_by_run : (given left held written : Option (List ℕ)) (grouping : Grouping) (old : D)
+  abbrev pub accepted_by_run : (io : Streams) (grouping : Grouping) (old : D)
       (result : Result (D × Tally) (D × StoreToolFault))
-      → SurvivesCrashes model given left held written grouping old result → List Command
-  accepted_by_run given left held written grouping old (Ok (new, tally)) keeps = keeps.work.accepted
-  accepted_by_run given left held written grouping old (Err (new, Session fault)) keeps = keeps.work.accepted
-  accepted_by_run given left held written grouping old (Err (new, fault)) refused = []
+      → SurvivesCrashes model io grouping old result → List Command
+  accepted_by_run io grouping old (Ok (new, tally)) keeps = keeps.work.accepted
+  accepted_by_run io grouping old (Err (new, Session fault)) keeps = keeps.work.accepted
+  accepted_by_run io grouping old (Err (new, fault)) refused = []
 
   -- how many of them it answered
-  abbrev pub answered_by_run : (given left held written : Option (List ℕ)) (grouping : Grouping) (old : D)
+  abbrev pub answered_by_run : (io : Streams) (grouping : Grouping) (old : D)
       (result : Result (D × Tally) (D × StoreToolFault))
-      → SurvivesCrashes model given left held written grouping old result → ℕ
-  answered_by_run given left held written grouping old (Ok (new, tally)) keeps = keeps.work.answered
-  answered_by_run given left held written grouping old (Err (new, Session fault)) keeps = keeps.work.answered
-  answered_by_run given left held written grouping old (Err (new, fault)) refused = 0
+      → SurvivesCrashes model io grouping old result → ℕ
+  answered_by_run io grouping old (Ok (new, tally)) keeps = keeps.work.answered
+  answered_by_run io grouping old (Err (new, Session fault)) keeps = keeps.work.answered
+  answered_by_run io grouping old (Err (new, fault)) refused = 0
 
   -- the commands that a change accepted, one at most
   abbrev pub accepted_by_change : (change : Change) (old : D) (result : Result D (D × StoreToolFault))
@@ -83,15 +84,15 @@ module _ {D : Type 0} (model : DiskModel D) where
 
   -- the commands that a call accepted
   abbrev pub accepted : Call model → List Command
-  accepted (running given left held written grouping old result crashes) =
-      accepted_by_run given left held written grouping old result crashes
+  accepted (running io grouping old result crashes) =
+      accepted_by_run io grouping old result crashes
   accepted (changing change old result crashes) = accepted_by_change change old result crashes
   accepted (exporting old new crashes) = []
 
   -- how many of them it answered
   abbrev pub answered : Call model → ℕ
-  answered (running given left held written grouping old result crashes) =
-      answered_by_run given left held written grouping old result crashes
+  answered (running io grouping old result crashes) =
+      answered_by_run io grouping old result crashes
   answered (changing change old result crashes) = made_by_change change old result crashes
   answered (exporting old new crashes) = 0
 

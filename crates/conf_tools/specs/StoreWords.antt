@@ -8,7 +8,7 @@ use Rattle.conf_disk.specs.Models.{DiskModel}
 use Rattle.conf_disk.specs.Moments.{LeavesOnly}
 use Rattle.conf_folder.specs.declared.fault.FolderFault.{FolderFault}
 use Rattle.conf_history.specs.Logs.{FailsToLog, LogsAll}
-use Rattle.conf_history.specs.Salvages.{RefusesSalvage, Saves}
+use Rattle.conf_history.specs.Salvages.{LeavesOldOrSaved, RefusesSalvage, Saves, disk_of}
 use Rattle.conf_history.specs.declared.fault.HistoryFault.{HistoryFault}
 use Rattle.conf_history.specs.declared.fault.HistoryFault.TheVariants.{NotAStore}
 use Rattle.conf_history.specs.declared.fault.SalvageFault.{SalvageFault}
@@ -44,6 +44,7 @@ use Rattle.conf_tools.specs.declared.surveys.Soundness.{Soundness}
 use Rattle.conf_tools.specs.declared.surveys.Soundness.TheVariants.{Whole, Damaged}
 use Rattle.conf_tools.specs.declared.world.Access.{Access}
 use Rattle.conf_tools.specs.declared.world.Access.TheVariants.{Making, New, Reading}
+use Rattle.conf_session.specs.Streams.{streams_of}
 
 -- ---- statuses
 
@@ -51,11 +52,6 @@ use Rattle.conf_tools.specs.declared.world.Access.TheVariants.{Making, New, Read
 abbrev pub status_at_end : {A D : Type 0} → Result A (D × StoreToolFault) → Status
 status_at_end (Ok done) = Done
 status_at_end (Err refused) = status_of_store refused.1
-
--- the status of a change
-abbrev pub status_after_change : Result (Unit {0}) StoreToolFault → Status
-status_after_change (Ok done) = Done
-status_after_change (Err fault) = status_of_store fault
 
 -- the status of what was read of a store's file
 abbrev pub status_after_reading : {A : Type 0} → Result A ReadingFault → Status
@@ -164,9 +160,9 @@ module _ {W D F P : Type 0} (world : WorldModel W D F P) (disk : DiskModel D) wh
     pub result : Result (D × Tally) (D × StoreToolFault)
     pub gives_back : world.given_back (disk_back result) opened new.world
     pub ends : status ≡ status_at_end result
-    pub runs : RunsOn disk old.input new.input old.output new.output grouping first result
+    pub runs : RunsOn disk (streams_of old.input new.input old.output new.output) grouping first result
     pub survives : disk.honest
-        → SurvivesCrashes disk old.input new.input old.output new.output grouping first result
+        → SurvivesCrashes disk (streams_of old.input new.input old.output new.output) grouping first result
 
   -- the disk was not handed out, and nothing was read or written
   pub record CannotRun (folder : List ℕ) (old new : Around W) (status : Status) : Type 0 where
@@ -316,6 +312,7 @@ module _ {W D F P : Type 0} (world : WorldModel W D F P) (disk : DiskModel D) wh
         (λ saved. Saves given left (disk.folder first) (disk.folder saved.0) saved.1)
     pub refused : disk.honest → IfErr result
         (λ refused. RefusesSalvage given left (disk.folder first) (disk.folder refused.0) refused.1)
+    pub survives : disk.honest → LeavesOldOrSaved disk given left first (disk_of result)
 
   -- the new folder can't hold a store
   pub record CannotSaveTo (folder : List ℕ) (old new : W) (held written : Option (List ℕ)) (status : Status)

@@ -28,6 +28,7 @@ use Rattle.conf_tools.specs.declared.stores.Grouping.{Grouping}
 use Rattle.conf_tools.specs.declared.stores.Grouping.TheVariants.{Single, Grouped}
 use Rattle.conf_tools.specs.declared.stores.StoreToolFault.{StoreToolFault}
 use Rattle.conf_tools.specs.declared.stores.StoreToolFault.TheVariants.{Open, Session}
+use Rattle.conf_session.specs.Streams.{Streams}
 
 -- What a session made of its input: the commands that it accepted, how many of these it answered (the first ones), and
 -- what it left of `store.yaml`.
@@ -38,11 +39,11 @@ pub record Work : Type 0 where
 
 -- A session that answers each command by itself ended so. Each accepted command appends its record to the file, and
 -- each checkpoint puts a base in its place.
-pub record AnswersEach (given left held written : Option (List ℕ)) (start : Stored) (file : Option (List ℕ))
+pub record AnswersEach (io : Streams) (start : Stored) (file : Option (List ℕ))
     (result : Result Tally SessionFault) (work : Work) : Type 0 where
   pub answered : List Request
   pub performed : List Request
-  pub ends : Ends given left held written start answered performed result
+  pub ends : Ends io start answered performed result
   pub does : work ≡ record {
     accepted = accepted_commands start performed;
     answered = length (accepted_commands start answered);
@@ -51,11 +52,11 @@ pub record AnswersEach (given left held written : Option (List ℕ)) (start : St
 
 -- The same of a session in groups. Its turns are the commands, and the checkpoints that no command asked for; those are
 -- begun only if they are wanted. The file of a checkpoint that is finished takes the place of `store.yaml`.
-pub record AnswersGroups (given left held written : Option (List ℕ)) (start : Stored) (file : Option (List ℕ))
+pub record AnswersGroups (io : Streams) (start : Stored) (file : Option (List ℕ))
     (checkpoints : Checkpoints) (result : Result Tally SessionFault) (work : Work) : Type 0 where
   pub answered : List Turn
   pub unanswered : List Request
-  pub ends : GroupedEnds given left held written start answered unanswered result
+  pub ends : GroupedEnds io start answered unanswered result
   pub only_asked : checkpoints ≡ Asked → answered ≡ all_asked (requests_of answered)
   pub does : work ≡ record {
     accepted = turns_accepted start (answered ++ all_asked unanswered);
@@ -64,12 +65,12 @@ pub record AnswersGroups (given left held written : Option (List ℕ)) (start : 
   }
 
 -- A session ended so, on a store that held `start` and whose `store.yaml` read as `file`.
-abbrev pub Answers : Option (List ℕ) → Option (List ℕ) → Option (List ℕ) → Option (List ℕ) → Stored
+abbrev pub Answers : Streams → Stored
     → Option (List ℕ) → Grouping → Result Tally SessionFault → Work → Type 0
-Answers given left held written start file Single result work =
-    AnswersEach given left held written start file result work
-Answers given left held written start file (Grouped checkpoints) result work =
-    AnswersGroups given left held written start file checkpoints result work
+Answers io start file Single result work =
+    AnswersEach io start file result work
+Answers io start file (Grouped checkpoints) result work =
+    AnswersGroups io start file checkpoints result work
 
 -- Each checkpoint that no command asked for is begun only when it is due, where they are wanted by growth: `store.yaml`
 -- has grown by so many bytes since its base was written.
@@ -78,11 +79,11 @@ BeginsWhenDue Asked start file turns = Unit {0}
 BeginsWhenDue (After bytes) start file turns = AreDue bytes (record { store = file; staged = None }) start turns
 
 -- the same of a session of either kind; in one without groups none is begun
-abbrev pub CheckpointsAreDue : (given left held written : Option (List ℕ)) (start : Stored) (file : Option (List ℕ))
+abbrev pub CheckpointsAreDue : (io : Streams) (start : Stored) (file : Option (List ℕ))
     (grouping : Grouping) (result : Result Tally SessionFault) (work : Work)
-    → Answers given left held written start file grouping result work → Type 0
-CheckpointsAreDue given left held written start file Single result work answers = Unit {0}
-CheckpointsAreDue given left held written start file (Grouped checkpoints) result work answers =
+    → Answers io start file grouping result work → Type 0
+CheckpointsAreDue io start file Single result work answers = Unit {0}
+CheckpointsAreDue io start file (Grouped checkpoints) result work answers =
     BeginsWhenDue checkpoints start file answers.answered
 
 -- ---- opening
@@ -125,24 +126,23 @@ pub record CannotOpen {D : Type 0} (model : DiskModel D) (old new : D) (fault : 
 -- ---- a session on a disk
 
 -- A session from one value of a store to the next, as the call for its grouping says.
-abbrev pub SessionRuns : {D : Type 0} → DiskModel D → Option (List ℕ)
-    → Option (List ℕ) → Option (List ℕ) → Option (List ℕ) → Grouping → StoreView D → StoreView D
+abbrev pub SessionRuns : {D : Type 0} → DiskModel D → Streams → Grouping → StoreView D → StoreView D
     → Result Tally SessionFault → Type 0
-SessionRuns model given left held written Single old new result =
-    Runs model given left held written old new result
-SessionRuns model given left held written (Grouped checkpoints) old new result =
-    RunsGrouped model given left held written checkpoints old new result
+SessionRuns model io Single old new result =
+    Runs model io old new result
+SessionRuns model io (Grouped checkpoints) old new result =
+    RunsGrouped model io checkpoints old new result
 
 -- A session ran on the store that opening made of the disk, whose `store.yaml` read as `file` then. It ended by Device
 -- only where the device failed during the call.
 pub record AnswersOn {D : Type 0} (model : DiskModel D)
-    (given left held written : Option (List ℕ)) (grouping : Grouping) (old new : D)
+    (io : Streams) (grouping : Grouping) (old new : D)
     (result : Result Tally SessionFault) : Type 0 where
   pub start : Stored
   pub file : Option (List ℕ)
   pub work : Work
-  pub answers : Answers given left held written start file grouping result work
-  pub due : model.honest → CheckpointsAreDue given left held written start file grouping result work answers
+  pub answers : Answers io start file grouping result work
+  pub due : model.honest → CheckpointsAreDue io start file grouping result work answers
   pub opens : model.honest → OpensTo (bytes_under (model.folder old) Store) start file
   pub reads : model.honest → result ≢ Err SessionFaults.Device → bytes_under (model.folder new) Store ≡ work.file
   pub not_reopen : result ≢ Err SessionFaults.Reopen
@@ -151,15 +151,15 @@ pub record AnswersOn {D : Type 0} (model : DiskModel D)
 -- How a session on a disk ends, and what its files read as then. Nothing is read or written if the store can't be
 -- opened.
 abbrev pub RunsOn : {D : Type 0} → DiskModel D
-    → Option (List ℕ) → Option (List ℕ) → Option (List ℕ) → Option (List ℕ) → Grouping → D
+    → Streams → Grouping → D
     → Result (D × Tally) (D × StoreToolFault) → Type 0
-RunsOn model given left held written grouping old (Ok (new, tally)) =
-    AnswersOn model given left held written grouping old new (Ok tally)
-RunsOn model given left held written grouping old (Err (new, Session fault)) =
-    AnswersOn model given left held written grouping old new (Err fault)
-RunsOn model given left held written grouping old (Err (new, Open fault)) =
-    Keeps given left × Keeps held written × CannotOpen model old new fault
-RunsOn model given left held written grouping old (Err (new, fault)) = ⊥
+RunsOn model io grouping old (Ok (new, tally)) =
+    AnswersOn model io grouping old new (Ok tally)
+RunsOn model io grouping old (Err (new, Session fault)) =
+    AnswersOn model io grouping old new (Err fault)
+RunsOn model io grouping old (Err (new, Open fault)) =
+    Keeps io.given io.left × Keeps io.held io.written × CannotOpen model old new fault
+RunsOn model io grouping old (Err (new, fault)) = ⊥
 
 -- ---- what a crash leaves of a session
 
@@ -168,12 +168,12 @@ RunsOn model given left held written grouping old (Err (new, fault)) = ⊥
 -- commands, from the state that `store.yaml` meant. Once the call has returned, that prefix has every command whose
 -- answer was written.
 pub record KeepsAnswered {D : Type 0} (model : DiskModel D)
-    (given left held written : Option (List ℕ)) (grouping : Grouping) (old new : D)
+    (io : Streams) (grouping : Grouping) (old new : D)
     (result : Result Tally SessionFault) : Type 0 where
   pub start : Stored
   pub opened : D
   pub work : Work
-  pub answers : Answers given left held written start (bytes_under (model.folder opened) Store) grouping result work
+  pub answers : Answers io start (bytes_under (model.folder opened) Store) grouping result work
   pub opens : OpensTo (bytes_under (model.folder old) Store) start (bytes_under (model.folder opened) Store)
   pub nothing_waits : HasFlushed (model.folder opened) start.state [] start.state
   pub while_opening : LeavesOnly model old opened (λ image. MeantAtEntry (model.folder old) image.store)
@@ -182,12 +182,11 @@ pub record KeepsAnswered {D : Type 0} (model : DiskModel D)
       → AfterAtLeast start.state work.answered work.accepted image.store
 
 -- the same of a call that may not have opened the store
-abbrev pub SurvivesCrashes : {D : Type 0} → DiskModel D → Option (List ℕ)
-    → Option (List ℕ) → Option (List ℕ) → Option (List ℕ) → Grouping → D
+abbrev pub SurvivesCrashes : {D : Type 0} → DiskModel D → Streams → Grouping → D
     → Result (D × Tally) (D × StoreToolFault) → Type 0
-SurvivesCrashes model given left held written grouping old (Ok (new, tally)) =
-    KeepsAnswered model given left held written grouping old new (Ok tally)
-SurvivesCrashes model given left held written grouping old (Err (new, Session fault)) =
-    KeepsAnswered model given left held written grouping old new (Err fault)
-SurvivesCrashes model given left held written grouping old (Err (new, fault)) =
+SurvivesCrashes model io grouping old (Ok (new, tally)) =
+    KeepsAnswered model io grouping old new (Ok tally)
+SurvivesCrashes model io grouping old (Err (new, Session fault)) =
+    KeepsAnswered model io grouping old new (Err fault)
+SurvivesCrashes model io grouping old (Err (new, fault)) =
     LeavesOnly model old new (λ image. MeantAtEntry (model.folder old) image.store)

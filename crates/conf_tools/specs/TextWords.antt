@@ -18,6 +18,8 @@ use Rattle.conf_tools.specs.FileTexts.{ChecksFile, Lists, Restyles, StopsInFile,
 use Rattle.conf_tools.specs.Statuses.{status_of, worst}
 use Rattle.conf_tools.specs.Tools.{Checks, Formats, IsTaken, Stops, Taken}
 use Rattle.conf_tools.specs.Worlds.{Around, WorldModel}
+use Rattle.conf_tools.specs.declared.change_words.Alteration.{Alteration}
+use Rattle.conf_tools.specs.declared.change_words.Alteration.TheVariants as alteration
 use Rattle.conf_tools.specs.declared.changes.Change.{Change}
 use Rattle.conf_tools.specs.declared.changes.Change.TheVariants.{Import, Perform, Copy, Rename}
 use Rattle.conf_tools.specs.declared.file_texts.Restyled.{Restyled}
@@ -177,6 +179,12 @@ abbrev pub IsRename : List ℕ → List ℕ → Result Change ToolFault → Type
 IsRename name to (Ok (Rename kept other)) = (text_of kept ≡ chars name) × (text_of other ≡ chars to)
 IsRename name to (Ok change) = ⊥
 IsRename name to (Err fault) = fault ≡ Read OutOfMemory
+
+-- the change alters what is under a name, at a pointer; or memory ran out
+abbrev pub IsAlteration : Alteration → List ℕ → List ℕ → Result Change ToolFault → Type 0
+IsAlteration alteration.Delete name pointer = IsDelete name pointer
+IsAlteration (alteration.Copy from) name pointer = IsCopy from.now name
+IsAlteration (alteration.Rename from) name pointer = IsRename from.now name
 
 -- ---- texts in the one style, and findings
 

@@ -2,69 +2,66 @@
 ghost use Rattle.std.specs.Prelude.{◌≡◌};
 ghost use Rattle.conf_history.specs.Copies.{disk_handed_back};
 ghost use Rattle.conf_tools.specs.Backups.{BacksUpFound, BacksUpInFolder, status_after_backup};
+ghost use Rattle.conf_tools.specs.Outcomes.{status_of_outcome};
 
-use crate::program::Status;
-use crate::read_words::{open_new, write_reading_fault};
+use crate::outcome::Outcome;
+use crate::read_words::open_new;
 use crate::reading_fault::ReadingFault;
 use crate::world::World;
 use conf_history::{SalvageFault, back_up};
 use std::alloc::Global;
-use std::io::Write;
 
-/// Makes a store in a new folder, with the base and the records of a store's file, or writes why not.
-pub(crate) fn back_up_file<A: World, E: Write>(
+/// Makes a store in a new folder, with the base and the records of a store's file, if there is one.
+pub(crate) fn back_up_file<A: World>(
     world: &mut A,
     alloc: Global,
     file: Result<A::File, ReadingFault>,
     new: &str,
-    errors: &mut E,
-) -> Status
+) -> Outcome<'static>
     ensures { BacksUpFound A.model A.Disk.model A.File.remaining new.now file
-        world.old world.new result }
+        world.old world.new (status_of_outcome result) }
 {
     match file {
-        Ok(mut file) => back_up_in_folder(world, alloc, &mut file, new, errors),
-        Err(fault) => write_reading_fault(errors, fault),
+        Ok(mut file) => back_up_in_folder(world, alloc, &mut file, new),
+        Err(fault) => Outcome::Reading(fault),
     }
 }
 
 /// Makes a store in a new folder, with the base and the records of a store's file.
-fn back_up_in_folder<A: World, E: Write>(
+fn back_up_in_folder<A: World>(
     world: &mut A,
     alloc: Global,
     file: &mut A::File,
     new: &str,
-    errors: &mut E,
-) -> Status
+) -> Outcome<'static>
     ensures { BacksUpInFolder A.model A.Disk.model new.now (A.File.remaining file.old)
-        world.old world.new result }
+        world.old world.new (status_of_outcome result) }
 {
     match open_new(world, alloc, file, new) {
         Ok(disk) => {
             let ended = back_up(alloc, file, disk);
-            end_backup(world, ended, errors)
+            end_backup(world, ended)
         }
-        Err(fault) => write_reading_fault(errors, fault),
+        Err(fault) => Outcome::Reading(fault),
     }
 }
 
-/// Gives the disk back, writes why no store was made, if none was, and returns the status.
-fn end_backup<A: World, E: Write>(
+/// Gives the disk back.
+fn end_backup<A: World>(
     world: &mut A,
     ended: Result<A::Disk, (A::Disk, SalvageFault)>,
-    errors: &mut E,
-) -> Status
+) -> Outcome<'static>
     ensures back { A.model.given_back (disk_handed_back ended) world.old world.new }
-    ensures ends { result ≡ status_after_backup ended }
+    ensures ends { status_of_outcome result ≡ status_after_backup ended }
 {
     match ended {
         Ok(disk) => {
             world.give_back(disk);
-            Status::Done
+            Outcome::Done
         }
         Err((disk, fault)) => {
             world.give_back(disk);
-            write_reading_fault(errors, ReadingFault::Salvage(fault))
+            Outcome::Reading(ReadingFault::Salvage(fault))
         }
     }
 }

@@ -1,19 +1,23 @@
 // The words of the program that change a store.
-ghost use Rattle.std.specs.Prelude.{◌≡◌, ◌≤◌, [], IfOk, IfErr, Err, length};
+ghost use Rattle.std.specs.Prelude.{◌≡◌, ◌≤◌, [], IfOk, IfErr, Err, OnOk, length};
 ghost use Rattle.std.specs.Str.{IsUtf8, chars};
 ghost use Rattle.yaml_config.specs.Limits.{config_limits};
 ghost use Rattle.yaml_grammar.specs.Trees.{text as one_text};
 ghost use Rattle.yaml_data.specs.Seen.{tree_of};
 ghost use Rattle.conf_conditions.specs.Conditions.{conditions_of};
+ghost use Rattle.conf_tools.specs.Dropped.{TellsDropped};
 ghost use Rattle.conf_tools.specs.Exports.{disk_handed_back};
+ghost use Rattle.conf_tools.specs.Outcomes.{LeavesText, TellsOnlyTold, status_of_ending, status_of_outcome};
 ghost use Rattle.conf_tools.specs.Performs.{ChangesAt, ChangesByWords, ChangesIf, ImportsBytes, ImportsRead, Sets, access_of};
-ghost use Rattle.conf_tools.specs.StoreWords.{ChangesInFolder, Inits, MakesInFolder, status_after_change, status_at_end};
-ghost use Rattle.conf_tools.specs.TextWords.{IsCopy, IsDelete, IsImport, IsNoText, IsRename, IsSet, RefusesText, SetsAt, SetsBytes, SetsInput, SetsPlain, SetsRead, SetsTaken, SetsText, SetsWord};
+ghost use Rattle.conf_tools.specs.StoreWords.{ChangesInFolder, Inits, MakesInFolder, status_at_end};
+ghost use Rattle.conf_tools.specs.TextWords.{IsAlteration, IsCopy, IsDelete, IsImport, IsNoText, IsRename, IsSet, RefusesText, SetsAt, SetsBytes, SetsInput, SetsPlain, SetsRead, SetsTaken, SetsText, SetsWord};
 
 use crate::asking::conditions_at;
 use crate::changes::{Change, change_store, make_store};
-use crate::file_words::{read_named, tell_cause};
-use crate::program::{Status, status_of, status_of_store, write_fault, write_store_fault};
+use crate::file_words::{read_named, tell_cause, tell_cause_of};
+use crate::listener::Listener;
+use crate::outcome::{Ending, Outcome};
+use crate::program::{Status, status_of};
 use crate::reporter::{Origin, Reporter};
 use crate::stores::StoreToolFault;
 use crate::texts::{MOST_INPUT, ToolFault, read_text};
@@ -56,109 +60,128 @@ pub(crate) struct Target<'w> {
     pub(crate) conditions: Conditions<'w>,
 }
 
+/// How a word changes what is at a place, where it takes no text for it.
+#[derive(Clone, Copy)]
+pub(crate) enum Alteration<'w> {
+    /// It is removed.
+    Delete,
+    /// A copy of the configuration under another name is put there.
+    Copy { from: &'w str },
+    /// The configuration under another name gets the name of the place.
+    Rename { from: &'w str },
+}
+
 /// The pointer to a whole configuration.
 pub(crate) const WHOLE: &str = "";
 
 /// Makes a folder, if it is missing, and an empty store in it.
-pub(crate) fn init_folder<A: World, E: Write>(
+pub(crate) fn init_folder<A: World, E: Listener>(
     world: &mut A,
     alloc: Global,
     folder: &str,
     errors: &mut E,
-) -> Status
-    ensures { Inits A.model A.Disk.model folder.now world.old world.new result }
+) -> Outcome<'static>
+    ensures makes { Inits A.model A.Disk.model folder.now world.old world.new (status_of_outcome result) }
+    ensures told { TellsDropped E.hears errors.old errors.new }
 {
     match world.make_folder(alloc, folder) {
         Ok(()) => make_in_folder(world, alloc, folder, errors),
-        Err(fault) => write_store_fault(errors, StoreToolFault::Folder(fault)),
+        Err(fault) => Outcome::Store(StoreToolFault::Folder(fault)),
     }
 }
 
 /// Makes an empty store in a folder.
-fn make_in_folder<A: World, E: Write>(
+fn make_in_folder<A: World, E: Listener>(
     world: &mut A,
     alloc: Global,
     folder: &str,
     errors: &mut E,
-) -> Status
-    ensures { MakesInFolder A.model A.Disk.model folder.now world.old world.new result }
+) -> Outcome<'static>
+    ensures makes { MakesInFolder A.model A.Disk.model folder.now world.old world.new
+        (status_of_outcome result) }
+    ensures told { TellsDropped E.hears errors.old errors.new }
 {
     match world.open(alloc, Access::New, folder) {
         Ok(disk) => {
             let ended = make_store(alloc, disk, errors);
-            let ended = end_change(world, ended);
-            tell_change(errors, &ended);
-            status_after_change(ended)
+            end_change(world, ended)
         }
-        Err(fault) => write_store_fault(errors, StoreToolFault::Folder(fault)),
+        Err(fault) => Outcome::Store(StoreToolFault::Folder(fault)),
     }
 }
 
-/// Imports the text of a file, or of `input` for `-`, under a name, or writes why that is not done.
-pub(crate) fn import_text<A: World, E: Write>(
+/// Imports the text of a file, or of `input` for `-`, under a name. Why it was not read or is refused is written.
+pub(crate) fn import_text<A: World, E: Listener>(
     world: &mut A,
     reporter: Reporter,
     asked: Import<'_>,
     read: Result<Vec<u8>, ToolFault>,
     errors: &mut E,
-) -> Status
-    ensures { ImportsRead A.model A.Disk.model asked.entry.conditions (access_of asked.entry.missing)
-        asked.entry.folder.now asked.entry.name.now read world.old world.new result }
+) -> Ending<'static>
+    ensures imports { ImportsRead A.model A.Disk.model asked.entry.conditions (access_of asked.entry.missing)
+        asked.entry.folder.now asked.entry.name.now read world.old world.new
+        (status_of_ending result) }
+    ensures leaves { LeavesText E.hears errors.old result errors.new }
 {
     match read {
         Ok(text) => import_bytes(world, reporter, asked, &text, errors),
         Err(fault) => {
             reporter.tell_fault(errors, Origin::Named(asked.file), b"", fault);
             tell_cause(world, reporter.alloc, asked.file, errors);
-            status_of(fault)
+            Ending::Told(status_of(fault))
         }
     }
 }
 
-/// Imports a text under a name, or writes why that is not done.
-fn import_bytes<A: World, E: Write>(
+/// Imports a text under a name. Why it is refused is written.
+fn import_bytes<A: World, E: Listener>(
     world: &mut A,
     reporter: Reporter,
     asked: Import<'_>,
     text: &[u8],
     errors: &mut E,
-) -> Status
-    ensures { ImportsBytes A.model A.Disk.model asked.entry.conditions (access_of asked.entry.missing)
-        asked.entry.folder.now asked.entry.name.now text.now world.old world.new result }
+) -> Ending<'static>
+    ensures imports { ImportsBytes A.model A.Disk.model asked.entry.conditions (access_of asked.entry.missing)
+        asked.entry.folder.now asked.entry.name.now text.now world.old world.new
+        (status_of_ending result) }
+    ensures leaves { LeavesText E.hears errors.old result errors.new }
 {
     match import_of(reporter.alloc, asked.name, text) {
-        Ok(change) => import_change(world, reporter, asked, text, change, errors),
-        Err(fault) => write_fault(errors, fault),
+        Ok(change) => {
+            let ended = import_change(world, reporter.alloc, asked, change, errors);
+            tell_import(reporter, errors, asked.file, text, ended)
+        }
+        Err(fault) => Ending::Of(Outcome::Text(fault)),
     }
 }
 
-/// Makes the change that imports a text, or writes why that is not done.
-fn import_change<A: World, E: Write>(
+/// Makes the change that imports a text.
+fn import_change<A: World, E: Listener>(
     world: &mut A,
-    reporter: Reporter,
+    alloc: Global,
     asked: Import<'_>,
-    text: &[u8],
     change: Change<'_>,
     errors: &mut E,
-) -> Status
-    ensures { ChangesIf A.model A.Disk.model asked.entry.conditions (access_of asked.entry.missing)
-        asked.entry.folder.now asked.entry.name.now [] change.entry world.old world.new result }
+) -> Outcome<'static>
+    ensures makes { ChangesIf A.model A.Disk.model asked.entry.conditions (access_of asked.entry.missing)
+        asked.entry.folder.now asked.entry.name.now [] change.entry world.old world.new
+        (status_of_outcome result) }
+    ensures told { TellsDropped E.hears errors.old errors.new }
 {
-    match conditions_at(reporter.alloc, asked.name, WHOLE, asked.conditions) {
+    match conditions_at(alloc, asked.name, WHOLE, asked.conditions) {
         Ok(conditions) => {
-            let ended = change_in_folder(
+            let access = access_of(asked.missing);
+            change_in_folder(
                 world,
-                reporter.alloc,
-                access_of(asked.missing),
+                alloc,
+                access,
                 asked.folder,
                 &conditions,
                 change,
                 errors,
-            );
-            tell_import(reporter, errors, asked.file, text, &ended);
-            status_after_change(ended)
+            )
         }
-        Err(fault) => write_fault(errors, fault),
+        Err(fault) => Outcome::Text(fault),
     }
 }
 
@@ -182,37 +205,42 @@ fn import_of<'t>(alloc: Global, name: &str, text: &'t [u8]) -> Result<Change<'t>
     })
 }
 
-/// Writes why a text was not imported, if it was not: where it is refused, under the name of its file.
+/// Writes why a text is refused, if an import of it ended so, under the name of its file.
 fn tell_import<E: Write>(
     reporter: Reporter,
     errors: &mut E,
     file: &str,
     text: &[u8],
-    ended: &Result<(), StoreToolFault>,
-) {
+    ended: Outcome<'static>,
+) -> Ending<'static>
+    ensures status { status_of_ending result ≡ status_of_outcome ended.entry }
+    ensures tells { TellsOnlyTold result errors.old errors.new }
+{
     match ended {
-        Err(StoreToolFault::Refused(StoreFault::Read(fault))) => {
-            reporter.tell_fault(errors, Origin::Named(file), text, ToolFault::Read(*fault));
+        Outcome::Store(StoreToolFault::Refused(StoreFault::Read(fault))) => {
+            reporter.tell_fault(errors, Origin::Named(file), text, ToolFault::Read(fault));
+            Ending::Told(Status::Refused)
         }
-        ended => tell_change(errors, ended),
+        ended => Ending::Of(ended),
     }
 }
 
-/// Sets a value, which may be given by a file or by `input`, at a place of the store in a folder, or writes why it is not
-/// done.
-pub(crate) fn set_at<A: World, R: Read, E: Write>(
+/// Sets a value, which may be given by a file or by `input`, at a place of the store in a folder. Why a text was not read
+/// or is refused is written.
+pub(crate) fn set_at<A: World, R: Read, E: Listener>(
     world: &mut A,
     reporter: Reporter,
     place: Target<'_>,
     value: Value<'_>,
     input: &mut R,
     errors: &mut E,
-) -> Status
-    ensures { Sets A.model A.Disk.model A.File.remaining place.entry.folder.now place.entry.name.now
+) -> Ending<'static>
+    ensures sets { Sets A.model A.Disk.model A.File.remaining place.entry.folder.now place.entry.name.now
         place.entry.pointer.now value.entry place.entry.conditions world.old world.new
-        (R.remaining input.old) (R.remaining input.new) result }
+        (R.remaining input.old) (R.remaining input.new) (status_of_ending result) }
+    ensures leaves { LeavesText E.hears errors.old result errors.new }
 {
-    let change = set_of(
+    match set_of(
         world,
         reporter,
         place.name,
@@ -220,25 +248,9 @@ pub(crate) fn set_at<A: World, R: Read, E: Write>(
         value,
         input,
         errors,
-    );
-    set_change(world, reporter.alloc, place, change, errors)
-}
-
-/// Sets a value at a place of the store in a folder, if there is one. That there is none is written already.
-fn set_change<A: World, E: Write>(
-    world: &mut A,
-    alloc: Global,
-    place: Target<'_>,
-    change: Result<Change<'_>, ToolFault>,
-    errors: &mut E,
-) -> Status
-    ensures { ChangesAt A.model A.Disk.model place.entry.conditions Access.Changing
-        place.entry.folder.now place.entry.name.now place.entry.pointer.now change.entry
-        world.old world.new result }
-{
-    match change {
-        Ok(change) => change_if(world, alloc, place, change, errors),
-        Err(fault) => status_of(fault),
+    ) {
+        Ok(change) => Ending::Of(change_if(world, reporter.alloc, place, change, errors)),
+        Err(fault) => Ending::Told(status_of(fault)),
     }
 }
 
@@ -256,8 +268,9 @@ fn set_of<A: World, R: Read, E: Write>(
     input: &mut R,
     errors: &mut E,
 ) -> Result<Change<'static>, ToolFault>
-    ensures { IsSet A.model A.File.remaining name.now pointer.now value.entry result
+    ensures sets { IsSet A.model A.File.remaining name.now pointer.now value.entry result
         world.old world.new (R.remaining input.old) (R.remaining input.new) }
+    ensures silent { OnOk result (errors.new ≡ errors.old) }
 {
     match value {
         Value::Text(text) => {
@@ -269,7 +282,7 @@ fn set_of<A: World, R: Read, E: Write>(
         Value::File(file) => {
             let read = read_named(world, reporter.alloc, file, input);
             let change = set_read(reporter, name, pointer, file, read, errors);
-            tell_cause(world, reporter.alloc, file, errors);
+            tell_cause_of(world, reporter.alloc, file, &change, errors);
             change
         }
     }
@@ -284,7 +297,8 @@ fn set_read<E: Write>(
     read: Result<Vec<u8>, ToolFault>,
     errors: &mut E,
 ) -> Result<Change<'static>, ToolFault>
-    ensures { SetsRead name.now pointer.now read result }
+    ensures sets { SetsRead name.now pointer.now read result }
+    ensures silent { OnOk result (errors.new ≡ errors.old) }
 {
     match read {
         Ok(bytes) => {
@@ -343,8 +357,9 @@ fn set_word<R: Read, E: Write>(
     input: &mut R,
     errors: &mut E,
 ) -> Result<Change<'static>, ToolFault>
-    ensures { SetsWord name.now pointer.now word.now result
+    ensures sets { SetsWord name.now pointer.now word.now result
         (R.remaining input.old) (R.remaining input.new) }
+    ensures silent { OnOk result (errors.new ≡ errors.old) }
 {
     if word == STANDARD_INPUT {
         return set_input(reporter, name, pointer, input, errors);
@@ -391,7 +406,8 @@ fn set_input<R: Read, E: Write>(
     reader: &mut R,
     errors: &mut E,
 ) -> Result<Change<'static>, ToolFault>
-    ensures { SetsInput name.now pointer.now (R.remaining reader.old) (R.remaining reader.new) result }
+    ensures sets { SetsInput name.now pointer.now (R.remaining reader.old) (R.remaining reader.new) result }
+    ensures silent { OnOk result (errors.new ≡ errors.old) }
 {
     let read = read_text(reporter.alloc, reader);
     set_taken(reporter, name, pointer, read, errors)
@@ -405,7 +421,8 @@ fn set_taken<E: Write>(
     read: Result<Vec<u8>, ToolFault>,
     errors: &mut E,
 ) -> Result<Change<'static>, ToolFault>
-    ensures { SetsTaken name.now pointer.now read result }
+    ensures sets { SetsTaken name.now pointer.now read result }
+    ensures silent { OnOk result (errors.new ≡ errors.old) }
 {
     match read {
         Ok(text) => {
@@ -436,20 +453,38 @@ fn set_command(
     }))
 }
 
-/// Removes what is at a place of the store in a folder, or writes why it is not done.
-pub(crate) fn delete_at<A: World, E: Write>(
+/// Changes what is at a place of the store in a folder, without a text.
+pub(crate) fn alter<A: World, E: Listener>(
     world: &mut A,
     alloc: Global,
     place: Target<'_>,
+    asked: Alteration<'_>,
     errors: &mut E,
-) -> Status
-    ensures { ChangesByWords A.model A.Disk.model
-        (IsDelete place.entry.name.now place.entry.pointer.now) place.entry.conditions
-        place.entry.folder.now place.entry.name.now place.entry.pointer.now
-        world.old world.new result }
+) -> Outcome<'static>
+    ensures makes { ChangesByWords A.model A.Disk.model
+        (IsAlteration asked.entry place.entry.name.now place.entry.pointer.now)
+        place.entry.conditions place.entry.folder.now place.entry.name.now place.entry.pointer.now
+        world.old world.new (status_of_outcome result) }
+    ensures told { TellsDropped E.hears errors.old errors.new }
 {
-    let change = delete_change(alloc, place.name, place.pointer);
+    let change = alter_change(alloc, place.name, place.pointer, asked);
     make_change(world, alloc, place, change, errors)
+}
+
+/// The change that alters what is at a place of a configuration so. It fails only if memory runs out.
+fn alter_change(
+    alloc: Global,
+    name: &str,
+    pointer: &str,
+    asked: Alteration<'_>,
+) -> Result<Change<'static>, ToolFault>
+    ensures { IsAlteration asked.entry name.now pointer.now result }
+{
+    match asked {
+        Alteration::Delete => delete_change(alloc, name, pointer),
+        Alteration::Copy { from } => copy_change(alloc, from, name),
+        Alteration::Rename { from } => rename_change(alloc, from, name),
+    }
 }
 
 /// The change that removes what is at a place of a configuration. It fails only if memory runs out.
@@ -462,23 +497,6 @@ fn delete_change(alloc: Global, name: &str, pointer: &str) -> Result<Change<'sta
     }))
 }
 
-/// Puts a copy of the configuration under a name at the place of another one, or writes why it is not done.
-pub(crate) fn copy_to<A: World, E: Write>(
-    world: &mut A,
-    alloc: Global,
-    name: &str,
-    place: Target<'_>,
-    errors: &mut E,
-) -> Status
-    ensures { ChangesByWords A.model A.Disk.model
-        (IsCopy name.now place.entry.name.now) place.entry.conditions
-        place.entry.folder.now place.entry.name.now place.entry.pointer.now
-        world.old world.new result }
-{
-    let change = copy_change(alloc, name, place.name);
-    make_change(world, alloc, place, change, errors)
-}
-
 /// The change that puts a copy of a configuration under another name. It fails only if memory runs out.
 fn copy_change(alloc: Global, name: &str, to: &str) -> Result<Change<'static>, ToolFault>
     ensures { IsCopy name.now to.now result }
@@ -487,23 +505,6 @@ fn copy_change(alloc: Global, name: &str, to: &str) -> Result<Change<'static>, T
         name: String::from_str(alloc, name)?,
         to: String::from_str(alloc, to)?,
     })
-}
-
-/// Gives the configuration under a name that of a place, or writes why it is not done.
-pub(crate) fn rename_to<A: World, E: Write>(
-    world: &mut A,
-    alloc: Global,
-    name: &str,
-    place: Target<'_>,
-    errors: &mut E,
-) -> Status
-    ensures { ChangesByWords A.model A.Disk.model
-        (IsRename name.now place.entry.name.now) place.entry.conditions
-        place.entry.folder.now place.entry.name.now place.entry.pointer.now
-        world.old world.new result }
-{
-    let change = rename_change(alloc, name, place.name);
-    make_change(world, alloc, place, change, errors)
 }
 
 /// The change that gives a configuration another name. It fails only if memory runs out.
@@ -517,79 +518,63 @@ fn rename_change(alloc: Global, name: &str, to: &str) -> Result<Change<'static>,
 }
 
 /// Makes a change at a place of the store in a folder, if memory was there for it and what is wanted of the place holds.
-/// Writes why it is not made.
-fn make_change<A: World, E: Write>(
+fn make_change<A: World, E: Listener>(
     world: &mut A,
     alloc: Global,
     place: Target<'_>,
     change: Result<Change<'_>, ToolFault>,
     errors: &mut E,
-) -> Status
-    ensures { ChangesAt A.model A.Disk.model place.entry.conditions Access.Changing
+) -> Outcome<'static>
+    ensures makes { ChangesAt A.model A.Disk.model place.entry.conditions Access.Changing
         place.entry.folder.now place.entry.name.now place.entry.pointer.now change.entry
-        world.old world.new result }
+        world.old world.new (status_of_outcome result) }
+    ensures told { TellsDropped E.hears errors.old errors.new }
 {
     match change {
         Ok(change) => change_if(world, alloc, place, change, errors),
-        Err(fault) => write_fault(errors, fault),
+        Err(fault) => Outcome::Text(fault),
     }
 }
 
-/// Makes a change at a place of the store in a folder, if what is wanted of the place holds, and writes why it is not made.
-fn change_if<A: World, E: Write>(
+/// Makes a change at a place of the store in a folder, if what is wanted of the place holds.
+fn change_if<A: World, E: Listener>(
     world: &mut A,
     alloc: Global,
     place: Target<'_>,
     change: Change<'_>,
     errors: &mut E,
-) -> Status
-    ensures { ChangesIf A.model A.Disk.model place.entry.conditions Access.Changing
+) -> Outcome<'static>
+    ensures makes { ChangesIf A.model A.Disk.model place.entry.conditions Access.Changing
         place.entry.folder.now place.entry.name.now place.entry.pointer.now change.entry
-        world.old world.new result }
+        world.old world.new (status_of_outcome result) }
+    ensures told { TellsDropped E.hears errors.old errors.new }
 {
     match conditions_at(alloc, place.name, place.pointer, place.conditions) {
         Ok(conditions) => change_now(world, alloc, place.folder, &conditions, change, errors),
-        Err(fault) => write_fault(errors, fault),
+        Err(fault) => Outcome::Text(fault),
     }
 }
 
-/// Makes a change of the store in a folder, if the conditions hold, and writes why it is not made.
-pub(crate) fn change_now<A: World, E: Write>(
+/// Makes a change of the store in a folder, if the conditions hold.
+pub(crate) fn change_now<A: World, E: Listener>(
     world: &mut A,
     alloc: Global,
     folder: &str,
     conditions: &[Condition],
     change: Change<'_>,
     errors: &mut E,
-) -> Status
-    ensures { ChangesInFolder A.model A.Disk.model Access.Changing folder.now
-        (conditions_of conditions.now) change.entry world.old world.new result }
+) -> Outcome<'static>
+    ensures makes { ChangesInFolder A.model A.Disk.model Access.Changing folder.now
+        (conditions_of conditions.now) change.entry world.old world.new
+        (status_of_outcome result) }
+    ensures told { TellsDropped E.hears errors.old errors.new }
 {
     let access = Access::Changing;
-    let ended = change_in_folder(world, alloc, access, folder, conditions, change, errors);
-    tell_change(errors, &ended);
-    status_after_change(ended)
+    change_in_folder(world, alloc, access, folder, conditions, change, errors)
 }
 
-/// Writes why a change was not made, if it was not.
-fn tell_change<E: Write>(errors: &mut E, ended: &Result<(), StoreToolFault>) {
-    if let Err(fault) = ended {
-        write_store_fault(errors, *fault);
-    }
-}
-
-/// The status of a change.
-fn status_after_change(ended: Result<(), StoreToolFault>) -> Status
-    ensures { result ≡ status_after_change ended }
-{
-    match ended {
-        Ok(()) => Status::Done,
-        Err(fault) => status_of_store(fault),
-    }
-}
-
-/// Makes a change of the store in a folder, if the conditions hold.
-fn change_in_folder<A: World, E: Write>(
+/// Makes a change of the store in a folder that is opened so, if the conditions hold.
+fn change_in_folder<A: World, E: Listener>(
     world: &mut A,
     alloc: Global,
     access: Access,
@@ -597,35 +582,36 @@ fn change_in_folder<A: World, E: Write>(
     conditions: &[Condition],
     change: Change<'_>,
     errors: &mut E,
-) -> Result<(), StoreToolFault>
-    ensures { ChangesInFolder A.model A.Disk.model access folder.now (conditions_of conditions.now)
-        change.entry world.old world.new (status_after_change result) }
+) -> Outcome<'static>
+    ensures makes { ChangesInFolder A.model A.Disk.model access folder.now (conditions_of conditions.now)
+        change.entry world.old world.new (status_of_outcome result) }
+    ensures told { TellsDropped E.hears errors.old errors.new }
 {
     match world.open(alloc, access, folder) {
         Ok(disk) => {
             let ended = change_store(alloc, disk, conditions, change, errors);
             end_change(world, ended)
         }
-        Err(fault) => Err(StoreToolFault::Folder(fault)),
+        Err(fault) => Outcome::Store(StoreToolFault::Folder(fault)),
     }
 }
 
-/// Gives the disk back. Returns why no change was made, if none was.
+/// Gives the disk back.
 fn end_change<A: World>(
     world: &mut A,
     ended: Result<A::Disk, (A::Disk, StoreToolFault)>,
-) -> Result<(), StoreToolFault>
+) -> Outcome<'static>
     ensures back { A.model.given_back (disk_handed_back ended) world.old world.new }
-    ensures ends { status_after_change result ≡ status_at_end ended }
+    ensures ends { status_of_outcome result ≡ status_at_end ended }
 {
     match ended {
         Ok(disk) => {
             world.give_back(disk);
-            Ok(())
+            Outcome::Done
         }
         Err((disk, fault)) => {
             world.give_back(disk);
-            Err(fault)
+            Outcome::Store(fault)
         }
     }
 }

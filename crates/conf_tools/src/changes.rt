@@ -1,6 +1,5 @@
 // Single changes of a store, over any disk.
 ghost use Rattle.std.specs.Prelude.{◌≡◌, ◌≢◌, ◌≤◌, ◌⊎◌, ◌↔◌, [], true, false, IfOk, IfErr, IsErrOf, Ok, OnOk};
-ghost use Rattle.std.specs.Io.KnownBytes.{Keeps};
 ghost use Rattle.std.specs.Str.{chars};
 ghost use Rattle.yaml_data.specs.Seen.{tree_of};
 ghost use Rattle.conf_conditions.specs.Conditions.{conditions_of};
@@ -12,16 +11,17 @@ ghost use Rattle.conf_store.specs.Changing.{AppendsRecord, DeviceHasCause, Failu
 ghost use Rattle.conf_store.specs.Durable.{AllImagesMean, HasFlushed};
 ghost use Rattle.conf_store.specs.Opens.{MeantAtEntry};
 ghost use Rattle.conf_tools.specs.Changes.{CannotChange, CannotMake, ChangesOn, ChangeSurvives, IsMadeOf, LacksTree, MakesStore, Makes, MeansOneOf, ReadsChanged, RefusesChange, copies, renames};
-ghost use Rattle.conf_tools.specs.Dropped.{HasNoRest};
+ghost use Rattle.conf_tools.specs.Dropped.{HasNoRest, TellsDropped};
 ghost use Rattle.conf_tools.specs.Exports.{disk_handed_back};
 
-use crate::stores::{StoreToolFault, open_store};
+use crate::dropped::open_told;
+use crate::listener::Listener;
+use crate::stores::StoreToolFault;
 use conf_conditions::{Condition, check};
 use conf_disk::{Content, Disk, DiskFault, Name};
 use conf_state::{Command, Edit, StoreFault, steps_are_counted_or_refused};
 use conf_store::{OpenFault, Store, one_state_is_flushed};
 use std::alloc::{AllocError, Global};
-use std::io::Write;
 use yaml_config::Config;
 
 /// One change of a store.
@@ -200,7 +200,7 @@ fn copy_named<D: Disk>(alloc: Global, store: &Store<D>, name: &str) -> Result<Co
 /// The disk is returned with the fault. `Open` if the store can't be opened, `Condition` with the fault of the first
 /// condition that does not hold, and `Refused` if the store refuses the change; each but `Device` changes no
 /// configuration.
-pub fn change_store<D: Disk + Drop, E: Write>(
+pub fn change_store<D: Disk + Drop, E: Listener>(
     alloc: Global,
     disk: D,
     conditions: &[Condition],
@@ -213,12 +213,13 @@ pub fn change_store<D: Disk + Drop, E: Write>(
         CannotChange D.model disk (conditions_of conditions.now) change.entry r.0 r.1) }
     // No crash loses a change that was made, or keeps one that was refused.
     ensures crashes { D.model.honest → ChangeSurvives D.model disk change.entry result }
-    // Nothing is written to `errors` if no bytes are dropped.
+    ensures told { TellsDropped E.hears errors.old errors.new }
+    // Nothing is told if no bytes are dropped.
     ensures quiet { D.model.honest → HasNoRest (bytes_under (D.model.folder disk) Name.Store)
-        → Keeps (E.contents errors.old) (E.contents errors.new) }
+        → errors.new ≡ errors.old }
 {
     steps_are_counted_or_refused();
-    let mut store = match open_store(alloc, disk, errors) {
+    let mut store = match open_told(alloc, disk, errors) {
         Ok(store) => store,
         Err((disk, fault)) => return Err((disk, StoreToolFault::Open(fault))),
     };
@@ -239,7 +240,7 @@ pub fn change_store<D: Disk + Drop, E: Write>(
 /// # Errors
 /// The disk is returned with the fault. `StoreExists` if there is a `store.yaml`, whatever it holds: nothing has
 /// changed. `Open` if a call of the disk fails, or memory runs out.
-pub fn make_store<D: Disk + Drop, E: Write>(
+pub fn make_store<D: Disk + Drop, E: Listener>(
     alloc: Global,
     disk: D,
     errors: &mut E,
@@ -250,8 +251,9 @@ pub fn make_store<D: Disk + Drop, E: Write>(
     // No crash leaves anything else than what was there, or an empty store.
     ensures crashes { D.model.honest → LeavesOnly D.model disk (disk_handed_back result)
         (λ image. MeantAtEntry (D.model.folder disk) image.store) }
+    ensures told { TellsDropped E.hears errors.old errors.new }
     // A new store has nothing to drop.
-    ensures quiet { D.model.honest → Keeps (E.contents errors.old) (E.contents errors.new) }
+    ensures quiet { D.model.honest → errors.new ≡ errors.old }
 {
     let mut disk = disk;
     match disk.read(alloc, Name::Store, 0) {
@@ -262,7 +264,7 @@ pub fn make_store<D: Disk + Drop, E: Write>(
         }
         Err(DiskFault::Device) => return Err((disk, StoreToolFault::Open(OpenFault::Device))),
     }
-    match open_store(alloc, disk, errors) {
+    match open_told(alloc, disk, errors) {
         Ok(store) => Ok(store.close()),
         Err((disk, fault)) => Err((disk, StoreToolFault::Open(fault))),
     }

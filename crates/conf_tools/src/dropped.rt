@@ -1,11 +1,67 @@
 // What is said of the bytes after the last whole record of a store's file, which opening it drops.
-ghost use Rattle.std.specs.Prelude.{◌≡◌, OnOk};
+ghost use Rattle.std.specs.Prelude.{◌≡◌, IfErr, IfOk, OnOk};
 ghost use Rattle.std.specs.Io.KnownBytes.{Appends, Keeps};
-ghost use Rattle.conf_tools.specs.Dropped.{dropped_bytes_line, dropped_line};
+ghost use Rattle.conf_disk.specs.Folder.{bytes_under};
+ghost use Rattle.conf_tools.specs.Dropped.{HasNoRest, TellsDropped, dropped_bytes_line, dropped_line};
+ghost use Rattle.conf_tools.specs.Stores.{CannotOpen, OpensOn};
 
+use crate::listener::Listener;
 use crate::texts::{ToolFault, write_whole};
+use conf_disk::{Disk, Name};
+use conf_store::{OpenFault, Store};
 use itoa::Buffer;
+use std::alloc::Global;
 use std::io::Write;
+
+/// Opens the store on `disk`, and tells in one line how many bytes after the last whole record were dropped, if any were.
+/// Nothing waits then, and no checkpoint runs.
+///
+/// # Errors
+/// Those of [`Store::open`], with the disk. Nothing is told.
+pub(crate) fn open_told<D: Disk + Drop, E: Listener>(
+    alloc: Global,
+    disk: D,
+    errors: &mut E,
+) -> Result<Store<D>, (D, OpenFault)>
+    ensures opens { IfOk result (OpensOn D.model disk) }
+    ensures refused { IfErr result (λ r.
+        CannotOpen D.model disk r.0 r.1) }
+    ensures told { TellsDropped E.hears errors.old errors.new }
+    ensures quiet { D.model.honest → HasNoRest (bytes_under (D.model.folder disk) Name.Store)
+        → errors.new ≡ errors.old }
+{
+    match Store::open(alloc, disk) {
+        Ok((store, opened)) => {
+            tell_dropped(errors, opened.dropped);
+            Ok(store)
+        }
+        Err(refused) => Err(refused),
+    }
+}
+
+/// Tells in one line how many bytes were dropped; nothing if none were.
+fn tell_dropped<E: Listener>(errors: &mut E, dropped: u64)
+    ensures told { TellsDropped E.hears errors.old errors.new }
+    ensures quiet { dropped ≡ 0 → errors.new ≡ errors.old }
+{
+    match dropped {
+        0 => {}
+        1 => errors.tell(
+            "confstore: the last byte of store.yaml was dropped: it was no whole record\n",
+        ),
+        _ => tell_dropped_bytes(errors, dropped),
+    }
+}
+
+/// Tells the line for more than one byte.
+fn tell_dropped_bytes<E: Listener>(errors: &mut E, dropped: u64)
+    ensures { E.hears errors.old (dropped_bytes_line dropped) errors.new }
+{
+    let mut digits = Buffer::new();
+    errors.tell("confstore: the last ");
+    errors.tell(digits.format(dropped));
+    errors.tell(" bytes of store.yaml were dropped: they were no whole record\n");
+}
 
 /// Writes in one line how many bytes were dropped; nothing if none were.
 ///

@@ -1,23 +1,23 @@
 // The text of one configuration of a store, over any disk.
 ghost use Rattle.std.specs.Prelude.{◌≡◌, ◌≤◌, ◌⊎◌, IfOk, IfErr, Err, string_bytes};
-ghost use Rattle.std.specs.Io.KnownBytes.{Keeps};
 ghost use Rattle.std.specs.Str.{chars};
 ghost use Rattle.conf_disk.specs.Folder.{bytes_under};
 ghost use Rattle.conf_disk.specs.Moments.{LeavesOnly};
 ghost use Rattle.conf_store.specs.Calls.{tree_named};
 ghost use Rattle.conf_store.specs.Files.{FilesStay};
 ghost use Rattle.conf_store.specs.Opens.{MeantAtEntry};
-ghost use Rattle.conf_tools.specs.Dropped.{HasNoRest};
+ghost use Rattle.conf_tools.specs.Dropped.{HasNoRest, TellsDropped};
 ghost use Rattle.conf_tools.specs.Exports.{HasText, IsTextOf, LacksText, disk_back};
 
+use crate::dropped::open_told;
+use crate::listener::Listener;
 use crate::reads::{config_of, tree_text};
-use crate::stores::{StoreToolFault, open_store};
+use crate::stores::StoreToolFault;
 use conf_disk::{Disk, Name, reading_is_an_image};
 use conf_state::{State, StoreFault};
 use conf_store::{OpenFault, Store, read_state};
 use conf_words::TreeForm;
 use std::alloc::Global;
-use std::io::Write;
 
 /// The configuration that a state has under a name, written in a form.
 ///
@@ -86,7 +86,8 @@ fn read_text<D: Disk + Drop>(
     }
 }
 
-/// Opens the store on `disk`, and returns the configuration under a name, written in a form, with the disk. One line to `errors` says how many bytes opening dropped, if there were any.
+/// Opens the store on `disk`, and returns the configuration under a name, written in a form, with the disk. One line to
+/// `errors` says how many bytes opening dropped, if there were any.
 ///
 /// If the device fails while the store is opened, `store.yaml` is read as it stands, and nothing more is written or
 /// synced. So the configuration can be had from a folder that can't be written. But a crash may take back the last
@@ -97,7 +98,7 @@ fn read_text<D: Disk + Drop>(
 /// # Errors
 /// The disk is returned with the fault. `Open` if the store can't be opened or read, with `Device` only if the device
 /// failed; `Export` if the name may not be used, no configuration has it, or memory runs out.
-pub fn export_text<D: Disk + Drop, E: Write>(
+pub fn export_text<D: Disk + Drop, E: Listener>(
     alloc: Global,
     disk: D,
     name: &str,
@@ -111,12 +112,13 @@ pub fn export_text<D: Disk + Drop, E: Write>(
     // No crash loses a command that was accepted.
     ensures crashes { D.model.honest → LeavesOnly D.model disk (disk_back result)
         (λ image. MeantAtEntry (D.model.folder disk) image.store) }
-    // Nothing is written to `errors` if no bytes are dropped.
+    ensures told { TellsDropped E.hears errors.old errors.new }
+    // Nothing is told if no bytes are dropped.
     ensures quiet { D.model.honest → HasNoRest (bytes_under (D.model.folder disk) Name.Store)
-        → Keeps (E.contents errors.old) (E.contents errors.new) }
+        → errors.new ≡ errors.old }
 {
     reading_is_an_image();
-    let store = match open_store(alloc, disk, errors) {
+    let store = match open_told(alloc, disk, errors) {
         Ok(store) => store,
         Err((disk, OpenFault::Device)) => return read_text(alloc, disk, name, form),
         Err((disk, fault)) => return Err((disk, StoreToolFault::Open(fault))),

@@ -169,8 +169,16 @@ fn write_file_report<W: Write>(
 fn file_line(alloc: Global, file: &str, finding: &Finding) -> Result<Vec<u8>, AllocError>
     ensures { IfOk result (λ line. line.items ≡ file_line file.now finding.now) }
 {
-    let mut digits = Buffer::new();
     let mut line = Vec::new(alloc);
+    push_file_line(&mut line, file, finding)?;
+    Ok(line)
+}
+
+/// Appends the line of one finding of a file.
+fn push_file_line(line: &mut Vec<u8>, file: &str, finding: &Finding) -> Result<(), AllocError>
+    ensures { OnOk result (line.new.items ≡ line.old.items ++ file_line file.now finding.now) }
+{
+    let mut digits = Buffer::new();
     line.extend_from_slice(file.as_bytes())?;
     line.extend_from_slice(b":")?;
     line.extend_from_slice(digits.format(finding.line).as_bytes())?;
@@ -178,8 +186,7 @@ fn file_line(alloc: Global, file: &str, finding: &Finding) -> Result<Vec<u8>, Al
     line.extend_from_slice(finding.rule.name().as_bytes())?;
     line.extend_from_slice(b" ")?;
     line.extend_from_slice(words_of(finding.rule).as_bytes())?;
-    line.extend_from_slice(b"\n")?;
-    Ok(line)
+    line.extend_from_slice(b"\n")
 }
 
 /// What a finding of the rule says of its line.

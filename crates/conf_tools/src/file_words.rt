@@ -1,5 +1,6 @@
 // What `format` and `check` do with files and standard input.
-ghost use Rattle.std.specs.Prelude.{◌≡◌, Err, map};
+ghost use Rattle.std.specs.Prelude.{◌≡◌, Err, OnOk, map};
+ghost use Rattle.conf_tools.specs.Outcomes.{SilentIfDone, SilentReport};
 ghost use Rattle.conf_tools.specs.Performs.{ChecksAll, ChecksText, FormatsAll, FormatsText};
 ghost use Rattle.conf_tools.specs.Statuses.{status_of, worst};
 ghost use Rattle.conf_tools.specs.TextWords.{ChecksRead, FormatsFile, FormatsRead, ReplacesAt, ReplacesRead, ReportsOn, ReportsOnAll, ReportsOnRead, RestylesAll, RestylesFile, SaysReport, TakesText, replaced_or_not, shown_name, status_after, status_after_check, status_of_change, status_of_count, status_of_report, stops_all, unopened};
@@ -36,9 +37,10 @@ pub(crate) fn format_files<A: World, R: Read, W: Write, E: Write>(
     output: &mut W,
     errors: &mut E,
 ) -> Status
-    ensures { FormatsAll A.model A.File.remaining formatting (map (λ file. file.now) files.now)
+    ensures formats { FormatsAll A.model A.File.remaining formatting (map (λ file. file.now) files.now)
         (around world.old (R.remaining input.old) (W.contents output.old))
         (around world.new (R.remaining input.new) (W.contents output.new)) result }
+    ensures silent { SilentIfDone result errors.old errors.new }
 {
     match (formatting, files) {
         (Formatting::Write, []) => format_input(reporter, input, output, errors),
@@ -67,9 +69,10 @@ pub(crate) fn check_files<A: World, R: Read, W: Write, E: Write>(
     output: &mut W,
     errors: &mut E,
 ) -> Status
-    ensures { ChecksAll A.model A.File.remaining (map (λ file. file.now) files.now)
+    ensures checks { ChecksAll A.model A.File.remaining (map (λ file. file.now) files.now)
         (around world.old (R.remaining input.old) (W.contents output.old))
         (around world.new (R.remaining input.new) (W.contents output.new)) result }
+    ensures silent { SilentIfDone result errors.old errors.new }
 {
     match files {
         [] => check_input(reporter, input, output, errors),
@@ -120,6 +123,38 @@ pub(crate) fn tell_cause<A: World, E: Write>(world: &A, alloc: Global, file: &st
     }
 }
 
+/// Writes why a file could not be opened, if it came to nothing and that is known.
+pub(crate) fn tell_cause_of<A: World, T, E: Write>(
+    world: &A,
+    alloc: Global,
+    file: &str,
+    ended: &Result<T, ToolFault>,
+    errors: &mut E,
+)
+    ensures { OnOk ended.now (errors.new ≡ errors.old) }
+{
+    match ended {
+        Ok(_) => {}
+        Err(_) => tell_cause(world, alloc, file, errors),
+    }
+}
+
+/// Writes why a file could not be opened or replaced, if the status is not 0 and that is known.
+fn tell_cause_at<A: World, E: Write>(
+    world: &A,
+    alloc: Global,
+    file: &str,
+    status: Status,
+    errors: &mut E,
+)
+    ensures { SilentIfDone status errors.old errors.new }
+{
+    if status.code() == 0 {
+        return;
+    }
+    tell_cause(world, alloc, file, errors);
+}
+
 /// Writes the text of `input` in the one style.
 fn format_input<R: Read, W: Write, E: Write>(
     reporter: Reporter,
@@ -127,8 +162,9 @@ fn format_input<R: Read, W: Write, E: Write>(
     output: &mut W,
     errors: &mut E,
 ) -> Status
-    ensures { FormatsText (R.remaining input.old) (R.remaining input.new)
+    ensures formats { FormatsText (R.remaining input.old) (R.remaining input.new)
         (W.contents output.old) (W.contents output.new) result }
+    ensures silent { SilentIfDone result errors.old errors.new }
 {
     let read = read_text(reporter.alloc, input);
     format_read(reporter, Origin::Input, read, output, errors)
@@ -143,13 +179,14 @@ fn format_file<A: World, R: Read, W: Write, E: Write>(
     output: &mut W,
     errors: &mut E,
 ) -> Status
-    ensures { FormatsFile A.model A.File.remaining file.now
+    ensures formats { FormatsFile A.model A.File.remaining file.now
         (around world.old (R.remaining input.old) (W.contents output.old))
         (around world.new (R.remaining input.new) (W.contents output.new)) result }
+    ensures silent { SilentIfDone result errors.old errors.new }
 {
     let read = read_named(world, reporter.alloc, file, input);
     let status = format_read(reporter, Origin::Named(file), read, output, errors);
-    tell_cause(world, reporter.alloc, file, errors);
+    tell_cause_at(world, reporter.alloc, file, status, errors);
     status
 }
 
@@ -161,7 +198,8 @@ fn format_read<W: Write, E: Write>(
     output: &mut W,
     errors: &mut E,
 ) -> Status
-    ensures { FormatsRead read (W.contents output.old) (W.contents output.new) result }
+    ensures formats { FormatsRead read (W.contents output.old) (W.contents output.new) result }
+    ensures silent { SilentIfDone result errors.old errors.new }
 {
     match read {
         Ok(text) => {
@@ -183,7 +221,9 @@ fn tell_written<T, E: Write>(
     origin: Origin<'_>,
     text: &[u8],
     ended: &Result<T, ToolFault>,
-) {
+)
+    ensures { OnOk ended.now (errors.new ≡ errors.old) }
+{
     match ended {
         Err(ToolFault::Output) => {
             reporter.tell_fault(errors, Origin::Input, text, ToolFault::Output);
@@ -209,8 +249,9 @@ fn check_input<R: Read, W: Write, E: Write>(
     output: &mut W,
     errors: &mut E,
 ) -> Status
-    ensures { ChecksText (R.remaining input.old) (R.remaining input.new)
+    ensures checks { ChecksText (R.remaining input.old) (R.remaining input.new)
         (W.contents output.old) (W.contents output.new) result }
+    ensures silent { SilentIfDone result errors.old errors.new }
 {
     let read = read_text(reporter.alloc, input);
     check_read(reporter, read, output, errors)
@@ -223,7 +264,8 @@ fn check_read<W: Write, E: Write>(
     output: &mut W,
     errors: &mut E,
 ) -> Status
-    ensures { ChecksRead read (W.contents output.old) (W.contents output.new) result }
+    ensures checks { ChecksRead read (W.contents output.old) (W.contents output.new) result }
+    ensures silent { SilentIfDone result errors.old errors.new }
 {
     match read {
         Ok(text) => {
@@ -278,8 +320,9 @@ fn replace_files<A: World, E: Write>(
     files: &[&str],
     errors: &mut E,
 ) -> Status
-    ensures { RestylesAll A.model A.File.remaining comments (map (λ file. file.now) files.now)
+    ensures replaces { RestylesAll A.model A.File.remaining comments (map (λ file. file.now) files.now)
         Status.Done world.old world.new result }
+    ensures silent { SilentIfDone result errors.old errors.new }
 {
     let mut status = Status::Done;
     for file in files {
@@ -299,10 +342,11 @@ fn restyle_file<A: World, E: Write>(
     file: &str,
     errors: &mut E,
 ) -> Status
-    ensures { RestylesFile A.model A.File.remaining comments file.now world.old world.new result }
+    ensures replaces { RestylesFile A.model A.File.remaining comments file.now world.old world.new result }
+    ensures silent { SilentIfDone result errors.old errors.new }
 {
     let status = restyle_opened(world, reporter, comments, file, errors);
-    tell_cause(world, reporter.alloc, file, errors);
+    tell_cause_at(world, reporter.alloc, file, status, errors);
     status
 }
 
@@ -314,7 +358,8 @@ fn restyle_opened<A: World, E: Write>(
     file: &str,
     errors: &mut E,
 ) -> Status
-    ensures { RestylesFile A.model A.File.remaining comments file.now world.old world.new result }
+    ensures replaces { RestylesFile A.model A.File.remaining comments file.now world.old world.new result }
+    ensures silent { SilentIfDone result errors.old errors.new }
 {
     match world.open_to_replace(reporter.alloc, file) {
         Ok((mut opened, place)) => {
@@ -339,7 +384,8 @@ fn replace_read<A: World, E: Write>(
     place: A::Place,
     errors: &mut E,
 ) -> Status
-    ensures { ReplacesRead A.model comments place read world.old world.new result }
+    ensures replaces { ReplacesRead A.model comments place read world.old world.new result }
+    ensures silent { SilentIfDone result errors.old errors.new }
 {
     match read {
         Ok(text) => {
@@ -404,9 +450,10 @@ fn try_files<A: World, R: Read, W: Write, E: Write>(
     output: &mut W,
     errors: &mut E,
 ) -> Status
-    ensures { ReportsOnAll A.model A.File.remaining report (map (λ file. file.now) files.now) Status.Done
+    ensures reports { ReportsOnAll A.model A.File.remaining report (map (λ file. file.now) files.now) Status.Done
         (around world.old (R.remaining input.old) (W.contents output.old))
         (around world.new (R.remaining input.new) (W.contents output.new)) result }
+    ensures silent { SilentIfDone result errors.old errors.new }
 {
     let mut status = Status::Done;
     for file in files {
@@ -449,13 +496,14 @@ fn try_file<A: World, R: Read, W: Write, E: Write>(
     output: &mut W,
     errors: &mut E,
 ) -> Result<Status, ToolFault>
-    ensures { ReportsOn A.model A.File.remaining report file.now
+    ensures reports { ReportsOn A.model A.File.remaining report file.now
         (around world.old (R.remaining input.old) (W.contents output.old))
         (around world.new (R.remaining input.new) (W.contents output.new)) result }
+    ensures silent { SilentReport result errors.old errors.new }
 {
     let read = read_named(world, reporter.alloc, file, input);
     let ended = report_on_read(reporter, report, file, read, output, errors);
-    tell_cause(world, reporter.alloc, file, errors);
+    tell_cause_of(world, reporter.alloc, file, &ended, errors);
     ended
 }
 
@@ -468,8 +516,9 @@ fn report_on_read<W: Write, E: Write>(
     output: &mut W,
     errors: &mut E,
 ) -> Result<Status, ToolFault>
-    ensures { ReportsOnRead report (shown_name file.now) read result
+    ensures reports { ReportsOnRead report (shown_name file.now) read result
         (W.contents output.old) (W.contents output.new) }
+    ensures silent { SilentReport result errors.old errors.new }
 {
     match read {
         Ok(text) => {
@@ -493,10 +542,17 @@ fn tell_comments<E: Write>(
     file: &str,
     text: &[u8],
     ended: &Result<Status, ToolFault>,
-) {
-    let (Report::Name, Ok(Status::Found)) = (report, ended) else {
-        return;
-    };
+)
+    ensures { SilentReport ended.now errors.old errors.new }
+{
+    match (report, ended) {
+        (Report::Name, Ok(Status::Found)) => tell_first_comment(reporter, errors, file, text),
+        _ => {}
+    }
+}
+
+/// Writes where a text has its first comment, if it has one.
+fn tell_first_comment<E: Write>(reporter: Reporter, errors: &mut E, file: &str, text: &[u8]) {
     if let Ok(Some(place)) = first_comment(reporter.alloc, text) {
         let fault = ToolFault::Comments(place);
         reporter.tell_fault(errors, Origin::Named(file), text, fault);

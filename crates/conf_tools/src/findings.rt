@@ -12,12 +12,19 @@ pub(crate) fn findings_text(alloc: Global, findings: &Findings) -> Result<Vec<u8
     ensures { IfOk result (λ text. text.items ≡ findings_text findings.now) }
 {
     let mut text = Vec::new(alloc);
-    push_word(&mut text, "state", state_word(&findings.bad))?;
-    push_number(&mut text, "base", findings.base)?;
-    push_number(&mut text, "commands", findings.commands)?;
-    push_bad(&mut text, &findings.bad)?;
-    push_number(&mut text, "dropped", findings.dropped)?;
+    push_findings(&mut text, findings)?;
     Ok(text)
+}
+
+/// Appends what stands in a store's file.
+fn push_findings(text: &mut Vec<u8>, findings: &Findings) -> Result<(), AllocError>
+    ensures { OnOk result (text.new.items ≡ text.old.items ++ findings_text findings.now) }
+{
+    push_word(text, "state", state_word(&findings.bad))?;
+    push_number(text, "base", findings.base)?;
+    push_number(text, "commands", findings.commands)?;
+    push_bad(text, &findings.bad)?;
+    push_number(text, "dropped", findings.dropped)
 }
 
 /// Whether the store can be opened, in a word.

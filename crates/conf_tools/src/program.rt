@@ -1,6 +1,8 @@
 // What the program does for an invocation.
 ghost use Rattle.std.specs.Prelude.{◌≡◌, ◌⊎◌};
+ghost use Rattle.conf_tools.specs.Dropped.{TellsDropped};
 ghost use Rattle.conf_tools.specs.Exports.{disk_back};
+ghost use Rattle.conf_tools.specs.Outcomes.{EndsWriting, Leaves, RefusesWords, Tells, TellsNoMemory, TellsUnparsed, status_of_ending, status_of_outcome};
 ghost use Rattle.conf_tools.specs.Performs.{Performs, checkpoints_of, grouping_of};
 ghost use Rattle.conf_tools.specs.Statuses.{ShowsUnparsed, code_of, status_of, status_of_store};
 ghost use Rattle.conf_tools.specs.StoreWords.{ExportsFromFolder, RunsOnFolder, WritesFound, WritesWhole, status_at_end};
@@ -8,12 +10,13 @@ ghost use Rattle.conf_tools.specs.Worlds.{around};
 
 use crate::backups::back_up_file;
 use crate::change_words::{
-    Import, Target, WHOLE, change_now, copy_to, delete_at, import_text, init_folder, rename_to,
-    set_at,
+    Alteration, Import, Target, WHOLE, alter, change_now, import_text, init_folder, set_at,
 };
 use crate::changes::Change;
 use crate::exports::export_text;
 use crate::file_words::{check_files, format_files, read_named};
+use crate::listener::Listener;
+use crate::outcome::{Ending, Outcome, tell_ending, tell_outcome};
 use crate::read_words::{
     Asked, log_form_of, open_file, save_file, tell_log, tell_names, tell_presence, tell_survey,
     tell_value,
@@ -76,12 +79,13 @@ impl Status {
 /// performed, and the likely cause. Another line there says how many bytes after the last whole record of a store were
 /// dropped, if there were any.
 ///
-/// Where a folder or a file could not be used, a line after the fault says why, as
+/// A fault of a store is told by its name, as `confstore: NoConfig`, and nothing else is told where a file of a store is
+/// only read. Where a folder or a file could not be used, a line after the fault says why, as
 /// `store.yaml: No space left on device`.
 ///
 /// Each disk that the world hands out is given back to it before this returns, and before anything is written to `output`
 /// but the answers of a session.
-pub fn perform<A: World, R: Read, W: Write, E: Write>(
+pub fn perform<A: World, R: Read, W: Write, E: Listener>(
     world: &mut A,
     alloc: Global,
     invocation: Invocation<'_>,
@@ -89,15 +93,25 @@ pub fn perform<A: World, R: Read, W: Write, E: Write>(
     output: &mut W,
     errors: &mut E,
 ) -> Status
-    ensures { Performs A.model A.Disk.model A.File.remaining invocation.entry
+    ensures performs { Performs A.model A.Disk.model A.File.remaining invocation.entry
         (around world.old (R.remaining input.old.inner) (W.contents output.old))
         (around world.new (R.remaining input.new.inner) (W.contents output.new)) result }
+    ensures tells { Tells E.hears invocation.entry errors.old errors.new result }
 {
-    let status = perform_word(world, alloc, invocation, input, output, errors);
-    if status == Status::Device {
-        tell_folder_cause(world, alloc, errors);
-    }
+    let ending = perform_word(world, alloc, invocation, input, output, errors);
+    let status = tell_ending(errors, ending);
+    tell_cause_at(world, alloc, status, errors);
     status
+}
+
+/// Writes why a folder could not be used, if this is the status of a device and that is known.
+fn tell_cause_at<A: World, E: Write>(world: &A, alloc: Global, status: Status, errors: &mut E)
+    ensures { (status ≡ Status.Device) ⊎ (errors.new ≡ errors.old) }
+{
+    match status {
+        Status::Device => tell_folder_cause(world, alloc, errors),
+        Status::Done | Status::Found | Status::Absent | Status::Refused | Status::WrongWords => {}
+    }
 }
 
 /// Writes why a folder could not be used, if that is known.
@@ -107,21 +121,23 @@ fn tell_folder_cause<A: World, E: Write>(world: &A, alloc: Global, errors: &mut 
     }
 }
 
-/// Does what an invocation asks for, as [`perform`] does, but for the cause of a fault.
-fn perform_word<A: World, R: Read, W: Write, E: Write>(
+/// Does what an invocation asks for, as [`perform`] does, and returns how it ended: that is still to be told.
+fn perform_word<'w, A: World, R: Read, W: Write, E: Listener>(
     world: &mut A,
     alloc: Global,
-    invocation: Invocation<'_>,
+    invocation: Invocation<'w>,
     input: &mut TailReader<R>,
     output: &mut W,
     errors: &mut E,
-) -> Status
-    ensures { Performs A.model A.Disk.model A.File.remaining invocation.entry
+) -> Ending<'w>
+    ensures performs { Performs A.model A.Disk.model A.File.remaining invocation.entry
         (around world.old (R.remaining input.old.inner) (W.contents output.old))
-        (around world.new (R.remaining input.new.inner) (W.contents output.new)) result }
+        (around world.new (R.remaining input.new.inner) (W.contents output.new))
+        (status_of_ending result) }
+    ensures leaves { Leaves E.hears invocation.entry errors.old result errors.new }
 {
     match invocation {
-        Invocation::Init { folder } => init_folder(world, alloc, folder, errors),
+        Invocation::Init { folder } => Ending::Of(init_folder(world, alloc, folder, errors)),
         Invocation::Import {
             folder,
             name,
@@ -170,7 +186,8 @@ fn perform_word<A: World, R: Read, W: Write, E: Write>(
                 pointer,
                 conditions,
             };
-            delete_at(world, alloc, place, errors)
+            let asked = Alteration::Delete;
+            Ending::Of(alter(world, alloc, place, asked, errors))
         }
         Invocation::Copy {
             folder,
@@ -184,7 +201,8 @@ fn perform_word<A: World, R: Read, W: Write, E: Write>(
                 pointer: WHOLE,
                 conditions,
             };
-            copy_to(world, alloc, name, place, errors)
+            let asked = Alteration::Copy { from: name };
+            Ending::Of(alter(world, alloc, place, asked, errors))
         }
         Invocation::Rename {
             folder,
@@ -198,28 +216,23 @@ fn perform_word<A: World, R: Read, W: Write, E: Write>(
                 pointer: WHOLE,
                 conditions,
             };
-            rename_to(world, alloc, name, place, errors)
+            let asked = Alteration::Rename { from: name };
+            Ending::Of(alter(world, alloc, place, asked, errors))
         }
         Invocation::Checkpoint { folder } => {
-            change_now(world, alloc, folder, &[], Change::Checkpoint, errors)
+            let change = Change::Checkpoint;
+            Ending::Of(change_now(world, alloc, folder, &[], change, errors))
         }
         Invocation::Run { folder, grouping } => {
-            run_folder(
-                world,
-                alloc,
-                folder,
-                grouping_of(grouping),
-                input,
-                output,
-                errors,
-            )
+            let grouping = grouping_of(grouping);
+            Ending::Of(run_folder(world, alloc, folder, grouping, input, output, errors))
         }
         Invocation::Export { folder, name, form } => {
-            export_folder(world, alloc, folder, name, form, output, errors)
+            Ending::Of(export_folder(world, alloc, folder, name, form, output, errors))
         }
         Invocation::Names { folder, at, form } => {
             let file = open_file(world, alloc, folder);
-            tell_names(alloc, file, at, form, output, errors)
+            Ending::Of(tell_names(alloc, file, at, form, output))
         }
         Invocation::Get {
             folder,
@@ -235,7 +248,7 @@ fn perform_word<A: World, R: Read, W: Write, E: Write>(
                 missing,
                 form,
             };
-            tell_value(alloc, file, asked, output, errors)
+            Ending::Of(tell_value(alloc, file, asked, output))
         }
         Invocation::Exists {
             folder,
@@ -245,23 +258,23 @@ fn perform_word<A: World, R: Read, W: Write, E: Write>(
         } => {
             let file = open_file(world, alloc, folder);
             let place = Place { name, pointer, at };
-            tell_presence(alloc, file, place, errors)
+            Ending::Of(tell_presence(alloc, file, place))
         }
         Invocation::Log { folder, at, form } => {
             let file = open_file(world, alloc, folder);
-            tell_log(alloc, file, at, log_form_of(form), output, errors)
+            Ending::Of(tell_log(alloc, file, at, log_form_of(form), output))
         }
         Invocation::Verify { folder } => {
             let file = open_file(world, alloc, folder);
-            tell_survey(alloc, file, folder, output, errors)
+            Ending::Of(tell_survey(alloc, file, folder, output))
         }
         Invocation::Salvage { folder, new } => {
             let file = open_file(world, alloc, folder);
-            save_file(world, alloc, file, new, output, errors)
+            Ending::Of(save_file(world, alloc, file, new, output))
         }
         Invocation::Backup { folder, new } => {
             let file = open_file(world, alloc, folder);
-            back_up_file(world, alloc, file, new, errors)
+            Ending::Of(back_up_file(world, alloc, file, new))
         }
         Invocation::Format {
             formatting,
@@ -269,11 +282,12 @@ fn perform_word<A: World, R: Read, W: Write, E: Write>(
             reporting,
         } => {
             let reporter = reporter_of(world, alloc, reporting);
-            format_files(world, reporter, formatting, &files, input, output, errors)
+            let status = format_files(world, reporter, formatting, &files, input, output, errors);
+            Ending::Told(status)
         }
         Invocation::Check { files, reporting } => {
             let reporter = reporter_of(world, alloc, reporting);
-            check_files(world, reporter, &files, input, output, errors)
+            Ending::Told(check_files(world, reporter, &files, input, output, errors))
         }
     }
 }
@@ -297,39 +311,40 @@ fn run_folder<A: World, R: Read, W: Write, E: Write>(
     input: &mut TailReader<R>,
     output: &mut W,
     errors: &mut E,
-) -> Status
+) -> Outcome<'static>
     ensures { RunsOnFolder A.model A.Disk.model folder.now grouping
         (around world.old (R.remaining input.old.inner) (W.contents output.old))
-        (around world.new (R.remaining input.new.inner) (W.contents output.new)) result }
+        (around world.new (R.remaining input.new.inner) (W.contents output.new))
+        (status_of_outcome result) }
 {
     match world.open(alloc, Access::Making, folder) {
         Ok(disk) => {
             let ended = run_store(alloc, disk, grouping, input, output, errors);
             end_session(world, ended, &input.tail, errors)
         }
-        Err(fault) => write_store_fault(errors, StoreToolFault::Folder(fault)),
+        Err(fault) => Outcome::Store(StoreToolFault::Folder(fault)),
     }
 }
 
-/// Gives the disk back, writes why a session ended early, or how many bytes it did not perform, and returns the status.
+/// Gives the disk back, and writes how many bytes a session did not perform, if it came to the end of its input.
 fn end_session<A: World, E: Write>(
     world: &mut A,
     ended: Result<(A::Disk, Tally), (A::Disk, StoreToolFault)>,
     tail: &Tail,
     errors: &mut E,
-) -> Status
+) -> Outcome<'static>
     ensures back { A.model.given_back (disk_back ended) world.old world.new }
-    ensures ends { result ≡ status_at_end ended }
+    ensures ends { status_of_outcome result ≡ status_at_end ended }
 {
     match ended {
         Ok((disk, tally)) => {
             world.give_back(disk);
             write_rest(errors, tail, tally.rest);
-            Status::Done
+            Outcome::Done
         }
         Err((disk, fault)) => {
             world.give_back(disk);
-            write_store_fault(errors, fault)
+            Outcome::Store(fault)
         }
     }
 }
@@ -359,7 +374,7 @@ fn checkpoints_of(after: Option<u64>) -> Checkpoints
 
 /// Writes the configuration under a name, from the store in a folder, in the one style. The disk is given back before
 /// anything is written, so that no other run waits for whoever reads the output.
-fn export_folder<A: World, W: Write, E: Write>(
+fn export_folder<A: World, W: Write, E: Listener>(
     world: &mut A,
     alloc: Global,
     folder: &str,
@@ -367,57 +382,52 @@ fn export_folder<A: World, W: Write, E: Write>(
     form: TreeForm,
     output: &mut W,
     errors: &mut E,
-) -> Status
-    ensures { ExportsFromFolder A.model A.Disk.model form folder.now name.now world.old world.new
-        (W.contents output.old) (W.contents output.new) result }
+) -> Outcome<'static>
+    ensures exports { ExportsFromFolder A.model A.Disk.model form folder.now name.now world.old world.new
+        (W.contents output.old) (W.contents output.new) (status_of_outcome result) }
+    ensures told { TellsDropped E.hears errors.old errors.new }
 {
     match world.open(alloc, Access::Reading, folder) {
         Ok(disk) => {
             let found = export_text(alloc, disk, name, form, errors);
-            write_found(world, found, output, errors)
+            write_found(world, found, output)
         }
-        Err(fault) => write_store_fault(errors, StoreToolFault::Folder(fault)),
+        Err(fault) => Outcome::Store(StoreToolFault::Folder(fault)),
     }
 }
 
-/// Gives the disk back, writes the text that an export found, or why it found none, and returns the status.
-fn write_found<A: World, W: Write, E: Write>(
+/// Gives the disk back, and writes the text that an export found, if it found one.
+fn write_found<A: World, W: Write>(
     world: &mut A,
     found: Result<(A::Disk, String), (A::Disk, StoreToolFault)>,
     output: &mut W,
-    errors: &mut E,
-) -> Status
+) -> Outcome<'static>
     ensures back { A.model.given_back (disk_back found) world.old world.new }
-    ensures writes { WritesFound found (W.contents output.old) (W.contents output.new) result }
+    ensures writes { WritesFound found (W.contents output.old) (W.contents output.new)
+        (status_of_outcome result) }
 {
     match found {
         Ok((disk, text)) => {
             world.give_back(disk);
-            write_text(&text, output, errors)
+            write_text(&text, output)
         }
         Err((disk, fault)) => {
             world.give_back(disk);
-            write_store_fault(errors, fault)
+            Outcome::Store(fault)
         }
     }
 }
 
-/// Writes a text whole, and returns the status.
-fn write_text<W: Write, E: Write>(text: &str, output: &mut W, errors: &mut E) -> Status
-    ensures { WritesWhole text.now (W.contents output.old) (W.contents output.new) result }
+/// Writes a text whole.
+fn write_text<W: Write>(text: &str, output: &mut W) -> Outcome<'static>
+    ensures writes { WritesWhole text.now (W.contents output.old) (W.contents output.new)
+        (status_of_outcome result) }
+    ensures ends { EndsWriting result }
 {
     match write_whole(output, text.as_bytes()) {
-        Ok(()) => Status::Done,
-        Err(fault) => write_fault(errors, fault),
+        Ok(()) => Outcome::Done,
+        Err(fault) => Outcome::Text(fault),
     }
-}
-
-/// Writes a fault in one line, and returns its status.
-pub(crate) fn write_fault<E: Write>(errors: &mut E, fault: ToolFault) -> Status
-    ensures { result ≡ status_of fault }
-{
-    let _ = writeln!(errors, "confstore: {fault}");
-    status_of(fault)
 }
 
 /// The status of a fault of a text.
@@ -428,14 +438,6 @@ pub(crate) fn status_of(fault: ToolFault) -> Status
         ToolFault::Input | ToolFault::Output => Status::Device,
         ToolFault::Read(_) | ToolFault::Comments(_) => Status::Refused,
     }
-}
-
-/// Writes a fault of a store in one line, and returns its status.
-pub(crate) fn write_store_fault<E: Write>(errors: &mut E, fault: StoreToolFault) -> Status
-    ensures { result ≡ status_of_store fault }
-{
-    let _ = writeln!(errors, "confstore: {fault}");
-    status_of_store(fault)
 }
 
 /// The status of a fault of a store.
@@ -459,31 +461,41 @@ pub(crate) fn status_of_store(fault: StoreToolFault) -> Status
 
 /// Writes why there is no invocation, and returns the status. Help and the version are written to `writer`: 0, or 3 if
 /// that fails. Wrong words are reported on `errors`: 2. So is memory that ran out: 1.
-pub fn show_unparsed<W: Write, E: Write>(
+pub fn show_unparsed<W: Write, E: Listener>(
     unparsed: &Unparsed,
     writer: &mut W,
     errors: &mut E,
 ) -> Status
-    ensures { ShowsUnparsed unparsed.now (W.contents writer.old) (W.contents writer.new) result }
+    ensures shows { ShowsUnparsed unparsed.now (W.contents writer.old) (W.contents writer.new) result }
+    ensures tells { TellsUnparsed E.hears unparsed.now errors.old errors.new result }
 {
     match unparsed {
-        Unparsed::Shown(text) => write_text(text, writer, errors),
+        Unparsed::Shown(text) => tell_outcome(errors, write_text(text, writer)),
         Unparsed::Wrong(lines) => {
-            let _ = errors.write_all(lines.as_bytes());
+            errors.tell(lines);
             Status::WrongWords
         }
-        Unparsed::OutOfMemory => write_fault(errors, ToolFault::from(AllocError)),
+        Unparsed::OutOfMemory => refuse_memory(errors),
     }
 }
 
 /// Writes why the program's arguments could not be read, and returns the status. Words that are not UTF-8 are wrong
 /// words; otherwise memory ran out.
-pub fn refuse_words<E: Write>(errors: &mut E, error: &io::Error) -> Status
-    ensures { (result ≡ Status.WrongWords) ⊎ (result ≡ Status.Refused) }
+pub fn refuse_words<E: Listener>(errors: &mut E, error: &io::Error) -> Status
+    ensures { RefusesWords E.hears errors.old errors.new result }
 {
     if error.kind() == ErrorKind::InvalidData {
-        let _ = writeln!(errors, "error: the words are not UTF-8");
+        errors.tell("error: the words are not UTF-8\n");
         return Status::WrongWords;
     }
-    write_fault(errors, ToolFault::from(AllocError))
+    refuse_memory(errors)
+}
+
+/// Tells that memory ran out.
+fn refuse_memory<E: Listener>(errors: &mut E) -> Status
+    ensures status { result ≡ Status.Refused }
+    ensures tells { TellsNoMemory E.hears errors.old errors.new }
+{
+    let fault = ToolFault::from(AllocError);
+    tell_outcome(errors, Outcome::Text(fault))
 }

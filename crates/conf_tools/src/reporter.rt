@@ -1,4 +1,6 @@
 // What standard error has of a text that is refused.
+ghost use Rattle.std.specs.Prelude.{◌≡◌, OnOk};
+
 use crate::texts::ToolFault;
 use conf_files::Cause;
 use conf_words::{Reporting, escaped};
@@ -31,9 +33,12 @@ impl Reporter {
         origin: Origin<'_>,
         text: &[u8],
         ended: &Result<T, ToolFault>,
-    ) {
-        if let Err(fault) = ended {
-            self.tell_fault(errors, origin, text, *fault);
+    )
+        ensures { OnOk ended.now (errors.new ≡ errors.old) }
+    {
+        match ended {
+            Ok(_) => {}
+            Err(fault) => self.tell_fault(errors, origin, text, *fault),
         }
     }
 

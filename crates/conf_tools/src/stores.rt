@@ -5,12 +5,15 @@ ghost use Rattle.conf_disk.specs.Folder.{bytes_under};
 ghost use Rattle.conf_store.specs.Calls.{HasFailed};
 ghost use Rattle.conf_tools.specs.Dropped.{HasNoRest};
 ghost use Rattle.conf_tools.specs.Stores.{CannotOpen, OpensOn, RunsOn, SessionRuns, SurvivesCrashes};
+ghost use Rattle.conf_session.specs.Streams.{streams_of};
 
 use crate::dropped::write_dropped;
 use conf_conditions::ConditionFault;
 use conf_disk::{Disk, Name};
 use conf_folder::FolderFault;
-use conf_session::{Checkpoints, SessionFault, Tally, answers_acknowledge, run, run_grouped};
+use conf_session::{
+    AnswerSink, Checkpoints, SessionFault, Tally, answers_acknowledge, run, run_grouped,
+};
 use conf_state::StoreFault;
 use conf_store::{OpenFault, Store};
 use std::alloc::Global;
@@ -74,19 +77,19 @@ pub(crate) fn open_store<D: Disk + Drop, E: Write>(
     }
 }
 
-/// Performs the commands that `reader` gives on an open store, and writes the answers to `writer`.
+/// Performs the commands that `reader` gives on an open store, and hands the answers to `sink`.
 ///
 /// # Errors
 /// Those of the call for the grouping.
-fn run_session<D: Disk, R: Read, W: Write>(
+fn run_session<D: Disk, R: Read, S: AnswerSink<D>>(
     alloc: Global,
     store: &mut Store<D>,
     grouping: Grouping,
     reader: &mut R,
-    writer: &mut W,
+    sink: &mut S,
 ) -> Result<Tally, SessionFault>
-    ensures runs { SessionRuns D.model (R.remaining reader.old)
-        (R.remaining reader.new) (W.contents writer.old) (W.contents writer.new)
+    ensures runs { SessionRuns D.model (streams_of (R.remaining reader.old)
+        (R.remaining reader.new) (S.taken sink.old) (S.taken sink.new))
         grouping store.old store.new result }
     ensures reopen { IsErrOf result SessionFault.Reopen ↔ (store.old.reopen ≡ true) }
     ensures device { (store.new.reopen ≡ true)
@@ -96,36 +99,37 @@ fn run_session<D: Disk, R: Read, W: Write>(
     ensures risen { D.model.failure_count store.old.disk ≤ D.model.failure_count store.new.disk }
 {
     match grouping {
-        Grouping::Single => run(alloc, store, reader, writer),
-        Grouping::Grouped(checkpoints) => run_grouped(alloc, store, reader, writer, checkpoints),
+        Grouping::Single => run(alloc, store, reader, sink),
+        Grouping::Grouped(checkpoints) => run_grouped(alloc, store, reader, sink, checkpoints),
     }
 }
 
-/// Opens the store on `disk`, performs the commands that `reader` gives, and writes the answers to `writer`. The
+/// Opens the store on `disk`, performs the commands that `reader` gives, and hands the answers to `sink`. The
 /// grouping says which call of `conf_session` does so. Returns the disk, and what was done.
 ///
 /// While the store is opened, a crash leaves a `store.yaml` that means what it might have meant before the call. From
-/// then on, a crash at any moment leaves the state after a prefix of the accepted commands. Once this returns after a
-/// session, that prefix has every command whose answer was written.
+/// then on, a crash at any moment leaves the state after a prefix of the accepted commands. Once an answer is handed to
+/// the sink, that prefix has every command that was accepted up to it: the sink requires so
+/// ([`AnswerSink::put`](conf_session::AnswerSink::put)), also in a session that is cut off.
 ///
 /// # Errors
 /// The disk is returned with the fault. `Open` if the store can't be opened: nothing is read or written, and, but for
 /// `Device`, no file has changed. `Session` if the session ends before the end of its input.
-pub fn run_store<D: Disk + Drop, R: Read, W: Write, E: Write>(
+pub fn run_store<D: Disk + Drop, R: Read, S: AnswerSink<D>, E: Write>(
     alloc: Global,
     disk: D,
     grouping: Grouping,
     reader: &mut R,
-    writer: &mut W,
+    sink: &mut S,
     errors: &mut E,
 ) -> Result<(D, Tally), (D, StoreToolFault)>
     ensures runs { RunsOn D.model
-        (R.remaining reader.old) (R.remaining reader.new)
-        (W.contents writer.old) (W.contents writer.new)
+        (streams_of (R.remaining reader.old) (R.remaining reader.new)
+        (S.taken sink.old) (S.taken sink.new))
         grouping disk result }
     // No crash loses a command that was answered, or keeps one that was not accepted.
-    ensures crashes { D.model.honest → SurvivesCrashes D.model (R.remaining reader.old)
-        (R.remaining reader.new) (W.contents writer.old) (W.contents writer.new)
+    ensures crashes { D.model.honest → SurvivesCrashes D.model (streams_of (R.remaining reader.old)
+        (R.remaining reader.new) (S.taken sink.old) (S.taken sink.new))
         grouping disk result }
     // Nothing is written to `errors` if no bytes are dropped.
     ensures quiet { D.model.honest → HasNoRest (bytes_under (D.model.folder disk) Name.Store)
@@ -136,7 +140,7 @@ pub fn run_store<D: Disk + Drop, R: Read, W: Write, E: Write>(
         Ok(store) => store,
         Err((disk, fault)) => return Err((disk, StoreToolFault::Open(fault))),
     };
-    let result = run_session(alloc, &mut store, grouping, reader, writer);
+    let result = run_session(alloc, &mut store, grouping, reader, sink);
     let disk = store.close();
     match result {
         Ok(tally) => Ok((disk, tally)),

@@ -11,7 +11,7 @@
 mod pipe;
 
 use crate::pipe::{Errors, Output};
-use conf_tools::{Host, TailReader, ToolFault, perform, refuse_words, show_unparsed};
+use conf_tools::{Host, TailReader, Told, ToolFault, perform, refuse_words, show_unparsed};
 use conf_words::{Reporting, Subcommand, parse};
 use std::cell::Cell;
 use std::fs::{File, OpenOptions};
@@ -91,7 +91,10 @@ fn main(rt: HostRuntime) -> ExitCode {
     };
     let words = match env::args(&rt).and_then(|words| Ok(words.collect::<Vec<String>>(alloc)?)) {
         Ok(words) => words,
-        Err(error) => return ExitCode::from(refuse_words(&mut errors, &error).code()),
+        Err(error) => {
+            let status = refuse_words(&mut Told::new(errors), &error);
+            return ExitCode::from(status.code());
+        }
     };
     let mut reader = TailReader::new(rt.reader());
     let (is_closed, is_never) = (Cell::new(false), Cell::new(false));
@@ -100,7 +103,7 @@ fn main(rt: HostRuntime) -> ExitCode {
         Some(Subcommand::Run) => &is_never,
         _ => &is_closed,
     };
-    let mut errors = Errors::new(errors, is_silent);
+    let mut errors = Told::new(Errors::new(errors, is_silent));
     let reporting = if stderr.is_terminal() {
         Reporting::Explained
     } else {

@@ -2,8 +2,8 @@
 use Rattle.std.proofs.Common.{inr}
 use Rattle.conf_tools.proofs.change_words.change_in_folder.Goals as goal
 
-pub returns-in-Ok : goal.returns-in-Ok
-returns-in-Ok g c = inr (record {
+pub returns-in-Ok-clause-makes : goal.returns-in-Ok-clause-makes
+returns-in-Ok-clause-makes g c = inr (record {
   first = c.in-Ok.disk;
   opened = c.open.new.self;
   opens = c.in-Ok.ensures;

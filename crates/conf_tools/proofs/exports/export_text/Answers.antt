@@ -4,7 +4,7 @@ use Rattle.std.specs.Str.{chars}
 use Rattle.conf_disk.specs.Moments.{LeavesOnly}
 use Rattle.conf_store.specs.Opens.{MeantAtEntry}
 use Rattle.conf_store.specs.declared.fault.OpenFault.{OpenFault}
-use Rattle.conf_tools.specs.Exports.{HasText}
+use Rattle.conf_tools.specs.Exports.{HasNoText, HasText}
 use Rattle.conf_tools.specs.Stores.{CannotOpen}
 use Rattle.conf_tools.proofs.ExportLemmas.{leaves-since, opened-finds, refused-since, text-since}
 use Rattle.conf_tools.proofs.exports.export_text.Goals as goal
@@ -40,6 +40,17 @@ returns-in-Ok-exported-clause-ok g c =
       state = c.in-Ok.store.state;
       finds = opened-finds d.model c.reading_is_an_image.ensures c.args.disk c.in-Ok.store c.in-Ok.ensures.opens;
       exports = c.in-Ok-exported.ensures.ok;
+    })
+
+pub returns-in-Err-exported-clause-refused : goal.returns-in-Err-exported-clause-refused
+returns-in-Err-exported-clause-refused g c =
+    let d = g.D.Disk in
+    let fault = c.in-Err-exported.fault in
+    subst (λ (disk : g.row.D.Denot). HasNoText d.model c.args.disk disk (chars c.args.name.now) fault) (sym c.close-disk.ensures)
+    (record {
+      state = c.in-Ok.store.state;
+      finds = opened-finds d.model c.reading_is_an_image.ensures c.args.disk c.in-Ok.store c.in-Ok.ensures.opens;
+      why = c.in-Err-exported.ensures.refused;
     })
 
 pub returns-in-Ok-exported-clause-crashes : goal.returns-in-Ok-exported-clause-crashes

@@ -13,4 +13,5 @@ returns-in-Ok g c = inr (record {
   left = g.A.File.Read.remaining c.salvage-saved.new.reader;
   saved = c.salvage-saved.ensures.saved;
   refused = c.salvage-saved.ensures.refused;
+  survives = c.salvage-saved.ensures.leaves;
 })

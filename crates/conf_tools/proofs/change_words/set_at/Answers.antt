@@ -1,0 +1,29 @@
+-- The change was made ready, and made.
+use Rattle.std.proofs.Common.{refl, subst}
+use Rattle.std.specs.Prelude.{Ok, Err}
+use Rattle.conf_tools.specs.Dropped.{TellsDropped}
+use Rattle.conf_tools.proofs.OutcomeLemmas.{never_done}
+use Rattle.conf_tools.proofs.change_words.set_at.Goals as goal
+
+pub returns-in-Ok-clause-sets : goal.returns-in-Ok-clause-sets
+returns-in-Ok-clause-sets g c = record {
+  change = Ok c.in-Ok.change;
+  seen = c.set_of.new.world;
+  is = c.in-Ok.ensures.sets;
+  changes = c.change_if.ensures.makes;
+}
+
+pub returns-in-Ok-clause-leaves : goal.returns-in-Ok-clause-leaves
+returns-in-Ok-clause-leaves g c =
+    subst (λ (before : g.row.E.Denot). TellsDropped g.E.Listener.hears before c.change_if.new.errors) c.in-Ok.ensures.silent c.change_if.ensures.told
+
+pub returns-in-Err-clause-sets : goal.returns-in-Err-clause-sets
+returns-in-Err-clause-sets g c = record {
+  change = Err c.in-Err.fault;
+  seen = c.set_of.new.world;
+  is = c.in-Err.ensures.sets;
+  changes = (refl, c.status_of.ensures);
+}
+
+pub returns-in-Err-clause-leaves : goal.returns-in-Err-clause-leaves
+returns-in-Err-clause-leaves g c = λ zero. absurd (never_done c.in-Err.fault c.status_of.result c.status_of.ensures zero)

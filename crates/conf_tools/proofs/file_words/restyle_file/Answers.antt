@@ -1,0 +1,6 @@
+-- Where the status is 0, no more is told.
+use Rattle.std.proofs.Common.{◌∙◌}
+use Rattle.conf_tools.proofs.file_words.restyle_file.Goals as goal
+
+pub returns-clause-silent : goal.returns-clause-silent
+returns-clause-silent g c = λ zero. c.tell_cause_at.ensures zero ∙ c.restyle_opened-status.ensures.silent zero

@@ -1,0 +1,152 @@
+-- How a run of the program ends, and what is told of it.
+use Rattle.std.specs.Prelude.{◌≡◌, ◌⊎◌, ℕ, List, Result, Ok, Err, codes, string_bytes}
+use Rattle.conf_words.specs.declared.invocation.Invocation.{Invocation}
+use Rattle.conf_words.specs.declared.invocation.Invocation.TheVariants.{Init, Import, Set, Delete, Copy, Rename, Checkpoint, Run, Export, Names, Get, Exists, Log, Verify, Salvage, Backup, Format, Check}
+use Rattle.conf_words.specs.declared.unparsed.Unparsed.{Unparsed}
+use Rattle.conf_words.specs.declared.unparsed.Unparsed.TheVariants.{Shown, Wrong, OutOfMemory as NoMemory}
+use Rattle.conf_tools.specs.Dropped.{TellsDropped}
+use Rattle.conf_tools.specs.FaultLines.{reading_fault_name, store_fault_name, text_fault_name}
+use Rattle.conf_tools.specs.Listening.{fault_line}
+use Rattle.conf_tools.specs.ReadingStatuses.{status_of_reading}
+use Rattle.conf_tools.specs.Statuses.{code_of, status_of, status_of_store}
+use Rattle.conf_tools.specs.declared.outcome.Ending.{Ending}
+use Rattle.conf_tools.specs.declared.outcome.Ending.TheVariants.{Of, Told}
+use Rattle.conf_tools.specs.declared.outcome.Outcome.{Outcome}
+use Rattle.conf_tools.specs.declared.outcome.Outcome.TheVariants as ends
+use Rattle.conf_tools.specs.declared.program.Status.{Status}
+use Rattle.conf_tools.specs.declared.program.Status.TheVariants.{Done, Absent, Refused, WrongWords, Device}
+use Rattle.conf_tools.specs.declared.texts.ToolFault.{ToolFault}
+use Rattle.conf_tools.specs.declared.texts.ToolFault.TheVariants.{Output}
+
+-- ---- statuses
+
+-- the status of a word on a store
+abbrev pub status_of_outcome : Outcome → Status
+status_of_outcome ends.Done = Done
+status_of_outcome ends.Absent = Absent
+status_of_outcome (ends.Damaged folder) = Refused
+status_of_outcome (ends.Text fault) = status_of fault
+status_of_outcome (ends.Store fault) = status_of_store fault
+status_of_outcome (ends.Reading fault) = status_of_reading fault
+
+-- the status of a run
+abbrev pub status_of_ending : Ending → Status
+status_of_ending (Of outcome) = status_of_outcome outcome
+status_of_ending (Told status) = status
+
+-- how the writing of a text ends
+abbrev pub EndsWriting : Outcome → Type 0
+EndsWriting ends.Done = Unit {0}
+EndsWriting (ends.Text fault) = fault ≡ Output
+EndsWriting outcome = ⊥
+
+-- ---- what is told
+
+module _ {E : Type 0} (hears : E → List ℕ → E → Type 0) where
+  -- a line says that the store is damaged, and another one what to do
+  pub record TellsDamage (old new : E) : Type 0 where
+    pub named : E
+    pub tells : hears old (fault_line (codes "Damaged")) named
+
+  -- Why a word on a store ended early is told in a line, by the name of the fault. Where all was done, or nothing is at
+  -- a place, nothing is told.
+  abbrev pub TellsOutcome : Outcome → E → E → Type 0
+  TellsOutcome ends.Done old new = new ≡ old
+  TellsOutcome ends.Absent old new = new ≡ old
+  TellsOutcome (ends.Damaged folder) old new = TellsDamage old new
+  TellsOutcome (ends.Text fault) old new = hears old (fault_line (text_fault_name fault)) new
+  TellsOutcome (ends.Store fault) old new = hears old (fault_line (store_fault_name fault)) new
+  TellsOutcome (ends.Reading fault) old new = hears old (fault_line (reading_fault_name fault)) new
+
+  -- the same at the end of a run, if it is still to be told
+  abbrev pub TellsEnding : Ending → E → E → Type 0
+  TellsEnding (Of outcome) old new = TellsOutcome outcome old new
+  TellsEnding (Told status) old new = new ≡ old
+
+-- where the status is 0, nothing was told
+abbrev pub SilentIfDone : {E : Type 0} → Status → E → E → Type 0
+SilentIfDone status old new = code_of status ≡ 0 → new ≡ old
+
+-- the same of a report on one text, where there is one
+abbrev pub SilentReport : {E : Type 0} → Result Status ToolFault → E → E → Type 0
+SilentReport (Ok status) old new = SilentIfDone status old new
+SilentReport (Err fault) old new = Unit {0}
+
+-- Nothing was told of what is still to be told; or what went wrong was told, and the status is not 0.
+abbrev pub TellsOnlyTold : {E : Type 0} → Ending → E → E → Type 0
+TellsOnlyTold (Of outcome) old new = new ≡ old
+TellsOnlyTold (Told status) old new = code_of status ≡ 0 → ⊥
+
+-- what went wrong is still to be told
+abbrev pub IsUntold : Ending → Type 0
+IsUntold (Of outcome) = Unit {0}
+IsUntold (Told status) = ⊥
+
+module _ {E : Type 0} (hears : E → List ℕ → E → Type 0) where
+  -- nothing was told so far, not even what went wrong
+  abbrev pub LeavesAll : E → Ending → E → Type 0
+  LeavesAll old ending new = IsUntold ending × (new ≡ old)
+
+  -- at most what opening dropped was told so far
+  abbrev pub LeavesOpened : E → Ending → E → Type 0
+  LeavesOpened old ending new = IsUntold ending × TellsDropped hears old new
+
+  -- the same, or what is wrong with a text was told
+  abbrev pub LeavesText : E → Ending → E → Type 0
+  LeavesText old (Of outcome) new = TellsDropped hears old new
+  LeavesText old (Told status) new = SilentIfDone status old new
+
+  -- What a word leaves to be told at its end. One that reads the file of a store has told nothing so far. One that opens a
+  -- store may have told what opening dropped, and a session what it did not perform. One on texts has told what is wrong
+  -- with a text; where the status is 0, nothing.
+  abbrev pub Leaves : Invocation → E → Ending → E → Type 0
+  Leaves (Init folder) old ending new = LeavesOpened old ending new
+  Leaves (Import folder name file absent conditions reporting) old ending new = LeavesText old ending new
+  Leaves (Set folder name pointer value conditions reporting) old ending new = LeavesText old ending new
+  Leaves (Delete folder name pointer conditions) old ending new = LeavesOpened old ending new
+  Leaves (Copy folder name to conditions) old ending new = LeavesOpened old ending new
+  Leaves (Rename folder name to conditions) old ending new = LeavesOpened old ending new
+  Leaves (Checkpoint folder) old ending new = LeavesOpened old ending new
+  Leaves (Run folder grouping) old ending new = IsUntold ending
+  Leaves (Export folder name form) old ending new = LeavesOpened old ending new
+  Leaves (Names folder at form) old ending new = LeavesAll old ending new
+  Leaves (Get folder name pointer at absent form) old ending new = LeavesAll old ending new
+  Leaves (Exists folder name pointer at) old ending new = LeavesAll old ending new
+  Leaves (Log folder at form) old ending new = LeavesAll old ending new
+  Leaves (Verify folder) old ending new = LeavesAll old ending new
+  Leaves (Salvage folder new_folder) old ending new = LeavesAll old ending new
+  Leaves (Backup folder new_folder) old ending new = LeavesAll old ending new
+  Leaves (Format formatting files reporting) old ending new = LeavesText old ending new
+  Leaves (Check files reporting) old ending new = LeavesText old ending new
+
+-- What a run tells: first what its word does (`leaves`), and then its ending, of which the status is that of the run. Only
+-- where a device failed does more follow, which says why.
+pub record Tells {E : Type 0} (hears : E → List ℕ → E → Type 0) (word : Invocation) (old new : E) (ended : Status)
+    : Type 0 where
+  pub ending : Ending
+  pub is : ended ≡ status_of_ending ending
+  pub before : E
+  pub leaves : Leaves hears word old ending before
+  pub told : E
+  pub tells : TellsEnding hears ending before told
+  pub cause : (ended ≡ Device) ⊎ (new ≡ told)
+
+-- ---- words that ask for nothing
+
+module _ {E : Type 0} (hears : E → List ℕ → E → Type 0) where
+  -- a line says that memory ran out
+  abbrev pub TellsNoMemory : E → E → Type 0
+  TellsNoMemory old new = hears old (fault_line (codes "OutOfMemory")) new
+
+  -- What is told where there is no invocation. Of help that was written nothing is told, and of help that was not, a line.
+  abbrev pub TellsUnparsed : Unparsed → E → E → Status → Type 0
+  TellsUnparsed (Shown text) old new ended =
+      ((ended ≡ Done) × (new ≡ old)) ⊎ ((ended ≡ Device) × hears old (fault_line (codes "Output")) new)
+  TellsUnparsed (Wrong lines) old new ended = hears old (string_bytes lines) new
+  TellsUnparsed NoMemory old new ended = TellsNoMemory old new
+
+  -- What is told of words that could not be read: they are not UTF-8, or memory ran out.
+  abbrev pub RefusesWords : E → E → Status → Type 0
+  RefusesWords old new ended =
+      ((ended ≡ WrongWords) × hears old (codes "error: the words are not UTF-8\n") new)
+      ⊎ ((ended ≡ Refused) × TellsNoMemory old new)
