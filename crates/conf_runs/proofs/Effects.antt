@@ -1,11 +1,17 @@
 -- What each word does to the folders of a world.
-use Rattle.std.proofs.Common.{◌≡◌, ◌≢◌, inl, inr, ℕ, Bool, true, false, List, [], ◌∷◌, Option, None, Some, Result, Ok, Err, refl, sym, ap, subst, codes}
+use Rattle.std.proofs.Common.{◌≡◌, ◌≢◌, inl, inr, ℕ, Bool, true, false, List, [], ◌∷◌, Option, None, Some, Result, Ok, Err, IfOk, refl, sym, ap, subst, codes}
 use Rattle.conf_conditions.specs.Conditions.{Condition, conditions_of}
 use Rattle.conf_disk.specs.Image.{Image}
 use Rattle.conf_disk.specs.Models.{DiskModel}
 use Rattle.conf_files.specs.declared.replace.ReplaceFault.{ReplaceFault}
+use Rattle.conf_history.specs.Copies.{BacksUp, LeavesOldOrCopy}
+use Rattle.conf_history.specs.Copies.{disk_handed_back as copied_disk}
+use Rattle.conf_history.specs.Salvages.{LeavesOldOrSaved, Saves}
+use Rattle.conf_history.specs.Salvages.{disk_of as saved_disk}
 use Rattle.conf_history.specs.declared.fault.HistoryFault.TheVariants as history
+use Rattle.conf_history.specs.declared.fault.SalvageFault.{SalvageFault}
 use Rattle.conf_history.specs.declared.fault.SalvageFault.TheVariants as salvage
+use Rattle.conf_history.specs.declared.survey.Findings.{Findings as Surveyed}
 use Rattle.conf_words.specs.declared.invocation.Conditions.{Conditions}
 use Rattle.conf_words.specs.declared.invocation.Invocation.{Invocation}
 use Rattle.conf_words.specs.declared.invocation.TreeForm.{TreeForm}
@@ -15,12 +21,13 @@ use Rattle.conf_words.specs.declared.invocation.Formatting.{Formatting}
 use Rattle.conf_words.specs.declared.invocation.Formatting.TheVariants as formatting
 use Rattle.conf_words.specs.declared.invocation.Value.{Value}
 use Rattle.conf_words.specs.declared.invocation.Value.TheVariants.{Text, Yaml, File}
-use Rattle.conf_tools.specs.Backups.{BacksUpFound, BacksUpInFolder}
+use Rattle.conf_tools.specs.Backups.{BacksUpFound, BacksUpInFolder, BacksUpStore, status_after_backup}
 use Rattle.conf_tools.specs.Asking.{AskedConditions}
 use Rattle.conf_tools.specs.Performs.{ChangesAt, FormatsAll, ChecksAll, ImportsRead, Performs, access_of, grouping_of}
+use Rattle.conf_tools.specs.Exports.{disk_back}
 use Rattle.conf_tools.specs.Tools.{Taken}
 use Rattle.conf_tools.specs.ProgramCalls.{Call, changing, disk_before, disk_behind, exporting, running}
-use Rattle.conf_tools.specs.StoreWords.{ChangesInFolder, ExportsFromFolder, Inits, MakesChange, MakesInFolder, OpensFile, OpensNew, RunsOnFolder, SavesFound, SavesInFolder, status_at_end}
+use Rattle.conf_tools.specs.StoreWords.{ChangesInFolder, ExportsFromFolder, Inits, MakesChange, MakesInFolder, OpensFile, OpensNew, RunsOnFolder, Salvages, SavesFound, SavesInFolder, WritesFindings, status_at_end}
 use Rattle.conf_tools.specs.TextWords.{IfSo, IsSet, ReplacesAt, ReplacesRead, ReportsOnAll, RestylesAll, RestylesOpened, TakesText, stops_all, status_of_report}
 use Rattle.conf_tools.specs.Statuses.{worst}
 use Rattle.conf_tools.specs.Worlds.{Around, WorldModel}
@@ -37,9 +44,9 @@ use Rattle.conf_tools.specs.declared.reading_fault.ReadingFault.TheVariants as r
 use Rattle.conf_tools.specs.declared.stores.Grouping.{Grouping}
 use Rattle.conf_tools.specs.declared.texts.ToolFault.{ToolFault}
 use Rattle.conf_tools.specs.declared.world.Access.{Access}
-use Rattle.conf_tools.specs.declared.world.Access.TheVariants.{Changing}
+use Rattle.conf_tools.specs.declared.world.Access.TheVariants.{Changing, New}
 use Rattle.conf_runs.specs.Folders.{IsDiskOf, KeepsFolders, LeavesNoMore}
-use Rattle.conf_runs.specs.Runs.{asked_for, call_of, changed_if, changed_in, exported_from, folder_of, imported, initialised, made_in, ran_in, salvages}
+use Rattle.conf_runs.specs.Runs.{Deed, asked_for, call_of, changed_if, changed_in, copied_in, copied_of, copies, exported_from, folder_of, imported, initialised, made_in, makes_new, ran_in, saved_in, saved_of, saves}
 
 module _ {W D F P : Type 0} (world : WorldModel W D F P) (disk : DiskModel D) (remaining : F → Option (List ℕ))
     (honest : disk.honest) (leaves : W → List ℕ → Image → Type 0) (keeps : KeepsFolders world disk leaves) where
@@ -58,7 +65,7 @@ module _ {W D F P : Type 0} (world : WorldModel W D F P) (disk : DiskModel D) (r
 
   -- the status of a change is that of its result
   abbrev pub Fits : Status → Call disk → Type 0
-  Fits status (running given left held written grouping old result crashes) = Unit {0}
+  Fits status (running io grouping old result crashes) = Unit {0}
   Fits status (changing change old result crashes) = status ≡ status_at_end result
   Fits status (exporting old new crashes) = Unit {0}
 
@@ -173,11 +180,11 @@ module _ {W D F P : Type 0} (world : WorldModel W D F P) (disk : DiskModel D) (r
   of-saving : (folder : List ℕ) (given : Option (List ℕ)) (old new : W) (held written : Option (List ℕ)) (status : Status)
       → SavesInFolder world disk folder given old new held written status → Spares folder old new
   of-saving folder given old new held written status (inl cannot) = spared folder old new (of-new folder old cannot.fault new cannot.opens)
-  of-saving folder given old new held written status (inr saves) = λ other image is_other is.
-      let opens = saves.opens in
+  of-saving folder given old new held written status (inr saving) = λ other image is_other is.
+      let opens = saving.opens in
       let made = opens.0 in
       let seen = opens.1 in
-      let now = keeps.disks _ folder seen saves.opened new saves.first _ opens.4 saves.gives_back in
+      let now = keeps.disks _ folder seen saving.opened new saving.first _ opens.4 saving.gives_back in
       then old made seen (keeps.made folder old made _ opens.2) (keeps.stores folder made seen _ opens.3) other image
       (now.elsewhere other image is_other is)
 
@@ -199,8 +206,8 @@ module _ {W D F P : Type 0} (world : WorldModel W D F P) (disk : DiskModel D) (r
 
   of-found : (folder : List ℕ) (file : Result F ReadingFault) (old new : W) (held written : Option (List ℕ)) (status : Status)
       → SavesFound world disk remaining folder file old new held written status → Spares folder old new
-  of-found folder (Ok file) old new held written status saves = of-saving folder (remaining file) old new held written status saves
-  of-found folder (Err fault) old new held written status saves = spared folder old new (same old new saves.0)
+  of-found folder (Ok file) old new held written status saving = of-saving folder (remaining file) old new held written status saving
+  of-found folder (Err fault) old new held written status saving = spared folder old new (same old new saving.0)
 
   -- ---- words on texts
 
@@ -268,38 +275,38 @@ module _ {W D F P : Type 0} (world : WorldModel W D F P) (disk : DiskModel D) (r
 
   -- ---- all words
 
-  -- what a run does, unless it salvages
+  -- what a run does, unless it makes a store of another one
   pub effect : (invocation : Invocation) (old new : Around W) (status : Status) (does : Performs world disk remaining invocation old new status)
-      → salvages invocation ≡ false
+      → makes_new invocation ≡ false
       → Effect old.world new.world status (folder_of invocation) (call_of world disk remaining honest invocation old new status does)
-  effect (Init folder) old new status does no_salvage = of-init folder.now old.world new.world status does.0
-  effect (Import folder name file absent conditions reporting) old new status does no_salvage =
+  effect (Init folder) old new status does not_new = of-init folder.now old.world new.world status does.0
+  effect (Import folder name file absent conditions reporting) old new status does not_new =
       after old.world does.seen new.world (of-text file.now does.read old.world does.seen old.input new.input does.takes)
       (of-import conditions (access_of absent) folder.now name.now does.read does.seen new.world status does.imports)
-  effect (Set folder name pointer value conditions reporting) old new status does no_salvage =
+  effect (Set folder name pointer value conditions reporting) old new status does not_new =
       after old.world does.0.seen new.world (of-value name.now pointer.now value does.0.change old.world does.0.seen old.input new.input does.0.is)
       (of-asked conditions Changing folder.now name.now pointer.now does.0.change does.0.seen new.world status does.0.changes)
-  effect (Delete folder name pointer conditions) old new status does no_salvage =
+  effect (Delete folder name pointer conditions) old new status does not_new =
       of-asked conditions Changing folder.now name.now pointer.now does.0.change old.world new.world status does.0.changes
-  effect (Copy folder name to conditions) old new status does no_salvage =
+  effect (Copy folder name to conditions) old new status does not_new =
       of-asked conditions Changing folder.now to.now [] does.0.change old.world new.world status does.0.changes
-  effect (Rename folder name to conditions) old new status does no_salvage =
+  effect (Rename folder name to conditions) old new status does not_new =
       of-asked conditions Changing folder.now to.now [] does.0.change old.world new.world status does.0.changes
-  effect (Checkpoint folder) old new status does no_salvage = of-change Changing folder.now [] change.Checkpoint old.world new.world status does.0
-  effect (Run folder grouping) old new status does no_salvage = of-run folder.now (grouping_of grouping) old new status does
-  effect (Export folder name form) old new status does no_salvage =
+  effect (Checkpoint folder) old new status does not_new = of-change Changing folder.now [] change.Checkpoint old.world new.world status does.0
+  effect (Run folder grouping) old new status does not_new = of-run folder.now (grouping_of grouping) old new status does
+  effect (Export folder name form) old new status does not_new =
       of-export form folder.now name.now old.world new.world old.output new.output status does.0
-  effect (Names folder at form) old new status does no_salvage = nothing None (of-open folder.now old.world does.0.file new.world does.0.opens)
-  effect (Get folder name pointer at missing form) old new status does no_salvage =
+  effect (Names folder at form) old new status does not_new = nothing None (of-open folder.now old.world does.0.file new.world does.0.opens)
+  effect (Get folder name pointer at missing form) old new status does not_new =
       nothing None (of-open folder.now old.world does.0.file new.world does.0.opens)
-  effect (Exists folder name pointer at) old new status does no_salvage =
+  effect (Exists folder name pointer at) old new status does not_new =
       nothing None (of-open folder.now old.world does.0.file new.world does.0.opens)
-  effect (Log folder at form) old new status does no_salvage = nothing None (of-open folder.now old.world does.0.file new.world does.0.opens)
-  effect (Verify folder) old new status does no_salvage = nothing None (of-open folder.now old.world does.0.file new.world does.0.opens)
-  effect (Format formatting files reporting) old new status does no_salvage = nothing None (of-formatting formatting _ old new status does)
-  effect (Salvage folder new_folder) old new status does no_salvage = cc
-  effect (Backup folder new_folder) old new status does no_salvage = cc
-  effect (Check files reporting) old new status does no_salvage = nothing None (of-checking _ old new status does)
+  effect (Log folder at form) old new status does not_new = nothing None (of-open folder.now old.world does.0.file new.world does.0.opens)
+  effect (Verify folder) old new status does not_new = nothing None (of-open folder.now old.world does.0.file new.world does.0.opens)
+  effect (Format formatting files reporting) old new status does not_new = nothing None (of-formatting formatting _ old new status does)
+  effect (Salvage folder new_folder) old new status does not_new = cc
+  effect (Backup folder new_folder) old new status does not_new = cc
+  effect (Check files reporting) old new status does not_new = nothing None (of-checking _ old new status does)
 
   -- what is done to one folder leaves another as it was
   beside : (path : List ℕ) (old new : W) {status : Status} {folder : Option (List ℕ)} {call : Option (Call disk)}
@@ -354,3 +361,88 @@ module _ {W D F P : Type 0} (world : WorldModel W D F P) (disk : DiskModel D) (r
       beside path old.world new.world (effect (Format formatting files reporting) old new status does refl) is_other image is
   spares path (Check files reporting) old new status does is_other image is =
       beside path old.world new.world (effect (Check files reporting) old new status does refl) is_other image is
+
+  -- ---- a new store
+
+  -- What a backup or a salvage does to folders, with the store that it makes.
+  pub data Backed (path : List ℕ) (old new : W) (status : Status) : Option (Deed disk) → Type 0 where
+    none_made : Steady old new → Backed path old new status None
+    made_there : (found opened : W) (given left : Option (List ℕ)) (first : D) (result : Result D (D × SalvageFault))
+        (made : IfOk result (λ made. BacksUp given left (disk.folder first) (disk.folder made)))
+        (survives : LeavesOldOrCopy disk given left first (copied_disk result))
+        → Steady old found → world.opened New path found (Ok first) opened
+        → IsDiskOf disk leaves path found first (copied_disk result) new → status ≡ status_after_backup result
+        → Backed path old new status (Some (copies given left first result made survives))
+    saved_there : (found opened : W) (given left : Option (List ℕ)) (first : D) (result : Result (D × Surveyed) (D × SalvageFault))
+        (made : IfOk result (λ saved. Saves given left (disk.folder first) (disk.folder saved.0) saved.1))
+        (survives : LeavesOldOrSaved disk given left first (saved_disk result)) (held written : Option (List ℕ))
+        → Steady old found → world.opened New path found (Ok first) opened
+        → IsDiskOf disk leaves path found first (saved_disk result) new → WritesFindings result held written status
+        → Backed path old new status (Some (saves given left first result made survives))
+
+  of-copy-in : (folder : List ℕ) (given : Option (List ℕ)) (old new : W) (status : Status)
+      (makes : BacksUpInFolder world disk folder given old new status)
+      → Backed folder old new status (copied_in world disk remaining honest folder given old new status makes)
+  of-copy-in folder given old new status (inl cannot) = none_made (of-new folder old cannot.fault new cannot.opens)
+  of-copy-in folder given old new status (inr makes) =
+      let opens = makes.opens in
+      let made = opens.0 in
+      let seen = opens.1 in
+      made_there seen makes.opened given makes.left makes.first makes.result (makes.made honest) (makes.survives honest)
+      (then old made seen (keeps.made folder old made _ opens.2) (keeps.stores folder made seen _ opens.3)) opens.4
+      (keeps.disks _ folder seen makes.opened new makes.first _ opens.4 makes.gives_back) makes.ends
+
+  of-copy : (folder : List ℕ) (file : Result F ReadingFault) (old new : W) (status : Status)
+      (makes : BacksUpFound world disk remaining folder file old new status)
+      → Backed folder old new status (copied_of world disk remaining honest folder file old new status makes)
+  of-copy folder (Ok file) old new status makes = of-copy-in folder (remaining file) old new status makes
+  of-copy folder (Err fault) old new status makes = none_made (same old new makes.0)
+
+  -- no folder has changed before
+  after-that : {path : List ℕ} {deed : Option (Deed disk)} {status : Status} (old between new : W) → Steady old between
+      → Backed path between new status deed → Backed path old new status deed
+  after-that old between new steady (none_made ends) = none_made (then old between new steady ends)
+  after-that old between new steady (made_there found opened given left first result made survives begins opens is ends) =
+      made_there found opened given left first result made survives (then old between found steady begins) opens is ends
+  after-that old between new steady (saved_there found opened given left first result made survives held written begins opens is ends) =
+      saved_there found opened given left first result made survives held written (then old between found steady begins) opens is ends
+
+  -- the two ways to name the disk that is handed back agree
+  same-disk : (result : Result (D × Surveyed) (D × SalvageFault)) (path : List ℕ) (found : W) (first : D) (new : W)
+      → IsDiskOf disk leaves path found first (disk_back result) new → IsDiskOf disk leaves path found first (saved_disk result) new
+  same-disk (Ok saved) path found first new is = is
+  same-disk (Err refused) path found first new is = is
+
+  of-saved-in : (folder : List ℕ) (given : Option (List ℕ)) (old new : W) (held written : Option (List ℕ)) (status : Status)
+      (saving : SavesInFolder world disk folder given old new held written status)
+      → Backed folder old new status (saved_in world disk remaining honest folder given old new held written status saving)
+  of-saved-in folder given old new held written status (inl cannot) = none_made (of-new folder old cannot.fault new cannot.opens)
+  of-saved-in folder given old new held written status (inr saving) =
+      let opens = saving.opens in
+      let made = opens.0 in
+      let seen = opens.1 in
+      saved_there seen saving.opened given saving.left saving.first saving.result (saving.saved honest) (saving.survives honest) held written
+      (then old made seen (keeps.made folder old made _ opens.2) (keeps.stores folder made seen _ opens.3)) opens.4
+      (same-disk saving.result folder seen saving.first new (keeps.disks _ folder seen saving.opened new saving.first _ opens.4 saving.gives_back)) saving.writes
+
+  of-saved : (folder : List ℕ) (file : Result F ReadingFault) (old new : W) (held written : Option (List ℕ)) (status : Status)
+      (saving : SavesFound world disk remaining folder file old new held written status)
+      → Backed folder old new status (saved_of world disk remaining honest folder file old new held written status saving)
+  of-saved folder (Ok file) old new held written status saving = of-saved-in folder (remaining file) old new held written status saving
+  of-saved folder (Err fault) old new held written status saving = none_made (same old new saving.0)
+
+  -- what a salvage does
+  pub salvaged : (folder new_folder : List ℕ) (old new : W) (held written : Option (List ℕ)) (status : Status)
+      (does : Salvages world disk remaining folder new_folder old new held written status)
+      → Backed new_folder old new status (saved_of world disk remaining honest new_folder does.file does.found new held written status does.saves)
+  salvaged folder new_folder old new held written status does =
+      after-that old does.found new (of-open folder old does.file does.found does.opens)
+      (of-saved new_folder does.file does.found new held written status does.saves)
+
+  -- what a backup does
+  pub backed : (folder new_folder : List ℕ) (old new : W) (status : Status)
+      (does : BacksUpStore world disk remaining folder new_folder old new status)
+      → Backed new_folder old new status (copied_of world disk remaining honest new_folder does.file does.found new status does.makes)
+  backed folder new_folder old new status does =
+      after-that old does.found new (of-open folder old does.file does.found does.opens)
+      (of-copy new_folder does.file does.found new status does.makes)

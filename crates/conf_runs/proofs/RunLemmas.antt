@@ -1,85 +1,250 @@
 -- What runs of the program keep, one run after the other.
-use Rattle.std.proofs.Common.{◌≡◌, ◌≤◌, ℕ, List, [], ◌∷◌, ◌++◌, take, Option, None, Some, Ok, Err, refl, sym, ap, ◌∙◌, subst, arith}
-use Rattle.conf_disk.specs.Image.{Image, IsImage}
+use Rattle.std.proofs.Common.{◌≡◌, ◌≢◌, ◌≤◌, ◌⊎◌, inl, inr, ℕ, List, [], ◌∷◌, take, Option, None, Some, Result, Ok, Err, IfOk, true, refl, sym, ap, ◌∙◌, subst, arith}
+use Rattle.conf_disk.specs.Folder.{bytes_under}
+use Rattle.conf_disk.specs.Image.{Image, IsImage, image_now}
+use Rattle.conf_disk.specs.Laws.{ReadingIsAnImage}
 use Rattle.conf_disk.specs.Models.{DiskModel}
+use Rattle.conf_disk.specs.declared.disk.Name.TheVariants.{Store}
+use Rattle.conf_history.specs.Copies.{BacksUp, IsCopied, LeavesOldOrCopy}
+use Rattle.conf_history.specs.Copies.{disk_handed_back as copied_disk}
+use Rattle.conf_history.specs.Salvages.{IsSaved, LeavesOldOrSaved, Saves}
+use Rattle.conf_history.specs.Salvages.{disk_of as saved_disk}
+use Rattle.conf_history.specs.declared.fault.SalvageFault.{SalvageFault}
+use Rattle.conf_history.specs.declared.survey.Findings.{Findings}
+use Rattle.conf_journal.specs.Store.{IsStoreOf}
 use Rattle.conf_state.specs.Commands.{Command}
 use Rattle.conf_state.specs.States.{Contents}
-use Rattle.conf_state.specs.Steps.{after, and_then}
-use Rattle.conf_state.proofs.RunLaws.{after-append}
-use Rattle.conf_store.specs.Lives.{all_commands}
-use Rattle.conf_store.specs.Meaning.{FileMeans}
+use Rattle.conf_state.specs.Steps.{after}
+use Rattle.conf_record.specs.Documents.{BasesAreRead, BasesClose, BasesFit}
+use Rattle.conf_state.specs.BaseTexts.{base_bytes}
+use Rattle.conf_store.specs.Meaning.{FileMeans, empty_state}
+use Rattle.conf_store.proofs.StoreLemmas.{base-file-means, base-of}
 use Rattle.conf_store.specs.Opens.{OneMeaning}
 use Rattle.conf_words.specs.declared.invocation.Invocation.{Invocation}
+use Rattle.conf_words.specs.declared.invocation.Invocation.TheVariants.{Backup, Salvage}
+use Rattle.conf_tools.specs.Backups.{status_after_backup}
 use Rattle.conf_tools.specs.Performs.{Performs}
+use Rattle.conf_tools.specs.StoreWords.{WritesFindings}
 use Rattle.conf_tools.specs.ProgramCalls.{Call, CallHolds, EachMeans, disk_before, disk_behind}
 use Rattle.conf_tools.specs.ProgramCalls as program
 use Rattle.conf_tools.specs.Worlds.{Around, WorldModel}
 use Rattle.conf_tools.specs.declared.program.Status.{Status}
 use Rattle.conf_tools.specs.declared.program.Status.TheVariants.{Done, Found, Absent, Refused, WrongWords, Device}
-use Rattle.conf_runs.specs.Folders.{IsDiskOf, KeepsFolders}
-use Rattle.conf_runs.specs.Runs.{AreRuns, EachKept, Ending, Event, Holds, IsMade, KeptOf, LeavesAfter, MayLeave, MeantBy, Where, accepted_in, acknowledged, call_at, call_in, cut_off, elsewhere, ending_of_call, folder_of, here, not_begun, returned}
-use Rattle.conf_runs.proofs.StatusLemmas.{not-done}
-use Rattle.conf_runs.proofs.Effects.{Effect, Fits, effect, nothing, on_disk, spares}
+use Rattle.conf_runs.specs.Folders.{HandsOutNone, IsDiskOf, KeepsFolders}
+use Rattle.conf_runs.specs.Runs.{AreRuns, Deed, EachKept, Ending, Event, Holds, IsMade, Kept, KeptOf, Leads, LeavesAfter, MakesStore, MayLeave, MeantBy, Where, accepted_in, acknowledged, anew, makes_new, calls, commands, copies, cut_off, deed_at, deed_in, elsewhere, ending_of_call, first_disk, folder_of, here, last_disk, new_store, not_begun, own, returned, saves}
+use Rattle.conf_runs.proofs.StatusLemmas.{not-done, not-backed-up}
+use Rattle.conf_runs.proofs.Effects.{Backed, Effect, Fits, backed, effect, made_there, none_made, nothing, on_disk, salvaged, saved_there, spares}
 
 -- a file means one state at most
 file-one : OneMeaning → (file : Option (List ℕ)) (s t : Contents) → FileMeans file s → FileMeans file t → s ≡ t
 file-one one None s t a b = a ∙ sym b
 file-one one (Some bytes) s t a b = one bytes s t a b
 
--- the first commands lead to a state, and the others on from there
-led-on : (from between to : Contents) (first others : List Command) → after from first ≡ Ok between → after between others ≡ Ok to → after from (first ++ others) ≡ Ok to
-led-on from between to first others one two = after-append from first others ∙ ap (λ r. and_then r (λ (s : Contents). after s others)) one ∙ two
-
 some-one : (one other : List ℕ) → Some one ≡ Some other → one ≡ other
 some-one one other is = cc
 
+cut-off-returned : cut_off ≡ returned → ⊥
+cut-off-returned is = cc
+
+not-begun-returned : not_begun ≡ returned → ⊥
+not-begun-returned is = cc
+
 module _ {W D F P : Type 0} (world : WorldModel W D F P) (disk : DiskModel D) (remaining : F → Option (List ℕ))
     (honest : disk.honest) (leaves : W → List ℕ → Image → Type 0) (path : List ℕ) (keeps : KeepsFolders world disk leaves)
-    (one : OneMeaning) (holds : CallHolds disk) where
+    (one : OneMeaning) (reads_one : ReadingIsAnImage)
+    (counts : (d : D) (t : ℕ) (image : Image) → t ≤ disk.moment d → IsImage (disk.folder d) image → disk.left d t image)
+    (read : BasesAreRead) (close : BasesClose) (fit : BasesFit) (holds : CallHolds disk) where
   -- ---- what a run leaves of the folder
 
-  abbrev Leaves : Ending → Option (Call disk) → W → W → Image → Type 0
+  abbrev Leaves : Ending → Option (Deed disk) → W → W → Image → Type 0
   Leaves = LeavesAfter world disk remaining honest leaves path
 
-  -- what a run leaves is what was there, or what its call may leave of a disk that is the folder's
-  data At (ending : Ending) (old new : W) (status : Status) : Option (Call disk) → Type 0 where
+  -- the file means the state of the store that a deed makes
+  record IsNew (deed : Deed disk) (file : Option (List ℕ)) : Type 0 where
+    state : Contents
+    makes : MakesStore world disk remaining honest leaves path (Some deed) state
+    means : FileMeans file state
+
+  -- A deed that makes a store. A crash at any moment of it leaves an old store or the new one, and the new one where the
+  -- status is Done. It performs no commands.
+  record MakesNew (status : Status) (deed : Deed disk) : Type 0 where
+    later : disk.moment (first_disk disk deed) ≤ disk.moment (last_disk disk deed)
+    either : (image : Image) → disk.left (last_disk disk deed) (disk.moment (first_disk disk deed)) image
+        → IsStoreOf (disk.folder (first_disk disk deed)) image.store ⊎ IsNew deed image.store
+    done : status ≡ Done → (image : Image) → IsImage (disk.folder (last_disk disk deed)) image → IsNew deed image.store
+    no_commands : accepted_in world disk remaining honest leaves path (Some deed) ≡ []
+    none_acknowledged : acknowledged world disk remaining honest leaves path status (Some deed) ≡ 0
+    not_kept : status ≢ Done → IsMade world disk remaining honest leaves path status (Some deed)
+
+  is-copied : (given left : Option (List ℕ)) (first : D) (result : Result D (D × SalvageFault))
+      (made : IfOk result (λ made. BacksUp given left (disk.folder first) (disk.folder made)))
+      (survives : LeavesOldOrCopy disk given left first (copied_disk result)) (file : Option (List ℕ))
+      → IsStoreOf (disk.folder first) file ⊎ IsCopied given left file
+      → IsStoreOf (disk.folder first) file ⊎ IsNew (copies given left first result made survives) file
+  is-copied given left first result made survives file (inl old) = inl old
+  is-copied given left first result made survives file (inr copied) = inr (record {
+    state = copied.reads.s;
+    makes = record { copy = copied.copy; reads = copied.reads; is = refl };
+    means = subst (λ (f : Option (List ℕ)). FileMeans f copied.reads.s) (sym copied.is) copied.reads.means;
+  })
+
+  copy-done : (status : Status) (given left : Option (List ℕ)) (first : D) (result : Result D (D × SalvageFault))
+      (made : IfOk result (λ made. BacksUp given left (disk.folder first) (disk.folder made)))
+      (survives : LeavesOldOrCopy disk given left first (copied_disk result)) → status ≡ status_after_backup result → status ≡ Done
+      → (image : Image) → IsImage (disk.folder (copied_disk result)) image → IsNew (copies given left first result made survives) image.store
+  copy-done status given left first (Ok new) made survives ends done image is = record {
+    state = made.reads.s;
+    makes = record { copy = made.copy; reads = made.reads; is = refl };
+    means = made.now image is;
+  }
+  copy-done status given left first (Err refused) made survives ends done image is = absurd (not-backed-up refused.1 (sym done ∙ ends))
+
+  makes-copy : (status : Status) (given left : Option (List ℕ)) (first : D) (result : Result D (D × SalvageFault))
+      (made : IfOk result (λ made. BacksUp given left (disk.folder first) (disk.folder made)))
+      (survives : LeavesOldOrCopy disk given left first (copied_disk result)) → status ≡ status_after_backup result
+      → MakesNew status (copies given left first result made survives)
+  makes-copy status given left first result made survives ends = record {
+    later = survives.later;
+    either = λ image was. is-copied given left first result made survives image.store (survives.each image was);
+    done = copy-done status given left first result made survives ends;
+    no_commands = refl;
+    none_acknowledged = refl;
+    not_kept = λ not. not;
+  }
+
+  is-saved : (given left : Option (List ℕ)) (first : D) (result : Result (D × Findings) (D × SalvageFault))
+      (made : IfOk result (λ saved. Saves given left (disk.folder first) (disk.folder saved.0) saved.1))
+      (survives : LeavesOldOrSaved disk given left first (saved_disk result)) (file : Option (List ℕ))
+      → IsStoreOf (disk.folder first) file ⊎ IsSaved given left file
+      → IsStoreOf (disk.folder first) file ⊎ IsNew (saves given left first result made survives) file
+  is-saved given left first result made survives file (inl old) = inl old
+  is-saved given left first result made survives file (inr saved) = inr (record {
+    state = saved.s;
+    makes = record { findings = saved.findings; reads = saved.reads };
+    means = base-file-means saved.s (base_bytes saved.s) (base-of read close fit saved.s (base_bytes saved.s) saved.reads.kept refl) file saved.is;
+  })
+
+  salvage-done : (status : Status) (held written : Option (List ℕ)) (given left : Option (List ℕ)) (first : D)
+      (result : Result (D × Findings) (D × SalvageFault))
+      (made : IfOk result (λ saved. Saves given left (disk.folder first) (disk.folder saved.0) saved.1))
+      (survives : LeavesOldOrSaved disk given left first (saved_disk result)) → WritesFindings result held written status → status ≡ Done
+      → (image : Image) → IsImage (disk.folder (saved_disk result)) image → IsNew (saves given left first result made survives) image.store
+  salvage-done status held written given left first (Ok saved) made survives writes done image is = record {
+    state = made.s;
+    makes = record { findings = saved.1; reads = made.reads };
+    means = made.now image is;
+  }
+  salvage-done status held written given left first (Err refused) made survives writes done image is =
+      absurd (not-backed-up refused.1 (sym done ∙ writes.1))
+
+  makes-saved : (status : Status) (held written : Option (List ℕ)) (given left : Option (List ℕ)) (first : D)
+      (result : Result (D × Findings) (D × SalvageFault))
+      (made : IfOk result (λ saved. Saves given left (disk.folder first) (disk.folder saved.0) saved.1))
+      (survives : LeavesOldOrSaved disk given left first (saved_disk result)) → WritesFindings result held written status
+      → MakesNew status (saves given left first result made survives)
+  makes-saved status held written given left first result made survives writes = record {
+    later = survives.later;
+    either = λ image was. is-saved given left first result made survives image.store (survives.each image was);
+    done = salvage-done status held written given left first result made survives writes;
+    no_commands = refl;
+    none_acknowledged = refl;
+    not_kept = λ not. not;
+  }
+
+  -- what a run leaves is what was there, or what its deed may leave of a disk that is the folder's
+  data At (ending : Ending) (old new : W) (status : Status) : Option (Deed disk) → Type 0 where
     quiet : ((image : Image) → Leaves ending None old new image → leaves old path image) → At ending old new status None
     busy : (call : Call disk) → ((image : Image) → IsImage (disk.folder (disk_before disk call)) image → leaves old path image)
-        → ((image : Image) → Leaves ending (Some call) old new image
+        → ((image : Image) → Leaves ending (Some (calls call)) old new image
         → program.MayLeave disk (ending_of_call ending) (disk_before disk call) (disk_behind disk call) image)
-        → Fits world disk remaining honest leaves keeps status call → At ending old new status (Some call)
+        → Fits world disk remaining honest leaves keeps status call → At ending old new status (Some (calls call))
+    fresh : (deed : Deed disk) → MakesNew status deed → ((image : Image) → IsImage (disk.folder (first_disk disk deed)) image → leaves old path image)
+        → ((image : Image) → Leaves ending (Some deed) old new image
+        → program.MayLeave disk (ending_of_call ending) (first_disk disk deed) (last_disk disk deed) image)
+        → bytes_under (disk.folder (first_disk disk deed)) Store ≡ None → At ending old new status (Some deed)
 
   abbrev Did : W → W → Status → Option (List ℕ) → Option (Call disk) → Type 0
   Did = Effect world disk remaining honest leaves keeps
 
   at-returned : (old new : W) (status : Status) (folder : Option (List ℕ)) (c : Option (Call disk)) → Did old new status folder c → folder ≡ Some path
-      → At returned old new status c
+      → At returned old new status (own disk c)
   at-returned old new status folder None (nothing _ steady) is = quiet (λ image left. steady path image left)
   at-returned old new status None (Some call) did is = elim did [ ]
-  at-returned old new status (Some own) (Some call) (on_disk _ found _ begins of fits) is =
-      let here = subst (λ (p : List ℕ). IsDiskOf disk leaves p found (disk_before disk call) (disk_behind disk call) new) (some-one own path is) of in
+  at-returned old new status (Some own_path) (Some call) (on_disk _ found _ begins of fits) is =
+      let here = subst (λ (p : List ℕ). IsDiskOf disk leaves p found (disk_before disk call) (disk_behind disk call) new) (some-one own_path path is) of in
       busy call (λ image was. begins path image (here.handed_out image was)) (λ image now. here.given_back image now) fits
 
   at-cut-off : (old new : W) (status : Status) (folder : Option (List ℕ)) (c : Option (Call disk)) → Did old new status folder c → folder ≡ Some path
-      → At cut_off old new status c
+      → At cut_off old new status (own disk c)
   at-cut-off old new status folder None (nothing _ steady) is = quiet (λ image left. left)
   at-cut-off old new status None (Some call) did is = elim did [ ]
-  at-cut-off old new status (Some own) (Some call) (on_disk _ found _ begins of fits) is =
-      let here = subst (λ (p : List ℕ). IsDiskOf disk leaves p found (disk_before disk call) (disk_behind disk call) new) (some-one own path is) of in
+  at-cut-off old new status (Some own_path) (Some call) (on_disk _ found _ begins of fits) is =
+      let here = subst (λ (p : List ℕ). IsDiskOf disk leaves p found (disk_before disk call) (disk_behind disk call) new) (some-one own_path path is) of in
       busy call (λ image was. begins path image (here.handed_out image was)) (λ image left. left) fits
 
-  at : (invocation : Invocation) (place : Where path invocation) (ending : Ending) (old new : Around W) (status : Status)
+  abbrev DidCopy : List ℕ → W → W → Status → Option (Deed disk) → Type 0
+  DidCopy = Backed world disk remaining honest leaves keeps
+
+  new-returned : (own_path : List ℕ) (old new : W) (status : Status) (deed : Option (Deed disk)) → DidCopy own_path old new status deed
+      → own_path ≡ path → HandsOutNone world disk → At returned old new status deed
+  new-returned own_path old new status None (none_made steady) is empty = quiet (λ image left. steady path image left)
+  new-returned own_path old new status (Some (calls call)) did is empty = elim did [ ]
+  new-returned own_path old new status (Some (copies given left first result made survives)) (made_there found opened _ _ _ _ _ _ begins opens of ends) is empty =
+      let here = subst (λ (p : List ℕ). IsDiskOf disk leaves p found first (copied_disk result) new) is of in
+      fresh (copies given left first result made survives) (makes-copy status given left first result made survives ends)
+      (λ image was. begins path image (here.handed_out image was)) (λ image now. here.given_back image now) (empty own_path found opened first opens)
+  new-returned own_path old new status (Some (saves given left first result made survives)) (saved_there found opened _ _ _ _ _ _ held written begins opens of writes) is empty =
+      let here = subst (λ (p : List ℕ). IsDiskOf disk leaves p found first (saved_disk result) new) is of in
+      fresh (saves given left first result made survives) (makes-saved status held written given left first result made survives writes)
+      (λ image was. begins path image (here.handed_out image was)) (λ image now. here.given_back image now) (empty own_path found opened first opens)
+
+  new-cut-off : (own_path : List ℕ) (old new : W) (status : Status) (deed : Option (Deed disk)) → DidCopy own_path old new status deed
+      → own_path ≡ path → HandsOutNone world disk → At cut_off old new status deed
+  new-cut-off own_path old new status None (none_made steady) is empty = quiet (λ image left. left)
+  new-cut-off own_path old new status (Some (calls call)) did is empty = elim did [ ]
+  new-cut-off own_path old new status (Some (copies given left first result made survives)) (made_there found opened _ _ _ _ _ _ begins opens of ends) is empty =
+      let here = subst (λ (p : List ℕ). IsDiskOf disk leaves p found first (copied_disk result) new) is of in
+      fresh (copies given left first result made survives) (makes-copy status given left first result made survives ends)
+      (λ image was. begins path image (here.handed_out image was)) (λ image left. left) (empty own_path found opened first opens)
+  new-cut-off own_path old new status (Some (saves given left first result made survives)) (saved_there found opened _ _ _ _ _ _ held written begins opens of writes) is empty =
+      let here = subst (λ (p : List ℕ). IsDiskOf disk leaves p found first (saved_disk result) new) is of in
+      fresh (saves given left first result made survives) (makes-saved status held written given left first result made survives writes)
+      (λ image was. begins path image (here.handed_out image was)) (λ image left. left) (empty own_path found opened first opens)
+
+  -- a run that makes a store of what another one says
+  at-new : (invocation : Invocation) (is : folder_of invocation ≡ Some path) (is_new : makes_new invocation ≡ true) (empty : HandsOutNone world disk)
+      (ending : Ending) (old new : Around W) (status : Status) (does : Performs world disk remaining invocation old new status)
+      → At ending old.world new.world status (deed_at world disk remaining honest leaves path invocation (anew is is_new empty) ending old new status does)
+  at-new invocation is is_new empty not_begun old new status does = quiet (λ image left. left)
+  at-new (Backup folder new_folder) is is_new empty returned old new status does =
+      new-returned new_folder.now old.world new.world status _ (backed world disk remaining honest leaves keeps folder.now new_folder.now old.world new.world status does.0)
+      (some-one new_folder.now path is) empty
+  at-new (Backup folder new_folder) is is_new empty cut_off old new status does =
+      new-cut-off new_folder.now old.world new.world status _ (backed world disk remaining honest leaves keeps folder.now new_folder.now old.world new.world status does.0)
+      (some-one new_folder.now path is) empty
+  at-new (Salvage folder new_folder) is is_new empty returned old new status does =
+      new-returned new_folder.now old.world new.world status _
+      (salvaged world disk remaining honest leaves keeps folder.now new_folder.now old.world new.world old.output new.output status does.0)
+      (some-one new_folder.now path is) empty
+  at-new (Salvage folder new_folder) is is_new empty cut_off old new status does =
+      new-cut-off new_folder.now old.world new.world status _
+      (salvaged world disk remaining honest leaves keeps folder.now new_folder.now old.world new.world old.output new.output status does.0)
+      (some-one new_folder.now path is) empty
+  at-new invocation is is_new empty ending old new status does = cc
+
+  at : (invocation : Invocation) (place : Where world disk path invocation) (ending : Ending) (old new : Around W) (status : Status)
       (does : Performs world disk remaining invocation old new status)
-      → At ending old.world new.world status (call_at world disk remaining honest leaves path invocation place ending old new status does)
+      → At ending old.world new.world status (deed_at world disk remaining honest leaves path invocation place ending old new status does)
   at invocation (elsewhere is_other) returned old new status does =
       quiet (λ image left. spares world disk remaining honest leaves keeps path invocation old new status does is_other image left)
   at invocation (elsewhere is_other) cut_off old new status does = quiet (λ image left. left)
   at invocation (elsewhere is_other) not_begun old new status does = quiet (λ image left. left)
-  at invocation (here is no_salvage) not_begun old new status does = quiet (λ image left. left)
-  at invocation (here is no_salvage) returned old new status does =
-      at-returned old.world new.world status (folder_of invocation) _ (effect world disk remaining honest leaves keeps invocation old new status does no_salvage) is
-  at invocation (here is no_salvage) cut_off old new status does =
-      at-cut-off old.world new.world status (folder_of invocation) _ (effect world disk remaining honest leaves keeps invocation old new status does no_salvage) is
+  at invocation (here is not_new) not_begun old new status does = quiet (λ image left. left)
+  at invocation (here is not_new) returned old new status does =
+      at-returned old.world new.world status (folder_of invocation) _ (effect world disk remaining honest leaves keeps invocation old new status does not_new) is
+  at invocation (here is not_new) cut_off old new status does =
+      at-cut-off old.world new.world status (folder_of invocation) _ (effect world disk remaining honest leaves keeps invocation old new status does not_new) is
+  at invocation (anew is is_new empty) ending old new status does = at-new invocation is is_new empty ending old new status does
 
   -- ---- what is kept of a run
 
@@ -88,8 +253,8 @@ module _ {W D F P : Type 0} (world : WorldModel W D F P) (disk : DiskModel D) (r
 
   -- what is acknowledged of a call was answered
   least : (status : Status) (call : Call disk) → Fits world disk remaining honest leaves keeps status call → (count : ℕ) → program.answered disk call ≤ count
-      → acknowledged world disk remaining honest leaves path status (Some call) ≤ count
-  least status (program.running given left held written grouping old result crashes) fits count le = le
+      → acknowledged world disk remaining honest leaves path status (Some (calls call)) ≤ count
+  least status (program.running io grouping old result crashes) fits count le = le
   least status (program.exporting old new crashes) fits count le = omega arith
   least Done (program.changing change old (Ok new) crashes) fits count le = le
   least Done (program.changing change old (Err (new, fault)) crashes) fits count le = absurd (not-done fault fits)
@@ -101,33 +266,42 @@ module _ {W D F P : Type 0} (world : WorldModel W D F P) (disk : DiskModel D) (r
 
   -- a change whose status is Done was accepted
   made : (status : Status) (call : Call disk) → Fits world disk remaining honest leaves keeps status call
-      → IsMade world disk remaining honest leaves path status (Some call)
-  made status (program.running given left held written grouping old result crashes) fits = tt
+      → IsMade world disk remaining honest leaves path status (Some (calls call))
+  made status (program.running io grouping old result crashes) fits = tt
   made status (program.exporting old new crashes) fits = tt
   made status (program.changing change old (Ok new) crashes) fits = λ is. crashes.all refl
   made status (program.changing change old (Err (new, fault)) crashes) fits = λ is. not-done fault (sym is ∙ fits)
 
-  -- what is kept of a run, by its call
-  record Parts (ending : Ending) (status : Status) (c : Option (Call disk)) (kept : List Command) : Type 0 where
+  -- what is kept of a run, by its deed
+  record Parts (ending : Ending) (status : Status) (deed : Option (Deed disk)) (kept : List Command) : Type 0 where
     count : ℕ
-    are : kept ≡ take count (accepted_in world disk remaining honest leaves path c)
-    all : ending ≡ returned → acknowledged world disk remaining honest leaves path status c ≤ count
-    is : ending ≡ returned → IsMade world disk remaining honest leaves path status c
+    are : kept ≡ take count (accepted_in world disk remaining honest leaves path deed)
+    all : ending ≡ returned → acknowledged world disk remaining honest leaves path status deed ≤ count
+    is : ending ≡ returned → IsMade world disk remaining honest leaves path status deed
 
-  kept-of : (event : Run) (c : Option (Call disk)) (kept : List Command) → call_in world disk remaining honest leaves path event ≡ c
-      → Parts event.ending event.status c kept → KeptOf world disk remaining honest leaves path event kept
-  kept-of event c kept is parts =
-      let own = subst (λ (c : Option (Call disk)). Parts event.ending event.status c kept) (sym is) parts in
-      record { count = own.count; are = own.are; all_acknowledged = own.all; is_made = own.is }
+  kept-of : (event : Run) (deed : Option (Deed disk)) (kept : List Command) → deed_in world disk remaining honest leaves path event ≡ deed
+      → Parts event.ending event.status deed kept → KeptOf world disk remaining honest leaves path event (commands kept)
+  kept-of event deed kept is parts =
+      let mine = subst (λ (deed : Option (Deed disk)). Parts event.ending event.status deed kept) (sym is) parts in
+      record { count = mine.count; are = mine.are; all_acknowledged = mine.all; is_made = mine.is }
+
+  -- what is kept of a run leads from one state to another
+  abbrev Step : Contents → Kept → Contents → Type 0
+  Step from (commands kept) to = after from kept ≡ Ok to
+  Step from (new_store state) to = (from ≡ empty_state) × (to ≡ state)
+
+  led-on : (from between to : Contents) (first : Kept) (others : List Kept) → Step from first between → Leads between others to → Leads from (first ∷ others) to
+  led-on from between to (commands kept) others step rest = (between, step, rest)
+  led-on from between to (new_store state) others step rest = (step.0, subst (λ (s : Contents). Leads s others to) step.1 rest)
 
   -- What is kept of a run: it leads from a state of which Held holds to the state that the file means.
-  record Kept (Held : Contents → Type 0) (event : Run) (file : Option (List ℕ)) : Type 0 where
-    kept : List Command
+  record KeptRun (Held : Contents → Type 0) (event : Run) (file : Option (List ℕ)) : Type 0 where
+    kept : Kept
     of : KeptOf world disk remaining honest leaves path event kept
     from : Contents
     stood : Held from
     to : Contents
-    leads : after from kept ≡ Ok to
+    leads : Step from kept to
     means : FileMeans file to
 
   -- whatever is left means a state of which Held holds
@@ -137,12 +311,75 @@ module _ {W D F P : Type 0} (world : WorldModel W D F P) (disk : DiskModel D) (r
   returns : (ending : Ending) → ending ≡ returned → ending_of_call ending ≡ program.returned
   returns ending is = ap ending_of_call is
 
-  kept-at : (Held : Contents → Type 0) (event : Run) (c : Option (Call disk)) → call_in world disk remaining honest leaves path event ≡ c
-      → At event.ending event.old.world event.new.world event.status c → Stands (leaves event.old.world path) Held
-      → (image : Image) → Leaves event.ending c event.old.world event.new.world image → Kept Held event image.store
+  -- a new store is kept, of a folder that had none
+  kept-new : (Held : Contents → Type 0) (event : Run) (deed : Deed disk) → deed_in world disk remaining honest leaves path event ≡ Some deed
+      → ((image : Image) → IsImage (disk.folder (first_disk disk deed)) image → leaves event.old.world path image)
+      → bytes_under (disk.folder (first_disk disk deed)) Store ≡ None → Stands (leaves event.old.world path) Held
+      → (file : Option (List ℕ)) → IsNew deed file → KeptRun Held event file
+  kept-new Held event deed is found none stands file new =
+      let folder = disk.folder (first_disk disk deed) in
+      let entry = stands (image_now folder) (found (image_now folder) (reads_one folder)) in
+      record {
+        kept = new_store new.state;
+        of = subst (λ (d : Option (Deed disk)). MakesStore world disk remaining honest leaves path d new.state) (sym is) new.makes;
+        from = entry.0;
+        stood = entry.1;
+        to = new.state;
+        leads = (subst (λ (f : Option (List ℕ)). FileMeans f entry.0) none entry.2, refl);
+        means = new.means;
+      }
+
+  -- an old store is kept, or a new one
+  kept-either : (Held : Contents → Type 0) (event : Run) (deed : Deed disk) → MakesNew event.status deed
+      → deed_in world disk remaining honest leaves path event ≡ Some deed → (event.ending ≡ returned → event.status ≢ Done)
+      → ((image : Image) → IsImage (disk.folder (first_disk disk deed)) image → leaves event.old.world path image)
+      → bytes_under (disk.folder (first_disk disk deed)) Store ≡ None → Stands (leaves event.old.world path) Held
+      → (file : Option (List ℕ)) → IsStoreOf (disk.folder (first_disk disk deed)) file ⊎ IsNew deed file → KeptRun Held event file
+  kept-either Held event deed makes is not_done found none stands file (inl old) =
+      let entry = stands old.image (found old.image old.is) in
+      record {
+        kept = commands [];
+        of = kept-of event (Some deed) [] is (record {
+          count = 0;
+          are = sym (ap (λ (c : List Command). take 0 c) makes.no_commands);
+          all = λ _. subst (λ (n : ℕ). n ≤ 0) (sym makes.none_acknowledged) (omega arith);
+          is = λ ends. makes.not_kept (not_done ends);
+        });
+        from = entry.0;
+        stood = entry.1;
+        to = entry.0;
+        leads = refl;
+        means = subst (λ (f : Option (List ℕ)). FileMeans f entry.0) old.same entry.2;
+      }
+  kept-either Held event deed makes is not_done found none stands file (inr new) = kept-new Held event deed is found none stands file new
+
+  kept-returned : (Held : Contents → Type 0) (event : Run) (status : Status) → event.status ≡ status → (deed : Deed disk) → MakesNew event.status deed
+      → deed_in world disk remaining honest leaves path event ≡ Some deed
+      → ((image : Image) → IsImage (disk.folder (first_disk disk deed)) image → leaves event.old.world path image)
+      → bytes_under (disk.folder (first_disk disk deed)) Store ≡ None → Stands (leaves event.old.world path) Held
+      → (image : Image) → IsImage (disk.folder (last_disk disk deed)) image → KeptRun Held event image.store
+  kept-returned Held event Done ended deed makes is found none stands image now = kept-new Held event deed is found none stands image.store (makes.done ended image now)
+  kept-returned Held event status ended deed makes is found none stands image now =
+      kept-either Held event deed makes is (λ _ done. cc) found none stands image.store
+      (makes.either image (counts (last_disk disk deed) (disk.moment (first_disk disk deed)) image makes.later now))
+
+  kept-fresh : (Held : Contents → Type 0) (event : Run) (ending : Ending) → event.ending ≡ ending → (deed : Deed disk) → MakesNew event.status deed
+      → deed_in world disk remaining honest leaves path event ≡ Some deed
+      → ((image : Image) → IsImage (disk.folder (first_disk disk deed)) image → leaves event.old.world path image)
+      → bytes_under (disk.folder (first_disk disk deed)) Store ≡ None → Stands (leaves event.old.world path) Held
+      → (image : Image) → program.MayLeave disk (ending_of_call ending) (first_disk disk deed) (last_disk disk deed) image → KeptRun Held event image.store
+  kept-fresh Held event returned ended deed makes is found none stands image may = kept-returned Held event event.status refl deed makes is found none stands image may
+  kept-fresh Held event cut_off ended deed makes is found none stands image may =
+      kept-either Held event deed makes is (λ other. absurd (cut-off-returned (sym ended ∙ other))) found none stands image.store (makes.either image may)
+  kept-fresh Held event not_begun ended deed makes is found none stands image may =
+      kept-either Held event deed makes is (λ other. absurd (not-begun-returned (sym ended ∙ other))) found none stands image.store (makes.either image may)
+
+  kept-at : (Held : Contents → Type 0) (event : Run) (deed : Option (Deed disk)) → deed_in world disk remaining honest leaves path event ≡ deed
+      → At event.ending event.old.world event.new.world event.status deed → Stands (leaves event.old.world path) Held
+      → (image : Image) → Leaves event.ending deed event.old.world event.new.world image → KeptRun Held event image.store
   kept-at Held event None is (quiet steady) stands image left =
       let here = stands image (steady image left) in record {
-        kept = [];
+        kept = commands [];
         of = kept-of event None [] is (record { count = 0; are = refl; all = λ _. omega arith; is = λ _. tt });
         from = here.0;
         stood = here.1;
@@ -150,12 +387,12 @@ module _ {W D F P : Type 0} (world : WorldModel W D F P) (disk : DiskModel D) (r
         leads = refl;
         means = here.2;
       }
-  kept-at Held event (Some call) is (busy _ found may fits) stands image left =
+  kept-at Held event (Some (calls call)) is (busy _ found may fits) stands image left =
       let each : EachMeans disk (disk_before disk call) = λ image was. let s = stands image (found image was) in (s.0, s.2) in
       let got = holds (record { call = call; ending = ending_of_call event.ending }) each image (may image left) in
       let entry = stands got.began.entry (found got.began.entry got.began.is) in record {
-        kept = got.kept;
-        of = kept-of event (Some call) got.kept is (record {
+        kept = commands got.kept;
+        of = kept-of event (Some (calls call)) got.kept is (record {
           count = got.of.count;
           are = got.of.are;
           all = λ ends. least event.status call fits got.of.count (got.of.all_answered (returns event.ending ends));
@@ -167,22 +404,28 @@ module _ {W D F P : Type 0} (world : WorldModel W D F P) (disk : DiskModel D) (r
         leads = got.leads;
         means = got.means;
       }
+  kept-at Held event (Some (calls call)) is (fresh _ makes found may none) stands image remains =
+      kept-fresh Held event event.ending refl (calls call) makes is found none stands image (may image remains)
+  kept-at Held event (Some (copies given left first result made survives)) is (fresh _ makes found may none) stands image remains =
+      kept-fresh Held event event.ending refl (copies given left first result made survives) makes is found none stands image (may image remains)
+  kept-at Held event (Some (saves given left first result made survives)) is (fresh _ makes found may none) stands image remains =
+      kept-fresh Held event event.ending refl (saves given left first result made survives) makes is found none stands image (may image remains)
 
   kept-run : (Held : Contents → Type 0) (event : Run) → Stands (leaves event.old.world path) Held
-      → (image : Image) → MayLeave world disk remaining honest leaves path event image → Kept Held event image.store
+      → (image : Image) → MayLeave world disk remaining honest leaves path event image → KeptRun Held event image.store
   kept-run Held event stands image left =
-      kept-at Held event (call_in world disk remaining honest leaves path event) refl
+      kept-at Held event (deed_in world disk remaining honest leaves path event) refl
       (at event.invocation event.place event.ending event.old event.new event.status event.does) stands image left
 
   -- ---- all runs
 
   record KeptOfAll (Held : Contents → Type 0) (events : List Run) (file : Option (List ℕ)) : Type 0 where
-    kept : List (List Command)
+    kept : List Kept
     each : EachKept world disk remaining honest leaves path events kept
     from : Contents
     stood : Held from
     to : Contents
-    leads : after from (all_commands kept) ≡ Ok to
+    leads : Leads from kept to
     means : FileMeans file to
 
   kept-runs : (events : List Run) (Held : Contents → Type 0) (before behind : Image → Type 0) → Stands before Held
@@ -192,8 +435,8 @@ module _ {W D F P : Type 0} (world : WorldModel W D F P) (disk : DiskModel D) (r
       record { kept = []; each = tt; from = here.0; stood = here.1; to = here.0; leads = refl; means = here.2 }
   kept-runs (event ∷ events) Held before behind stands (found, further) image is =
       let stood = λ (image : Image) (was : leaves event.old.world path image). stands image (found image was) in
-      let Reached : Contents → Type 0 = λ to. (kept : List Command) × KeptOf world disk remaining honest leaves path event kept
-      × (from : Contents) × Held from × (after from kept ≡ Ok to) in
+      let Reached : Contents → Type 0 = λ to. (kept : Kept) × KeptOf world disk remaining honest leaves path event kept
+      × (from : Contents) × Held from × Step from kept to in
       let rest = kept-runs events Reached (MayLeave world disk remaining honest leaves path event) behind
       (λ image left. let k = kept-run Held event stood image left in (k.to, (k.kept, k.of, k.from, k.stood, k.leads), k.means)) further image is in
       let first = rest.stood in record {
@@ -202,7 +445,7 @@ module _ {W D F P : Type 0} (world : WorldModel W D F P) (disk : DiskModel D) (r
         from = first.2;
         stood = first.3;
         to = rest.to;
-        leads = led-on first.2 rest.from rest.to first.0 (all_commands rest.kept) first.4 rest.leads;
+        leads = led-on first.2 rest.from rest.to first.0 rest.kept first.4 rest.leads;
         means = rest.means;
       }
 

@@ -1,11 +1,16 @@
 -- The status of a fault is never Done.
 use Rattle.std.proofs.Common.{◌≡◌}
+use Rattle.conf_history.specs.declared.fault.HistoryFault.TheVariants as history
+use Rattle.conf_history.specs.declared.fault.SalvageFault.{SalvageFault}
+use Rattle.conf_history.specs.declared.fault.SalvageFault.TheVariants as salvage
 use Rattle.conf_folder.specs.declared.fault.FolderFault.TheVariants as folder
 use Rattle.conf_state.specs.declared.fault.StoreFault.TheVariants as store
 use Rattle.conf_store.specs.declared.fault.OpenFault.TheVariants as open_fault
 use Rattle.conf_session.specs.declared.fault.SessionFault.TheVariants as session
+use Rattle.conf_tools.specs.ReadingStatuses.{status_of_reading}
 use Rattle.conf_tools.specs.Statuses.{status_of_store}
 use Rattle.conf_tools.specs.declared.program.Status.TheVariants.{Done}
+use Rattle.conf_tools.specs.declared.reading_fault.ReadingFault.TheVariants.{Salvage}
 use Rattle.conf_tools.specs.declared.stores.StoreToolFault.{StoreToolFault}
 use Rattle.conf_tools.specs.declared.stores.StoreToolFault.TheVariants.{Folder as InFolder, Open, Session, Export, Condition, Refused, StoreExists}
 
@@ -56,3 +61,14 @@ not-done (Refused store.Reopen) is = cc
 not-done (Refused store.Device) is = cc
 not-done (Refused store.OutOfMemory) is = cc
 not-done StoreExists is = cc
+
+pub not-backed-up : (fault : SalvageFault) → Done ≡ status_of_reading (Salvage fault) → ⊥
+not-backed-up (salvage.History history.NotAStore) is = cc
+not-backed-up (salvage.History history.Input) is = cc
+not-backed-up (salvage.History history.Output) is = cc
+not-backed-up (salvage.History (history.Damaged bad)) is = cc
+not-backed-up (salvage.History history.NoSuchCommand) is = cc
+not-backed-up (salvage.History history.OutOfMemory) is = cc
+not-backed-up salvage.StoreExists is = cc
+not-backed-up salvage.Device is = cc
+not-backed-up salvage.OutOfMemory is = cc

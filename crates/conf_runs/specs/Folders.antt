@@ -1,11 +1,14 @@
 -- What a world promises of the folders in it.
-use Rattle.std.specs.Prelude.{◌≢◌, ℕ, List, Option, Result, Ok, Err}
+use Rattle.std.specs.Prelude.{◌≡◌, ◌≢◌, ℕ, List, Option, None, Result, Ok, Err}
+use Rattle.conf_disk.specs.Folder.{bytes_under}
 use Rattle.conf_disk.specs.Image.{Image, IsImage}
 use Rattle.conf_disk.specs.Models.{DiskModel}
+use Rattle.conf_disk.specs.declared.disk.Name.TheVariants.{Store}
 use Rattle.conf_files.specs.declared.replace.ReplaceFault.{ReplaceFault}
 use Rattle.conf_folder.specs.declared.fault.FolderFault.{FolderFault}
 use Rattle.conf_tools.specs.Worlds.{WorldModel}
 use Rattle.conf_tools.specs.declared.world.Access.{Access}
+use Rattle.conf_tools.specs.declared.world.Access.TheVariants.{New}
 
 -- `leaves` says of a moment what a crash then leaves of the folder at a path.
 module _ {W : Type 0} (leaves : W → List ℕ → Image → Type 0) where
@@ -39,3 +42,9 @@ module _ {W D F P : Type 0} (world : WorldModel W D F P) (disk : DiskModel D) (l
         → world.opened_to_replace path old result new → LeavesNoMore leaves old new
     pub replaced : (place : P) (bytes : List ℕ) (old new : W) (result : Result (Unit {0}) ReplaceFault)
         → world.replaced place bytes old result new → LeavesNoMore leaves old new
+
+module _ {W D F P : Type 0} (world : WorldModel W D F P) (disk : DiskModel D) where
+  -- where a new store is to be made, no disk is handed out that has one
+  abbrev pub HandsOutNone : Type 0
+  HandsOutNone = (path : List ℕ) (old opened : W) (first : D) → world.opened New path old (Ok first) opened
+      → bytes_under (disk.folder first) Store ≡ None

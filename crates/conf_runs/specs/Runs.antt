@@ -1,36 +1,45 @@
 -- Runs of the program, one after the other, and what the store in one folder keeps of their commands.
-use Rattle.std.specs.Prelude.{◌≡◌, ◌≢◌, ◌≤◌, ℕ, Bool, true, false, List, [], ◌∷◌, length, take, Option, None, Some, Result, Ok, Err}
+use Rattle.std.specs.Prelude.{◌≡◌, ◌≢◌, ◌≤◌, ℕ, Bool, true, false, List, [], ◌∷◌, length, take, Option, None, Some, Result, Ok, Err, IfOk}
 use Rattle.std.proofs.Common.{inl, inr}
 use Rattle.conf_conditions.specs.Conditions.{Condition}
 use Rattle.conf_disk.specs.Image.{Image}
 use Rattle.conf_disk.specs.Models.{DiskModel}
+use Rattle.conf_history.specs.Copies.{BacksUp, LeavesOldOrCopy, ReadsCopy}
+use Rattle.conf_history.specs.Copies.{disk_handed_back as copied_disk}
+use Rattle.conf_history.specs.Histories.{ReadsSurvey}
+use Rattle.conf_history.specs.Salvages.{LeavesOldOrSaved, Saves}
+use Rattle.conf_history.specs.Salvages.{disk_of as saved_disk}
+use Rattle.conf_history.specs.declared.fault.SalvageFault.{SalvageFault}
+use Rattle.conf_history.specs.declared.survey.Findings.{Findings}
 use Rattle.conf_state.specs.Commands.{Command}
 use Rattle.conf_state.specs.States.{Contents}
 use Rattle.conf_state.specs.Steps.{after}
-use Rattle.conf_store.specs.Lives.{all_commands}
-use Rattle.conf_store.specs.Meaning.{FileMeans}
+use Rattle.conf_store.specs.Meaning.{FileMeans, empty_state}
 use Rattle.conf_words.specs.declared.invocation.Conditions.{Conditions}
 use Rattle.conf_words.specs.declared.invocation.Invocation.{Invocation}
 use Rattle.conf_words.specs.declared.invocation.TreeForm.{TreeForm}
 use Rattle.conf_words.specs.declared.invocation.Invocation.TheVariants.{Init, Import, Set, Delete, Copy, Rename, Checkpoint, Run, Export, Salvage, Backup}
 use Rattle.conf_tools.specs.Asking.{AskedConditions}
+use Rattle.conf_tools.specs.Backups.{BacksUpFound, BacksUpInFolder}
 use Rattle.conf_tools.specs.Changes.{Performs as ChangePerforms}
 use Rattle.conf_tools.specs.Exports.{disk_back, disk_handed_back}
 use Rattle.conf_tools.specs.Performs.{ChangesAt, ImportsRead, Performs, access_of, grouping_of}
 use Rattle.conf_tools.specs.ProgramCalls.{Call, Ending as CallEnding, accepted, answered, changing, disk_before, disk_behind, exporting, running}
 use Rattle.conf_tools.specs.ProgramCalls as call
-use Rattle.conf_tools.specs.StoreWords.{ChangesInFolder, ExportsFromFolder, Inits, MakesChange, MakesInFolder, RunsOnFolder}
+use Rattle.conf_tools.specs.StoreWords.{ChangesInFolder, ExportsFromFolder, Inits, MakesChange, MakesInFolder, RunsOnFolder, SavesFound, SavesInFolder}
 use Rattle.conf_tools.specs.Tools.{Taken}
 use Rattle.conf_tools.specs.Worlds.{Around, WorldModel}
 use Rattle.conf_tools.specs.declared.changes.Change.{Change}
 use Rattle.conf_tools.specs.declared.changes.Change.TheVariants as change
 use Rattle.conf_tools.specs.declared.program.Status.{Status}
 use Rattle.conf_tools.specs.declared.program.Status.TheVariants.{Done}
+use Rattle.conf_tools.specs.declared.reading_fault.ReadingFault.{ReadingFault}
 use Rattle.conf_tools.specs.declared.stores.Grouping.{Grouping}
 use Rattle.conf_tools.specs.declared.texts.ToolFault.{ToolFault}
 use Rattle.conf_tools.specs.declared.world.Access.{Access}
 use Rattle.conf_tools.specs.declared.world.Access.TheVariants.{Changing}
-use Rattle.conf_runs.specs.Folders.{KeepsFolders}
+use Rattle.conf_runs.specs.Folders.{HandsOutNone, KeepsFolders}
+use Rattle.conf_session.specs.Streams.{streams_of}
 
 -- ---- the folder of a run
 
@@ -50,15 +59,18 @@ folder_of (Backup folder new) = Some new.now
 folder_of invocation = None
 
 -- whether the words make a store of what another one's file says
-abbrev pub salvages : Invocation → Bool
-salvages (Salvage folder new) = true
-salvages (Backup folder new) = true
-salvages invocation = false
+abbrev pub makes_new : Invocation → Bool
+makes_new (Salvage folder new) = true
+makes_new (Backup folder new) = true
+makes_new invocation = false
 
--- Whether a run is on the store in the folder at a path. No store is made in this folder of what another one says.
-pub data Where (path : List ℕ) (invocation : Invocation) : Type 0 where
-  here : folder_of invocation ≡ Some path → salvages invocation ≡ false → Where path invocation
-  elsewhere : folder_of invocation ≢ Some path → Where path invocation
+module _ {W D F P : Type 0} (world : WorldModel W D F P) (disk : DiskModel D) where
+  -- Whether a run is on the store in the folder at a path, or makes one there of what another one says, in a world that
+  -- hands out no disk for it that has one.
+  pub data Where (path : List ℕ) (invocation : Invocation) : Type 0 where
+    here : folder_of invocation ≡ Some path → makes_new invocation ≡ false → Where path invocation
+    anew : folder_of invocation ≡ Some path → makes_new invocation ≡ true → HandsOutNone world disk → Where path invocation
+    elsewhere : folder_of invocation ≢ Some path → Where path invocation
 
 -- ---- the call that a run makes on the disk of its folder
 
@@ -101,7 +113,7 @@ module _ {W D F P : Type 0} (world : WorldModel W D F P) (disk : DiskModel D) (h
       → RunsOnFolder world disk folder grouping old new status → Option (Call disk)
   ran_in grouping old new (inl cannot) = None
   ran_in grouping old new (inr runs) =
-      Some (running old.input new.input old.output new.output grouping runs.first runs.result (runs.survives honest))
+      Some (running (streams_of old.input new.input old.output new.output) grouping runs.first runs.result (runs.survives honest))
 
   abbrev pub exported_from : {form : TreeForm} {folder name : List ℕ} {old new : W} {held written : Option (List ℕ)} {status : Status}
       → ExportsFromFolder world disk form folder name old new held written status → Option (Call disk)
@@ -134,6 +146,71 @@ module _ {W D F P : Type 0} (world : WorldModel W D F P) (disk : DiskModel D) (r
   call_of (Export folder name form) old new status does = exported_from world disk honest does.0
   call_of invocation old new status does = None
 
+-- ---- a new store
+
+module _ {D : Type 0} (disk : DiskModel D) where
+  -- What a run does on the disk of its folder: a call on the store in it, or it makes a store there, with the base and
+  -- the records that a file gave, or of what stands before the first bad piece of one.
+  pub data Deed : Type 0 where
+    calls : (call : Call disk) → Deed
+    copies : (given left : Option (List ℕ)) (first : D) (result : Result D (D × SalvageFault))
+        → IfOk result (λ made. BacksUp given left (disk.folder first) (disk.folder made))
+        → LeavesOldOrCopy disk given left first (copied_disk result) → Deed
+    saves : (given left : Option (List ℕ)) (first : D) (result : Result (D × Findings) (D × SalvageFault))
+        → IfOk result (λ saved. Saves given left (disk.folder first) (disk.folder saved.0) saved.1)
+        → LeavesOldOrSaved disk given left first (saved_disk result) → Deed
+
+  -- the disk before it
+  abbrev pub first_disk : Deed → D
+  first_disk (calls call) = disk_before disk call
+  first_disk (copies given left first result made survives) = first
+  first_disk (saves given left first result made survives) = first
+
+  -- the disk after it
+  abbrev pub last_disk : Deed → D
+  last_disk (calls call) = disk_behind disk call
+  last_disk (copies given left first result made survives) = copied_disk result
+  last_disk (saves given left first result made survives) = saved_disk result
+
+  -- a call, if there is one
+  abbrev pub own : Option (Call disk) → Option Deed
+  own None = None
+  own (Some call) = Some (calls call)
+
+module _ {W D F P : Type 0} (world : WorldModel W D F P) (disk : DiskModel D) (remaining : F → Option (List ℕ))
+    (honest : disk.honest) where
+  abbrev pub copied_in : (folder : List ℕ) (given : Option (List ℕ)) (old new : W) (status : Status)
+      → BacksUpInFolder world disk folder given old new status → Option (Deed disk)
+  copied_in folder given old new status (inl cannot) = None
+  copied_in folder given old new status (inr makes) =
+      Some (copies given makes.left makes.first makes.result (makes.made honest) (makes.survives honest))
+
+  abbrev pub copied_of : (folder : List ℕ) (file : Result F ReadingFault) (old new : W) (status : Status)
+      → BacksUpFound world disk remaining folder file old new status → Option (Deed disk)
+  copied_of folder (Ok file) old new status makes = copied_in folder (remaining file) old new status makes
+  copied_of folder (Err fault) old new status makes = None
+
+  abbrev pub saved_in : (folder : List ℕ) (given : Option (List ℕ)) (old new : W) (held written : Option (List ℕ))
+      (status : Status) → SavesInFolder world disk folder given old new held written status → Option (Deed disk)
+  saved_in folder given old new held written status (inl cannot) = None
+  saved_in folder given old new held written status (inr saving) =
+      Some (saves given saving.left saving.first saving.result (saving.saved honest) (saving.survives honest))
+
+  abbrev pub saved_of : (folder : List ℕ) (file : Result F ReadingFault) (old new : W) (held written : Option (List ℕ))
+      (status : Status) → SavesFound world disk remaining folder file old new held written status → Option (Deed disk)
+  saved_of folder (Ok file) old new held written status saving =
+      saved_in folder (remaining file) old new held written status saving
+  saved_of folder (Err fault) old new held written status saving = None
+
+  -- how a run makes a new store, if the disk was handed out to it
+  abbrev pub made_new : (invocation : Invocation) (old new : Around W) (status : Status)
+      → Performs world disk remaining invocation old new status → Option (Deed disk)
+  made_new (Salvage folder new_folder) old new status does =
+      saved_of new_folder.now does.0.file does.0.found new.world old.output new.output status does.0.saves
+  made_new (Backup folder new_folder) old new status does =
+      copied_of new_folder.now does.0.file does.0.found new.world status does.0.makes
+  made_new invocation old new status does = None
+
 -- ---- a run
 
 -- Whether a run returned, was cut off while it had the disk, by a crash or by the end of its process, or had none yet.
@@ -148,6 +225,18 @@ ending_of_call returned = call.returned
 ending_of_call cut_off = call.cut_off
 ending_of_call not_begun = call.cut_off
 
+-- What is kept of a run in the folder: commands that it performed there, or the whole state of a store that it made.
+pub data Kept : Type 0 where
+  commands : List Command → Kept
+  new_store : Contents → Kept
+
+-- What is kept of runs leads from one state to another. A store is made only where there was none, which means the empty
+-- state.
+abbrev pub Leads : Contents → List Kept → Contents → Type 0
+Leads from [] to = to ≡ from
+Leads from (commands kept ∷ others) to = (between : Contents) × (after from kept ≡ Ok between) × Leads between others to
+Leads from (new_store state ∷ others) to = (from ≡ empty_state) × Leads state others to
+
 -- a number, if that is the status
 abbrev pub if_done : Status → ℕ → ℕ
 if_done Done number = number
@@ -159,35 +248,36 @@ module _ {W D F P : Type 0} (world : WorldModel W D F P) (disk : DiskModel D) (r
   -- have done.
   pub record Event : Type 0 where
     pub invocation : Invocation
-    pub place : Where path invocation
+    pub place : Where world disk path invocation
     pub old : Around W
     pub new : Around W
     pub status : Status
     pub does : Performs world disk remaining invocation old new status
     pub ending : Ending
 
-  -- the call on the store in the folder
-  abbrev pub call_at : (invocation : Invocation) → Where path invocation → Ending → (old new : Around W) (status : Status)
-      → Performs world disk remaining invocation old new status → Option (Call disk)
-  call_at invocation (here is no_salvage) returned old new status does =
-      call_of world disk remaining honest invocation old new status does
-  call_at invocation (here is no_salvage) cut_off old new status does =
-      call_of world disk remaining honest invocation old new status does
-  call_at invocation place ending old new status does = None
+  -- what it does on the disk of the folder
+  abbrev pub deed_at : (invocation : Invocation) → Where world disk path invocation → Ending → (old new : Around W)
+      (status : Status) → Performs world disk remaining invocation old new status → Option (Deed disk)
+  deed_at invocation place not_begun old new status does = None
+  deed_at invocation (elsewhere is_other) ending old new status does = None
+  deed_at invocation (here is not_new) ending old new status does =
+      own disk (call_of world disk remaining honest invocation old new status does)
+  deed_at invocation (anew is is_new none) ending old new status does =
+      made_new world disk remaining honest invocation old new status does
 
-  abbrev pub call_in : Event → Option (Call disk)
-  call_in event = call_at event.invocation event.place event.ending event.old event.new event.status event.does
+  abbrev pub deed_in : Event → Option (Deed disk)
+  deed_in event = deed_at event.invocation event.place event.ending event.old event.new event.status event.does
 
-  -- What a crash leaves of the folder after a run that returned; of one that was cut off, at any moment of its call. A
-  -- run that made no call leaves no more than was there.
-  abbrev pub LeavesAfter : Ending → Option (Call disk) → (old new : W) → Image → Type 0
-  LeavesAfter returned call old new image = leaves new path image
-  LeavesAfter cut_off (Some call) old new image =
-      disk.left (disk_behind disk call) (disk.moment (disk_before disk call)) image
-  LeavesAfter ending call old new image = leaves old path image
+  -- What a crash leaves of the folder after a run that returned; of one that was cut off, at any moment of its deed. A run
+  -- that did nothing there leaves no more than was there.
+  abbrev pub LeavesAfter : Ending → Option (Deed disk) → (old new : W) → Image → Type 0
+  LeavesAfter returned deed old new image = leaves new path image
+  LeavesAfter cut_off (Some deed) old new image =
+      disk.left (last_disk disk deed) (disk.moment (first_disk disk deed)) image
+  LeavesAfter ending deed old new image = leaves old path image
 
   abbrev pub MayLeave : Event → Image → Type 0
-  MayLeave event image = LeavesAfter event.ending (call_in event) event.old.world event.new.world image
+  MayLeave event image = LeavesAfter event.ending (deed_in event) event.old.world event.new.world image
 
   -- A crash leaves no more of the folder that the first run finds than `before` says, of the folder that each next one
   -- finds no more than the run before it may leave, and in the end no more than `behind` says.
@@ -199,35 +289,58 @@ module _ {W D F P : Type 0} (world : WorldModel W D F P) (disk : DiskModel D) (r
   -- ---- what they keep
 
   -- the commands that a run accepted
-  abbrev pub accepted_in : Option (Call disk) → List Command
-  accepted_in None = []
-  accepted_in (Some call) = accepted disk call
+  abbrev pub accepted_in : Option (Deed disk) → List Command
+  accepted_in (Some (calls call)) = accepted disk call
+  accepted_in deed = []
 
   -- How many of them it acknowledged, the first ones: those that a session answered, and the command of a change whose
   -- status was Done.
-  abbrev pub acknowledged : Status → Option (Call disk) → ℕ
-  acknowledged status None = 0
-  acknowledged status (Some (running given left held written grouping old result crashes)) =
-      answered disk (running given left held written grouping old result crashes)
-  acknowledged status (Some (changing change old result crashes)) =
+  abbrev pub acknowledged : Status → Option (Deed disk) → ℕ
+  acknowledged status (Some (calls (running io grouping old result crashes))) =
+      answered disk (running io grouping old result crashes)
+  acknowledged status (Some (calls (changing change old result crashes))) =
       if_done status (length (accepted disk (changing change old result crashes)))
-  acknowledged status (Some (exporting old new crashes)) = 0
+  acknowledged status deed = 0
 
-  -- where the status of a change was Done, what was accepted is what the change performs on the state that the file meant
-  abbrev pub IsMade : Status → Option (Call disk) → Type 0
-  IsMade status (Some (changing change old (Ok new) crashes)) =
+  -- Where the status of a change was Done, what was accepted is what the change performs on the state that the file meant.
+  -- Where the status of a backup or a salvage was Done, its store is kept, and not what was there.
+  abbrev pub IsMade : Status → Option (Deed disk) → Type 0
+  IsMade status (Some (calls (changing change old (Ok new) crashes))) =
       status ≡ Done → ChangePerforms crashes.start change crashes.accepted
-  IsMade status (Some (changing change old (Err refused) crashes)) = status ≢ Done
-  IsMade status call = Unit {0}
+  IsMade status (Some (calls (changing change old (Err refused) crashes))) = status ≢ Done
+  IsMade status (Some (copies given left first result made survives)) = status ≢ Done
+  IsMade status (Some (saves given left first result made survives)) = status ≢ Done
+  IsMade status deed = Unit {0}
 
   -- the first of the commands that a run accepted; if it returned, all that it acknowledged
-  pub record KeptOf (event : Event) (kept : List Command) : Type 0 where
+  pub record KeepsCommands (event : Event) (kept : List Command) : Type 0 where
     pub count : ℕ
-    pub are : kept ≡ take count (accepted_in (call_in event))
-    pub all_acknowledged : event.ending ≡ returned → acknowledged event.status (call_in event) ≤ count
-    pub is_made : event.ending ≡ returned → IsMade event.status (call_in event)
+    pub are : kept ≡ take count (accepted_in (deed_in event))
+    pub all_acknowledged : event.ending ≡ returned → acknowledged event.status (deed_in event) ≤ count
+    pub is_made : event.ending ≡ returned → IsMade event.status (deed_in event)
 
-  abbrev pub EachKept : List Event → List (List Command) → Type 0
+  -- a state that the base and the records mean that a file gave
+  pub record IsRead (given left : Option (List ℕ)) (state : Contents) : Type 0 where
+    pub copy : List ℕ
+    pub reads : ReadsCopy given left copy
+    pub is : state ≡ reads.s
+
+  -- the state that stands before the first bad piece of what a file gave
+  pub record IsSurveyed (given left : Option (List ℕ)) (state : Contents) : Type 0 where
+    pub findings : Findings
+    pub reads : ReadsSurvey given left state findings
+
+  -- the store that a run made has this state
+  abbrev pub MakesStore : Option (Deed disk) → Contents → Type 0
+  MakesStore (Some (copies given left first result made survives)) state = IsRead given left state
+  MakesStore (Some (saves given left first result made survives)) state = IsSurveyed given left state
+  MakesStore deed state = ⊥
+
+  abbrev pub KeptOf : Event → Kept → Type 0
+  KeptOf event (commands kept) = KeepsCommands event kept
+  KeptOf event (new_store state) = MakesStore (deed_in event) state
+
+  abbrev pub EachKept : List Event → List Kept → Type 0
   EachKept [] [] = Unit {0}
   EachKept [] (kept ∷ others) = ⊥
   EachKept (event ∷ events) [] = ⊥
@@ -243,10 +356,10 @@ module _ {W D F P : Type 0} (world : WorldModel W D F P) (disk : DiskModel D) (r
   pub record Holds (first : W) (events : List Event) (file : Option (List ℕ)) : Type 0 where
     pub start : Contents
     pub began : MeantBy first start
-    pub kept : List (List Command)
+    pub kept : List Kept
     pub each : EachKept events kept
     pub state : Contents
-    pub leads : after start (all_commands kept) ≡ Ok state
+    pub leads : Leads start kept state
     pub means : FileMeans file state
 
   -- Where each image of the folder means a state before the runs, each image of it holds after them what was kept. The
