@@ -24,8 +24,9 @@ from typing import Any
 
 import yaml
 
-from lib.store_model import Configs, Refused, Tree, compose_all, edited, meaning, tree_of
+from lib.store_model import compose_all, meaning, tree_of
 from lib.store_runs import GROUPED, SINGLE, Failures, need_program, read_file, session, write_file
+from lib.trees import Configs, Refused, Tree, edited
 
 # PyYAML's function has no types.
 compose: Callable[..., Any] = yaml.compose

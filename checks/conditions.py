@@ -24,11 +24,9 @@ from collections import Counter
 from collections.abc import Sequence
 from typing import Any
 
-from lib.store_model import NAME, Configs, Refused, Tree, edited, index_of, meaning, steps_of
+from lib.store_model import meaning
 from lib.store_runs import GROUPED, SINGLE, Failures, need_program, read_file, session
-
-# A command, an edit or a condition as JSON, which is YAML too.
-Document = dict[str, Any]
+from lib.trees import NAME, Configs, Document, Refused, as_json, as_tree, performed, value_at
 
 COMMANDS = int(sys.argv[1]) if len(sys.argv) > 1 else 10_000
 # How many commands a store gets.
@@ -42,34 +40,6 @@ NO_CONDITIONS: tuple[Any, ...] = (
     [{"test": "a", "value": "x"}], [{"path": "", "absent": "a"}], [{"count": "1", "path": ""}], [{"absent": ["a"]}],
 )  # fmt: skip
 COUNT = re.compile(r"[0-9]+")
-
-
-def as_tree(value: Any) -> Tree:
-    """A value of JSON as a tree of the model."""
-    if isinstance(value, dict):
-        return tuple((key, as_tree(inner)) for key, inner in value.items())
-    return [as_tree(inner) for inner in value] if isinstance(value, list) else str(value)
-
-
-def as_json(tree: Tree) -> Any:
-    """A tree of the model as a value of JSON."""
-    if isinstance(tree, tuple):
-        return {key: as_json(inner) for key, inner in tree}
-    return [as_json(inner) for inner in tree] if isinstance(tree, list) else tree
-
-
-def value_at(configs: Configs, name: str, path: str) -> Tree | None:
-    """The value at a place; `None` if there is none. Raises Refused for a path that is no pointer."""
-    steps, tree = steps_of(path), configs.get(name)
-    for step in steps:
-        if isinstance(tree, list):
-            try:
-                tree = tree[index_of(tree, step)]
-            except Refused:
-                return None
-        else:
-            tree = dict(tree).get(step) if isinstance(tree, tuple) else None
-    return tree
 
 
 def fault_of(configs: Configs, count: int, condition: Document) -> str | None:
@@ -116,17 +86,6 @@ def some_condition(chance: random.Random, configs: Configs, count: int) -> Docum
     if there is not None and chance.random() < 0.8:
         value = as_json(there)
     return {"test": name, "path": path, "value": value}
-
-
-def performed(configs: Configs, edits: Sequence[Document]) -> Configs:
-    """What edits make of the configurations. Raises Refused."""
-    if not edits:
-        raise Refused
-    for edit in edits:
-        keys = tuple("tree" if key == "text" else key for key in edit)
-        values = [as_tree(json.loads(value) if key == "text" else value) for key, value in edit.items()]
-        configs = edited(configs, keys, values)
-    return configs
 
 
 class Commands:

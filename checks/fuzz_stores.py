@@ -36,8 +36,9 @@ from concurrent.futures import ProcessPoolExecutor
 from typing import Union
 
 from lib.mutations import changed, flip_bit, place
-from lib.store_model import OLD_BREAKS, Damaged, NotAStore, Refused, Tree, meaning, pieces_of, read_base
+from lib.store_model import OLD_BREAKS, Damaged, NotAStore, meaning, pieces_of, read_base
 from lib.store_runs import EMPTY, PROGRAM, Failures, need_program, read_file, session, write_file
+from lib.trees import Refused, Tree
 
 COUNT = 100_000
 CHUNK = 500

@@ -19,7 +19,7 @@ trap 'rm -rf "$room"' EXIT
 SCRIPTS=(
     released.sh names.py edits.py program.py cases.py fail_calls.py fail_word_calls.py fail_file_calls.py
     refuse_allocations.sh refuse_tree_allocations.sh refuse_state_allocations.py refuse_store_allocations.py
-    refuse_session_allocations.py refuse_word_allocations.py release.py
+    refuse_session_allocations.py refuse_word_allocations.py worlds.py release.py
 )
 passed=0
 failed=0

@@ -8,18 +8,14 @@ from __future__ import annotations
 
 import re
 from collections.abc import Callable, Sequence
-from typing import Any, Union
+from typing import Any
 
 import yaml
 
+from .trees import NAME, NUMBER, Configs, Refused, Tree, edited
+
 # PyYAML's function has no types.
 compose_all: Callable[..., Any] = yaml.compose_all
-
-# A text, a list of trees, or a tuple of pairs of a key and a tree.
-Tree = Union[str, "list[Tree]", "tuple[tuple[str, Tree], ...]"]
-Configs = dict[str, Tree]
-# A change of a collection, at the last step of a path.
-Change = Callable[[Tree, str], Tree]
 
 CLOSING = re.compile(rb"^\.\.\.\n", re.MULTILINE)
 
@@ -29,8 +25,6 @@ OLD_BREAKS = re.compile(rb"\xc2\x85|\xe2\x80[\xa8\xa9]")
 # The names of the formats that a base may have. The second is the one that is written.
 FORMATS = ("confstore-1", "confstore-2")
 
-NUMBER = re.compile(r"0|[1-9][0-9]*")
-NAME = re.compile(r"[a-z][a-z0-9_-]{0,63}")
 GREATEST = 2**64 - 1
 
 
@@ -40,10 +34,6 @@ class NotAStore(Exception):
 
 class Damaged(Exception):
     """A piece after the base is no record, has the wrong number, or is refused."""
-
-
-class Refused(Exception):
-    """A command is refused, or a text has no tree."""
 
 
 def pieces_of(content: bytes) -> tuple[list[bytes], bytes]:
@@ -107,73 +97,6 @@ def read_base(piece: bytes) -> tuple[Configs, int]:
     if not all(NAME.fullmatch(name) for name, _ in values[2]):
         raise Refused
     return dict(values[2]), number_of(values[1])
-
-
-def steps_of(path: Tree) -> list[str]:
-    """The steps of a pointer."""
-    if not isinstance(path, str) or (path and path[0] != "/") or re.search("~(?![01])", path):
-        raise Refused
-    return [step.replace("~1", "/").replace("~0", "~") for step in path.split("/")[1:]]
-
-
-def index_of(tree: list[Tree], step: str) -> int:
-    if not NUMBER.fullmatch(step) or int(step) >= len(tree):
-        raise Refused
-    return int(step)
-
-
-def with_change(tree: Tree, steps: list[str], change: Change) -> Tree:
-    """The tree with the value at a path changed: `change` takes the collection there and the last step."""
-    if len(steps) == 1:
-        return change(tree, steps[0])
-    if isinstance(tree, list):
-        at = index_of(tree, steps[0])
-        return tree[:at] + [with_change(tree[at], steps[1:], change)] + tree[at + 1 :]
-    if not isinstance(tree, tuple) or steps[0] not in dict(tree):
-        raise Refused
-    return tuple((key, with_change(value, steps[1:], change) if key == steps[0] else value) for key, value in tree)
-
-
-def setting(value: Tree) -> Change:
-    """A change that sets a value."""
-
-    def change(tree: Tree, step: str) -> Tree:
-        if isinstance(tree, list):
-            at = len(tree) if step == "-" else index_of(tree, step)
-            return tree[:at] + [value] + tree[at + 1 :]
-        if not isinstance(tree, tuple):
-            raise Refused
-        if step in dict(tree):
-            return tuple((key, value if key == step else old) for key, old in tree)
-        return tree + ((step, value),)
-
-    return change
-
-
-def deletion(tree: Tree, step: str) -> Tree:
-    """The change that takes a value out."""
-    if isinstance(tree, list):
-        at = index_of(tree, step)
-        return tree[:at] + tree[at + 1 :]
-    if not isinstance(tree, tuple) or step not in dict(tree):
-        raise Refused
-    return tuple(pair for pair in tree if pair[0] != step)
-
-
-def edited(configs: Configs, keys: tuple[str, ...], values: Sequence[Tree]) -> Configs:
-    """The configurations after an edit."""
-    name = values[0]
-    if not isinstance(name, str) or not NAME.fullmatch(name):
-        raise Refused
-    if keys == ("import", "tree"):
-        return {**configs, name: values[1]}
-    steps = steps_of(values[1]) if len(values) > 1 else None
-    if keys not in (("set", "path", "value"), ("delete", "path")) or name not in configs:
-        raise Refused
-    if keys[0] == "delete" and not steps:
-        return {other: tree for other, tree in configs.items() if other != name}
-    changed = setting(values[2]) if keys[0] == "set" else deletion
-    return {**configs, name: with_change(configs[name], steps, changed) if steps else values[2]}
 
 
 def perform(configs: Configs, keys: tuple[str, ...], values: Sequence[Tree]) -> Configs:
