@@ -7,7 +7,9 @@ are one transaction. Their times include those of Python's calls. Then commands 
 session and to a plain one. Where strace is installed, the syncs of such a session are counted.
 
 Then a store whose base has some 60 MB takes commands one by one, and the longest time until an answer is printed: with
-no checkpoint, with one in slices beside the commands (`--checkpoint-after`), and with one by a command.
+no checkpoint, with one in slices beside the commands (`--checkpoint-after`), and with one by a command. The same follows
+in a folder in memory, where there is one, in which no wait is a device's: with few large configurations, and with many
+small ones.
 
 It uses a folder of the disk that holds the temporary files, and prints the least of several runs that take turns, and
 the median of the ratios. Run it from the repository's root after the program is built; it takes about a minute:
@@ -29,7 +31,7 @@ import time
 from collections.abc import Callable, Mapping, Sequence
 
 from lib.databases import DATABASES, Lmdb, Sqlite
-from lib.programs import PROGRAM, appending_stub, need_program
+from lib.programs import MEMORY, PROGRAM, appending_stub, need_program
 from lib.runs import Words, by_turns
 from lib.stores import command, fresh, perform, record_bytes, store_in
 
@@ -37,9 +39,9 @@ GROUP = 100
 GROUPS = 50
 SINGLE = 1_000
 RUNS = 9
-# How many configurations of how many bytes make the large base, and how many commands it takes.
-LARGE = 60
-LETTERS = 1_000_000
+# How many configurations of how many letters make the large base, and how many commands it takes.
+FEW = (60, 1_000_000)
+MANY = (60_000, 900)
 BESIDE = 20_000
 
 
@@ -153,12 +155,14 @@ def longest_wait(top: str, base: str, words: Words, commands: Sequence[bytes]) -
     return max(waits) * 1e3, statistics.median(waits) * 1e3, size
 
 
-def compare_checkpoints(top: str) -> None:
+def compare_checkpoints(top: str, kind: tuple[int, int], where: str) -> None:
+    many, letters = kind
     base = store_in(top, "base")
-    texts = (f"import: c{number}\ntext: |\n  k: {'x' * LETTERS}\n...\n" for number in range(LARGE))
+    texts = (f"import: c{number}\ntext: |\n  k: {'x' * letters}\n...\n" for number in range(many))
     perform(base, ("".join(texts) + "checkpoint:\n...\n").encode())
     sets = [command(number) for number in range(BESIDE)]
-    print(f"a base of {os.path.getsize(os.path.join(base, 'store.yaml')):,} bytes, {BESIDE:,} commands one by one")
+    size = os.path.getsize(os.path.join(base, "store.yaml"))
+    print(f"{where}, a base of {many:,} configurations, {size:,} bytes; {BESIDE:,} commands one by one")
     ways = {
         "no checkpoint": (["run", "--group"], sets),
         "one in slices": (["run", "--group", "--checkpoint-after", "10000"], sets),
@@ -175,7 +179,10 @@ def main() -> int:
         compare_groups(top, appending_stub(top))
         count_syncs(top)
         compare_single(top)
-        compare_checkpoints(top)
+        compare_checkpoints(top, FEW, "on the disk")
+    for kind in (FEW, MANY) if MEMORY else ():
+        with tempfile.TemporaryDirectory(dir=MEMORY) as top:
+            compare_checkpoints(top, kind, "in memory")
     return 0
 
 
