@@ -32,7 +32,7 @@ mod written_base;
 
 pub use base_parts::base_start;
 pub use base_writer::base_text;
-pub use conf_state::{Command, Edit, Names, State, good_name, step};
+pub use conf_state::{Command, Edit, Names, Room, State, StoreFault, good_name, step};
 pub use documents::{documents_are_read, documents_close};
 pub use edit_lines::{Place, cut_edit, cut_element};
 pub use edit_members::{EditMembers, members_from};
