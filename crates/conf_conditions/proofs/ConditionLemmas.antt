@@ -7,7 +7,9 @@ use Rattle.json_pointer.specs.Pointers.{path_of}
 use Rattle.json_pointer.specs.declared.fault.PathFault.{PathFault}
 use Rattle.conf_state.specs.Names.{good_name}
 use Rattle.conf_state.specs.States.{Contents}
-use Rattle.conf_conditions.specs.Conditions.{Condition, test_at, absent_at, count_is, value_in, found_by, found_at, unless_met, unless_found, is_value, fault_of, first_of, first_fault, IsPlace, Holds, AllHold, IsNoPlace, Fails, FailsFirst}
+use Rattle.conf_conditions.specs.Conditions.{Condition, test_at, absent_at, count_is, value_in, found_by, found_at}
+use Rattle.conf_conditions.specs.Conditions.{unless_met, unless_found, is_value, fault_of, first_of, first_fault}
+use Rattle.conf_conditions.specs.Conditions.{IsPlace, Holds, AllHold, IsNoPlace, Fails, FailsFirst}
 use Rattle.conf_conditions.specs.declared.fault.ConditionFault.{ConditionFault}
 use Rattle.conf_conditions.specs.declared.fault.ConditionFault.TheVariants.{Unmet, BadName, Path, OutOfMemory}
 use Rattle.conf_conditions.proofs.SameLemmas.{same_tree-true, same_tree-self}
@@ -39,28 +41,33 @@ true-none o e = ap is_none e
 -- ---- what is at a place
 
 module _ (s : Contents) (name path : List ℕ) (holds : Option Tree → Bool) where
-  place-none : unless_found (found_at s name path) holds ≡ None → (tokens : List (List ℕ)) × IsPlace name path tokens × (holds (value_in s name tokens) ≡ true)
+  place-none : unless_found (found_at s name path) holds ≡ None
+      → (tokens : List (List ℕ)) × IsPlace name path tokens × (holds (value_in s name tokens) ≡ true)
   place-none = by (good_name name) refl (path_of path) refl
     where
       by : (good : Bool) → good_name name ≡ good → (r : Result (List (List ℕ)) PathFault) → path_of path ≡ r
-          → unless_found (if good then found_by r (value_in s name) else Err BadName) holds ≡ None → (tokens : List (List ℕ)) × IsPlace name path tokens × (holds (value_in s name tokens) ≡ true)
+          → unless_found (if good then found_by r (value_in s name) else Err BadName) holds ≡ None
+          → (tokens : List (List ℕ)) × IsPlace name path tokens × (holds (value_in s name tokens) ≡ true)
       by true named (Ok tokens) means e = (tokens, record { named = named; means = means }, met-true (holds (value_in s name tokens)) e)
       by true named (Err why) means e = absurd (let never : (◌≡◌ {A = Option ConditionFault} (Some (Path why)) None) = e in cc)
       by false named r means e = absurd (let never : (◌≡◌ {A = Option ConditionFault} (Some BadName) None) = e in cc)
 
-  none-place : (tokens : List (List ℕ)) → IsPlace name path tokens → holds (value_in s name tokens) ≡ true → unless_found (found_at s name path) holds ≡ None
+  none-place : (tokens : List (List ℕ)) → IsPlace name path tokens → holds (value_in s name tokens) ≡ true
+      → unless_found (found_at s name path) holds ≡ None
   none-place tokens is h =
       ap (λ b. unless_found (if b then found_by (path_of path) (value_in s name) else Err BadName) holds) is.named
       ∙ ap (λ r. unless_found (found_by r (value_in s name)) holds) is.means
       ∙ ap unless_met h
 
   place-some : (fault : ConditionFault) → unless_found (found_at s name path) holds ≡ Some fault
-      → ((fault ≡ Unmet) × (tokens : List (List ℕ)) × IsPlace name path tokens × (holds (value_in s name tokens) ≡ false)) ⊎ IsNoPlace name path fault
+      → ((fault ≡ Unmet) × (tokens : List (List ℕ)) × IsPlace name path tokens
+      × (holds (value_in s name tokens) ≡ false)) ⊎ IsNoPlace name path fault
   place-some fault = by (good_name name) refl (path_of path) refl
     where
       by : (good : Bool) → good_name name ≡ good → (r : Result (List (List ℕ)) PathFault) → path_of path ≡ r
           → unless_found (if good then found_by r (value_in s name) else Err BadName) holds ≡ Some fault
-          → ((fault ≡ Unmet) × (tokens : List (List ℕ)) × IsPlace name path tokens × (holds (value_in s name tokens) ≡ false)) ⊎ IsNoPlace name path fault
+          → ((fault ≡ Unmet) × (tokens : List (List ℕ)) × IsPlace name path tokens
+          × (holds (value_in s name tokens) ≡ false)) ⊎ IsNoPlace name path fault
       by true named (Ok tokens) means e =
           let other = met-false (holds (value_in s name tokens)) fault e in
           inl (other.1, tokens, record { named = named; means = means }, other.0)
@@ -89,13 +96,15 @@ none-fault s (test_at name path value) h = none-place s name path (is_value valu
 none-fault s (absent_at name path) h = none-place s name path is_none h.0 h.1 (true-none (value_in s name h.0) h.2)
 none-fault s (count_is count) h = ap unless_met (eq-eqb s.count count h)
 
-test-no-place : (s : Contents) (name path : List ℕ) (value : Tree) (fault : ConditionFault) → IsNoPlace name path fault → Fails s (test_at name path value) fault
+test-no-place : (s : Contents) (name path : List ℕ) (value : Tree) (fault : ConditionFault)
+    → IsNoPlace name path fault → Fails s (test_at name path value) fault
 test-no-place s name path value Unmet none = absurd none
 test-no-place s name path value BadName none = none
 test-no-place s name path value (Path why) none = none
 test-no-place s name path value OutOfMemory none = none
 
-absent-no-place : (s : Contents) (name path : List ℕ) (fault : ConditionFault) → IsNoPlace name path fault → Fails s (absent_at name path) fault
+absent-no-place : (s : Contents) (name path : List ℕ) (fault : ConditionFault) → IsNoPlace name path fault
+    → Fails s (absent_at name path) fault
 absent-no-place s name path Unmet none = absurd none
 absent-no-place s name path BadName none = none
 absent-no-place s name path (Path why) none = none
@@ -122,7 +131,8 @@ pub first-none : (s : Contents) (cs : List Condition) → first_fault s cs ≡ N
 first-none s [] e = tt
 first-none s (c ∷ cs) e = by (fault_of s c) refl e (first-none s cs)
   where
-    by : (o : Option ConditionFault) → fault_of s c ≡ o → first_of o (first_fault s cs) ≡ None → (first_fault s cs ≡ None → AllHold s cs) → Holds s c × AllHold s cs
+    by : (o : Option ConditionFault) → fault_of s c ≡ o → first_of o (first_fault s cs) ≡ None
+        → (first_fault s cs ≡ None → AllHold s cs) → Holds s c × AllHold s cs
     by None is e rest = (fault-none s c is, rest e)
     by (Some fault) is e rest = absurd (let never : (◌≡◌ {A = Option ConditionFault} (Some fault) None) = e in cc)
 
@@ -136,10 +146,18 @@ pub first-some : (s : Contents) (cs : List Condition) (fault : ConditionFault) �
 first-some s [] fault e = absurd (let never : (◌≡◌ {A = Option ConditionFault} None (Some fault)) = e in cc)
 first-some s (c ∷ cs) fault e = by (fault_of s c) refl e (first-some s cs fault)
   where
-    by : (o : Option ConditionFault) → fault_of s c ≡ o → first_of o (first_fault s cs) ≡ Some fault → (first_fault s cs ≡ Some fault → FailsFirst s cs fault) → FailsFirst s (c ∷ cs) fault
+    by : (o : Option ConditionFault) → fault_of s c ≡ o → first_of o (first_fault s cs) ≡ Some fault
+        → (first_fault s cs ≡ Some fault → FailsFirst s cs fault) → FailsFirst s (c ∷ cs) fault
     by None is e rest =
         let later = rest e in
-        record { before = c ∷ later.before; condition = later.condition; further = later.further; is = ap (λ l. c ∷ l) later.is; hold = (fault-none s c is, later.hold); fails = later.fails }
+        record {
+          before = c ∷ later.before;
+          condition = later.condition;
+          further = later.further;
+          is = ap (λ l. c ∷ l) later.is;
+          hold = (fault-none s c is, later.hold);
+          fails = later.fails;
+        }
     by (Some first) is e rest =
         let same : first ≡ fault = (let told : (◌≡◌ {A = Option ConditionFault} (Some first) (Some fault)) = e in cc) in
         record { before = []; condition = c; further = cs; is = refl; hold = tt; fails = fault-some s c fault (is ∙ ap Some same) }

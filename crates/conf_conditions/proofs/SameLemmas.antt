@@ -20,14 +20,16 @@ pub elements-lengths : (ts us : List Tree) → (length ts ≡ length us → ⊥)
 elements-lengths [] [] differ = absurd (differ refl)
 elements-lengths [] (u ∷ us) differ = refl
 elements-lengths (t ∷ ts) [] differ = refl
-elements-lengths (t ∷ ts) (u ∷ us) differ = both_false (same_tree (tree_of t) (tree_of u)) _ (elements-lengths ts us (λ same. differ (ap suc same)))
+elements-lengths (t ∷ ts) (u ∷ us) differ = both_false (same_tree (tree_of t) (tree_of u)) _
+    (elements-lengths ts us (λ same. differ (ap suc same)))
 
 pub members-lengths : (ms ns : List Pair) → (length ms ≡ length ns → ⊥) → same_members (members_of ms) (members_of ns) ≡ false
 members-lengths [] [] differ = absurd (differ refl)
 members-lengths [] (n ∷ ns) differ = refl
 members-lengths (m ∷ ms) [] differ = refl
 members-lengths (m ∷ ms) (n ∷ ns) differ =
-    both_false (same_text (chars (text_bytes m.0)) (chars (text_bytes n.0)) && same_tree (tree_of m.1) (tree_of n.1)) _ (members-lengths ms ns (λ same. differ (ap suc same)))
+    both_false (same_text (chars (text_bytes m.0)) (chars (text_bytes n.0)) && same_tree (tree_of m.1) (tree_of n.1))
+    _ (members-lengths ms ns (λ same. differ (ap suc same)))
 
 -- ---- the comparison is equality
 
@@ -74,4 +76,5 @@ mutual
   same_members-self : (ms : grammar.Members) → same_members ms ms ≡ true
   same_members-self grammar.no_member = refl
   same_members-self (grammar.member key t ms) =
-      and_from (same_text key key && same_tree t t) (same_members ms ms) (and_from (same_text key key) (same_tree t t) (same_text-self key) (same_tree-self t)) (same_members-self ms)
+      and_from (same_text key key && same_tree t t) (same_members ms ms)
+      (and_from (same_text key key) (same_tree t t) (same_text-self key) (same_tree-self t)) (same_members-self ms)

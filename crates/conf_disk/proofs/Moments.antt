@@ -14,7 +14,8 @@ LeavesOnly-start model old P only = record { later = omega arith; each = only; b
 
 -- a call during which a stop leaves only P
 pub LeavesOnly-call : {D : Type 0} (model : DiskModel D) (old new : D) (may_leave P : Image → Type 0)
-    → Elapses (model.moment old) (model.moment new) (model.left old) (model.left new) may_leave → ((image : Image) → model.left old (model.moment old) image → P image) → ((image : Image) → may_leave image → P image)
+    → Elapses (model.moment old) (model.moment new) (model.left old) (model.left new) may_leave
+    → ((image : Image) → model.left old (model.moment old) image → P image) → ((image : Image) → may_leave image → P image)
     → LeavesOnly model old new P
 LeavesOnly-call model old new may_leave P time only here = record {
   later = time.later;
@@ -24,7 +25,8 @@ LeavesOnly-call model old new may_leave P time only here = record {
 
 -- one run of calls after another
 pub LeavesOnly-joined : {D : Type 0} (model : DiskModel D) (old mid new : D) (P Q R : Image → Type 0)
-    → LeavesOnly model old mid P → LeavesOnly model mid new Q → ((image : Image) → P image → R image) → ((image : Image) → Q image → R image)
+    → LeavesOnly model old mid P → LeavesOnly model mid new Q → ((image : Image) → P image → R image)
+    → ((image : Image) → Q image → R image)
     → LeavesOnly model old new R
 LeavesOnly-joined model old mid new P Q R first second p q = record {
   later = omega (arith, first.later, second.later);
@@ -46,14 +48,17 @@ LeavesOnly-weaker model old new P R run p = record {
 
 -- what a stop leaves now is among what it may have left since
 pub LeavesOnly-now : {D : Type 0} (model : DiskModel D) (old new : D) (P : Image → Type 0)
-    → ((t : ℕ) (image : Image) → t ≤ model.moment new → IsImage (model.folder new) image → model.left new t image) → LeavesOnly model old new P
+    → ((t : ℕ) (image : Image) → t ≤ model.moment new → IsImage (model.folder new) image → model.left new t image)
+    → LeavesOnly model old new P
     → (image : Image) → IsImage (model.folder new) image → P image
 LeavesOnly-now model old new P counts run image is = run.each image (counts (model.moment old) image run.later is)
 
 module _ {D : Type 0} (model : DiskModel D) where
   -- a call that changes something, whatever it answers
-  pub LeavesOnly-step : {T : Type 0} (step : Step) (old new : D) (result : Result T DiskFault) → ((image : Image) → model.left old (model.moment old) image → IsImage (model.folder old) image)
-      → Elapses (model.moment old) (model.moment new) (model.left old) (model.left new) (IsImage (model.folder new)) → Performs step (model.folder old) (model.folder new) result
+  pub LeavesOnly-step : {T : Type 0} (step : Step) (old new : D) (result : Result T DiskFault)
+      → ((image : Image) → model.left old (model.moment old) image → IsImage (model.folder old) image)
+      → Elapses (model.moment old) (model.moment new) (model.left old) (model.left new) (IsImage (model.folder new))
+      → Performs step (model.folder old) (model.folder new) result
       → LeavesOnly model old new (IsImage (grown step (model.folder old)))
   LeavesOnly-step step old new result only time performs =
       LeavesOnly-call model old new (IsImage (model.folder new)) (IsImage (grown step (model.folder old))) time
@@ -62,7 +67,9 @@ module _ {D : Type 0} (model : DiskModel D) where
 
   -- a call that changes nothing
   pub LeavesOnly-same : (old new : D) → ((image : Image) → model.left old (model.moment old) image → IsImage (model.folder old) image)
-      → Elapses (model.moment old) (model.moment new) (model.left old) (model.left new) (IsImage (model.folder new)) → model.folder new ≡ model.folder old
+      → Elapses (model.moment old) (model.moment new) (model.left old) (model.left new) (IsImage (model.folder new))
+      → model.folder new ≡ model.folder old
       → LeavesOnly model old new (IsImage (model.folder old))
   LeavesOnly-same old new only time same =
-      LeavesOnly-call model old new (IsImage (model.folder new)) (IsImage (model.folder old)) time only (λ image is. subst (λ (f : Folder). IsImage f image) same is)
+      LeavesOnly-call model old new (IsImage (model.folder new)) (IsImage (model.folder old)) time only
+      (λ image is. subst (λ (f : Folder). IsImage f image) same is)

@@ -1,11 +1,14 @@
 -- The cuts of a stage and its images; what a crash leaves.
-use Rattle.std.proofs.Common.{◌≡◌, ◌↔◌, ℕ, zero, suc, ◌+◌, List, [], ◌∷◌, ◌++◌, length, get_or, take, replicate, Option, Some, None, Contains, slice_get, Bool, true, false, ◌&&◌, if◌then◌else◌, refl, sym, ◌∙◌, ap, subst, arith}
+use Rattle.std.proofs.Common.{◌≡◌, ◌↔◌, ℕ, zero, suc, ◌+◌, List, [], ◌∷◌, ◌++◌, length, get_or, take, replicate}
+use Rattle.std.proofs.Common.{Option, Some, None, Contains, slice_get, Bool, true, false, ◌&&◌, if◌then◌else◌, refl}
+use Rattle.std.proofs.Common.{sym, ◌∙◌, ap, subst, arith}
 use Rattle.std.proofs.lemmas.List.{append-nil, take_all}
 use Rattle.std.proofs.lemmas.List.Elements.{Contains-append_right}
 use Rattle.std.proofs.lemmas.Bool.{le-leb, leb-true}
 use Rattle.std.proofs.lemmas.Option.{slice_get-get_or, slice_get_within, get_or_from_slice_get}
 use Rattle.conf_disk.specs.Folder.{File, empty_file, file_bytes, Stage, Folder, stages, bytes_at}
-use Rattle.conf_disk.specs.Image.{Image, IsImage, IsTorn, IsTornAt, image_now, folder_of_image, folder_with_files, fits_at, torn_at, image_of_stage, image_at}
+use Rattle.conf_disk.specs.Image.{Image, IsImage, IsTorn, IsTornAt, image_now, folder_of_image, folder_with_files}
+use Rattle.conf_disk.specs.Image.{fits_at, torn_at, image_of_stage, image_at}
 use Rattle.conf_disk.specs.declared.cuts.Cuts.{Cuts}
 
 -- a torn file is one under a cut that fits
@@ -14,17 +17,35 @@ fits-torn : (files : List File) (place : Option ℕ) (bytes : Option (List ℕ))
 fits-torn files None None torn = (0, (0, (refl, refl)))
 fits-torn files None (Some bytes) torn = absurd torn
 fits-torn files (Some id) None torn = absurd torn
-fits-torn files (Some id) (Some bytes) torn =
-    (torn.keep, (torn.zeros, (le-leb (torn.keep + torn.zeros) (length (get_or files id empty_file).pending) torn.fits, ap Some (sym torn.is))))
+fits-torn files (Some id) (Some bytes) torn = (
+  torn.keep,
+  (
+    torn.zeros,
+    (
+      le-leb (torn.keep + torn.zeros) (length (get_or files id empty_file).pending) torn.fits,
+      ap Some (sym torn.is),
+    ),
+  ),
+)
 
 -- and a cut that fits leaves a torn file
-torn-fits : (files : List File) (place : Option ℕ) (keep zero_count : ℕ) → fits_at files place keep zero_count ≡ true → IsTornAt files place (torn_at files place keep zero_count)
+torn-fits : (files : List File) (place : Option ℕ) (keep zero_count : ℕ) → fits_at files place keep zero_count ≡ true
+    → IsTornAt files place (torn_at files place keep zero_count)
 torn-fits files None keep zero_count fits = tt
 torn-fits files (Some id) keep zero_count fits =
-    record { keep = keep; zeros = zero_count; fits = leb-true (keep + zero_count) (length (get_or files id empty_file).pending) fits; is = refl }
+    record {
+      keep = keep;
+      zeros = zero_count;
+      fits =
+          leb-true (keep + zero_count) (length (get_or files id empty_file).pending) fits;
+      is = refl;
+    }
 
 abbrev cut_image : Folder → Stage → Cuts → Image
-cut_image folder stage cuts = record { store = torn_at folder.files stage.store cuts.store.0 cuts.store.1; next = torn_at folder.files stage.next cuts.next.0 cuts.next.1 }
+cut_image folder stage cuts = record {
+  store = torn_at folder.files stage.store cuts.store.0 cuts.store.1;
+  next = torn_at folder.files stage.next cuts.next.0 cuts.next.1;
+}
 
 image_of_stage-is : (folder : Folder) (stage : Stage) (cuts : Cuts) (image : Image) (store next : Bool) → Contains (stages folder) stage
     → fits_at folder.files stage.store cuts.store.0 cuts.store.1 ≡ store → fits_at folder.files stage.next cuts.next.0 cuts.next.1 ≡ next
@@ -32,20 +53,33 @@ image_of_stage-is : (folder : Folder) (stage : Stage) (cuts : Cuts) (image : Ima
 image_of_stage-is folder stage cuts image true true among store next is =
     let same : cut_image folder stage cuts ≡ image = cc in
     subst (λ (i : Image). IsImage folder i) same
-    (record { stage = stage; among = among; store = torn-fits folder.files stage.store cuts.store.0 cuts.store.1 store; next = torn-fits folder.files stage.next cuts.next.0 cuts.next.1 next })
+    (record {
+      stage = stage;
+      among = among;
+      store =
+          torn-fits folder.files stage.store cuts.store.0 cuts.store.1 store;
+      next = torn-fits folder.files stage.next cuts.next.0 cuts.next.1 next;
+    })
 image_of_stage-is folder stage cuts image true false among store next is = cc
 image_of_stage-is folder stage cuts image false next among s n is = cc
 
-image_at-stage : (folder : Folder) (place : ℕ) (cuts : Cuts) (image : Image) (stage : Option Stage) → slice_get (stages folder) place ≡ stage → image_of_stage folder.files stage cuts ≡ Some image → IsImage folder image
+image_at-stage : (folder : Folder) (place : ℕ) (cuts : Cuts) (image : Image) (stage : Option Stage)
+    → slice_get (stages folder) place ≡ stage → image_of_stage folder.files stage cuts ≡ Some image → IsImage folder image
 image_at-stage folder place cuts image None at is = cc
 image_at-stage folder place cuts image (Some stage) at is =
-    image_of_stage-is folder stage cuts image _ _ (place, slice_get_within (stages folder) place stage at, get_or_from_slice_get (stages folder) place stage _ at) refl refl is
+    image_of_stage-is folder stage cuts image _ _ (
+      place,
+      slice_get_within (stages folder) place stage at,
+      get_or_from_slice_get (stages folder) place stage _ at,
+    ) refl refl is
 
-image-cuts : (folder : Folder) (image : Image) → IsImage folder image → (stage : ℕ) × ((cuts : Cuts) × (image_at folder stage cuts ≡ Some image))
+image-cuts : (folder : Folder) (image : Image) → IsImage folder image
+    → (stage : ℕ) × ((cuts : Cuts) × (image_at folder stage cuts ≡ Some image))
 image-cuts folder image is =
     let store = fits-torn folder.files is.stage.store image.store is.store in
     let next = fits-torn folder.files is.stage.next image.next is.next in
-    let at : slice_get (stages folder) is.among.0 ≡ Some is.stage = slice_get-get_or (stages folder) is.among.0 _ is.among.1 ∙ ap Some is.among.2 in
+    let at : slice_get (stages folder) is.among.0 ≡ Some is.stage =
+    slice_get-get_or (stages folder) is.among.0 _ is.among.1 ∙ ap Some is.among.2 in
     let cuts : Cuts = record { store = (store.0, store.1.0); next = (next.0, next.1.0) } in (
       is.among.0,
       (
@@ -57,8 +91,12 @@ image-cuts folder image is =
     )
 
 -- the images of a folder are exactly those of its stages and cuts
-pub images-cuts : (folder : Folder) (image : Image) → IsImage folder image ↔ ((stage : ℕ) × ((cuts : Cuts) × (image_at folder stage cuts ≡ Some image)))
-images-cuts folder image = (image-cuts folder image, λ found. image_at-stage folder found.0 found.1.0 image (slice_get (stages folder) found.0) refl found.1.1)
+pub images-cuts : (folder : Folder) (image : Image) → IsImage folder image
+    ↔ ((stage : ℕ) × ((cuts : Cuts) × (image_at folder stage cuts ≡ Some image)))
+images-cuts folder image = (
+  image-cuts folder image,
+  λ found. image_at-stage folder found.0 found.1.0 image (slice_get (stages folder) found.0) refl found.1.1,
+)
 
 -- a file may be left whole
 IsTorn-whole : (file : File) → IsTorn file (file_bytes file)
@@ -66,7 +104,8 @@ IsTorn-whole file = record {
   keep = length file.pending;
   zeros = 0;
   fits = omega arith;
-  is = ap (λ (l : List ℕ). file.synced ++ l) (sym (take_all (length file.pending) file.pending (omega arith))) ∙ sym (append-nil (file.synced ++ take (length file.pending) file.pending));
+  is = ap (λ (l : List ℕ). file.synced ++ l) (sym (take_all (length file.pending) file.pending (omega arith)))
+      ∙ sym (append-nil (file.synced ++ take (length file.pending) file.pending));
 }
 
 -- the whole bytes of a file are one of its torn forms
@@ -102,7 +141,8 @@ AllSyncedAt : List File → Option ℕ → Type 0
 AllSyncedAt files None = Unit {0}
 AllSyncedAt files (Some id) = (get_or files id empty_file).pending ≡ []
 
-IsTornAt-synced : (files : List File) (place : Option ℕ) (bytes : Option (List ℕ)) → AllSyncedAt files place → IsTornAt files place bytes → bytes ≡ bytes_at files place
+IsTornAt-synced : (files : List File) (place : Option ℕ) (bytes : Option (List ℕ)) → AllSyncedAt files place
+    → IsTornAt files place bytes → bytes ≡ bytes_at files place
 unfolding AllSyncedAt
 IsTornAt-synced files None None synced torn = refl
 IsTornAt-synced files None (Some bytes) synced torn = absurd torn
@@ -116,10 +156,12 @@ only_stage stage last (suc k, lt, is) = absurd (omega arith)
 
 -- a folder of one stage of which nothing is pending leaves what reads
 one_stage : (files : List File) (now : Stage) → AllSyncedAt files now.store → AllSyncedAt files now.next
-    → (later : Image) → IsImage (record { files = files; earlier = []; now = now }) later → later ≡ record { store = bytes_at files now.store; next = bytes_at files now.next }
+    → (later : Image) → IsImage (record { files = files; earlier = []; now = now }) later
+    → later ≡ record { store = bytes_at files now.store; next = bytes_at files now.next }
 one_stage files now store next later is =
     let same = only_stage is.stage now is.among in
-    let s = IsTornAt-synced files now.store later.store store (subst (λ (stage : Stage). IsTornAt files stage.store later.store) same is.store) in
+    let s = IsTornAt-synced files now.store later.store store
+    (subst (λ (stage : Stage). IsTornAt files stage.store later.store) same is.store) in
     let n = IsTornAt-synced files now.next later.next next (subst (λ (stage : Stage). IsTornAt files stage.next later.next) same is.next) in
     λ i. record { store = s i; next = n i }
 
@@ -130,7 +172,8 @@ image-reads (Some s) None = ap (λ (l : List ℕ). record { store = Some l; next
 image-reads None (Some n) = ap (λ (l : List ℕ). record { store = None; next = Some l }) (append-nil n)
 image-reads (Some s) (Some n) = λ i. record { store = Some (append-nil s i); next = Some (append-nil n i) }
 
-image-left : (store next : Option (List ℕ)) (later : Image) → IsImage (folder_with_files store next) later → later ≡ image_now (folder_with_files store next)
+image-left : (store next : Option (List ℕ)) (later : Image) → IsImage (folder_with_files store next) later
+    → later ≡ image_now (folder_with_files store next)
 unfolding AllSyncedAt
 image-left None None later is = one_stage _ _ tt tt later is
 image-left (Some s) None later is = one_stage _ _ refl tt later is
@@ -141,5 +184,6 @@ image-left (Some s) (Some n) later is = one_stage _ _ refl refl later is
 pub image-stays : (image later : Image) → IsImage (folder_of_image image) later ↔ (later ≡ image)
 image-stays image later = (
   λ is. image-left image.store image.next later is ∙ image-reads image.store image.next,
-  λ same. subst (λ (i : Image). IsImage (folder_of_image image) i) (image-reads image.store image.next ∙ sym same) (reading-image (folder_of_image image)),
+  λ same. subst (λ (i : Image). IsImage (folder_of_image image) i) (image-reads image.store image.next ∙ sym same)
+      (reading-image (folder_of_image image)),
 )

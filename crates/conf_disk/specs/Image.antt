@@ -1,5 +1,6 @@
 -- What a crash may leave of a folder.
-use Rattle.std.specs.Prelude.{◌≡◌, ◌≢◌, ℕ, ◌+◌, ◌≤◌, ◌<◌, List, [], ◌∷◌, ◌++◌, length, get_or, slice_get, take, replicate, Contains, All, Bool, Option, Some, None, if◌then◌else◌, ◌&&◌, ◌==◌, nat_le}
+use Rattle.std.specs.Prelude.{◌≡◌, ◌≢◌, ℕ, ◌+◌, ◌≤◌, ◌<◌, List, [], ◌∷◌, ◌++◌, length, get_or, slice_get, take}
+use Rattle.std.specs.Prelude.{replicate, Contains, All, Bool, Option, Some, None, if◌then◌else◌, ◌&&◌, ◌==◌, nat_le}
 use Rattle.conf_disk.specs.declared.disk.Name.TheVariants.{Store, Next}
 use Rattle.conf_disk.specs.declared.cuts.Cuts.{Cuts}
 use Rattle.conf_disk.specs.Folder.{Stage, File, empty_file, Folder, stages, bytes_under}

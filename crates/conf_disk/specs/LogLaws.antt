@@ -4,7 +4,9 @@ use Rattle.std.proofs.Common.{refl, sym, ◌∙◌, ap, subst, arith, length-app
 use Rattle.std.proofs.lemmas.List.{take_all, length-set}
 use Rattle.std.proofs.lemmas.List.Elements.{All-weaker, All-contains, All-push, All-nil, Contains-append_right}
 use Rattle.std.proofs.lemmas.Option.{slice_get_past}
-use Rattle.conf_disk.specs.Folder.{Stage, File, empty_file, Folder, empty_folder, stages, under, Step, CreateNext, Append, Sync, RenameNext, RemoveNext, SyncFolder, after, with_file, with_stage, after_create, after_rename, after_remove}
+use Rattle.conf_disk.specs.Folder.{Stage, File, empty_file, Folder, empty_folder, stages, under, Step, CreateNext}
+use Rattle.conf_disk.specs.Folder.{Append, Sync, RenameNext, RemoveNext, SyncFolder, after, with_file, with_stage}
+use Rattle.conf_disk.specs.Folder.{after_create, after_rename, after_remove}
 use Rattle.conf_disk.specs.Image.{Image, IsImage, IsMade, IsApartFrom, IsStage, IsWhole}
 use Rattle.conf_disk.specs.Log.{folder_after, folder_within, folder_at, IsLeftSince}
 

@@ -27,11 +27,13 @@ take-past kept xs ys le =
     ap (λ n. take n (xs ++ ys)) whole ∙ take-beyond (kept - length xs) xs ys
 
 -- a part of a piece is not closed
-part-unclosed : (piece after : List ℕ) (kept : ℕ) → ClosesOnce piece → kept < length piece → (place : ℕ) → ClosesAt (take kept (piece ++ after)) place → ⊥
+part-unclosed : (piece after : List ℕ) (kept : ℕ) → ClosesOnce piece → kept < length piece → (place : ℕ)
+    → ClosesAt (take kept (piece ++ after)) place → ⊥
 part-unclosed piece after kept closes short place c =
     let all = piece ++ after in
     let within : place ≤ kept = omega (arith, lies_within (take kept all) place c, length-take kept all) in
-    let whole : ClosesAt all place = subst (λ l. ClosesAt l place) (take-append-drop kept all) (closes-longer (take kept all) (drop kept all) place c) in
+    let whole : ClosesAt all place = subst (λ l. ClosesAt l place) (take-append-drop kept all)
+    (closes-longer (take kept all) (drop kept all) place c) in
     let own = closes-shorter piece after place whole (omega (arith, within, short)) in
     absurd (let end = closes.once place own in omega (arith, end, within, short))
 
@@ -44,7 +46,8 @@ prefix-pieces [] rest kept closed unclosed = (
   record {
     joined = refl;
     closed = All-nil ClosesOnce;
-    unclosed = λ place c. unclosed place (subst (λ l. ClosesAt l place) (take-append-drop kept rest) (closes-longer (take kept rest) (drop kept rest) place c));
+    unclosed = λ place c. unclosed place (subst (λ l. ClosesAt l place) (take-append-drop kept rest)
+        (closes-longer (take kept rest) (drop kept rest) place c));
   },
 )
 prefix-pieces (p ∷ ps) rest kept closed unclosed =
@@ -58,14 +61,16 @@ prefix-pieces (p ∷ ps) rest kept closed unclosed =
       record {
         joined = refl;
         closed = All-nil ClosesOnce;
-        unclosed = λ place c. part-unclosed p (concat ps ++ rest) kept first short place (subst (λ l. ClosesAt (take kept l) place) grouped c);
+        unclosed = λ place c. part-unclosed p (concat ps ++ rest) kept first short place
+            (subst (λ l. ClosesAt (take kept l) place) grouped c);
       },
     ))
     (λ le. (let more = prefix-pieces ps rest (kept - length p) (All-tail ClosesOnce p ps closed) unclosed in (
       suc more.0,
       more.1,
       record {
-        joined = ap (take kept) grouped ∙ take-past kept p (concat ps ++ rest) le ∙ ap (λ l. p ++ l) more.2.joined ∙ sym (append_assoc p (concat (take more.0 ps)) more.1);
+        joined = ap (take kept) grouped ∙ take-past kept p (concat ps ++ rest) le ∙ ap (λ l. p ++ l) more.2.joined
+            ∙ sym (append_assoc p (concat (take more.0 ps)) more.1);
         closed = All-cons ClosesOnce p (take more.0 ps) first more.2.closed;
         unclosed = more.2.unclosed;
       },
@@ -73,7 +78,8 @@ prefix-pieces (p ∷ ps) rest kept closed unclosed =
     (cases_lt kept (length p))
 
 -- the first of some records are records
-are-prefix : (k count : ℕ) (pieces : List (List ℕ)) (commands : List Command) → AreRecords count pieces commands → AreRecords count (take k pieces) (take k commands)
+are-prefix : (k count : ℕ) (pieces : List (List ℕ)) (commands : List Command) → AreRecords count pieces commands
+    → AreRecords count (take k pieces) (take k commands)
 are-prefix zero count pieces commands are = tt
 are-prefix (suc k) count [] [] are = tt
 are-prefix (suc k) count [] (command ∷ commands) are = absurd are
@@ -100,7 +106,8 @@ prefixes-are-read bytes s m kept holds =
         pieces = mean.base ∷ take cut.0 mean.records;
         rest = cut.1;
         cut = record {
-          joined = ap (take kept) joined ∙ take-past kept mean.base (concat mean.records ++ m.rest) holds ∙ ap (λ l. mean.base ++ l) cut.2.joined
+          joined = ap (take kept) joined ∙ take-past kept mean.base (concat mean.records ++ m.rest) holds
+              ∙ ap (λ l. mean.base ++ l) cut.2.joined
               ∙ sym (append_assoc mean.base (concat (take cut.0 mean.records)) cut.1);
           closed = All-cons ClosesOnce mean.base (take cut.0 mean.records) first cut.2.closed;
           unclosed = cut.2.unclosed;

@@ -21,7 +21,8 @@ use Rattle.conf_history.specs.declared.walk.Walk.{Walk}
 use Rattle.conf_history.proofs.WalkLemmas.{end-read}
 
 -- a file was read to its end, and the copy is its pieces
-pub reads-copy : (given left : Option (List ℕ)) (walk : Walk) (pieces : List (List ℕ)) (start : Contents) (commands : List Command) (copy : List ℕ) → copy ≡ concat pieces
+pub reads-copy : (given left : Option (List ℕ)) (walk : Walk) (pieces : List (List ℕ)) (start : Contents)
+    (commands : List Command) (copy : List ℕ) → copy ≡ concat pieces
     → IsAtEndOf given left walk pieces start commands → ReadsCopy given left copy
 reads-copy given left walk pieces start commands copy is e =
     let rest = piece_or_rest walk.pieces in
@@ -64,7 +65,8 @@ module _ (given left : Option (List ℕ)) (copy : List ℕ) (reads : ReadsCopy g
   refuses-copy old new OutOfMemory refused = record { copy = copy; reads = reads; refused = refused }
 
   -- what a crash leaves of that
-  pub copy-leaves : {D : Type 0} (model : DiskModel D) (old new : D) → LeavesStoreOr model (Some copy) old new → LeavesOldOrCopy model given left old new
+  pub copy-leaves : {D : Type 0} (model : DiskModel D) (old new : D) → LeavesStoreOr model (Some copy) old new
+      → LeavesOldOrCopy model given left old new
   copy-leaves model old new run =
       LeavesOnly-weaker model old new (λ image. IsStoreOf (model.folder old) image.store ⊎ (image.store ≡ Some copy))
       (λ image. IsStoreOf (model.folder old) image.store ⊎ IsCopied given left image.store) run

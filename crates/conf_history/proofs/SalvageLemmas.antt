@@ -11,7 +11,8 @@ use Rattle.conf_history.specs.Salvages.{IsSaved, LeavesOldOrSaved}
 use Rattle.conf_history.specs.declared.survey.Findings.{Findings}
 
 -- a store was made of what was found
-pub made-leaves : {D : Type 0} (model : DiskModel D) (given left : Option (List ℕ)) (old new : D) (s : Contents) (findings : Findings) → ReadsSurvey given left s findings
+pub made-leaves : {D : Type 0} (model : DiskModel D) (given left : Option (List ℕ)) (old new : D) (s : Contents)
+    (findings : Findings) → ReadsSurvey given left s findings
     → LeavesStoreOr model (Some (base_bytes s)) old new → LeavesOldOrSaved model given left old new
 made-leaves model given left old new s findings reads run =
     LeavesOnly-weaker model old new (λ image. IsStoreOf (model.folder old) image.store ⊎ (image.store ≡ Some (base_bytes s)))

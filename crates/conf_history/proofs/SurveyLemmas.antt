@@ -55,9 +55,11 @@ counts-none given old sound = record {
 }
 
 -- there are few pieces
-pub counts-few : (given left : Option (List ℕ)) (old now : Reading) (count : ℕ) → IsSound store_limit store_limit old → CountsSoFar given left old now count → count ≤ store_limit + 65536
+pub counts-few : (given left : Option (List ℕ)) (old now : Reading) (count : ℕ) → IsSound store_limit store_limit old
+    → CountsSoFar given left old now count → count ≤ store_limit + 65536
 counts-few given left old now count sound s =
-    let start : length (ahead old) ≤ 65536 = omega (arith, length-take (old.end - old.start) (drop old.start old.chunk.items), sound.within) in
+    let start : length (ahead old) ≤ 65536 = omega
+    (arith, length-take (old.end - old.start) (drop old.start old.chunk.items), sound.within) in
     omega (
       arith,
       start,
@@ -72,7 +74,8 @@ counts-few given left old now count sound s =
 module _ (given mid left : Option (List ℕ)) (old now new : Reading) (count : ℕ) (s : CountsSoFar given mid old now count) where
   joined-on : (more after : List ℕ) → ahead now ++ more ≡ after → ahead old ++ (s.more ++ more) ≡ concat s.further ++ after
   joined-on more after e =
-      sym (append_assoc (ahead old) s.more more) ∙ ap (λ l. l ++ more) s.joined ∙ append_assoc (concat s.further) (ahead now) more ∙ ap (λ l. concat s.further ++ l) e
+      sym (append_assoc (ahead old) s.more more) ∙ ap (λ l. l ++ more) s.joined
+      ∙ append_assoc (concat s.further) (ahead now) more ∙ ap (λ l. concat s.further ++ l) e
 
   -- one more piece
   pub counts-more : AdvancesToPiece store_limit store_limit mid left now new → CountsSoFar given left old new (count + 1)
@@ -110,7 +113,8 @@ module _ (given mid left : Option (List ℕ)) (old now new : Reading) (count : �
       )
 
   -- all pieces are counted
-  pub counts-all : AdvancesToEnd store_limit store_limit mid left now new → (known : Option (List ℕ)) (read : List ℕ) → Consumes known given (read ++ ahead old)
+  pub counts-all : AdvancesToEnd store_limit store_limit mid left now new → (known : Option (List ℕ)) (read : List ℕ)
+      → Consumes known given (read ++ ahead old)
       → bytes_read old ≡ length (read ++ ahead old) → CountsPieces known left read new count
   counts-all a known read taken total =
       let more = s.more ++ a.more in
@@ -118,16 +122,19 @@ module _ (given mid left : Option (List ℕ)) (old now new : Reading) (count : �
       append_assoc read (ahead old) more ∙ ap (λ l. read ++ l) (joined-on a.more (piece_or_rest new) a.joined) in
       record {
         further = s.further;
-        taken = subst (Consumes known left) on (Consumes-trans known given left (read ++ ahead old) more taken (Consumes-trans given mid left s.more a.more s.taken a.taken));
+        taken = subst (Consumes known left) on (Consumes-trans known given left (read ++ ahead old) more taken
+            (Consumes-trans given mid left s.more a.more s.taken a.taken));
         at_end = a.at_end;
-        short = (let size = sym (ap length on) ∙ length-append (read ++ ahead old) more in let both = length-append s.more a.more in omega (arith, size, both, total, s.total, a.total));
+        short = (let size = sym (ap length on) ∙ length-append (read ++ ahead old) more in
+            let both = length-append s.more a.more in omega (arith, size, both, total, s.total, a.total));
         closed = s.closed;
         unclosed = a.unclosed;
         counted = s.counted;
       }
 
   -- or can't be
-  pub counts-refused : (f : PiecesFault) → Advances store_limit store_limit mid left now new (Err f) → (known : Option (List ℕ)) (read : List ℕ) → Consumes known given (read ++ ahead old)
+  pub counts-refused : (f : PiecesFault) → Advances store_limit store_limit mid left now new (Err f)
+      → (known : Option (List ℕ)) (read : List ℕ) → Consumes known given (read ++ ahead old)
       → bytes_read old ≡ length (read ++ ahead old) → IfSome known (λ bytes. RefusesSurvey bytes (fault_of_pieces f))
   counts-refused f a known read taken total =
       let on : (read ++ ahead old) ++ s.more ≡ (read ++ concat s.further) ++ ahead now =
@@ -137,7 +144,8 @@ module _ (given mid left : Option (List ℕ)) (old now new : Reading) (count : �
       (let size = sym (ap length on) ∙ length-append (read ++ ahead old) s.more in omega (arith, size, s.total, total)) f a
 
 -- a piece that the walk is at was read too
-pub past-piece : (given left : Option (List ℕ)) (walk : Walk) (pieces : List (List ℕ)) (start : Contents) (commands : List Command) → IsAtPiece given left walk pieces start commands
+pub past-piece : (given left : Option (List ℕ)) (walk : Walk) (pieces : List (List ℕ)) (start : Contents)
+    (commands : List Command) → IsAtPiece given left walk pieces start commands
     → Consumes given left ((concat pieces ++ piece_or_rest walk.pieces) ++ ahead walk.pieces)
     × (bytes_read walk.pieces ≡ length ((concat pieces ++ piece_or_rest walk.pieces) ++ ahead walk.pieces))
 past-piece given left walk pieces start commands p =
@@ -146,13 +154,15 @@ past-piece given left walk pieces start commands p =
 
 -- ---- what was found
 
-records-count : (count : ℕ) (pieces : List (List ℕ)) (commands : List Command) → AreRecords count pieces commands → length pieces ≡ length commands
+records-count : (count : ℕ) (pieces : List (List ℕ)) (commands : List Command) → AreRecords count pieces commands
+    → length pieces ≡ length commands
 records-count count [] [] are = refl
 records-count count [] (command ∷ commands) are = absurd are
 records-count count (piece ∷ pieces) [] are = absurd are
 records-count count (piece ∷ pieces) (command ∷ commands) are = ap suc (records-count (count + 1) pieces commands are.1)
 
-module _ (pieces : List (List ℕ)) (start : Contents) (commands : List Command) (s : Contents) (p : ArePerformed pieces start commands s) where
+module _ (pieces : List (List ℕ)) (start : Contents) (commands : List Command) (s : Contents)
+    (p : ArePerformed pieces start commands s) where
   -- the count grows from that of the base
   pub counted-from : (base : ℕ) → base ≡ start.count → base ≤ s.count
   counted-from base is =
@@ -173,7 +183,8 @@ module _ (pieces : List (List ℕ)) (start : Contents) (commands : List Command)
 
 -- a file without a bad piece
 module _ (given left : Option (List ℕ)) (walk : Walk) (pieces : List (List ℕ)) (start : Contents) (commands : List Command) where
-  pub surveyed-whole : IsAtEndOf given left walk pieces start commands → (base : ℕ) → base ≡ start.count → IsState walk.state → (findings : Findings)
+  pub surveyed-whole : IsAtEndOf given left walk pieces start commands → (base : ℕ) → base ≡ start.count
+      → IsState walk.state → (findings : Findings)
       → findings ≡ record { base = base; commands = walk.state.count - base; dropped = length (piece_or_rest walk.pieces); bad = None }
       → ReadsSurvey given left walk.state findings
   surveyed-whole e base is kept findings found =
@@ -203,8 +214,10 @@ module _ (given left : Option (List ℕ)) (walk : Walk) (pieces : List (List ℕ
       }
 
   -- a file with a bad piece
-  pub surveyed-bad : (mid : Option (List ℕ)) (now : Reading) (bad : Bad) → IsAtPiece given mid walk pieces start commands → IsBadHere walk bad.piece
-      → CountsPieces given left (concat pieces ++ piece_or_rest walk.pieces) now bad.following → (base : ℕ) → base ≡ start.count → IsState walk.state → (findings : Findings)
+  pub surveyed-bad : (mid : Option (List ℕ)) (now : Reading) (bad : Bad)
+      → IsAtPiece given mid walk pieces start commands → IsBadHere walk bad.piece
+      → CountsPieces given left (concat pieces ++ piece_or_rest walk.pieces) now bad.following → (base : ℕ)
+      → base ≡ start.count → IsState walk.state → (findings : Findings)
       → findings ≡ record { base = base; commands = walk.state.count - base; dropped = length (piece_or_rest now); bad = Some bad }
       → ReadsSurvey given left walk.state findings
   surveyed-bad mid now bad p here c base is kept findings found =
@@ -213,8 +226,10 @@ module _ (given left : Option (List ℕ)) (walk : Walk) (pieces : List (List ℕ
       let bytes = (concat pieces ++ piece) ++ (concat c.further ++ rest) in
       let read = p.read in
       let joined : bytes ≡ concat (pieces ++ piece ∷ c.further) ++ rest =
-      append_assoc (concat pieces) piece (concat c.further ++ rest) ∙ ap (λ l. concat pieces ++ l) (sym (append_assoc piece (concat c.further) rest))
-      ∙ sym (append_assoc (concat pieces) (piece ++ concat c.further) rest) ∙ ap (λ l. l ++ rest) (sym (concat-append pieces (piece ∷ c.further))) in
+      append_assoc (concat pieces) piece (concat c.further ++ rest)
+      ∙ ap (λ l. concat pieces ++ l) (sym (append_assoc piece (concat c.further) rest))
+      ∙ sym (append_assoc (concat pieces) (piece ++ concat c.further) rest)
+      ∙ ap (λ l. l ++ rest) (sym (concat-append pieces (piece ∷ c.further))) in
       let is_bad : IsBadPiece pieces piece walk.state bad.piece = record {
         number = read.place.number ∙ here.number;
         byte = read.place.byte ∙ here.byte;
@@ -230,7 +245,8 @@ module _ (given left : Option (List ℕ)) (walk : Walk) (pieces : List (List ℕ
               rest = rest;
               cut = record {
                 joined = joined;
-                closed = All-append ClosesOnce pieces (piece ∷ c.further) read.performed.closed (All-cons ClosesOnce piece c.further p.piece c.closed);
+                closed = All-append ClosesOnce pieces (piece ∷ c.further) read.performed.closed
+                    (All-cons ClosesOnce piece c.further p.piece c.closed);
                 unclosed = c.unclosed;
               };
               mean = read.performed.mean;

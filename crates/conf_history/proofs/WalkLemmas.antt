@@ -1,6 +1,7 @@
 -- The walk over a store's file: what each call makes of what was read, and what the bytes of the file are then.
 use Rattle.std.proofs.Common.{◌≡◌, inl, inr, refl, sym, ◌∙◌, ap, subst, arith, ◌<◌, append_assoc, length-append}
-use Rattle.std.specs.Prelude.{ℕ, ◌+◌, ◌-◌, Bool, true, false, List, [], ◌∷◌, ◌++◌, length, ◌==◌, cond, Option, Some, None, Result, Ok, Err, IfSome}
+use Rattle.std.specs.Prelude.{ℕ, ◌+◌, ◌-◌, Bool, true, false, List, [], ◌∷◌, ◌++◌, length, ◌==◌, cond, Option, Some}
+use Rattle.std.specs.Prelude.{None, Result, Ok, Err, IfSome}
 use Rattle.std.specs.List.{All, concat}
 use Rattle.std.specs.Io.KnownBytes.{Consumes}
 use Rattle.std.proofs.KnownBytes.{Consumes-nil, Consumes-trans, Consumes-whole}
@@ -11,7 +12,8 @@ use Rattle.std.proofs.lemmas.List.Elements.{All-nil, All-cons, All-push}
 use Rattle.yaml_chars.specs.Signs.{line_feed}
 use Rattle.yaml_grammar.specs.Closings.{ClosesOnce, Pieces}
 use Rattle.yaml_recognizers.specs.Closings.{SomePieces}
-use Rattle.yaml_docs.specs.PieceReading.{Advances, AdvancesToPiece, AdvancesToEnd, FindsTooLong, FindsInputLong, IsSound, ahead, bytes_read, input_limit, piece_limit, piece_or_rest}
+use Rattle.yaml_docs.specs.PieceReading.{Advances, AdvancesToPiece, AdvancesToEnd, FindsTooLong, FindsInputLong}
+use Rattle.yaml_docs.specs.PieceReading.{IsSound, ahead, bytes_read, input_limit, piece_limit, piece_or_rest}
 use Rattle.yaml_docs.specs.declared.pieces.Pieces.{Pieces as Reading}
 use Rattle.yaml_docs.specs.declared.pieces.PiecesFault.{PiecesFault}
 use Rattle.yaml_docs.specs.declared.pieces.PiecesFault.TheVariants as fault
@@ -37,7 +39,8 @@ use Rattle.conf_history.specs.declared.walk.Walk.{Walk}
 -- ---- known bytes
 
 -- known bytes begin with what was read of them
-pub known : (given left : Option (List ℕ)) (read : List ℕ) (P : List ℕ → Type 0) → Consumes given left read → ((after : List ℕ) → P (read ++ after)) → IfSome given P
+pub known : (given left : Option (List ℕ)) (read : List ℕ) (P : List ℕ → Type 0) → Consumes given left read
+    → ((after : List ℕ) → P (read ++ after)) → IfSome given P
 known None left read P taken all = tt
 known (Some xs) None read P taken all = absurd taken
 known (Some xs) (Some ys) read P taken all = subst P (sym taken) (all ys)
@@ -69,7 +72,8 @@ pub begins-with : SomePieces → (pieces : List (List ℕ)) (further after : Lis
     → (more : List (List ℕ)) × (rest : List ℕ) × Pieces ((concat pieces ++ further) ++ after) (pieces ++ more) rest
 begins-with some pieces further after closed =
     let left = some (further ++ after) in
-    let prefix : Pieces (concat pieces) pieces [] = record { joined = sym (append-nil (concat pieces)); closed = closed; unclosed = no_closing } in
+    let prefix : Pieces (concat pieces) pieces [] =
+    record { joined = sym (append-nil (concat pieces)); closed = closed; unclosed = no_closing } in
     let all = pieces-joined (concat pieces) (further ++ after) pieces left.0 left.1 prefix left.2 in
     (left.0, left.1, subst (λ b. Pieces b (pieces ++ left.0) left.1) (sym (append_assoc (concat pieces) further after)) all)
 
@@ -79,12 +83,17 @@ pub begins-with-piece : SomePieces → (pieces : List (List ℕ)) (piece further
 begins-with-piece some pieces piece further after closed closes =
     let all = begins-with some (pieces ++ piece ∷ []) further after (All-push ClosesOnce pieces piece closed closes) in
     let bytes = ap (λ l. l ++ after) (sym (moved pieces piece further)) in
-    let joined = subst (λ b. Pieces b ((pieces ++ piece ∷ []) ++ all.0) all.1) bytes all.2 in
-    (all.0, all.1, subst (λ ps. Pieces ((concat pieces ++ (piece ++ further)) ++ after) ps all.1) (append_assoc pieces (piece ∷ []) all.0) joined)
+    let joined = subst (λ b. Pieces b ((pieces ++ piece ∷ []) ++ all.0) all.1) bytes all.2 in (
+      all.0,
+      all.1,
+      subst (λ ps. Pieces ((concat pieces ++ (piece ++ further)) ++ after) ps all.1)
+          (append_assoc pieces (piece ∷ []) all.0) joined,
+    )
 
 -- ---- limits
 
-module _ (given mid left : Option (List ℕ)) (old now : Reading) (prefix : List ℕ) (taken : Consumes given mid (prefix ++ ahead old)) (total : bytes_read old ≡ length (prefix ++ ahead old)) where
+module _ (given mid left : Option (List ℕ)) (old now : Reading) (prefix : List ℕ)
+    (taken : Consumes given mid (prefix ++ ahead old)) (total : bytes_read old ≡ length (prefix ++ ahead old)) where
   too-long : FindsTooLong store_limit mid left old → IfSome given IsNoStore
   too-long f =
       let read = (prefix ++ ahead old) ++ f.more in
@@ -113,7 +122,8 @@ module _ (given mid left : Option (List ℕ)) (old now : Reading) (prefix : List
       )))
 
   -- where there is no next piece to be had, the fault is right
-  pub refuses : (f : PiecesFault) → Advances store_limit store_limit mid left old now (Err f) → IfSome given (λ bytes. RefusesSurvey bytes (fault_of_pieces f))
+  pub refuses : (f : PiecesFault) → Advances store_limit store_limit mid left old now (Err f)
+      → IfSome given (λ bytes. RefusesSurvey bytes (fault_of_pieces f))
   refuses fault.Read a = any-bytes given _ (λ bytes. tt)
   refuses fault.TooLong a = too-long a
   refuses fault.InputLong a = input-long a
@@ -123,7 +133,8 @@ module _ (given mid left : Option (List ℕ)) (old now : Reading) (prefix : List
 pub own-limits : (given left : Option (List ℕ)) (old now : Reading) (r : Result Bool PiecesFault) → IsSound store_limit store_limit old
     → Advances (piece_limit old) (input_limit old) given left old now r → Advances store_limit store_limit given left old now r
 own-limits given left old now r s a =
-    subst (λ n. Advances store_limit n given left old now r) s.whole (subst (λ n. Advances n (input_limit old) given left old now r) s.max a)
+    subst (λ n. Advances store_limit n given left old now r) s.whole
+    (subst (λ n. Advances n (input_limit old) given left old now r) s.max a)
 
 -- ---- the first piece
 
@@ -140,8 +151,10 @@ module _ (given left : Option (List ℕ)) (old now : Reading) (none : ahead old 
   first-piece : AdvancesToPiece store_limit store_limit given left old now → Consumes given left (piece_or_rest now ++ ahead now)
   first-piece a = subst (Consumes given left) (ap (λ l. l ++ a.more) (sym none) ∙ a.joined) a.taken
 
-  pub refuses-first : (f : PiecesFault) → Advances store_limit store_limit given left old now (Err f) → IfSome given (λ bytes. RefusesSurvey bytes (fault_of_pieces f))
-  refuses-first = refuses given given left old now [] (subst (Consumes given given) (sym none) (Consumes-nil given)) (zero ∙ ap length (sym none))
+  pub refuses-first : (f : PiecesFault) → Advances store_limit store_limit given left old now (Err f)
+      → IfSome given (λ bytes. RefusesSurvey bytes (fault_of_pieces f))
+  refuses-first = refuses given given left old now [] (subst (Consumes given given) (sym none) (Consumes-nil given))
+      (zero ∙ ap length (sym none))
 
   -- without a piece there is no base
   pub no-piece : AdvancesToEnd store_limit store_limit given left old now → IfSome given IsNoStore
@@ -155,7 +168,8 @@ module _ (given left : Option (List ℕ)) (old now : Reading) (none : ahead old 
       }))
 
   -- nor where the first piece is none
-  pub no-base : SomePieces → AdvancesToPiece store_limit store_limit given left old now → IsNoBase (piece_or_rest now) → IfSome given IsNoStore
+  pub no-base : SomePieces → AdvancesToPiece store_limit store_limit given left old now → IsNoBase (piece_or_rest now)
+      → IfSome given IsNoStore
   no-base some a other =
       let piece = piece_or_rest now in
       known given left (piece ++ ahead now) IsNoStore (first-piece a)
@@ -169,7 +183,8 @@ module _ (given left : Option (List ℕ)) (old now : Reading) (none : ahead old 
       })))
 
   -- a base begins the walk
-  pub begun : (state : Contents) (place : Place) → AdvancesToPiece store_limit store_limit given left old now → IsBase (piece_or_rest now) state
+  pub begun : (state : Contents) (place : Place) → AdvancesToPiece store_limit store_limit given left old now
+      → IsBase (piece_or_rest now) state
       → place ≡ record { number = 0 + 1; byte = 0 + length (piece_or_rest now); feeds = 0 + line_feeds (piece_or_rest now) }
       → IsBetween given left (record { pieces = now; state = state; place = place }) (piece_or_rest now ∷ []) state []
   begun state place a is e =
@@ -185,7 +200,16 @@ module _ (given left : Option (List ℕ)) (old now : Reading) (none : ahead old 
         limits = a.sound;
         performed = record {
           closed = All-cons ClosesOnce piece [] a.piece (All-nil ClosesOnce);
-          mean = record { base = piece; records = []; are = refl; start = state; is_base = is; commands = []; are_records = tt; leads = refl };
+          mean = record {
+            base = piece;
+            records = [];
+            are = refl;
+            start = state;
+            is_base = is;
+            commands = [];
+            are_records = tt;
+            leads = refl;
+          };
           begins = refl;
           performed = refl;
         };
@@ -199,17 +223,21 @@ module _ (given left : Option (List ℕ)) (old now : Reading) (none : ahead old 
 
 -- ---- the next piece
 
-module _ (given mid left : Option (List ℕ)) (old : Walk) (now : Reading) (pieces : List (List ℕ)) (start : Contents) (commands : List Command) (b : IsBetween given mid old pieces start commands) where
-  joined-on : (more after : List ℕ) → ahead old.pieces ++ more ≡ after → (concat pieces ++ ahead old.pieces) ++ more ≡ concat pieces ++ after
+module _ (given mid left : Option (List ℕ)) (old : Walk) (now : Reading) (pieces : List (List ℕ)) (start : Contents)
+    (commands : List Command) (b : IsBetween given mid old pieces start commands) where
+  joined-on : (more after : List ℕ) → ahead old.pieces ++ more ≡ after
+      → (concat pieces ++ ahead old.pieces) ++ more ≡ concat pieces ++ after
   joined-on more after e = append_assoc (concat pieces) (ahead old.pieces) more ∙ ap (λ l. concat pieces ++ l) e
 
-  to-piece : AdvancesToPiece store_limit store_limit mid left old.pieces now → IsAtPiece given left (record old { pieces = now }) pieces start commands
+  to-piece : AdvancesToPiece store_limit store_limit mid left old.pieces now
+      → IsAtPiece given left (record old { pieces = now }) pieces start commands
   to-piece a =
       let on = joined-on a.more (piece_or_rest now ++ ahead now) a.joined in
       record {
         read = record {
           taken = subst (Consumes given left) on (Consumes-trans given mid left (concat pieces ++ ahead old.pieces) a.more b.taken a.taken);
-          total = a.total ∙ ap (λ n. n + length a.more) b.total ∙ sym (length-append (concat pieces ++ ahead old.pieces) a.more) ∙ ap length on;
+          total = a.total ∙ ap (λ n. n + length a.more) b.total
+              ∙ sym (length-append (concat pieces ++ ahead old.pieces) a.more) ∙ ap length on;
           limits = a.sound;
           performed = b.performed;
           place = b.place;
@@ -217,28 +245,33 @@ module _ (given mid left : Option (List ℕ)) (old : Walk) (now : Reading) (piec
         piece = a.piece;
       }
 
-  to-end : AdvancesToEnd store_limit store_limit mid left old.pieces now → IsAtEndOf given left (record old { pieces = now }) pieces start commands
+  to-end : AdvancesToEnd store_limit store_limit mid left old.pieces now
+      → IsAtEndOf given left (record old { pieces = now }) pieces start commands
   to-end a =
       let on = joined-on a.more (piece_or_rest now) a.joined in
       record {
         taken = subst (Consumes given left) on (Consumes-trans given mid left (concat pieces ++ ahead old.pieces) a.more b.taken a.taken);
         at_end = a.at_end;
-        short = (let size = sym (ap length on) ∙ length-append (concat pieces ++ ahead old.pieces) a.more in omega (arith, size, b.total, a.total));
+        short = (let size = sym (ap length on) ∙ length-append (concat pieces ++ ahead old.pieces) a.more in
+            omega (arith, size, b.total, a.total));
         unclosed = a.unclosed;
         performed = b.performed;
         place = b.place;
       }
 
-  pub advances : (found : Bool) → Advances store_limit store_limit mid left old.pieces now (Ok found) → AfterAdvance given left (record old { pieces = now }) pieces start commands (Ok found)
+  pub advances : (found : Bool) → Advances store_limit store_limit mid left old.pieces now (Ok found)
+      → AfterAdvance given left (record old { pieces = now }) pieces start commands (Ok found)
   advances true a = to-piece a
   advances false a = to-end a
 
-  pub refuses-next : (f : PiecesFault) → Advances store_limit store_limit mid left old.pieces now (Err f) → IfSome given (λ bytes. RefusesSurvey bytes (fault_of_pieces f))
+  pub refuses-next : (f : PiecesFault) → Advances store_limit store_limit mid left old.pieces now (Err f)
+      → IfSome given (λ bytes. RefusesSurvey bytes (fault_of_pieces f))
   refuses-next = refuses given mid left old.pieces now (concat pieces) b.taken b.total
 
 -- ---- a piece
 
-module _ (given left : Option (List ℕ)) (old : Walk) (pieces : List (List ℕ)) (start : Contents) (commands : List Command) (at : IsAtPiece given left old pieces start commands) where
+module _ (given left : Option (List ℕ)) (old : Walk) (pieces : List (List ℕ)) (start : Contents)
+    (commands : List Command) (at : IsAtPiece given left old pieces start commands) where
   -- there is room for the numbers of the place
   pub has-room : HasRoom old
   has-room =
@@ -266,7 +299,8 @@ module _ (given left : Option (List ℕ)) (old : Walk) (pieces : List (List ℕ)
       let on = moved pieces piece (ahead old.pieces) in
       let count : old.state.count ≡ m.start.count + length m.commands = after-count m.start old.state m.commands m.leads in
       record {
-        taken = subst (λ (p : Reading). Consumes given left (concat all ++ ahead p)) (sym done.pieces) (subst (Consumes given left) on at.read.taken);
+        taken = subst (λ (p : Reading). Consumes given left (concat all ++ ahead p)) (sym done.pieces)
+            (subst (Consumes given left) on at.read.taken);
         total = subst (λ (p : Reading). bytes_read p ≡ length (concat all ++ ahead p)) (sym done.pieces) (at.read.total ∙ ap length on);
         limits = subst (IsSound store_limit store_limit) (sym done.pieces) at.read.limits;
         performed = record {
@@ -280,15 +314,18 @@ module _ (given left : Option (List ℕ)) (old : Walk) (pieces : List (List ℕ)
             commands = m.commands ++ command ∷ [];
             are_records = records-joined m.start.count m.records (piece ∷ []) m.commands (command ∷ []) m.are_records
                 (subst (λ n. AreRecords n (piece ∷ []) (command ∷ [])) count (done.is_record, tt));
-            leads = after-joined m.start old.state new.state m.commands (command ∷ []) m.leads (after-done old.state new.state command done.done);
+            leads = after-joined m.start old.state new.state m.commands (command ∷ []) m.leads
+                (after-done old.state new.state command done.done);
           };
           begins = at.read.performed.begins;
           performed = ap (λ cs. cs ++ command ∷ []) at.read.performed.performed;
         };
         place = record {
           number = (let more = length-append pieces (piece ∷ []) in omega (arith, more, at.read.place.number, done.number));
-          byte = (let more = ap length (concat-last pieces piece) ∙ length-append (concat pieces) piece in omega (arith, more, at.read.place.byte, done.byte));
-          feeds = (let more = ap line_feeds (concat-last pieces piece) ∙ sum_by-append (λ b. cond (b == line_feed) 1 0) (concat pieces) piece in
+          byte = (let more = ap length (concat-last pieces piece) ∙ length-append (concat pieces) piece in
+              omega (arith, more, at.read.place.byte, done.byte));
+          feeds = (let more = ap line_feeds (concat-last pieces piece)
+              ∙ sum_by-append (λ b. cond (b == line_feed) 1 0) (concat pieces) piece in
               omega (arith, more, at.read.place.feeds, done.feeds));
           few = omega (arith, at.read.place.few, done.number, done.byte, closed-some piece at.piece);
         };
@@ -299,7 +336,8 @@ module _ (given left : Option (List ℕ)) (old : Walk) (pieces : List (List ℕ)
   passes new command done = omega (arith, done.byte, has-room.short, closed-some (piece_or_rest old.pieces) at.piece)
 
   -- a piece that is none is the first bad one
-  pub bad-at : SomePieces → (bad : BadPiece) → IsBadHere old bad → IfSome given (λ bytes. (following : ℕ) × IsBadAt bytes old.state bad following)
+  pub bad-at : SomePieces → (bad : BadPiece) → IsBadHere old bad
+      → IfSome given (λ bytes. (following : ℕ) × IsBadAt bytes old.state bad following)
   bad-at some bad here =
       let piece = piece_or_rest old.pieces in
       known given left (concat pieces ++ (piece ++ ahead old.pieces)) _ at.read.taken
@@ -324,7 +362,8 @@ module _ (given left : Option (List ℕ)) (old : Walk) (pieces : List (List ℕ)
       )))
 
 -- the fault of a piece that is not performed
-pub refuses-here : (walk : Walk) (f : RecordFault) → RefusesRecord (piece_or_rest walk.pieces) walk.state f → RefusesPiece walk (fault_here walk.place f)
+pub refuses-here : (walk : Walk) (f : RecordFault) → RefusesRecord (piece_or_rest walk.pieces) walk.state f
+    → RefusesPiece walk (fault_here walk.place f)
 refuses-here walk (record_fault.Bad why) refused = record { number = refl; byte = refl; line = refl; why = refused }
 refuses-here walk record_fault.OutOfMemory refused = tt
 
@@ -344,7 +383,8 @@ module _ (given left : Option (List ℕ)) (walk : Walk) (pieces : List (List ℕ
       })
 
   -- and up to its count
-  pub end-up-to : IsAtEndOf given left walk pieces start commands → (number : ℕ) → walk.state.count ≡ number → IfSome given (λ bytes. MeansUpTo bytes number walk.state)
+  pub end-up-to : IsAtEndOf given left walk pieces start commands → (number : ℕ) → walk.state.count ≡ number
+      → IfSome given (λ bytes. MeansUpTo bytes number walk.state)
   end-up-to e number is =
       Consumes-whole given left (concat pieces ++ piece_or_rest walk.pieces) (λ bytes. MeansUpTo bytes number walk.state) e.taken e.at_end
       (record {
@@ -361,7 +401,8 @@ module _ (given left : Option (List ℕ)) (walk : Walk) (pieces : List (List ℕ
       })
 
   -- before the end, the bytes mean the state up to its count
-  pub up-to : SomePieces → IsBetween given left walk pieces start commands → (number : ℕ) → walk.state.count ≡ number → IfSome given (λ bytes. MeansUpTo bytes number walk.state)
+  pub up-to : SomePieces → IsBetween given left walk pieces start commands → (number : ℕ) → walk.state.count ≡ number
+      → IfSome given (λ bytes. MeansUpTo bytes number walk.state)
   up-to some b number is =
       known given left (concat pieces ++ ahead walk.pieces) (λ bytes. MeansUpTo bytes number walk.state) b.taken
       (λ after.
@@ -369,7 +410,8 @@ module _ (given left : Option (List ℕ)) (walk : Walk) (pieces : List (List ℕ
       record { pieces = pieces; further = all.0; rest = all.1; cut = all.2; mean = b.performed.mean; numbered = is }))
 
   -- a number before that of the base
-  pub starts-after : SomePieces → IsBetween given left walk pieces start commands → (number : ℕ) → number < start.count → IfSome given (λ bytes. StartsAfter bytes number)
+  pub starts-after : SomePieces → IsBetween given left walk pieces start commands → (number : ℕ)
+      → number < start.count → IfSome given (λ bytes. StartsAfter bytes number)
   starts-after some b number above =
       let m = b.performed.mean in
       known given left (concat pieces ++ ahead walk.pieces) (λ bytes. StartsAfter bytes number) b.taken

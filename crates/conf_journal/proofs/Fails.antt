@@ -7,14 +7,22 @@ use Rattle.conf_disk.specs.declared.disk.DiskFault.{DiskFault}
 use Rattle.conf_journal.specs.Fails.{FailsAsCalls}
 
 -- the failures of a first call that succeeds, and of what comes after it
-pub counts-then : {T U : Type 0} {old mid new : ℕ} {done : T} {result : Result U DiskFault} → CountsFailures old mid (Ok done) → CountsFailures mid new result → CountsFailures old new result
+pub counts-then : {T U : Type 0} {old mid new : ℕ} {done : T} {result : Result U DiskFault}
+    → CountsFailures old mid (Ok done) → CountsFailures mid new result → CountsFailures old new result
 counts-then {new} {result} first later = subst (λ (n : ℕ). CountsFailures n new result) first.steady later
 
 -- the failures of a call whose fault is passed on
-pub counts-passed : {T U : Type 0} {old new : ℕ} {fault : DiskFault} {result : Result U DiskFault} → CountsFailures {T = T} old new (Err fault) → result ≡ Err fault → CountsFailures old new result
+pub counts-passed : {T U : Type 0} {old new : ℕ} {fault : DiskFault} {result : Result U DiskFault}
+    → CountsFailures {T = T} old new (Err fault) → result ≡ Err fault → CountsFailures old new result
 counts-passed {U} {old} {new} counts same =
     subst (λ (r : Result U DiskFault). CountsFailures old new r) (sym same)
-    (record { never_falls = counts.never_falls; within = counts.within; steady = tt; device = λ is. counts.device cc; spent = λ at. cc (counts.spent at) })
+    (record {
+      never_falls = counts.never_falls;
+      within = counts.within;
+      steady = tt;
+      device = λ is. counts.device cc;
+      spent = λ at. cc (counts.spent at);
+    })
 
 -- a call of the disk fails as one
 pub fails-call : {D : Type 0} {model : DiskModel D} {step : Step} {old : D} {result : Result (Unit {0}) DiskFault} {new : D}

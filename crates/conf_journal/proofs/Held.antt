@@ -2,7 +2,8 @@
 use Rattle.std.proofs.Common.{◌≡◌, ℕ, List, length, get_or, Option, Some, None, option_map, refl, sym, ◌∙◌, ap, subst}
 use Rattle.std.proofs.lemmas.List.{append-nil, get_or-set_same}
 use Rattle.std.proofs.lemmas.List.Elements.{All-contains}
-use Rattle.conf_disk.specs.Folder.{File, empty_file, file_bytes, Stage, Folder, stages, Append, with_file, with_pending, after, bytes_at, bytes_under, Tells, Reads}
+use Rattle.conf_disk.specs.Folder.{File, empty_file, file_bytes, Stage, Folder, stages, Append, with_file}
+use Rattle.conf_disk.specs.Folder.{with_pending, after, bytes_at, bytes_under, Tells, Reads}
 use Rattle.conf_disk.specs.Image.{Image, IsImage, IsTornAt, synced_file, IsMade, IsWhole}
 use Rattle.conf_disk.specs.LogLaws.{now_staged}
 use Rattle.conf_disk.specs.declared.disk.Name.TheVariants.{Store}
@@ -11,14 +12,16 @@ use Rattle.conf_disk.specs.declared.disk.Content.TheVariants.{Missing}
 use Rattle.conf_journal.specs.Store.{IsStoreOf}
 use Rattle.conf_journal.specs.Held.{file_at, HoldsStore, IsLeftOf}
 
-left_of_torn : (files : List File) (place : Option ℕ) (store : Option (List ℕ)) → IsTornAt files place store → IsLeftOf (file_at files place) store
+left_of_torn : (files : List File) (place : Option ℕ) (store : Option (List ℕ)) → IsTornAt files place store
+    → IsLeftOf (file_at files place) store
 left_of_torn files None None torn = tt
 left_of_torn files None (Some bytes) torn = absurd torn
 left_of_torn files (Some id) None torn = absurd torn
 left_of_torn files (Some id) (Some bytes) torn = torn
 
 -- where every stage holds a file, a crash leaves of the store what it leaves of that file
-pub held-left : (folder : Folder) (file : Option File) → HoldsStore folder file → (image : Image) → IsImage folder image → IsLeftOf file image.store
+pub held-left : (folder : Folder) (file : Option File) → HoldsStore folder file → (image : Image)
+    → IsImage folder image → IsLeftOf file image.store
 held-left folder file holds image is =
     let same = All-contains (λ (stage : Stage). stage.store ≡ folder.now.store) (stages folder) is.stage holds.same is.among in
     let torn = subst (λ (place : Option ℕ). IsTornAt folder.files place image.store) same is.store in
@@ -29,7 +32,8 @@ synced_left bytes None left = absurd left
 synced_left bytes (Some torn) left = ap Some (IsTorn-synced (synced_file bytes) torn refl left ∙ append-nil bytes)
 
 -- where every stage holds a synced file, a crash leaves just its bytes
-pub synced-left : (folder : Folder) (bytes : List ℕ) → HoldsStore folder (Some (synced_file bytes)) → (image : Image) → IsImage folder image → image.store ≡ Some bytes
+pub synced-left : (folder : Folder) (bytes : List ℕ) → HoldsStore folder (Some (synced_file bytes)) → (image : Image)
+    → IsImage folder image → image.store ≡ Some bytes
 synced-left folder bytes holds image is = synced_left bytes image.store (held-left folder (Some (synced_file bytes)) holds image is)
 
 -- one file with nothing pending, or none
@@ -39,7 +43,8 @@ left_only None None left = refl
 left_only None (Some torn) left = absurd left
 
 -- where every stage holds the same synced bytes or none, each store that a stage may leave is that one
-pub only-held : (folder : Folder) (held store : Option (List ℕ)) → HoldsStore folder (option_map synced_file held) → IsStoreOf folder store → store ≡ held
+pub only-held : (folder : Folder) (held store : Option (List ℕ)) → HoldsStore folder (option_map synced_file held)
+    → IsStoreOf folder store → store ≡ held
 only-held folder held store holds is =
     sym is.same ∙ left_only held is.image.store (held-left folder (option_map synced_file held) holds is.image is.is)
 
@@ -51,7 +56,8 @@ missing_none (Some bytes) max tells = absurd tells
 pub missing-none : (folder : Folder) (max : ℕ) → Reads folder Store max Missing → bytes_under folder Store ≡ None
 missing-none folder max reads = missing_none (bytes_under folder Store) max reads
 
-file_read : (files : List File) (place : Option ℕ) (held : Option (List ℕ)) → file_at files place ≡ option_map synced_file held → bytes_at files place ≡ held
+file_read : (files : List File) (place : Option ℕ) (held : Option (List ℕ))
+    → file_at files place ≡ option_map synced_file held → bytes_at files place ≡ held
 file_read files None None is = refl
 file_read files None (Some bytes) is = cc
 file_read files (Some id) None is = cc
@@ -60,11 +66,13 @@ file_read files (Some id) (Some bytes) is =
     ap (λ (x : File). Some (file_bytes x)) same ∙ ap Some (append-nil bytes)
 
 -- where every stage holds the same synced bytes or none, these are what is read
-pub held-read : (folder : Folder) (held : Option (List ℕ)) → HoldsStore folder (option_map synced_file held) → bytes_under folder Store ≡ held
+pub held-read : (folder : Folder) (held : Option (List ℕ)) → HoldsStore folder (option_map synced_file held)
+    → bytes_under folder Store ≡ held
 held-read folder held holds = file_read folder.files folder.now.store held holds.is
 
 -- a change of the file
-with_file-holds : (folder : Folder) (place : Option ℕ) (change : File → File) (file : Option File) → folder.now.store ≡ place → IsMade (length folder.files) place → HoldsStore folder file
+with_file-holds : (folder : Folder) (place : Option ℕ) (change : File → File) (file : Option File)
+    → folder.now.store ≡ place → IsMade (length folder.files) place → HoldsStore folder file
     → HoldsStore (with_file folder place change) (option_map change file)
 with_file-holds folder None change file at made holds = record {
   same = holds.same;
@@ -81,5 +89,7 @@ with_file-holds folder (Some id) change file at made holds = record {
 }
 
 -- after an append to the store, every stage holds the file with more pending bytes
-pub with_pending-holds : (bytes : List ℕ) (folder : Folder) (file : Option File) → IsWhole folder → HoldsStore folder file → HoldsStore (after (Append Store bytes) folder) (option_map (with_pending bytes) file)
-with_pending-holds bytes folder file whole holds = with_file-holds folder folder.now.store (with_pending bytes) file refl (now_staged folder whole).store holds
+pub with_pending-holds : (bytes : List ℕ) (folder : Folder) (file : Option File) → IsWhole folder
+    → HoldsStore folder file → HoldsStore (after (Append Store bytes) folder) (option_map (with_pending bytes) file)
+with_pending-holds bytes folder file whole holds =
+    with_file-holds folder folder.now.store (with_pending bytes) file refl (now_staged folder whole).store holds

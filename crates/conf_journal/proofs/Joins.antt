@@ -24,5 +24,6 @@ module _ {D : Type 0} (model : DiskModel D)
   pub other-joined : (other : Option (List ℕ)) → LeavesStoreOr model other between new → LeavesStoreOr model other old new
   other-joined other second =
       LeavesOnly-joined model old between new (λ image. IsStoreOf (model.folder old) image.store)
-      (λ image. IsStoreOf (model.folder between) image.store ⊎ (image.store ≡ other)) (λ image. IsStoreOf (model.folder old) image.store ⊎ (image.store ≡ other)) first second
+      (λ image. IsStoreOf (model.folder between) image.store ⊎ (image.store ≡ other))
+      (λ image. IsStoreOf (model.folder old) image.store ⊎ (image.store ≡ other)) first second
       (λ image is. inl is) (λ image. ⊎_elim (λ was. inl (was-old image.store was)) (λ same. inr same))

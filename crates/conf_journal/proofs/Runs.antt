@@ -18,11 +18,14 @@ left_before : (steps : List Step) (folder : Folder) (image : Image) → IsImage 
 left_before [] folder image is = is
 left_before (step ∷ steps) folder image is = inl is
 
-left_more : (steps more : List Step) (folder : Folder) (image : Image) → LeftDuring steps folder image → LeftDuring (steps ++ more) folder image
+left_more : (steps more : List Step) (folder : Folder) (image : Image) → LeftDuring steps folder image
+    → LeftDuring (steps ++ more) folder image
 left_more [] more folder image is = left_before more folder image is
-left_more (step ∷ steps) more folder image is = ⊎_elim (λ was. inl was) (λ rest. inr (left_more steps more (after step folder) image rest)) is
+left_more (step ∷ steps) more folder image is =
+    ⊎_elim (λ was. inl was) (λ rest. inr (left_more steps more (after step folder) image rest)) is
 
-left_later : (steps more : List Step) (folder : Folder) (image : Image) → LeftDuring more (folder_after steps folder) image → LeftDuring (steps ++ more) folder image
+left_later : (steps more : List Step) (folder : Folder) (image : Image)
+    → LeftDuring more (folder_after steps folder) image → LeftDuring (steps ++ more) folder image
 left_later [] more folder image is = is
 left_later (step ∷ steps) more folder image is = inr (left_later steps more (after step folder) image is)
 
@@ -56,29 +59,42 @@ grown_after-grows : (steps : List Step) (folder : Folder) (image : Image) → Is
 grown_after-grows [] folder image is = is
 grown_after-grows (step ∷ steps) folder image is = grown_after-grows steps (grown step folder) image (grown-grows step folder image is)
 
-left_of_syncs : (steps : List Step) → AreSyncs steps → (folder : Folder) (image : Image) → LeftDuring steps folder image → IsImage folder image
+left_of_syncs : (steps : List Step) → AreSyncs steps → (folder : Folder) (image : Image)
+    → LeftDuring steps folder image → IsImage folder image
 left_of_syncs [] syncs folder image is = is
 left_of_syncs (CreateNext ∷ steps) syncs folder image is = absurd syncs
 left_of_syncs (Append name bytes ∷ steps) syncs folder image is = absurd syncs
-left_of_syncs (Sync name ∷ steps) syncs folder image is = ⊎_elim (λ was. was) (λ rest. after-grown (Sync name) folder image (left_of_syncs steps syncs (after (Sync name) folder) image rest)) is
+left_of_syncs (Sync name ∷ steps) syncs folder image is =
+    ⊎_elim (λ was. was) (λ rest. after-grown (Sync name) folder image
+    (left_of_syncs steps syncs (after (Sync name) folder) image rest)) is
 left_of_syncs (RenameNext ∷ steps) syncs folder image is = absurd syncs
 left_of_syncs (RemoveNext ∷ steps) syncs folder image is = absurd syncs
-left_of_syncs (SyncFolder ∷ steps) syncs folder image is = ⊎_elim (λ was. was) (λ rest. after-grown SyncFolder folder image (left_of_syncs steps syncs (after SyncFolder folder) image rest)) is
+left_of_syncs (SyncFolder ∷ steps) syncs folder image is =
+    ⊎_elim (λ was. was) (λ rest. after-grown SyncFolder folder image
+    (left_of_syncs steps syncs (after SyncFolder folder) image rest)) is
 
 -- a change first, of which `grown` is the folder after it
-left_of_change : (step : Step) (steps : List Step) (folder : Folder) (image : Image) → ((image : Image) → LeftDuring steps (grown step folder) image → IsImage (grown_after steps (grown step folder)) image)
+left_of_change : (step : Step) (steps : List Step) (folder : Folder) (image : Image)
+    → ((image : Image) → LeftDuring steps (grown step folder) image → IsImage (grown_after steps (grown step folder)) image)
     → IsImage folder image ⊎ LeftDuring steps (grown step folder) image → IsImage (grown_after steps (grown step folder)) image
 left_of_change step steps folder image later is = ⊎_elim (grown_after-grows (step ∷ steps) folder image) (later image) is
 
 -- Only images of the folder after the other steps are left.
-pub left-grown : (steps : List Step) → SyncsLast steps → (folder : Folder) (image : Image) → LeftDuring steps folder image → IsImage (grown_after steps folder) image
+pub left-grown : (steps : List Step) → SyncsLast steps → (folder : Folder) (image : Image)
+    → LeftDuring steps folder image → IsImage (grown_after steps folder) image
 left-grown [] last folder image is = is
-left-grown (CreateNext ∷ steps) last folder image is = left_of_change CreateNext steps folder image (left-grown steps last (after CreateNext folder)) is
-left-grown (Append name bytes ∷ steps) last folder image is = left_of_change (Append name bytes) steps folder image (left-grown steps last (after (Append name bytes) folder)) is
-left-grown (Sync name ∷ steps) last folder image is = grown_after-grows steps folder image (left_of_syncs (Sync name ∷ steps) last folder image is)
-left-grown (RenameNext ∷ steps) last folder image is = left_of_change RenameNext steps folder image (left-grown steps last (after RenameNext folder)) is
-left-grown (RemoveNext ∷ steps) last folder image is = left_of_change RemoveNext steps folder image (left-grown steps last (after RemoveNext folder)) is
-left-grown (SyncFolder ∷ steps) last folder image is = grown_after-grows steps folder image (left_of_syncs (SyncFolder ∷ steps) last folder image is)
+left-grown (CreateNext ∷ steps) last folder image is =
+    left_of_change CreateNext steps folder image (left-grown steps last (after CreateNext folder)) is
+left-grown (Append name bytes ∷ steps) last folder image is =
+    left_of_change (Append name bytes) steps folder image (left-grown steps last (after (Append name bytes) folder)) is
+left-grown (Sync name ∷ steps) last folder image is =
+    grown_after-grows steps folder image (left_of_syncs (Sync name ∷ steps) last folder image is)
+left-grown (RenameNext ∷ steps) last folder image is =
+    left_of_change RenameNext steps folder image (left-grown steps last (after RenameNext folder)) is
+left-grown (RemoveNext ∷ steps) last folder image is =
+    left_of_change RemoveNext steps folder image (left-grown steps last (after RemoveNext folder)) is
+left-grown (SyncFolder ∷ steps) last folder image is =
+    grown_after-grows steps folder image (left_of_syncs (SyncFolder ∷ steps) last folder image is)
 
 grown_by_syncs : (steps : List Step) → AreSyncs steps → (folder : Folder) → grown_after steps folder ≡ folder
 grown_by_syncs [] syncs folder = refl
@@ -90,7 +106,8 @@ grown_by_syncs (RemoveNext ∷ steps) syncs folder = absurd syncs
 grown_by_syncs (SyncFolder ∷ steps) syncs folder = grown_by_syncs steps syncs folder
 
 -- And each image of it is one of them.
-pub grown-left : (steps : List Step) → SyncsLast steps → (folder : Folder) (image : Image) → IsImage (grown_after steps folder) image → LeftDuring steps folder image
+pub grown-left : (steps : List Step) → SyncsLast steps → (folder : Folder) (image : Image)
+    → IsImage (grown_after steps folder) image → LeftDuring steps folder image
 grown-left [] last folder image is = is
 grown-left (CreateNext ∷ steps) last folder image is = inr (grown-left steps last (after CreateNext folder) image is)
 grown-left (Append name bytes ∷ steps) last folder image is = inr (grown-left steps last (after (Append name bytes) folder) image is)
@@ -106,32 +123,40 @@ pub record IsRun {D : Type 0} (d : Ghosts D) (steps : List Step) (old new : D) :
   pub leaves : LeavesOnly d.model old new (LeftDuring steps (d.model.folder old))
 
 -- Runs are joined where the first has performed all its steps.
-pub run-then : {D : Type 0} (d : Ghosts D) {first second : List Step} {old between new : D} → d.model.folder between ≡ folder_after first (d.model.folder old)
+pub run-then : {D : Type 0} (d : Ghosts D) {first second : List Step} {old between new : D}
+    → d.model.folder between ≡ folder_after first (d.model.folder old)
     → IsRun d first old between → IsRun d second between new → IsRun d (first ++ second) old new
 run-then d {first} {second} {old} {between} {new} done one two = record {
-  leaves = LeavesOnly-joined d.model old between new (LeftDuring first (d.model.folder old)) (LeftDuring second (d.model.folder between)) (LeftDuring (first ++ second) (d.model.folder old)) one.leaves two.leaves
+  leaves = LeavesOnly-joined d.model old between new (LeftDuring first (d.model.folder old))
+      (LeftDuring second (d.model.folder between)) (LeftDuring (first ++ second) (d.model.folder old)) one.leaves two.leaves
       (left_more first second (d.model.folder old))
       (λ image is. left_later first second (d.model.folder old) image (subst (λ (f : Folder). LeftDuring second f image) done is));
 }
 
 -- What a run leaves whose syncs come last.
-pub run-grown : {D : Type 0} (d : Ghosts D) {steps : List Step} {old new : D} → SyncsLast steps → IsRun d steps old new → LeavesOnly d.model old new (IsImage (grown_after steps (d.model.folder old)))
+pub run-grown : {D : Type 0} (d : Ghosts D) {steps : List Step} {old new : D} → SyncsLast steps
+    → IsRun d steps old new → LeavesOnly d.model old new (IsImage (grown_after steps (d.model.folder old)))
 run-grown d {steps} {old} {new} last run = LeavesOnly-weaker d.model old new _ _ run.leaves (left-grown steps last (d.model.folder old))
 
 -- A procedure that leaves only this is such a run, with more steps that are not performed if it failed.
-pub run-known : {D : Type 0} (d : Ghosts D) (steps more : List Step) {old new : D} → SyncsLast steps → LeavesOnly d.model old new (IsImage (grown_after steps (d.model.folder old))) → IsRun d (steps ++ more) old new
+pub run-known : {D : Type 0} (d : Ghosts D) (steps more : List Step) {old new : D} → SyncsLast steps
+    → LeavesOnly d.model old new (IsImage (grown_after steps (d.model.folder old))) → IsRun d (steps ++ more) old new
 run-known d steps more {old} {new} last leaves = record {
-  leaves = LeavesOnly-weaker d.model old new (IsImage (grown_after steps (d.model.folder old))) (LeftDuring (steps ++ more) (d.model.folder old)) leaves
+  leaves = LeavesOnly-weaker d.model old new (IsImage (grown_after steps (d.model.folder old)))
+      (LeftDuring (steps ++ more) (d.model.folder old)) leaves
       (λ image is. left_more steps more (d.model.folder old) image (grown-left steps last (d.model.folder old) image is));
 }
 
-module _ {D : Type 0} (d : Ghosts D) (only : (disk : D) (image : Image) → d.model.honest → d.model.left disk (d.model.moment disk) image → IsImage (d.model.folder disk) image) (h : d.model.honest) where
+module _ {D : Type 0} (d : Ghosts D) (only : (disk : D) (image : Image) → d.model.honest
+    → d.model.left disk (d.model.moment disk) image → IsImage (d.model.folder disk) image) (h : d.model.honest) where
   -- One call that changes something, with more steps that are not performed if it failed.
-  pub run-call : (more : List Step) {step : Step} {old new : D} {result : Result (Unit {0}) DiskFault} → IsChange d.model step old result new → IsRun d (step ∷ more) old new
+  pub run-call : (more : List Step) {step : Step} {old new : D} {result : Result (Unit {0}) DiskFault}
+      → IsChange d.model step old result new → IsRun d (step ∷ more) old new
   run-call more {step} {old} {new} {result} goes = record {
     leaves = LeavesOnly-weaker d.model old new (IsImage (grown step (d.model.folder old))) (LeftDuring (step ∷ more) (d.model.folder old))
         (LeavesOnly-step d.model step old new result (λ image left. only old image h left) (goes.time h) (goes.change h))
-        (λ image is. ⊎_elim (λ was. inl was) (λ now. inr (left_before more (after step (d.model.folder old)) image now)) (grown-cases step (d.model.folder old) image is));
+        (λ image is. ⊎_elim (λ was. inl was) (λ now.
+        inr (left_before more (after step (d.model.folder old)) image now)) (grown-cases step (d.model.folder old) image is));
   }
 
   -- one that changes nothing

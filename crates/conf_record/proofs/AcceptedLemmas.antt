@@ -1,5 +1,6 @@
 -- What holds of a command that `step` accepts: its name and its path are good, and its parts are small.
-use Rattle.std.proofs.Common.{◌≡◌, ℕ, ◌≤◌, Bool, true, false, nat_lt, if◌then◌else◌, List, [], ◌∷◌, Option, Some, None, Result, Ok, Err, is_ok, refl, ap, subst, arith}
+use Rattle.std.proofs.Common.{◌≡◌, ℕ, ◌≤◌, Bool, true, false, nat_lt, if◌then◌else◌, List, [], ◌∷◌, Option, Some}
+use Rattle.std.proofs.Common.{None, Result, Ok, Err, is_ok, refl, ap, subst, arith}
 use Rattle.std.proofs.lemmas.Bool.Decides.{nat_tests}
 use Rattle.yaml_grammar.specs.Texts.{byte_len, same_text}
 use Rattle.yaml_grammar.specs.Trees.{Tree, depth}
@@ -12,7 +13,8 @@ use Rattle.conf_state.specs.Commands.{Edit, import_as, set_at, delete_at, Comman
 use Rattle.conf_state.specs.States.{Entry, Contents, config_named, put_config, cut_config}
 use Rattle.yaml_config.specs.Limits.{config_limits}
 use Rattle.conf_state.specs.Limits.{AreConfigs, IsState}
-use Rattle.conf_state.specs.Steps.{found, by_path, checked_tree, with_checked_config, configs_after_delete, configs_after, edited, all_edited, performed, next_state, step}
+use Rattle.conf_state.specs.Steps.{found, by_path, checked_tree, with_checked_config, configs_after_delete}
+use Rattle.conf_state.specs.Steps.{configs_after, edited, all_edited, performed, next_state, step}
 use Rattle.conf_state.specs.declared.fault.StoreFault.TheVariants.{BadName, Path, TooDeep, ConfigLarge}
 use Rattle.conf_state.specs.declared.room.Room.{Room}
 use Rattle.conf_record.specs.SmallCommands.{IsSmallTree, IsShortPath, IsSmallEdit, AreSmallEdits, IsSmallCommand}
@@ -57,7 +59,8 @@ named_small : (es : List Entry) (name : List ℕ) (t : Tree) → AreShort es →
 named_small [] name t all is = cc
 named_small (e ∷ es) name t all is = by (same_text name e.0) is (named_small es name t all.1)
   where
-    by : (b : Bool) → (if b then Some e.1 else config_named es name) ≡ Some t → (config_named es name ≡ Some t → size t ≤ config_limits.style) → size t ≤ config_limits.style
+    by : (b : Bool) → (if b then Some e.1 else config_named es name) ≡ Some t
+        → (config_named es name ≡ Some t → size t ≤ config_limits.style) → size t ≤ config_limits.style
     by true here rest =
         let same : e.1 ≡ t = cc in
         let bytes = ap size same in
@@ -84,7 +87,8 @@ short_cut (e ∷ es) name all = by (same_text name e.0) (cut_config es name) (sh
 checked_short : (t u : Tree) → checked_tree t ≡ Ok u → size u ≤ config_limits.style
 checked_short t u is = by (nat_lt config_limits.depth (depth t)) (nat_lt config_limits.style (byte_len (style_text t))) refl is
   where
-    by : (d l : Bool) → nat_lt config_limits.style (byte_len (style_text t)) ≡ l → (if d then Err TooDeep else if l then Err ConfigLarge else Ok t) ≡ Ok u
+    by : (d l : Bool) → nat_lt config_limits.style (byte_len (style_text t)) ≡ l
+        → (if d then Err TooDeep else if l then Err ConfigLarge else Ok t) ≡ Ok u
         → size u ≤ config_limits.style
     by true l long same = cc
     by false true long same = cc
@@ -92,19 +96,22 @@ checked_short t u is = by (nat_lt config_limits.depth (depth t)) (nat_lt config_
         let tree : t ≡ u = cc in
         subst (λ v. size v ≤ config_limits.style) tree (no_less _ _ long)
 
-good_path : (path : List ℕ) (tokens : List (List ℕ)) → path_of path ≡ Ok tokens → tokens_size tokens ≤ config_limits.style → IsShortPath path
+good_path : (path : List ℕ) (tokens : List (List ℕ)) → path_of path ≡ Ok tokens
+    → tokens_size tokens ≤ config_limits.style → IsShortPath path
 good_path path tokens is few =
     let bytes = pointer_bytes path tokens is in
     record { parsed = ap is_ok is; bytes = omega arith }
 
 -- ---- the whole
 
-placed_small : (configs : List Entry) (name : List ℕ) (t : Tree) (after : List Entry) → with_checked_config configs name t ≡ Ok after → IsSmallTree t
+placed_small : (configs : List Entry) (name : List ℕ) (t : Tree) (after : List Entry)
+    → with_checked_config configs name t ≡ Ok after → IsSmallTree t
 placed_small configs name t after is =
     let done = and_then-Ok (checked_tree t) (λ u. Ok (put_config configs name u)) after is in
     limited_small t done.0 done.1
 
-deleted_size : (configs : List Entry) (name : List ℕ) (t : Tree) (tokens : List (List ℕ)) (after : List Entry) → size t ≤ config_limits.style
+deleted_size : (configs : List Entry) (name : List ℕ) (t : Tree) (tokens : List (List ℕ)) (after : List Entry)
+    → size t ≤ config_limits.style
     → configs_after_delete configs name t tokens ≡ Ok after → tokens_size tokens ≤ config_limits.style
 deleted_size configs name t [] after small is = omega arith
 deleted_size configs name t (token ∷ tokens) after small is =
@@ -112,7 +119,8 @@ deleted_size configs name t (token ∷ tokens) after small is =
     let bytes = delete_holds t done.0 (token ∷ tokens) (by_path-Ok (delete t (token ∷ tokens)) done.0 done.1) in
     omega arith
 
-placed_short : (configs : List Entry) (name : List ℕ) (t : Tree) (after : List Entry) → AreShort configs → with_checked_config configs name t ≡ Ok after → AreShort after
+placed_short : (configs : List Entry) (name : List ℕ) (t : Tree) (after : List Entry) → AreShort configs
+    → with_checked_config configs name t ≡ Ok after → AreShort after
 placed_short configs name t after all is =
     let done = and_then-Ok (checked_tree t) (λ u. Ok (put_config configs name u)) after is in
     let placed = done.2 in
@@ -152,7 +160,8 @@ module _ (configs after : List Entry) (all : AreShort configs) where
       let parsed = and_then-Ok (by_path (path_of path)) (configs_after_delete configs name config.0) after config.2 in
       let small = named_small configs name config.0 all (found-Ok (config_named configs name) config.0 config.1) in (
         named,
-        good_path path parsed.0 (by_path-Ok (path_of path) parsed.0 parsed.1) (deleted_size configs name config.0 parsed.0 after small parsed.2),
+        good_path path parsed.0 (by_path-Ok (path_of path) parsed.0 parsed.1)
+            (deleted_size configs name config.0 parsed.0 after small parsed.2),
       )
 
   after_short : (edit : Edit) → configs_after configs edit ≡ Ok after → AreShort after
@@ -170,20 +179,23 @@ module _ (configs after : List Entry) (all : AreShort configs) where
   edit_accepted : (edit : Edit) → edited configs edit ≡ Ok after → IsSmallEdit edit × AreShort after
   edit_accepted edit is = by (good_name (name_of edit)) refl is
     where
-      by : (b : Bool) → good_name (name_of edit) ≡ b → (if b then configs_after configs edit else Err BadName) ≡ Ok after → IsSmallEdit edit × AreShort after
+      by : (b : Bool) → good_name (name_of edit) ≡ b
+          → (if b then configs_after configs edit else Err BadName) ≡ Ok after → IsSmallEdit edit × AreShort after
       by true named done = (after_accepted edit named done, after_short edit done)
       by false named done = let refused : Err BadName ≡ Ok after = done in absurd (cc)
 
 -- ---- commands
 
-all_accepted : (edits : List Edit) (configs after : List Entry) → AreShort configs → all_edited configs edits ≡ Ok after → AreSmallEdits edits
+all_accepted : (edits : List Edit) (configs after : List Entry) → AreShort configs
+    → all_edited configs edits ≡ Ok after → AreSmallEdits edits
 all_accepted [] configs after all is = tt
 all_accepted (edit ∷ edits) configs after all is =
     let done = and_then-Ok (edited configs edit) (λ next. all_edited next edits) after is in
     let one = edit_accepted configs done.0 all edit done.1 in
     (one.0, all_accepted edits done.0 after one.1 done.2)
 
-performed_accepted : (command : Command) (configs after : List Entry) → AreShort configs → performed configs command ≡ Ok after → IsSmallCommand command
+performed_accepted : (command : Command) (configs after : List Entry) → AreShort configs
+    → performed configs command ≡ Ok after → IsSmallCommand command
 performed_accepted (single edit) configs after all is = (edit_accepted configs after all edit is).0
 performed_accepted (batch []) configs after all is = tt
 performed_accepted (batch (edit ∷ edits)) configs after all is = all_accepted (edit ∷ edits) configs after all is

@@ -43,7 +43,8 @@ text_chars : (cs : List ℕ) → IsText cs → chars (encode_utf8_all cs) ≡ cs
 text_chars cs is = chars-encodes cs (text_scalars cs is)
 
 -- bytes of a record's text are that record
-pub record_is : (command other : Command) (n number : ℕ) → ReadsRecord (record_text command n) other number → IsRecord (record_bytes command n) other number
+pub record_is : (command other : Command) (n number : ℕ) → ReadsRecord (record_text command n) other number
+    → IsRecord (record_bytes command n) other number
 unfolding record_bytes
 record_is command other n number reads = record {
   utf8 = text_utf8 (record_text command n) reads.gives.reads.source;
@@ -122,11 +123,13 @@ records_tear torn count commands kept zeros =
     let ts = trees count commands in
     let all : all_framed_bytes ts ≡ records_bytes count commands = ap concat (trees_pieces count commands) in
     let bytes = records_bytes count commands in
-    let t : TornPieces ts (take kept bytes) zeros = torn ts (take kept bytes) (drop kept bytes) zeros (all ∙ sym (take-append-drop kept bytes)) in
+    let t : TornPieces ts (take kept bytes) zeros =
+    torn ts (take kept bytes) (drop kept bytes) zeros (all ∙ sym (take-append-drop kept bytes)) in
     record {
       whole = length t.whole;
       rest = t.kept ++ replicate zeros 0;
-      pieces = subst (λ ps. Pieces (take kept bytes ++ replicate zeros 0) ps (t.kept ++ replicate zeros 0)) (first_pieces count commands t.whole t.further t.all) t.pieces;
+      pieces = subst (λ ps. Pieces (take kept bytes ++ replicate zeros 0) ps (t.kept ++ replicate zeros 0))
+          (first_pieces count commands t.whole t.further t.all) t.pieces;
     }
 
 -- ---- the length of a base
@@ -136,7 +139,8 @@ pub base_fits : (s : Contents) → IsState s → ReadsBase (base_text s) s → l
 unfolding base_bytes base_length
 base_fits s kept reads =
     let cs = base_text s in
-    let size : byte_len (chars (encode_utf8_all cs)) ≡ length (encode_utf8_all cs) = byte_len-chars (encode_utf8_all cs) (text_utf8 cs reads.gives.reads.source) in
+    let size : byte_len (chars (encode_utf8_all cs)) ≡ length (encode_utf8_all cs) =
+    byte_len-chars (encode_utf8_all cs) (text_utf8 cs reads.gives.reads.source) in
     let same : byte_len (chars (encode_utf8_all cs)) ≡ byte_len cs = ap byte_len (text_chars cs reads.gives.reads.source) in
     let short = kept.short in
     omega (arith, size, same, short)

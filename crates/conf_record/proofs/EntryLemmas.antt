@@ -1,5 +1,6 @@
 -- Lines of configurations make the base of a state.
-use Rattle.std.proofs.Common.{◌≡◌, ℕ, ◌≤◌, List, [], ◌∷◌, ◌++◌, codes, decimal, length, String, Global, encode_utf8_all, append_assoc, append-nil, refl, sym, ap, ap₂, subst, ◌∙◌, arith}
+use Rattle.std.proofs.Common.{◌≡◌, ℕ, ◌≤◌, List, [], ◌∷◌, ◌++◌, codes, decimal, length, String, Global}
+use Rattle.std.proofs.Common.{encode_utf8_all, append_assoc, append-nil, refl, sym, ap, ap₂, subst, ◌∙◌, arith}
 use Rattle.std.proofs.lemmas.Fmt.{decimal_is_IsNumeral}
 use Rattle.std.proofs.lemmas.Str.{encodes-append}
 use Rattle.yaml_grammar.specs.Texts.{spaces, byte_len}
@@ -42,7 +43,8 @@ members_after-more : (es : List Entry) (name : List ℕ) (t : Tree)
     → members_after (members es) 2 ++ (spaces 2 ++ key_lines 2 name ++ value_at t 2) ≡ members_after (members (es ++ (name, t) ∷ [])) 2
 members_after-more [] name t = sym (append-nil _)
 members_after-more (e ∷ es) name t =
-    append_assoc (spaces 2 ++ key_lines 2 e.0 ++ value_at e.1 2) (members_after (members es) 2) (spaces 2 ++ key_lines 2 name ++ value_at t 2)
+    append_assoc (spaces 2 ++ key_lines 2 e.0 ++ value_at e.1 2) (members_after (members es) 2)
+    (spaces 2 ++ key_lines 2 name ++ value_at t 2)
     ∙ ap (λ cs. (spaces 2 ++ key_lines 2 e.0 ++ value_at e.1 2) ++ cs) (members_after-more es name t)
 
 -- configurations, and then one more
@@ -62,7 +64,8 @@ entries_of-more (q ∷ ps) p = ap (λ es. (text_of q.0, tree_of q.1) ∷ es) (en
 
 -- the same of the code's
 pub entries_pushed : (lines rest : List ℕ) (ps new : List Part) (p : Part) (name : List ℕ) (t : Tree) → new ≡ ps ++ p ∷ []
-    → text_of p.0 ≡ name → tree_of p.1 ≡ t → AreEntries lines (entries_of ps ++ (name, t) ∷ []) rest → AreEntries lines (entries_of new) rest
+    → text_of p.0 ≡ name → tree_of p.1 ≡ t → AreEntries lines (entries_of ps ++ (name, t) ∷ []) rest
+    → AreEntries lines (entries_of new) rest
 entries_pushed lines rest ps new p name t pushed named is are =
     let same = ap entries_of pushed ∙ entries_of-more ps p ∙ ap₂ (λ n u. entries_of ps ++ (n, u) ∷ []) named is in
     subst (λ es. AreEntries lines es rest) (sym same) are
@@ -110,6 +113,8 @@ whole_base bytes lines es count some small is follows =
     ∙ ap (λ bs. codes "---\nstore: confstore-2\nat: \"" ++ bs) (sym (encodes-append ds (codes "\"\nconfigs:\n" ++ ends)))
     ∙ sym (before (codes "---\nstore: confstore-2\nat: \"") (ds ++ (codes "\"\nconfigs:\n" ++ ends)) refl)
     ∙ ap (λ xs. encode_utf8_all (codes "---\nstore: confstore-2\nat: \"" ++ xs)) (regrouped ds ms)
-    ∙ ap (λ xs. encode_utf8_all (codes "---\n" ++ codes "store: confstore-2\n" ++ xs ++ codes "configs:" ++ (codes "\n" ++ ms) ++ codes "...\n")) (number_line ds all)
-    ∙ ap (λ xs. encode_utf8_all (codes "---\n" ++ codes "store: confstore-2\n" ++ line (codes "at") (text ds) ++ codes "configs:" ++ xs ++ codes "...\n")) (below_configs es some)
+    ∙ ap (λ xs. encode_utf8_all (codes "---\n" ++ codes "store: confstore-2\n" ++ xs ++ codes "configs:"
+    ++ (codes "\n" ++ ms) ++ codes "...\n")) (number_line ds all)
+    ∙ ap (λ xs. encode_utf8_all (codes "---\n" ++ codes "store: confstore-2\n" ++ line (codes "at") (text ds)
+    ++ codes "configs:" ++ xs ++ codes "...\n")) (below_configs es some)
     ∙ ap encode_utf8_all (base_lines (line (codes "at") (text ds)) (value_at (mapping (members es)) 0))

@@ -1,5 +1,7 @@
 -- The fields of a mapping: numbers, keys and texts.
-use Rattle.std.proofs.Common.{◌≡◌, refl, sym, ◌∙◌, ap, subst, arith, ◌<◌, ◌^◌, ℕ, suc, ◌+◌, Bool, true, false, ◌&&◌, if◌then◌else◌, nat_le, List, [], ◌∷◌, length, drop, get_or, map, Some, None, decimal, IsUtf8, IsAscii, bytes_eq, encode_utf8_all, Bor}
+use Rattle.std.proofs.Common.{◌≡◌, refl, sym, ◌∙◌, ap, subst, arith, ◌<◌, ◌^◌, ℕ, suc, ◌+◌, Bool, true, false, ◌&&◌}
+use Rattle.std.proofs.Common.{if◌then◌else◌, nat_le, List, [], ◌∷◌, length, drop, get_or, map, Some, None, decimal}
+use Rattle.std.proofs.Common.{IsUtf8, IsAscii, bytes_eq, encode_utf8_all, Bor}
 use Rattle.std.specs.Str.{chars}
 use Rattle.std.specs.Str.Parse.{digits_value}
 use Rattle.std.proofs.lemmas.Bool.{and_from}
@@ -40,7 +42,8 @@ number_from_digits-is bs n spelled small =
 pub number_from_digits-none : (bs : List ℕ) → IsUtf8 bs → ((n : ℕ) → bs ≡ decimal n → n < 2 ^ 64 → ⊥) → number_from_digits (chars bs) ≡ None
 number_from_digits-none bs utf8 never = by (digits_value 10 (chars bs))
   where
-    cases : (v : ℕ) (a : Bool) → nat_le v count_limit ≡ a → (b : Bool) → same_text (chars bs) (decimal v) ≡ b → (if a && b then Some v else None) ≡ None
+    cases : (v : ℕ) (a : Bool) → nat_le v count_limit ≡ a → (b : Bool) → same_text (chars bs) (decimal v) ≡ b
+        → (if a && b then Some v else None) ≡ None
     cases v true small true same =
         let below = le_small v small in
         let cs = same_text-true (chars bs) (decimal v) same in
@@ -82,13 +85,15 @@ module _ {K : Type 0} (f : K → List ℕ) where
 
   module _ (ks : List K) (ps : List Pair) (i : ℕ) (k : K) (p : Pair) (below : i < length ks) (within : i < length ps) where
     here : keys_are (texts (map f (drop i ks))) (members_of (drop i ps))
-        ≡ (same_text (chars (text_bytes (get_or ps i p).0)) (chars (f (get_or ks i k))) && keys_are (texts (map f (drop (i + 1) ks))) (members_of (drop (i + 1) ps)))
+        ≡ (same_text (chars (text_bytes (get_or ps i p).0)) (chars (f (get_or ks i k)))
+        && keys_are (texts (map f (drop (i + 1) ks))) (members_of (drop (i + 1) ps)))
     here =
         ap (λ xs. keys_are (texts (map f xs)) (members_of (drop i ps))) (drop_more ks i k below)
         ∙ ap (λ xs. keys_are (texts (map f (get_or ks i k ∷ drop (i + 1) ks))) (members_of xs)) (drop_more ps i p within)
 
     pub keys_are-more : same_text (chars (text_bytes (get_or ps i p).0)) (chars (f (get_or ks i k))) ≡ true
-        → keys_are (texts (map f (drop (i + 1) ks))) (members_of (drop (i + 1) ps)) ≡ keys_are (texts (map f (drop i ks))) (members_of (drop i ps))
+        → keys_are (texts (map f (drop (i + 1) ks))) (members_of (drop (i + 1) ps))
+        ≡ keys_are (texts (map f (drop i ks))) (members_of (drop i ps))
     keys_are-more same = sym (here ∙ ap (λ b. b && keys_are (texts (map f (drop (i + 1) ks))) (members_of (drop (i + 1) ps))) same)
 
     pub keys_are-other : same_text (chars (text_bytes (get_or ps i p).0)) (chars (f (get_or ks i k))) ≡ false
@@ -106,7 +111,8 @@ same_bytes a b first second = same_from_decides _ _ (bytes_eq-Decides a b) (
 
 -- the same texts have the same bytes
 pub bytes_same : (a b : List ℕ) → IsUtf8 a → IsUtf8 b → same_text (chars a) (chars b) ≡ true → a ≡ b
-bytes_same a b first second e = sym (encodes-chars a first) ∙ ap encode_utf8_all (same_text-true (chars a) (chars b) e) ∙ encodes-chars b second
+bytes_same a b first second e = sym (encodes-chars a first)
+    ∙ ap encode_utf8_all (same_text-true (chars a) (chars b) e) ∙ encodes-chars b second
 
 -- the same bytes are the same text
 pub same_self : (a b : List ℕ) → a ≡ b → same_text (chars a) (chars b) ≡ true

@@ -1,16 +1,22 @@
 -- Bytes and depth along a path: a tree holds, beside the value that a path leads to, as many bytes as the path's tokens
 -- have.
-use Rattle.std.proofs.Common.{◌≡◌, ℕ, zero, suc, ◌+◌, ◌-◌, ◌*◌, ◌<◌, ◌≤◌, Bool, true, false, ◌==◌, if◌then◌else◌, List, [], ◌∷◌, ◌++◌, length, codes, Some, option_map, Result, Ok, Err, refl, ap, subst, ◌∙◌, arith}
+use Rattle.std.proofs.Common.{◌≡◌, ℕ, zero, suc, ◌+◌, ◌-◌, ◌*◌, ◌<◌, ◌≤◌, Bool, true, false, ◌==◌, if◌then◌else◌}
+use Rattle.std.proofs.Common.{List, [], ◌∷◌, ◌++◌, length, codes, Some, option_map, Result, Ok, Err, refl, ap, subst}
+use Rattle.std.proofs.Common.{◌∙◌, arith}
 use Rattle.std.proofs.lemmas.Bool.{and_parts}
 use Rattle.std.proofs.lemmas.Bool.Decides.{nat_tests}
 use Rattle.std.specs.Char.{len_utf8}
 use Rattle.std.specs.List.{list_all}
 use Rattle.yaml_grammar.specs.Texts.{byte_len, is_empty, same_text}
-use Rattle.yaml_grammar.specs.Trees.{Tree, text, sequence, mapping, Elements, no_element, element, Members, no_member, member, depth, elements_depth, members_depth}
+use Rattle.yaml_grammar.specs.Trees.{Tree, text, sequence, mapping, Elements, no_element, element, Members, no_member}
+use Rattle.yaml_grammar.specs.Trees.{member, depth, elements_depth, members_depth}
 use Rattle.yaml_grammar.specs.Style.{elements_after, lines_after_dash, members_after, key_lines, value_at}
 use Rattle.yaml_writer.specs.BudgetLaws.{byte_len-append}
 use Rattle.yaml_data.proofs.CharacterLemmas.{same_text-true}
-use Rattle.tree_path.specs.Paths.{digit, is_number, number_after, Index, number, after_last, no_index, index_of, at_index, present, element_at as child_at, put_element, cut_element, push_element, value_of, put_member, cut_member, child, put, cut, refusal, at_step, and_then, edit_from, set, delete}
+use Rattle.tree_path.specs.Paths.{digit, is_number, number_after, Index, number, after_last, no_index, index_of}
+use Rattle.tree_path.specs.Paths.{at_index, present, element_at as child_at, put_element, cut_element, push_element}
+use Rattle.tree_path.specs.Paths.{value_of, put_member, cut_member, child, put, cut, refusal, at_step, and_then}
+use Rattle.tree_path.specs.Paths.{edit_from, set, delete}
 use Rattle.tree_path.specs.declared.place.Miss.{Miss}
 use Rattle.tree_path.specs.declared.place.Miss.TheVariants.{Absent}
 use Rattle.json_pointer.specs.declared.fault.PathFault.{PathFault}
@@ -44,7 +50,8 @@ number_bytes : (cs : List ℕ) → is_number cs ≡ true → byte_len cs ≤ 1 +
 number_bytes [] e = cc
 number_bytes (c ∷ cs) e = by (c == 48) refl e
   where
-    by : (b : Bool) → (c == 48) ≡ b → (if b then is_empty cs else list_all digit (c ∷ cs)) ≡ true → byte_len (c ∷ cs) ≤ 1 + number_after 0 (c ∷ cs)
+    by : (b : Bool) → (c == 48) ≡ b → (if b then is_empty cs else list_all digit (c ∷ cs)) ≡ true
+        → byte_len (c ∷ cs) ≤ 1 + number_after 0 (c ∷ cs)
     by true is none = alone cs none
       where
         alone : (ds : List ℕ) → is_empty ds ≡ true → byte_len (c ∷ ds) ≤ 1 + number_after 0 (c ∷ ds)
@@ -108,7 +115,8 @@ element_inside (element t ts) (suc n) u is =
     let lines = byte_len-append (codes "- " ++ lines_after_dash t 0) (elements_after ts 0) in
     record { line_bytes = omega arith; line_deep = omega arith }
 
-pushed_inside : (ts : Elements) (u : Tree) → InLines 2 u (byte_len (elements_after (push_element ts u) 0)) (elements_depth (push_element ts u))
+pushed_inside : (ts : Elements) (u : Tree) → InLines 2 u (byte_len (elements_after (push_element ts u) 0))
+    (elements_depth (push_element ts u))
 pushed_inside no_element u =
     let least = element_least u in
     let lines = byte_len-append (codes "- " ++ lines_after_dash u 0) [] in
@@ -125,8 +133,13 @@ member_inside : (ms : Members) (key : List ℕ) (u : Tree) → value_of ms key �
 member_inside no_member key u is = cc
 member_inside (member other t ms) key u is = by (same_text key other) refl is (member_inside ms key u)
   where
-    lines : byte_len (members_after (member other t ms) 0) ≡ byte_len (key_lines 0 other) + byte_len (value_at t 0) + byte_len (members_after ms 0)
-    lines = omega (arith, byte_len-append (key_lines 0 other ++ value_at t 0) (members_after ms 0), byte_len-append (key_lines 0 other) (value_at t 0))
+    lines : byte_len (members_after (member other t ms) 0)
+        ≡ byte_len (key_lines 0 other) + byte_len (value_at t 0) + byte_len (members_after ms 0)
+    lines = omega (
+      arith,
+      byte_len-append (key_lines 0 other ++ value_at t 0) (members_after ms 0),
+      byte_len-append (key_lines 0 other) (value_at t 0),
+    )
 
     by : (b : Bool) → same_text key other ≡ b → (if b then Some t else value_of ms key) ≡ Some u
         → (value_of ms key ≡ Some u → InLines (1 + byte_len key) u (byte_len (members_after ms 0)) (members_depth ms))
@@ -171,7 +184,8 @@ number_holds : (ts : Elements) (token : List ℕ) (n : ℕ) (u : Tree) → index
     → Inside (1 + byte_len token) u (sequence ts)
 number_holds ts token n u is found =
     let digits = index_bytes token n is in
-    fewer (1 + byte_len token) (2 + n) u (sequence ts) (omega arith) (elements_hold ts u (2 + n) (omega arith) (element_inside ts n u found))
+    fewer (1 + byte_len token) (2 + n) u (sequence ts) (omega arith)
+    (elements_hold ts u (2 + n) (omega arith) (element_inside ts n u found))
 
 -- a child and its token are a part of the tree
 pub child_inside : (t : Tree) (token : List ℕ) (u : Tree) → child t token ≡ Ok u → Inside (1 + byte_len token) u t
@@ -179,7 +193,8 @@ unfolding child
 child_inside (text value) token u is = cc
 child_inside (sequence ts) token u is = by (index_of token) refl is
   where
-    by : (index : Index) → index_of token ≡ index → at_index index (child_at ts) (Err Absent) ≡ Ok u → Inside (1 + byte_len token) u (sequence ts)
+    by : (index : Index) → index_of token ≡ index → at_index index (child_at ts) (Err Absent) ≡ Ok u
+        → Inside (1 + byte_len token) u (sequence ts)
     by (number n) e found = number_holds ts token n u e (present-Ok (child_at ts n) u found)
     by after_last e found = cc
     by no_index e found = cc
@@ -193,7 +208,8 @@ put_inside (text value) token v r is = cc
 put_inside (sequence ts) token v r is = by (index_of token) refl is
   where
     by : (index : Index) → index_of token ≡ index
-        → at_index index (λ n. option_map sequence (put_element ts n v)) (Ok (sequence (push_element ts v))) ≡ Ok r → Inside (1 + byte_len token) v r
+        → at_index index (λ n. option_map sequence (put_element ts n v)) (Ok (sequence (push_element ts v))) ≡ Ok r
+        → Inside (1 + byte_len token) v r
     by (number n) e done =
         let o = option_map-Some sequence (put_element ts n v) r (present-Ok (option_map sequence (put_element ts n v)) r done) in
         subst (Inside (1 + byte_len token) v) o.2 (number_holds o.0 token n v e (element_at-put_element ts o.0 n v o.1))
@@ -201,12 +217,14 @@ put_inside (sequence ts) token v r is = by (index_of token) refl is
         let same : sequence (push_element ts v) ≡ r = cc in
         let dash = dash_bytes token e in
         subst (Inside (1 + byte_len token) v) same
-        (fewer (1 + byte_len token) 2 v (sequence (push_element ts v)) (omega arith) (elements_hold (push_element ts v) v 2 (omega arith) (pushed_inside ts v)))
+        (fewer (1 + byte_len token) 2 v (sequence (push_element ts v)) (omega arith)
+        (elements_hold (push_element ts v) v 2 (omega arith) (pushed_inside ts v)))
     by no_index e done = cc
 put_inside (mapping ms) token v r is =
     let same : mapping (put_member ms token v) ≡ r = cc in
     subst (Inside (1 + byte_len token) v) same
-    (members_hold (put_member ms token v) v (1 + byte_len token) (omega arith) (member_inside (put_member ms token v) token v (value_of-put_member ms token v)))
+    (members_hold (put_member ms token v) v (1 + byte_len token) (omega arith)
+    (member_inside (put_member ms token v) token v (value_of-put_member ms token v)))
 
 -- what is cut out is there
 element-cut : (ts us : Elements) (n : ℕ) → cut_element ts n ≡ Some us → (u : Tree) × (child_at ts n ≡ Some u)

@@ -1,10 +1,14 @@
 -- The parts of a tree that a `Config` keeps.
-use Rattle.std.proofs.Common.{◌≡◌, ◌<◌, ◌≤◌, ℕ, ◌+◌, true, ◌&&◌, List, [], ◌∷◌, ◌++◌, codes, length, max, map, not, Option, Some, None, option_map, String, Global, string_bytes, append_assoc, append-nil, arith, refl, sym, ap, ◌∙◌}
+use Rattle.std.proofs.Common.{◌≡◌, ◌<◌, ◌≤◌, ℕ, ◌+◌, true, ◌&&◌, List, [], ◌∷◌, ◌++◌, codes, length, max, map, not}
+use Rattle.std.proofs.Common.{Option, Some, None, option_map, String, Global, string_bytes, append_assoc, append-nil}
+use Rattle.std.proofs.Common.{arith, refl, sym, ap, ◌∙◌}
 use Rattle.std.proofs.lemmas.Bool.{and_parts}
 use Rattle.std.specs.Str.{chars}
 use Rattle.yaml_grammar.specs.Texts.{byte_len}
 use Rattle.yaml_grammar.specs.Style.{key_lines, value_at, lines_after_dash, elements_after, members_after}
-use Rattle.yaml_grammar.specs.Trees.{Tree, sequence, mapping, Elements, no_element, element, Members, no_member, member, has_key, distinct, elements_distinct, members_distinct, depth, elements_depth, members_depth, AreTextElements, AreTextMembers}
+use Rattle.yaml_grammar.specs.Trees.{Tree, sequence, mapping, Elements, no_element, element, Members, no_member}
+use Rattle.yaml_grammar.specs.Trees.{member, has_key, distinct, elements_distinct, members_distinct, depth}
+use Rattle.yaml_grammar.specs.Trees.{elements_depth, members_depth, AreTextElements, AreTextMembers}
 use Rattle.yaml_writer.specs.BudgetLaws.{byte_len-append}
 use Rattle.yaml_config.specs.Kept.{own_limits, IsKept}
 use Rattle.yaml_data.specs.Seen.{Pair, tree_of, elements_of, members_of}
@@ -26,7 +30,8 @@ after_bytes key t ms =
 max_parts : (a b c : ℕ) → max a b < c → (a < c) × (b < c)
 max_parts a b c h = (omega arith, omega arith)
 
-values_kept : (ms : Members) → AreTextMembers ms → members_distinct ms ≡ true → members_depth ms < own_limits.depth → byte_len (members_after ms 0) ≤ own_limits.style → AreKept (values ms)
+values_kept : (ms : Members) → AreTextMembers ms → members_distinct ms ≡ true → members_depth ms < own_limits.depth
+    → byte_len (members_after ms 0) ≤ own_limits.style → AreKept (values ms)
 values_kept no_member are keys deep long = tt
 values_kept (member key t ms) are keys deep long =
     let parts = and_parts (not (has_key key ms) && distinct t) (members_distinct ms) keys in
@@ -55,7 +60,8 @@ own_values (p ∷ ps) kept = (kept.0, own_values ps kept.1)
 pub own_parts : (items : List Pair) → IsKept (mapping (members_of items)) → AreKept (trees_of items)
 own_parts items kept = own_values items (parts_kept (members_of items) kept)
 
-elements_kept : (ts : Elements) → AreTextElements ts → elements_distinct ts ≡ true → elements_depth ts < own_limits.depth → byte_len (elements_after ts 0) ≤ own_limits.style → AreKeptElements ts
+elements_kept : (ts : Elements) → AreTextElements ts → elements_distinct ts ≡ true
+    → elements_depth ts < own_limits.depth → byte_len (elements_after ts 0) ≤ own_limits.style → AreKeptElements ts
 elements_kept no_element are keys deep long = tt
 elements_kept (element t ts) are keys deep long =
     let parts = and_parts (distinct t) (elements_distinct ts) keys in
@@ -85,7 +91,8 @@ pub record MovedSoFar (all : List Pair) (done : List Named) (left : List Pair) :
   pub whole : entries_of done ++ entries (members_of left) ≡ entries (members_of all)
   pub kept : AreKept (trees_of left)
 
-entries_of-one : (done : List Named) (e : Named) → entries_of (done ++ e ∷ []) ≡ entries_of done ++ (chars (string_bytes e.0), tree_of e.1) ∷ []
+entries_of-one : (done : List Named) (e : Named)
+    → entries_of (done ++ e ∷ []) ≡ entries_of done ++ (chars (string_bytes e.0), tree_of e.1) ∷ []
 entries_of-one [] e = refl
 entries_of-one (d ∷ ds) e = ap (λ es. (chars (string_bytes d.0), tree_of d.1) ∷ es) (entries_of-one ds e)
 
@@ -140,7 +147,8 @@ moved_over first e None = refl
 moved_over first e (Some es) = ap Some (append_assoc first (e ∷ []) es)
 
 -- one more edit is read
-pub one_read : (all : List code.Tree) (done : List edits.Edit) (t : code.Tree) (left : List code.Tree) (e : edits.Edit) → Some (edit_of e) ≡ edit_in (tree_of t)
+pub one_read : (all : List code.Tree) (done : List edits.Edit) (t : code.Tree) (left : List code.Tree)
+    (e : edits.Edit) → Some (edit_of e) ≡ edit_in (tree_of t)
     → ReadSoFar all done (t ∷ left) → (new : List edits.Edit) → new ≡ done ++ e ∷ [] → ReadSoFar all new left
 one_read all done t left e is so new pushed = record {
   whole =
@@ -152,7 +160,8 @@ one_read all done t left e is so new pushed = record {
 }
 
 -- an element that is no edit
-pub none_there : (all : List code.Tree) (done : List edits.Edit) (t : code.Tree) (left : List code.Tree) → None ≡ edit_in (tree_of t) → ReadSoFar all done (t ∷ left)
+pub none_there : (all : List code.Tree) (done : List edits.Edit) (t : code.Tree) (left : List code.Tree)
+    → None ≡ edit_in (tree_of t) → ReadSoFar all done (t ∷ left)
     → None ≡ edits_of (elements_of all)
 none_there all done t left is so =
     ap (λ first. option_map (λ es. map edit_of done ++ es) (ahead first (edits_of (elements_of left)))) is ∙ so.whole

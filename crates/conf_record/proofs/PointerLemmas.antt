@@ -1,5 +1,6 @@
 -- A pointer has at most twice the bytes of its tokens.
-use Rattle.std.proofs.Common.{◌≡◌, ℕ, ◌+◌, ◌*◌, ◌≤◌, Bool, true, false, not, ◌&&◌, ◌||◌, ◌==◌, if◌then◌else◌, List, [], ◌∷◌, map, Option, Some, None, option_map, Ok, Err, refl, ap, arith}
+use Rattle.std.proofs.Common.{◌≡◌, ℕ, ◌+◌, ◌*◌, ◌≤◌, Bool, true, false, not, ◌&&◌, ◌||◌, ◌==◌, if◌then◌else◌, List}
+use Rattle.std.proofs.Common.{[], ◌∷◌, map, Option, Some, None, option_map, Ok, Err, refl, ap, arith}
 use Rattle.std.proofs.lemmas.Bool.Decides.{nat_tests}
 use Rattle.std.proofs.lemmas.Str.{len_utf8_bounds}
 use Rattle.std.specs.Char.{len_utf8}
@@ -47,7 +48,8 @@ itself_more c cs no_slash no_tilde rest =
     let parts : parts_size (c ∷ cs) ≡ len_utf8 c + parts_size cs = rw (no_slash, no_tilde) (omega arith) in
     omega (arith, parts, rest)
 
-tilde_more : (c d : ℕ) (ds : List ℕ) → (c == slash) ≡ false → (c == tilde) ≡ true → ((d == 48) || (d == 49)) ≡ true → byte_len ds ≤ 2 * parts_size ds
+tilde_more : (c d : ℕ) (ds : List ℕ) → (c == slash) ≡ false → (c == tilde) ≡ true → ((d == 48) || (d == 49)) ≡ true
+    → byte_len ds ≤ 2 * parts_size ds
     → byte_len (c ∷ d ∷ ds) ≤ 2 * parts_size (c ∷ d ∷ ds)
 tilde_more c d ds no_slash is digit rest =
     let spelled = if d == 48 then tilde else slash in
@@ -68,7 +70,8 @@ pieces_bytes (c ∷ d ∷ ds) none =
     by (c == slash) refl (c == tilde) refl kept.0 (pieces_bytes (d ∷ ds) kept.1) (pieces_bytes ds (kept_after d ds kept.1).1)
   where
     by : (s : Bool) → (c == slash) ≡ s → (t : Bool) → (c == tilde) ≡ t → (t && not ((d == 48) || (d == 49))) ≡ false
-        → byte_len (d ∷ ds) ≤ 2 * parts_size (d ∷ ds) → byte_len ds ≤ 2 * parts_size ds → byte_len (c ∷ d ∷ ds) ≤ 2 * parts_size (c ∷ d ∷ ds)
+        → byte_len (d ∷ ds) ≤ 2 * parts_size (d ∷ ds) → byte_len ds ≤ 2 * parts_size ds
+        → byte_len (c ∷ d ∷ ds) ≤ 2 * parts_size (c ∷ d ∷ ds)
     by true is t e kept rest further = slash_more c (d ∷ ds) is rest
     by false no_slash false e kept rest further = itself_more c (d ∷ ds) no_slash e rest
     by false no_slash true e kept rest further = tilde_more c d ds no_slash e (negated ((d == 48) || (d == 49)) kept) further
@@ -82,7 +85,8 @@ pub pointer_bytes : (path : List ℕ) (tokens : List (List ℕ)) → path_of pat
 pointer_bytes [] tokens is = omega arith
 pointer_bytes (c ∷ cs) tokens is = by (c == slash) refl (first_stray (c ∷ cs)) refl is
   where
-    by : (s : Bool) → (c == slash) ≡ s → (o : Option ℕ) → first_stray (c ∷ cs) ≡ o → tokens_or_place (if s then o else Some 0) (c ∷ cs) ≡ Ok tokens
+    by : (s : Bool) → (c == slash) ≡ s → (o : Option ℕ) → first_stray (c ∷ cs) ≡ o
+        → tokens_or_place (if s then o else Some 0) (c ∷ cs) ≡ Ok tokens
         → byte_len (c ∷ cs) ≤ 2 * tokens_size tokens
     by true slashed None none parsed =
         let same : map token_from_text (pieces (c ∷ cs)) ≡ tokens = cc in

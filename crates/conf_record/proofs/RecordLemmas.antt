@@ -1,5 +1,6 @@
 -- The trees of records and bases: they are good, within the limits, and tell what they were made of.
-use Rattle.std.proofs.Common.{◌≡◌, ℕ, ◌+◌, ◌≤◌, true, not, ◌&&◌, ◌||◌, nat_le, if◌then◌else◌, List, [], ◌∷◌, ◌++◌, length, codes, decimal, Some, None, option_map, append_assoc, refl, ap, sym, ◌∙◌, arith}
+use Rattle.std.proofs.Common.{◌≡◌, ℕ, ◌+◌, ◌≤◌, true, not, ◌&&◌, ◌||◌, nat_le, if◌then◌else◌, List, [], ◌∷◌, ◌++◌}
+use Rattle.std.proofs.Common.{length, codes, decimal, Some, None, option_map, append_assoc, refl, ap, sym, ◌∙◌, arith}
 use Rattle.std.proofs.lemmas.Bool.{and_parts, and_from}
 use Rattle.std.proofs.lemmas.Bool.Decides.{nat_tests}
 use Rattle.std.proofs.lemmas.Fmt.{decimal_is_IsNumeral, length-decimal-le}
@@ -9,7 +10,8 @@ use Rattle.std.specs.Str.Parse.{AllDigits, digits_value}
 use Rattle.yaml_chars.specs.Classes.{code_point, in_range}
 use Rattle.std.specs.List.{list_all}
 use Rattle.yaml_grammar.specs.Texts.{IsText, byte_len, first, same_text}
-use Rattle.yaml_grammar.specs.Trees.{Tree, text, Members, no_member, member, elements_depth, members_depth, distinct, elements_distinct, members_distinct, has_key, AreTextElements, AreTextMembers}
+use Rattle.yaml_grammar.specs.Trees.{Tree, text, Members, no_member, member, elements_depth, members_depth, distinct}
+use Rattle.yaml_grammar.specs.Trees.{elements_distinct, members_distinct, has_key, AreTextElements, AreTextMembers}
 use Rattle.yaml_grammar.specs.Reads.{Good}
 use Rattle.yaml_grammar.specs.Style.{scalar_lines, key_lines, value_at, members_after, style_text}
 use Rattle.yaml_recognizers.specs.Closings.{framed_text}
@@ -23,7 +25,8 @@ use Rattle.conf_state.specs.States.{Entry, Contents, base_limit, count_limit, na
 use Rattle.conf_state.specs.Limits.{AreConfigs, IsState}
 use Rattle.conf_state.specs.BaseTexts.{members, base_tree, base_text, base_length, closed_document}
 use Rattle.conf_record.specs.Records.{edit_members, edit_elements, command_members, record_tree, record_text, FitsRecord}
-use Rattle.conf_record.specs.RecordsRead.{number_from_digits, edit_from, ahead, edits_of, command_from, with_number, record_of, entries, base_of, IsEdit, AreEdits, IsCommand}
+use Rattle.conf_record.specs.RecordsRead.{number_from_digits, edit_from, ahead, edits_of, command_from, with_number}
+use Rattle.conf_record.specs.RecordsRead.{record_of, entries, base_of, IsEdit, AreEdits, IsCommand}
 use Rattle.conf_record.specs.SmallCommands.{IsSmallEdit, AreSmallEdits, IsSmallCommand}
 use Rattle.conf_state.proofs.BaseLemmas.{count_bytes}
 use Rattle.conf_record.proofs.SizeLemmas.{size, scalar_most, value_size}
@@ -79,7 +82,11 @@ decimal_is_text n small = digits_are_text (decimal n) (decimal_is_IsNumeral n (o
 
 decimal_bytes : (n : ℕ) → n ≤ count_limit → byte_len (scalar_lines 2 (decimal n)) ≤ 23
 decimal_bytes n small =
-    omega (arith, count_bytes (decimal n) (decimal_is_IsNumeral n (omega arith)).0.1, length-decimal-le 20 n (omega arith) (omega arith) (omega arith))
+    omega (
+      arith,
+      count_bytes (decimal n) (decimal_is_IsNumeral n (omega arith)).0.1,
+      length-decimal-le 20 n (omega arith) (omega arith) (omega arith),
+    )
 
 -- ---- a number is given by its decimal text
 
@@ -114,7 +121,8 @@ command_tells (single (delete_at name path)) ok = ap (option_map single) (edit_t
 command_tells (batch edits) ok = ap (option_map batch) (edits_tell edits ok)
 
 -- the tree of an accepted command's record is read as that command and number
-pub record_tells : (command : Command) (number : ℕ) → IsSmallCommand command → number ≤ count_limit → record_of (record_tree command number) ≡ Some (command, number)
+pub record_tells : (command : Command) (number : ℕ) → IsSmallCommand command → number ≤ count_limit
+    → record_of (record_tree command number) ≡ Some (command, number)
 unfolding record_of
 record_tells command number ok small =
     ap (λ read. with_number read (decimal number)) (command_tells command ok)
@@ -230,7 +238,8 @@ edit_distinct (delete_at name path) is = refl
 edits_distinct : (edits : List Edit) → AreEdits edits → elements_distinct (edit_elements edits) ≡ true
 edits_distinct [] are = refl
 edits_distinct (edit ∷ edits) are =
-    and_from (members_distinct (edit_members edit)) (elements_distinct (edit_elements edits)) (edit_distinct edit are.0) (edits_distinct edits are.1)
+    and_from (members_distinct (edit_members edit)) (elements_distinct (edit_elements edits))
+    (edit_distinct edit are.0) (edits_distinct edits are.1)
 
 record_distinct : (command : Command) (number : ℕ) → IsCommand command → distinct (record_tree command number) ≡ true
 record_distinct (single (import_as name tree)) number is = edit_distinct (import_as name tree) is
@@ -239,7 +248,8 @@ record_distinct (single (delete_at name path)) number is = refl
 record_distinct (batch edits) number is = and_from (elements_distinct (edit_elements edits)) true (edits_distinct edits is) refl
 
 -- that tree keeps the limits of a text that is read
-pub record_good : (command : Command) (number : ℕ) → IsCommand command → IsSmallCommand command → number ≤ count_limit → FitsRecord command number
+pub record_good : (command : Command) (number : ℕ) → IsCommand command → IsSmallCommand command → number ≤ count_limit
+    → FitsRecord command number
     → FramedGood (record_tree command number)
 record_good command number is ok small fits =
     let short = record_bytes command number ok small fits in

@@ -1,12 +1,16 @@
 -- Bytes in the one style: how they grow with the indentation, and with the bytes of a scalar.
-use Rattle.std.proofs.Common.{◌≡◌, ℕ, zero, suc, ◌+◌, ◌*◌, ◌/◌, ◌%◌, ◌<◌, ◌≤◌, Bool, true, false, ◌||◌, ◌==◌, nat_le, nat_lt, if◌then◌else◌, List, [], ◌∷◌, ◌++◌, codes, refl, arith}
+use Rattle.std.proofs.Common.{◌≡◌, ℕ, zero, suc, ◌+◌, ◌*◌, ◌/◌, ◌%◌, ◌<◌, ◌≤◌, Bool, true, false, ◌||◌, ◌==◌, nat_le}
+use Rattle.std.proofs.Common.{nat_lt, if◌then◌else◌, List, [], ◌∷◌, ◌++◌, codes, refl, arith}
 use Rattle.std.proofs.lemmas.Bool.Decides.{nat_tests}
 use Rattle.std.proofs.lemmas.Str.{len_utf8_bounds}
 use Rattle.std.specs.Char.{len_utf8}
 use Rattle.yaml_chars.specs.Classes.{in_range}
 use Rattle.yaml_grammar.specs.Texts.{byte_len, spaces}
 use Rattle.yaml_grammar.specs.Trees.{Tree, text, sequence, mapping, Elements, no_element, element, Members, no_member, member}
-use Rattle.yaml_grammar.specs.Style.{shown, plain_in_style, literal_in_style, hex, letter_escape, quoted_char, quoted_chars, in_double_quotes, literal_mark, literal_lines, feeds_at_end, scalar_lines, key_text, long_key, key_lines, elements_at, elements_after, lines_after_dash, members_at, members_after, value_at, style_text}
+use Rattle.yaml_grammar.specs.Style.{shown, plain_in_style, literal_in_style, hex, letter_escape, quoted_char}
+use Rattle.yaml_grammar.specs.Style.{quoted_chars, in_double_quotes, literal_mark, literal_lines, feeds_at_end}
+use Rattle.yaml_grammar.specs.Style.{scalar_lines, key_text, long_key, key_lines, elements_at, elements_after}
+use Rattle.yaml_grammar.specs.Style.{lines_after_dash, members_at, members_after, value_at, style_text}
 use Rattle.yaml_writer.specs.BudgetLaws.{byte_len-append}
 use Rattle.yaml_writer.proofs.ByteLemmas.{byte_len-spaces}
 
@@ -79,8 +83,10 @@ scalar_grows : (j : ℕ) (value : List ℕ) → Grows (byte_len (scalar_lines j 
 scalar_grows j value = by (plain_in_style value) (literal_in_style value) (literal_mark (feeds_at_end value))
   where
     by : (plain literal : Bool) (mark : List ℕ)
-        → Grows (byte_len (if plain then value ++ codes "\n" else if literal then mark ++ codes "\n" ++ literal_lines j true value else in_double_quotes value ++ codes "\n"))
-        (byte_len (if plain then value ++ codes "\n" else if literal then mark ++ codes "\n" ++ literal_lines (j + 2) true value else in_double_quotes value ++ codes "\n"))
+        → Grows (byte_len (if plain then value ++ codes "\n" else if literal
+        then mark ++ codes "\n" ++ literal_lines j true value else in_double_quotes value ++ codes "\n"))
+        (byte_len (if plain then value ++ codes "\n" else if literal
+        then mark ++ codes "\n" ++ literal_lines (j + 2) true value else in_double_quotes value ++ codes "\n"))
     by true literal mark = record { no_less = omega arith; no_twice = omega arith }
     by false true mark =
         let lines = (literal_grows j value).0 in
@@ -126,7 +132,8 @@ first_byte c = by (nat_lt c 65536) refl
 letter_byte : (c : ℕ) → letter_escape c < 128
 letter_byte c = by (c == 0) (c == 7) (c == 8) (c == 9) (c == 10) (c == 11) (c == 12) (c == 13)
   where
-    by : (a b d e f g h i : Bool) → (if a then 48 else if b then 97 else if d then 98 else if e then 116 else if f then 110 else if g then 118 else if h then 102 else if i then 114 else 101) < 128
+    by : (a b d e f g h i : Bool) → (if a then 48 else if b then 97 else if d then 98 else if e then 116 else if f
+        then 110 else if g then 118 else if h then 102 else if i then 114 else 101) < 128
     by true b d e f g h i = omega arith
     by false true d e f g h i = omega arith
     by false false true e f g h i = omega arith
@@ -143,7 +150,8 @@ char_most c = by ((c == 34) || (c == 92)) (shown c) ((c == 0) || in_range 7 13 c
   where
     by : (sign itself named short : Bool) → nat_le c 0xff ≡ short
         → byte_len (if sign then 92 ∷ c ∷ [] else if itself then c ∷ [] else if named then 92 ∷ letter_escape c ∷ []
-        else if short then codes "\\x" ++ hex (c / 16) ∷ hex (c % 16) ∷ [] else codes "\\u" ++ hex (c / 4096) ∷ hex (c / 256 % 16) ∷ hex (c / 16 % 16) ∷ hex (c % 16) ∷ [])
+        else if short then codes "\\x" ++ hex (c / 16) ∷ hex (c % 16) ∷ []
+        else codes "\\u" ++ hex (c / 4096) ∷ hex (c / 256 % 16) ∷ hex (c / 16 % 16) ∷ hex (c % 16) ∷ [])
         ≤ 4 * len_utf8 c
     by true itself named short e = let own = len_utf8_bounds c in omega arith
     by false true named short e = let own = len_utf8_bounds c in omega arith
@@ -212,7 +220,8 @@ literal_most : (cs : List ℕ)
 literal_most [] = (omega arith, omega arith)
 literal_most (c ∷ cs) = by (c == 10) (literal_most cs)
   where
-    by : (b : Bool) → (byte_len (literal_lines 2 true cs) ≤ 1 + 3 * byte_len cs) × (byte_len (literal_lines 2 false cs) ≤ 1 + 3 * byte_len cs)
+    by : (b : Bool) → (byte_len (literal_lines 2 true cs) ≤ 1 + 3 * byte_len cs)
+        × (byte_len (literal_lines 2 false cs) ≤ 1 + 3 * byte_len cs)
         → (byte_len (if b then 10 ∷ literal_lines 2 true cs else spaces 2 ++ c ∷ literal_lines 2 false cs) ≤ 1 + 3 * byte_len (c ∷ cs))
         × (byte_len (if b then 10 ∷ literal_lines 2 true cs else c ∷ literal_lines 2 false cs) ≤ 1 + 3 * byte_len (c ∷ cs))
     by true rest = let some = len_utf8_bounds c in let a = rest.0 in let b = rest.1 in (omega arith, omega arith)
@@ -228,11 +237,18 @@ pub scalar_most : (value : List ℕ) → byte_len (scalar_lines 2 value) ≤ 4 *
 scalar_most value = by (plain_in_style value) (literal_in_style value)
   where
     by : (plain literal : Bool)
-        → byte_len (if plain then value ++ codes "\n" else if literal then literal_mark (feeds_at_end value) ++ codes "\n" ++ literal_lines 2 true value else in_double_quotes value ++ codes "\n")
+        → byte_len (if plain then value ++ codes "\n" else if literal
+        then literal_mark (feeds_at_end value) ++ codes "\n" ++ literal_lines 2 true value
+        else in_double_quotes value ++ codes "\n")
         ≤ 4 * byte_len value + 5
     by true literal = omega (arith, byte_len-append value (codes "\n"))
     by false true =
-        omega (arith, mark_most (feeds_at_end value), (literal_most value).0, three (literal_mark (feeds_at_end value)) (codes "\n") (literal_lines 2 true value))
+        omega (
+          arith,
+          mark_most (feeds_at_end value),
+          (literal_most value).0,
+          three (literal_mark (feeds_at_end value)) (codes "\n") (literal_lines 2 true value),
+        )
     by false false =
         let spelled = (quoted_bytes value).esc_most in
         omega (arith, spelled, quoted_size value, byte_len-append (in_double_quotes value) (codes "\n"))
@@ -288,7 +304,8 @@ next_element i e es f fs one rest =
     let indented = spaces_more i in
     record { no_less = omega arith; no_twice = omega arith }
 
-first_member : (k v ms l w ns : List ℕ) → KeyGrows (byte_len k) (byte_len l) → Grows (byte_len v) (byte_len w) → Grows (byte_len ms) (byte_len ns)
+first_member : (k v ms l w ns : List ℕ) → KeyGrows (byte_len k) (byte_len l) → Grows (byte_len v) (byte_len w)
+    → Grows (byte_len ms) (byte_len ns)
     → Grows (byte_len (k ++ v ++ ms)) (byte_len (l ++ w ++ ns))
 first_member k v ms l w ns key value rest =
     let a = value.no_less in let b = value.no_twice in let c = rest.no_less in let d = rest.no_twice in
@@ -297,7 +314,8 @@ first_member k v ms l w ns key value rest =
     let after = three l w ns in
     record { no_less = omega arith; no_twice = omega arith }
 
-next_member : (i : ℕ) (k v ms l w ns : List ℕ) → KeyGrows (byte_len k) (byte_len l) → Grows (byte_len v) (byte_len w) → Grows (byte_len ms) (byte_len ns)
+next_member : (i : ℕ) (k v ms l w ns : List ℕ) → KeyGrows (byte_len k) (byte_len l) → Grows (byte_len v) (byte_len w)
+    → Grows (byte_len ms) (byte_len ns)
     → Grows (byte_len (spaces i ++ k ++ v ++ ms)) (byte_len (spaces (i + 2) ++ l ++ w ++ ns))
 next_member i k v ms l w ns key value rest =
     let a = value.no_less in let b = value.no_twice in let c = rest.no_less in let d = rest.no_twice in
@@ -331,23 +349,27 @@ mutual
   elements_grow : (ts : Elements) (i : ℕ) → Grows (byte_len (elements_at ts i)) (byte_len (elements_at ts (i + 2)))
   elements_grow no_element i = record { no_less = omega arith; no_twice = omega arith }
   elements_grow (element t ts) i =
-      first_element (lines_after_dash t i) (elements_after ts i) (lines_after_dash t (i + 2)) (elements_after ts (i + 2)) (element_grows t i) (elements_after_grow ts i)
+      first_element (lines_after_dash t i) (elements_after ts i) (lines_after_dash t (i + 2))
+      (elements_after ts (i + 2)) (element_grows t i) (elements_after_grow ts i)
 
   elements_after_grow : (ts : Elements) (i : ℕ) → Grows (byte_len (elements_after ts i)) (byte_len (elements_after ts (i + 2)))
   elements_after_grow no_element i = record { no_less = omega arith; no_twice = omega arith }
   elements_after_grow (element t ts) i =
-      next_element i (lines_after_dash t i) (elements_after ts i) (lines_after_dash t (i + 2)) (elements_after ts (i + 2)) (element_grows t i) (elements_after_grow ts i)
+      next_element i (lines_after_dash t i) (elements_after ts i) (lines_after_dash t (i + 2))
+      (elements_after ts (i + 2)) (element_grows t i) (elements_after_grow ts i)
 
   members_grow : (ms : Members) (i : ℕ) → Grows (byte_len (members_at ms i)) (byte_len (members_at ms (i + 2)))
   members_grow no_member i = record { no_less = omega arith; no_twice = omega arith }
   members_grow (member key t ms) i =
-      first_member (key_lines i key) (value_at t i) (members_after ms i) (key_lines (i + 2) key) (value_at t (i + 2)) (members_after ms (i + 2))
+      first_member (key_lines i key) (value_at t i) (members_after ms i) (key_lines (i + 2) key) (value_at t (i + 2))
+      (members_after ms (i + 2))
       (key_grows i key) (value_grows t i) (members_after_grow ms i)
 
   members_after_grow : (ms : Members) (i : ℕ) → Grows (byte_len (members_after ms i)) (byte_len (members_after ms (i + 2)))
   members_after_grow no_member i = record { no_less = omega arith; no_twice = omega arith }
   members_after_grow (member key t ms) i =
-      next_member i (key_lines i key) (value_at t i) (members_after ms i) (key_lines (i + 2) key) (value_at t (i + 2)) (members_after ms (i + 2))
+      next_member i (key_lines i key) (value_at t i) (members_after ms i) (key_lines (i + 2) key) (value_at t (i + 2))
+      (members_after ms (i + 2))
       (key_grows i key) (value_grows t i) (members_after_grow ms i)
 
   value_grows : (t : Tree) (i : ℕ) → Grows (byte_len (value_at t i)) (byte_len (value_at t (i + 2)))
@@ -357,7 +379,8 @@ mutual
       block_grows i (elements_at (element t ts) (i + 2)) (elements_at (element t ts) (i + 2 + 2)) (elements_grow (element t ts) (i + 2))
   value_grows (mapping no_member) i = record { no_less = omega arith; no_twice = omega arith }
   value_grows (mapping (member key t ms)) i =
-      block_grows i (members_at (member key t ms) (i + 2)) (members_at (member key t ms) (i + 2 + 2)) (members_grow (member key t ms) (i + 2))
+      block_grows i (members_at (member key t ms) (i + 2)) (members_at (member key t ms) (i + 2 + 2))
+      (members_grow (member key t ms) (i + 2))
 
 -- ---- a tree as a value, as an element, and by itself
 
@@ -368,7 +391,12 @@ key_line_least key = by (long_key key) (key_text key) (key_least key)
     by : (long : Bool) (shown : List ℕ) → byte_len key ≤ byte_len shown
         → 1 + byte_len key ≤ byte_len (if long then codes "? " ++ shown ++ codes "\n" ++ spaces 0 ++ codes ":" else shown ++ codes ":")
     by true shown least =
-        omega (arith, least, byte_len-append (codes "? " ++ shown ++ codes "\n" ++ spaces 0) (codes ":"), four (codes "? ") shown (codes "\n") (spaces 0))
+        omega (
+          arith,
+          least,
+          byte_len-append (codes "? " ++ shown ++ codes "\n" ++ spaces 0) (codes ":"),
+          four (codes "? ") shown (codes "\n") (spaces 0),
+        )
     by false shown least = omega (arith, least, byte_len-append shown (codes ":"))
 
 -- an element is at least as long as its tree's own text

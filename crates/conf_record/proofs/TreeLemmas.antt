@@ -1,5 +1,6 @@
 -- What a tree is as a record or a base.
-use Rattle.std.proofs.Common.{◌≡◌, refl, sym, ◌∙◌, ap, subst, ℕ, Bool, true, false, List, [], ◌∷◌, codes, if◌then◌else◌, Option, Some, None, option_map, IfSome, IfNone}
+use Rattle.std.proofs.Common.{◌≡◌, refl, sym, ◌∙◌, ap, subst, ℕ, Bool, true, false, List, [], ◌∷◌, codes}
+use Rattle.std.proofs.Common.{if◌then◌else◌, Option, Some, None, option_map, IfSome, IfNone}
 use Rattle.std.specs.Str.{chars}
 use Rattle.yaml_grammar.specs.Texts.{same_text}
 use Rattle.yaml_grammar.specs.Trees.{Tree, text, sequence, mapping, Elements, Members, no_member, member}
@@ -9,7 +10,9 @@ use Rattle.yaml_data.specs.Seen.{Pair, members_of}
 use Rattle.conf_state.specs.Commands.{Command, single, command_of}
 use Rattle.conf_state.specs.Kept.{entries_of}
 use Rattle.conf_state.specs.Limits.{IsState}
-use Rattle.conf_record.specs.RecordsRead.{number_from_digits, keys_are, values, import_of, set_of, delete_of, edit_under, edit_from, batch_of, command_from, with_number, record_of, batch_keys, set_keys, delete_keys, base_keys, base_of, contents_of}
+use Rattle.conf_record.specs.RecordsRead.{number_from_digits, keys_are, values, import_of, set_of, delete_of}
+use Rattle.conf_record.specs.RecordsRead.{edit_under, edit_from, batch_of, command_from, with_number, record_of}
+use Rattle.conf_record.specs.RecordsRead.{batch_keys, set_keys, delete_keys, base_keys, base_of, contents_of}
 use Rattle.conf_state.specs.States.{Contents}
 use Rattle.conf_state.specs.declared.command.Command as code
 use Rattle.conf_state.proofs.LineLemmas.{ascii}
@@ -51,7 +54,8 @@ unfolding record_of
 record_numbered key digits ms n is told = rw is (with_number-Some (command_from ms) digits n told)
 
 -- one with another first key is no record
-pub record_other : (key : List ℕ) (t : Tree) (ms : Members) → same_text key (codes "at") ≡ false → record_of (mapping (member key t ms)) ≡ None
+pub record_other : (key : List ℕ) (t : Tree) (ms : Members) → same_text key (codes "at") ≡ false
+    → record_of (mapping (member key t ms)) ≡ None
 unfolding record_of
 record_other key (text digits) ms other = rw other refl
 record_other key (sequence ts) ms other = refl
@@ -65,7 +69,8 @@ record_textless key (sequence ts) ms e = refl
 record_textless key (mapping ns) ms e = refl
 
 -- or no number
-pub record_numberless : (key digits : List ℕ) (ms : Members) → number_from_digits digits ≡ None → record_of (mapping (member key (text digits) ms)) ≡ None
+pub record_numberless : (key digits : List ℕ) (ms : Members) → number_from_digits digits ≡ None
+    → record_of (mapping (member key (text digits) ms)) ≡ None
 unfolding record_of
 record_numberless key digits ms told = by (same_text key (codes "at"))
   where
@@ -122,7 +127,8 @@ pub base_texts : texts base_keys ≡ base_keys
 base_texts = λ i. ascii (codes "store") refl i ∷ ascii (codes "at") refl i ∷ ascii (codes "configs") refl i ∷ []
 
 -- what a test of the keys has returned holds of the keys that were wanted
-pub asked : (ks wanted : List (List ℕ)) (ps items : List Pair) (r b : Bool) → r ≡ keys_are ks (members_of ps) → ks ≡ wanted → ps ≡ items → r ≡ b
+pub asked : (ks wanted : List (List ℕ)) (ps items : List Pair) (r b : Bool) → r ≡ keys_are ks (members_of ps)
+    → ks ≡ wanted → ps ≡ items → r ≡ b
     → keys_are wanted (members_of items) ≡ b
 asked ks wanted ps items r b e same here is =
     ap (λ x. keys_are x (members_of items)) (sym same) ∙ ap (λ x. keys_are ks (members_of x)) (sym here) ∙ sym e ∙ is
@@ -172,7 +178,8 @@ module _ (give_one : BytesGiveOne) (bytes : List ℕ) (t : Tree) (is : IsRead by
   no_record (Some r) e = tt
 
   -- bytes are the record that their tree is read as
-  pub one_record : (read : Option (code.Command × ℕ)) → command_and_number read ≡ record_of t → IfSome read (λ r. IsRecord bytes (command_of r.0) r.1)
+  pub one_record : (read : Option (code.Command × ℕ)) → command_and_number read ≡ record_of t
+      → IfSome read (λ r. IsRecord bytes (command_of r.0) r.1)
   one_record None e = tt
   one_record (Some r) e = record { utf8 = is.utf8; reads = record { tree = t; gives = is.gives; tells = sym e } }
 
@@ -181,7 +188,8 @@ module _ (give_one : BytesGiveOne) (bytes : List ℕ) (t : Tree) (is : IsRead by
   no_parts e = λ state r. no_some state (e ∙ ap base_of (same_as_base state r) ∙ r.reads.tells)
 
   module _ (configs : List Named) (count : ℕ) (parts : Some (state_of configs count) ≡ base_of t) where
-    pub one_base : (read : Option Contents) → IfSome read (λ state. (state ≡ state_of configs count) × IsState state) → IfSome read (λ state. IsBase bytes state)
+    pub one_base : (read : Option Contents) → IfSome read (λ state. (state ≡ state_of configs count) × IsState state)
+        → IfSome read (λ state. IsBase bytes state)
     one_base None e = tt
     one_base (Some s) e =
         record { utf8 = is.utf8; reads = record { tree = t; gives = is.gives; tells = sym parts ∙ ap Some (sym e.0); kept = e.1 } }
@@ -192,4 +200,5 @@ module _ (give_one : BytesGiveOne) (bytes : List ℕ) (t : Tree) (is : IsRead by
     pub no_base : (read : Option Contents) → IfNone read (IsState (state_of configs count) → ⊥) → IfNone read (IsNoBase bytes)
     no_base (Some s) never = tt
     no_base None never = λ state r.
-        never (subst IsState (some_state state (state_of configs count) (sym r.reads.tells ∙ sym (ap base_of (same_as_base state r)) ∙ sym parts)) r.reads.kept)
+        never (subst IsState (some_state state (state_of configs count)
+        (sym r.reads.tells ∙ sym (ap base_of (same_as_base state r)) ∙ sym parts)) r.reads.kept)

@@ -1,5 +1,8 @@
 -- Lines as a store writes them make the record of a command.
-use Rattle.std.proofs.Common.{◌≡◌, ℕ, ◌+◌, ◌≤◌, ◌<◌, Bool, true, false, ◌&&◌, nat_le, nat_lt, if◌then◌else◌, zero, suc, List, [], ◌∷◌, ◌++◌, length, length-append, codes, decimal, Option, Some, None, IsUtf8, Bor, encode_utf8_all, append_assoc, append-nil, refl, sym, ap, subst, ◌∙◌, arith}
+use Rattle.std.proofs.Common.{◌≡◌, ℕ, ◌+◌, ◌≤◌, ◌<◌, Bool, true, false, ◌&&◌, nat_le, nat_lt, if◌then◌else◌, zero}
+use Rattle.std.proofs.Common.{suc, List, [], ◌∷◌, ◌++◌, length, length-append, codes, decimal, Option, Some, None}
+use Rattle.std.proofs.Common.{IsUtf8, Bor, encode_utf8_all, append_assoc, append-nil, refl, sym, ap, subst, ◌∙◌}
+use Rattle.std.proofs.Common.{arith}
 use Rattle.std.proofs.lemmas.Bool.Decides.{nat_tests}
 use Rattle.std.proofs.lemmas.Fmt.{decimal_is_IsNumeral}
 use Rattle.std.proofs.lemmas.Str.{chars-IsAscii, encodes-append, encodes-chars, encodes-IsAscii}
@@ -7,7 +10,9 @@ use Rattle.std.specs.List.{list_all}
 use Rattle.std.specs.Str.{chars}
 use Rattle.std.specs.Str.Parse.{digits_value}
 use Rattle.yaml_chars.specs.Signs.{line_feed, space_char, double_quote}
-use Rattle.yaml_grammar.specs.Style.{plain_in_style, literal_in_style, feeds_at_end, literal_mark, literal_lines, quoted_chars, in_double_quotes, scalar_lines, value_at, elements_after, members_at, members_after}
+use Rattle.yaml_grammar.specs.Style.{plain_in_style, literal_in_style, feeds_at_end, literal_mark, literal_lines}
+use Rattle.yaml_grammar.specs.Style.{quoted_chars, in_double_quotes, scalar_lines, value_at, elements_after}
+use Rattle.yaml_grammar.specs.Style.{members_at, members_after}
 use Rattle.yaml_grammar.specs.Texts.{IsText, byte_len, same_text, spaces}
 use Rattle.yaml_grammar.specs.Trees.{Tree, text, Members, no_member, member}
 use Rattle.yaml_writer.specs.declared.scalar_style.ScalarStyle.{ScalarStyle}
@@ -68,13 +73,15 @@ small_count : (n : ℕ) → nat_le n count_limit ≡ true → n ≤ count_limit
 small_count n e = grind (arith, nat_tests)
 
 -- digits that give a number are its decimal text, and the number is a count
-pub number_spelled : (bs : List ℕ) (n : ℕ) → IsUtf8 bs → Some n ≡ number_from_digits (chars bs) → (n ≤ count_limit) × (bs ≡ encode_utf8_all (decimal n))
+pub number_spelled : (bs : List ℕ) (n : ℕ) → IsUtf8 bs → Some n ≡ number_from_digits (chars bs)
+    → (n ≤ count_limit) × (bs ≡ encode_utf8_all (decimal n))
 number_spelled bs n utf8 e =
     let v = digits_value 10 (chars bs) in
     let told = by v (nat_le v count_limit) refl (same_text (chars bs) (decimal v)) refl e in
     (told.0, sym (encodes-chars bs utf8) ∙ ap encode_utf8_all told.1)
   where
-    by : (v : ℕ) (a : Bool) → nat_le v count_limit ≡ a → (b : Bool) → same_text (chars bs) (decimal v) ≡ b → Some n ≡ (if a && b then Some v else None)
+    by : (v : ℕ) (a : Bool) → nat_le v count_limit ≡ a → (b : Bool) → same_text (chars bs) (decimal v) ≡ b
+        → Some n ≡ (if a && b then Some v else None)
         → (n ≤ count_limit) × (chars bs ≡ decimal n)
     by v true small true same e =
         let is : v ≡ n = cc in
@@ -122,7 +129,8 @@ plain_line line utf8 is =
     }
 
 -- so is a text in double quotes of which no character needs an escape
-pub quoted_line : (quoted bytes : List ℕ) → quoted ≡ bytes ++ double_quote ∷ [] → list_all stands_alone bytes ≡ true → Double ≡ value_style (chars bytes)
+pub quoted_line : (quoted bytes : List ℕ) → quoted ≡ bytes ++ double_quote ∷ [] → list_all stands_alone bytes ≡ true
+    → Double ≡ value_style (chars bytes)
     → IsLineOf (double_quote ∷ quoted) (chars bytes)
 quoted_line quoted bytes is alone double =
     let cs = chars bytes in
@@ -135,7 +143,8 @@ quoted_line quoted bytes is alone double =
           ap encode_utf8_all (by i).0
           ∙ ap (λ xs. encode_utf8_all (mark ++ xs ++ mark ++ codes "\n")) itself
           ∙ after (mark ++ bytes ++ mark) (codes "\n") refl
-          ∙ ap (λ bs. bs ++ codes "\n") (after (mark ++ bytes) mark refl ∙ ap (λ bs. bs ++ mark) (before mark bytes refl ∙ ap (λ bs. mark ++ bs) (encodes-IsAscii bytes ascii)))
+          ∙ ap (λ bs. bs ++ codes "\n") (after (mark ++ bytes) mark refl
+          ∙ ap (λ bs. bs ++ mark) (before mark bytes refl ∙ ap (λ bs. mark ++ bs) (encodes-IsAscii bytes ascii)))
           ∙ ap (λ bs. (double_quote ∷ bs) ++ codes "\n") (sym is);
       flat = (by 0).1;
     }
@@ -143,7 +152,8 @@ quoted_line quoted bytes is alone double =
 -- ---- a text on one line as a configuration
 
 -- a text after its key, on one line
-text_value : (line value : List ℕ) → IsLineOf line value → (i : ℕ) → encode_utf8_all (value_at (text value) i) ≡ space_char ∷ (line ++ line_feed ∷ [])
+text_value : (line value : List ℕ) → IsLineOf line value → (i : ℕ)
+    → encode_utf8_all (value_at (text value) i) ≡ space_char ∷ (line ++ line_feed ∷ [])
 text_value line value is i = before (codes " ") (scalar_lines (i + 2) value) refl ∙ ap (λ bs. space_char ∷ bs) (is.written (i + 2))
 
 module _ (line value : List ℕ) (is : IsLineOf line value) where
@@ -163,12 +173,16 @@ module _ (line value : List ℕ) (is : IsLineOf line value) where
   line_size t seen = (λ i. record { bytes = sym line_bytes i; lines = sym is.flat i }) ∙ ap element_size (sym seen)
 
 -- a text of the code that is written as the line
-pub text_config : (line bytes : List ℕ) (copy : Text) → text_bytes copy ≡ bytes → IsLineOf line (chars bytes) → length line < config_limits.style
-    → IsConfigLine line (tree_of (code.Text copy)) × (◌≡◌ {A = Size} (record { bytes = length line + 1; lines = 0 }) (element_size (tree_of (code.Text copy))))
+pub text_config : (line bytes : List ℕ) (copy : Text) → text_bytes copy ≡ bytes → IsLineOf line (chars bytes)
+    → length line < config_limits.style
+    → IsConfigLine line (tree_of (code.Text copy))
+    × (◌≡◌ {A = Size} (record { bytes = length line + 1; lines = 0 }) (element_size (tree_of (code.Text copy))))
 text_config line bytes copy same is short =
     let seen : tree_of (code.Text copy) ≡ text (chars bytes) = tree_of-Text copy ∙ ap (λ bs. text (chars bs)) same in
-    let texts = subst (λ bs. IsText (chars bs)) same (chars-IsText (text_bytes copy) (IsUtf8-text_bytes copy)) in
-    (line_config line (chars bytes) is (tree_of (code.Text copy)) seen texts short, line_size line (chars bytes) is (tree_of (code.Text copy)) seen)
+    let texts = subst (λ bs. IsText (chars bs)) same (chars-IsText (text_bytes copy) (IsUtf8-text_bytes copy)) in (
+      line_config line (chars bytes) is (tree_of (code.Text copy)) seen texts short,
+      line_size line (chars bytes) is (tree_of (code.Text copy)) seen,
+    )
 
 -- ---- the lines of an edit
 
@@ -177,17 +191,20 @@ spaces_ascii zero = refl
 spaces_ascii (suc n) = spaces_ascii n
 
 -- a key after n spaces, its value on one line, and what follows it
-member_written : (n : ℕ) (key value more line : List ℕ) → list_all (λ c. nat_lt c 128) key ≡ true → encode_utf8_all value ≡ space_char ∷ (line ++ line_feed ∷ [])
+member_written : (n : ℕ) (key value more line : List ℕ) → list_all (λ c. nat_lt c 128) key ≡ true
+    → encode_utf8_all value ≡ space_char ∷ (line ++ line_feed ∷ [])
     → encode_utf8_all (((spaces n ++ key) ++ value) ++ more) ≡ spaces n ++ (member_line (key ++ codes " ") line ++ encode_utf8_all more)
 member_written n key value more line ascii is =
     let s = spaces n in
     ap encode_utf8_all (append_assoc (s ++ key) value more ∙ append_assoc s key (value ++ more))
     ∙ before s (key ++ (value ++ more)) (spaces_ascii n)
-    ∙ ap (λ bs. s ++ bs) (before key (value ++ more) ascii ∙ ap (λ bs. key ++ bs) (encodes-append value more ∙ ap (λ bs. bs ++ encode_utf8_all more) is))
+    ∙ ap (λ bs. s ++ bs) (before key (value ++ more) ascii
+    ∙ ap (λ bs. key ++ bs) (encodes-append value more ∙ ap (λ bs. bs ++ encode_utf8_all more) is))
     ∙ simp append_assoc
 
 -- the same of the last member
-last_written : (n : ℕ) (key value line : List ℕ) → list_all (λ c. nat_lt c 128) key ≡ true → encode_utf8_all value ≡ space_char ∷ (line ++ line_feed ∷ [])
+last_written : (n : ℕ) (key value line : List ℕ) → list_all (λ c. nat_lt c 128) key ≡ true
+    → encode_utf8_all value ≡ space_char ∷ (line ++ line_feed ∷ [])
     → encode_utf8_all (((spaces n ++ key) ++ value) ++ []) ≡ spaces n ++ member_line (key ++ codes " ") line
 last_written n key value line ascii is =
     member_written n key value [] line ascii is ∙ ap (λ bs. spaces n ++ bs) (append-nil (member_line (key ++ codes " ") line))
@@ -196,21 +213,26 @@ pub import_written : (n l : Line) (name : List ℕ) (tree : Tree) → IsNameLine
     → IsWrittenAs (lines_of (cut.Import n l) (codes "tree: ")) (import_as name tree)
 import_written n l name tree named valued = record {
   written = λ i.
-      member_written 0 (codes "import:") (value_at (text name) i) (members_after (member (codes "tree") tree no_member) i) n.now refl (text_value n.now name named.is i)
-      ∙ ap (λ bs. member_line (codes "import: ") n.now ++ bs) (last_written i (codes "tree:") (value_at tree i) l.now refl (valued.written i));
+      member_written 0 (codes "import:") (value_at (text name) i)
+      (members_after (member (codes "tree") tree no_member) i) n.now refl (text_value n.now name named.is i)
+      ∙ ap (λ bs. member_line (codes "import: ") n.now ++ bs)
+      (last_written i (codes "tree:") (value_at tree i) l.now refl (valued.written i));
   is = valued.kept;
   small = (named.good, valued.small);
 }
 
-pub set_written : (n p l : Line) (name path : List ℕ) (value : Tree) → IsNameLine n.now name → IsPathLine p.now path → IsConfigLine l.now value
+pub set_written : (n p l : Line) (name path : List ℕ) (value : Tree) → IsNameLine n.now name → IsPathLine p.now path
+    → IsConfigLine l.now value
     → IsWrittenAs (lines_of (cut.Set n p l) (codes "tree: ")) (set_at name path value)
 set_written n p l name path value named pathed valued = record {
   written = λ i.
       let last : Members = member (codes "value") value no_member in
-      member_written 0 (codes "set:") (value_at (text name) i) (members_after (member (codes "path") (text path) last) i) n.now refl (text_value n.now name named.is i)
+      member_written 0 (codes "set:") (value_at (text name) i)
+      (members_after (member (codes "path") (text path) last) i) n.now refl (text_value n.now name named.is i)
       ∙ ap (λ bs. member_line (codes "set: ") n.now ++ bs)
       (member_written i (codes "path:") (value_at (text path) i) (members_after last i) p.now refl (text_value p.now path pathed.is i)
-      ∙ ap (λ bs. spaces i ++ (member_line (codes "path: ") p.now ++ bs)) (last_written i (codes "value:") (value_at value i) l.now refl (valued.written i)));
+      ∙ ap (λ bs. spaces i ++ (member_line (codes "path: ") p.now ++ bs))
+      (last_written i (codes "value:") (value_at value i) l.now refl (valued.written i)));
   is = (pathed.texts, valued.kept);
   small = (named.good, pathed.short, valued.small);
 }
@@ -219,8 +241,10 @@ pub delete_written : (n p : Line) (name path : List ℕ) → IsNameLine n.now na
     → IsWrittenAs (lines_of (cut.Delete n p) (codes "tree: ")) (delete_at name path)
 delete_written n p name path named pathed = record {
   written = λ i.
-      member_written 0 (codes "delete:") (value_at (text name) i) (members_after (member (codes "path") (text path) no_member) i) n.now refl (text_value n.now name named.is i)
-      ∙ ap (λ bs. member_line (codes "delete: ") n.now ++ bs) (last_written i (codes "path:") (value_at (text path) i) p.now refl (text_value p.now path pathed.is i));
+      member_written 0 (codes "delete:") (value_at (text name) i)
+      (members_after (member (codes "path") (text path) no_member) i) n.now refl (text_value n.now name named.is i)
+      ∙ ap (λ bs. member_line (codes "delete: ") n.now ++ bs)
+      (last_written i (codes "path:") (value_at (text path) i) p.now refl (text_value p.now path pathed.is i));
   is = pathed.texts;
   small = (named.good, pathed.short);
 }
@@ -233,18 +257,21 @@ at_margin (set_at name path value) = refl
 at_margin (delete_at name path) = refl
 
 -- the lines of an edit alone, and the end
-pub alone_written : (lines end : List ℕ) (own : ℕ → List ℕ) (edit : Edit) → lines ≡ own 0 ++ end → end ≡ codes "...\n" → IsWrittenAs own edit → IsWritten lines (single edit)
+pub alone_written : (lines end : List ℕ) (own : ℕ → List ℕ) (edit : Edit) → lines ≡ own 0 ++ end → end ≡ codes "...\n"
+    → IsWrittenAs own edit → IsWritten lines (single edit)
 alone_written lines end own edit is ends so = record {
   written =
       is ∙ ap (λ bs. own 0 ++ bs) ends ∙ ap (λ bs. bs ++ codes "...\n") (sym (so.written 0))
-      ∙ sym (after (members_at (edit_members edit) 0) (codes "...\n") refl) ∙ ap (λ xs. encode_utf8_all (xs ++ codes "...\n")) (at_margin edit);
+      ∙ sym (after (members_at (edit_members edit) 0) (codes "...\n") refl)
+      ∙ ap (λ xs. encode_utf8_all (xs ++ codes "...\n")) (at_margin edit);
   is = so.is;
   small = so.small;
 }
 
 -- elements, and one more after them
 elements-one : (es : List Edit) (e : Edit)
-    → elements_after (edit_elements (es ++ e ∷ [])) 2 ≡ elements_after (edit_elements es) 2 ++ (codes "  - " ++ members_at (edit_members e) 4)
+    → elements_after (edit_elements (es ++ e ∷ [])) 2
+    ≡ elements_after (edit_elements es) 2 ++ (codes "  - " ++ members_at (edit_members e) 4)
 elements-one [] e = append-nil (codes "  - " ++ members_at (edit_members e) 4)
 elements-one (d ∷ ds) e =
     let first = codes "  - " ++ members_at (edit_members d) 4 in
@@ -273,7 +300,8 @@ one_written lines left after own es e so is new =
       written =
           so.written
           ∙ ap (λ bs. encode_utf8_all before_it ++ bs)
-          (is ∙ ap (λ bs. codes "  - " ++ (bs ++ after)) (sym (new.written 4)) ∙ ap (λ bs. bs ++ after) (sym (before (codes "  - ") members refl)))
+          (is ∙ ap (λ bs. codes "  - " ++ (bs ++ after)) (sym (new.written 4))
+          ∙ ap (λ bs. bs ++ after) (sym (before (codes "  - ") members refl)))
           ∙ sym (append_assoc (encode_utf8_all before_it) (encode_utf8_all (codes "  - " ++ members)) after)
           ∙ ap (λ bs. bs ++ after) (sym (encodes-append before_it (codes "  - " ++ members)))
           ∙ ap (λ xs. encode_utf8_all xs ++ after) (sym (elements-one es e));
@@ -282,7 +310,8 @@ one_written lines left after own es e so is new =
     }
 
 -- all elements of a batch, and the end
-pub batch_written : (elements : List ℕ) (es : List Edit) → (es ≡ [] → ⊥) → ElementsWritten elements es (codes "...\n") → IsWritten (codes "batch:\n" ++ elements) (batch es)
+pub batch_written : (elements : List ℕ) (es : List Edit) → (es ≡ [] → ⊥) → ElementsWritten elements es (codes "...\n")
+    → IsWritten (codes "batch:\n" ++ elements) (batch es)
 batch_written elements es some so =
     let lines = elements_after (edit_elements es) 2 in
     record {
@@ -308,7 +337,8 @@ whole_record bytes lines command number small is follows =
     let ends = ms ++ codes "...\n" in
     let all = (decimal_is_IsNumeral number (omega arith)).0.1 in
     is
-    ∙ ap (λ bs. codes "---\nat: \"" ++ (encode_utf8_all ds ++ bs)) (ap (λ bs. codes "\"\n" ++ bs) follows ∙ sym (before (codes "\"\n") ends refl))
+    ∙ ap (λ bs. codes "---\nat: \"" ++ (encode_utf8_all ds ++ bs))
+    (ap (λ bs. codes "\"\n" ++ bs) follows ∙ sym (before (codes "\"\n") ends refl))
     ∙ ap (λ bs. codes "---\nat: \"" ++ bs) (sym (encodes-append ds (codes "\"\n" ++ ends)))
     ∙ sym (before (codes "---\nat: \"") (ds ++ (codes "\"\n" ++ ends)) refl)
     ∙ ap (λ xs. encode_utf8_all (codes "---\nat: \"" ++ xs)) (sym (append_assoc ds (codes "\"\n" ++ ms) (codes "...\n")))
@@ -316,7 +346,8 @@ whole_record bytes lines command number small is follows =
     ∙ ap (λ xs. encode_utf8_all (codes "---\n" ++ (xs ++ ms) ++ codes "...\n")) (number_line ds all)
 
 -- a record of so many bytes fits
-pub short_fits : (bytes : List ℕ) (command : Command) (number : ℕ) → bytes ≡ record_bytes command number → length bytes ≤ record_limit → FitsRecord command number
+pub short_fits : (bytes : List ℕ) (command : Command) (number : ℕ) → bytes ≡ record_bytes command number
+    → length bytes ≤ record_limit → FitsRecord command number
 unfolding record_bytes
 short_fits bytes (single edit) number is short = tt
 short_fits bytes (batch edits) number is short =
@@ -325,6 +356,8 @@ short_fits bytes (batch edits) number is short =
     omega (arith, counted, same)
 
 -- bytes that are a record's text are that record
-pub written_is : (bytes : List ℕ) (command : Command) (number : ℕ) → ReadsRecord (record_text command number) command number → bytes ≡ record_bytes command number
+pub written_is : (bytes : List ℕ) (command : Command) (number : ℕ)
+    → ReadsRecord (record_text command number) command number → bytes ≡ record_bytes command number
     → IsRecord bytes command number
-written_is bytes command number reads same = subst (λ bs. IsRecord bs command number) (sym same) (record_is command command number number reads)
+written_is bytes command number reads same =
+    subst (λ bs. IsRecord bs command number) (sym same) (record_is command command number number reads)

@@ -1,6 +1,7 @@
 -- Which texts are records and bases, and what they hold. The document may be spelled in any way. With other keys, keys
 -- in another order, or a number, a name or a path that is not good, it is neither.
-use Rattle.std.specs.Prelude.{◌≡◌, ℕ, Bool, true, false, ◌&&◌, ◌||◌, nat_le, if◌then◌else◌, List, [], ◌∷◌, codes, decimal, Option, Some, None, option_map, is_ok}
+use Rattle.std.specs.Prelude.{◌≡◌, ℕ, Bool, true, false, ◌&&◌, ◌||◌, nat_le, if◌then◌else◌, List, [], ◌∷◌, codes}
+use Rattle.std.specs.Prelude.{decimal, Option, Some, None, option_map, is_ok}
 use Rattle.std.specs.Str.Parse.{digits_value}
 use Rattle.yaml_grammar.specs.Texts.{IsText, same_text}
 use Rattle.yaml_grammar.specs.Trees.{Tree, text, sequence, mapping, Elements, no_element, element, Members, no_member, member}

@@ -1,5 +1,6 @@
 -- What each word does to the folders of a world.
-use Rattle.std.proofs.Common.{◌≡◌, ◌≢◌, inl, inr, ℕ, Bool, true, false, List, [], ◌∷◌, Option, None, Some, Result, Ok, Err, IfOk, refl, sym, ap, subst, codes}
+use Rattle.std.proofs.Common.{◌≡◌, ◌≢◌, inl, inr, ℕ, Bool, true, false, List, [], ◌∷◌, Option, None, Some, Result, Ok}
+use Rattle.std.proofs.Common.{Err, IfOk, refl, sym, ap, subst, codes}
 use Rattle.conf_conditions.specs.Conditions.{Condition, conditions_of}
 use Rattle.conf_disk.specs.Image.{Image}
 use Rattle.conf_disk.specs.Models.{DiskModel}
@@ -15,7 +16,9 @@ use Rattle.conf_history.specs.declared.survey.Findings.{Findings as Surveyed}
 use Rattle.conf_words.specs.declared.invocation.Conditions.{Conditions}
 use Rattle.conf_words.specs.declared.invocation.Invocation.{Invocation}
 use Rattle.conf_words.specs.declared.invocation.TreeForm.{TreeForm}
-use Rattle.conf_words.specs.declared.invocation.Invocation.TheVariants.{Init, Import, Set, Delete, Copy, Rename, Checkpoint, Run, Export, Names, Get, Exists, Log, Verify, Salvage, Backup, Format, Check}
+use Rattle.conf_words.specs.declared.invocation.Invocation.TheVariants.{Init, Import, Set, Delete, Copy, Rename}
+use Rattle.conf_words.specs.declared.invocation.Invocation.TheVariants.{Checkpoint, Run, Export, Names, Get, Exists}
+use Rattle.conf_words.specs.declared.invocation.Invocation.TheVariants.{Log, Verify, Salvage, Backup, Format, Check}
 use Rattle.conf_words.specs.declared.invocation.Comments.{Comments}
 use Rattle.conf_words.specs.declared.invocation.Formatting.{Formatting}
 use Rattle.conf_words.specs.declared.invocation.Formatting.TheVariants as formatting
@@ -27,8 +30,11 @@ use Rattle.conf_tools.specs.Performs.{ChangesAt, FormatsAll, ChecksAll, ImportsR
 use Rattle.conf_tools.specs.Exports.{disk_back}
 use Rattle.conf_tools.specs.Tools.{Taken}
 use Rattle.conf_tools.specs.ProgramCalls.{Call, changing, disk_before, disk_behind, exporting, running}
-use Rattle.conf_tools.specs.StoreWords.{ChangesInFolder, ExportsFromFolder, Inits, MakesChange, MakesInFolder, OpensFile, OpensNew, RunsOnFolder, Salvages, SavesFound, SavesInFolder, WritesFindings, status_at_end}
-use Rattle.conf_tools.specs.TextWords.{IfSo, IsSet, ReplacesAt, ReplacesRead, ReportsOnAll, RestylesAll, RestylesOpened, TakesText, stops_all, status_of_report}
+use Rattle.conf_tools.specs.StoreWords.{ChangesInFolder, ExportsFromFolder, Inits, MakesChange, MakesInFolder}
+use Rattle.conf_tools.specs.StoreWords.{OpensFile, OpensNew, RunsOnFolder, Salvages, SavesFound, SavesInFolder}
+use Rattle.conf_tools.specs.StoreWords.{WritesFindings, status_at_end}
+use Rattle.conf_tools.specs.TextWords.{IfSo, IsSet, ReplacesAt, ReplacesRead, ReportsOnAll, RestylesAll}
+use Rattle.conf_tools.specs.TextWords.{RestylesOpened, TakesText, stops_all, status_of_report}
 use Rattle.conf_tools.specs.Statuses.{worst}
 use Rattle.conf_tools.specs.Worlds.{Around, WorldModel}
 use Rattle.conf_tools.specs.declared.changes.Change.{Change}
@@ -46,7 +52,9 @@ use Rattle.conf_tools.specs.declared.texts.ToolFault.{ToolFault}
 use Rattle.conf_tools.specs.declared.world.Access.{Access}
 use Rattle.conf_tools.specs.declared.world.Access.TheVariants.{Changing, New}
 use Rattle.conf_runs.specs.Folders.{IsDiskOf, KeepsFolders, LeavesNoMore}
-use Rattle.conf_runs.specs.Runs.{Deed, asked_for, call_of, changed_if, changed_in, copied_in, copied_of, copies, exported_from, folder_of, imported, initialised, made_in, makes_new, ran_in, saved_in, saved_of, saves}
+use Rattle.conf_runs.specs.Runs.{Deed, asked_for, call_of, changed_if, changed_in, copied_in, copied_of, copies}
+use Rattle.conf_runs.specs.Runs.{exported_from, folder_of, imported, initialised, made_in, makes_new, ran_in}
+use Rattle.conf_runs.specs.Runs.{saved_in, saved_of, saves}
 
 module _ {W D F P : Type 0} (world : WorldModel W D F P) (disk : DiskModel D) (remaining : F → Option (List ℕ))
     (honest : disk.honest) (leaves : W → List ℕ → Image → Type 0) (keeps : KeepsFolders world disk leaves) where
@@ -80,14 +88,16 @@ module _ {W D F P : Type 0} (world : WorldModel W D F P) (disk : DiskModel D) (r
   after : {folder : Option (List ℕ)} {call : Option (Call disk)} {status : Status} (old between new : W) → Steady old between
       → Effect between new status folder call → Effect old new status folder call
   after old between new steady (nothing folder ends) = nothing folder (then old between new steady ends)
-  after old between new steady (on_disk path found call begins is fits) = on_disk path found call (then old between found steady begins) is fits
+  after old between new steady (on_disk path found call begins is fits) =
+      on_disk path found call (then old between found steady begins) is fits
 
   -- ---- words that take a disk
 
   of-making : (folder : List ℕ) (old new : W) (status : Status) (makes : MakesInFolder world disk folder old new status)
       → Effect old new status (Some folder) (made_in world disk honest makes)
   of-making folder old new status (inl cannot) = nothing (Some folder) (keeps.no_disk _ folder old new cannot.fault cannot.opens)
-  of-making folder old new status (inr makes) = on_disk folder old _ (stays old) (keeps.disks _ folder old makes.opened new makes.first _ makes.opens makes.gives_back) tt
+  of-making folder old new status (inr makes) =
+      on_disk folder old _ (stays old) (keeps.disks _ folder old makes.opened new makes.first _ makes.opens makes.gives_back) tt
 
   of-init : (folder : List ℕ) (old new : W) (status : Status) (does : Inits world disk folder old new status)
       → Effect old new status (Some folder) (initialised world disk honest does)
@@ -98,34 +108,42 @@ module _ {W D F P : Type 0} (world : WorldModel W D F P) (disk : DiskModel D) (r
   of-change : (access : Access) (folder : List ℕ) (conditions : List Condition) (change : Change) (old new : W) (status : Status)
       (does : ChangesInFolder world disk access folder conditions change old new status)
       → Effect old new status (Some folder) (changed_in world disk honest change does)
-  of-change access folder conditions change old new status (inl cannot) = nothing (Some folder) (keeps.no_disk _ folder old new cannot.fault cannot.opens)
+  of-change access folder conditions change old new status (inl cannot) =
+      nothing (Some folder) (keeps.no_disk _ folder old new cannot.fault cannot.opens)
   of-change access folder conditions change old new status (inr changes) =
-      on_disk folder old _ (stays old) (keeps.disks _ folder old changes.opened new changes.first _ changes.opens changes.gives_back) changes.ends
+      on_disk folder old _ (stays old) (keeps.disks _ folder old changes.opened new changes.first _ changes.opens
+      changes.gives_back) changes.ends
 
   of-conditional : (access : Access) (folder : List ℕ) (asked : AskedConditions) (change : Change) (old new : W) (status : Status)
       (does : MakesChange world disk access folder asked change old new status)
       → Effect old new status (Some folder) (changed_if world disk honest access folder asked change old new status does)
-  of-conditional access folder (Ok conditions) change old new status does = of-change access folder (conditions_of conditions.items) change old new status does
+  of-conditional access folder (Ok conditions) change old new status does =
+      of-change access folder (conditions_of conditions.items) change old new status does
   of-conditional access folder (Err fault) change old new status does = nothing (Some folder) (same old new does.0)
 
-  of-asked : (wanted : Conditions) (access : Access) (folder name path : List ℕ) (change : Result Change ToolFault) (old new : W) (status : Status)
+  of-asked : (wanted : Conditions) (access : Access) (folder name path : List ℕ) (change : Result Change ToolFault)
+      (old new : W) (status : Status)
       (does : ChangesAt world disk wanted access folder name path change old new status)
       → Effect old new status (Some folder) (asked_for world disk honest wanted access folder name path change old new status does)
-  of-asked wanted access folder name path (Ok change) old new status does = of-conditional access folder does.conditions change old new status does.makes
+  of-asked wanted access folder name path (Ok change) old new status does =
+      of-conditional access folder does.conditions change old new status does.makes
   of-asked wanted access folder name path (Err fault) old new status does = nothing (Some folder) (same old new does.0)
 
   of-import : (wanted : Conditions) (access : Access) (folder name : List ℕ) (read : Taken) (old new : W) (status : Status)
       (does : ImportsRead world disk wanted access folder name read old new status)
       → Effect old new status (Some folder) (imported world disk honest wanted access folder name read old new status does)
-  of-import wanted access folder name (Ok bytes) old new status does = of-asked wanted access folder name [] does.change old new status does.changes
+  of-import wanted access folder name (Ok bytes) old new status does =
+      of-asked wanted access folder name [] does.change old new status does.changes
   of-import wanted access folder name (Err fault) old new status does = nothing (Some folder) (same old new does.0)
 
-  of-run : (folder : List ℕ) (grouping : Grouping) (old new : Around W) (status : Status) (does : RunsOnFolder world disk folder grouping old new status)
+  of-run : (folder : List ℕ) (grouping : Grouping) (old new : Around W) (status : Status)
+      (does : RunsOnFolder world disk folder grouping old new status)
       → Effect old.world new.world status (Some folder) (ran_in world disk honest grouping old new does)
   of-run folder grouping old new status (inl cannot) =
       nothing (Some folder) (keeps.no_disk _ folder old.world new.world cannot.cannot.fault cannot.cannot.opens)
   of-run folder grouping old new status (inr runs) =
-      on_disk folder old.world _ (stays old.world) (keeps.disks _ folder old.world runs.opened new.world runs.first _ runs.opens runs.gives_back) tt
+      on_disk folder old.world _ (stays old.world)
+      (keeps.disks _ folder old.world runs.opened new.world runs.first _ runs.opens runs.gives_back) tt
 
   of-export : (form : TreeForm) (folder name : List ℕ) (old new : W) (held written : Option (List ℕ)) (status : Status)
       (does : ExportsFromFolder world disk form folder name old new held written status)
@@ -244,7 +262,8 @@ module _ {W D F P : Type 0} (world : WorldModel W D F P) (disk : DiskModel D) (r
 
   of-replaced : (comments : Comments) (place : P) (read : Taken) (old new : W) (status : Status)
       → ReplacesRead world comments place read old new status → Steady old new
-  of-replaced comments place (Ok bytes) old new status (restyled, says, result, does, ends) = of-replacing place restyled old new result does
+  of-replaced comments place (Ok bytes) old new status (restyled, says, result, does, ends) =
+      of-replacing place restyled old new result does
   of-replaced comments place (Err fault) old new status does = same old new does.0
 
   of-restyling : (comments : Comments) (found : Result (F × P) ReplaceFault) (old new : W) (status : Status)
@@ -263,8 +282,10 @@ module _ {W D F P : Type 0} (world : WorldModel W D F P) (disk : DiskModel D) (r
   of-formatting : (formatting : Formatting) (paths : List (List ℕ)) (old new : Around W) (status : Status)
       → FormatsAll world remaining formatting paths old new status → Steady old.world new.world
   of-formatting formatting.Write [] old new status does = same old.world new.world does.1
-  of-formatting formatting.Write (path ∷ paths) old new status does = of-text path does.read old.world new.world old.input new.input does.takes
-  of-formatting (formatting.InPlace comments) paths old new status does = of-restyles comments paths Done old.world new.world status does.does
+  of-formatting formatting.Write (path ∷ paths) old new status does =
+      of-text path does.read old.world new.world old.input new.input does.takes
+  of-formatting (formatting.InPlace comments) paths old new status does =
+      of-restyles comments paths Done old.world new.world status does.does
   of-formatting formatting.Check [] old new status does = of-reports Name (codes "-" ∷ []) Done old new status does
   of-formatting formatting.Check (path ∷ paths) old new status does = of-reports Name (path ∷ paths) Done old new status does
 
@@ -276,7 +297,8 @@ module _ {W D F P : Type 0} (world : WorldModel W D F P) (disk : DiskModel D) (r
   -- ---- all words
 
   -- what a run does, unless it makes a store of another one
-  pub effect : (invocation : Invocation) (old new : Around W) (status : Status) (does : Performs world disk remaining invocation old new status)
+  pub effect : (invocation : Invocation) (old new : Around W) (status : Status)
+      (does : Performs world disk remaining invocation old new status)
       → makes_new invocation ≡ false
       → Effect old.world new.world status (folder_of invocation) (call_of world disk remaining honest invocation old new status does)
   effect (Init folder) old new status does not_new = of-init folder.now old.world new.world status does.0
@@ -284,7 +306,8 @@ module _ {W D F P : Type 0} (world : WorldModel W D F P) (disk : DiskModel D) (r
       after old.world does.seen new.world (of-text file.now does.read old.world does.seen old.input new.input does.takes)
       (of-import conditions (access_of absent) folder.now name.now does.read does.seen new.world status does.imports)
   effect (Set folder name pointer value conditions reporting) old new status does not_new =
-      after old.world does.0.seen new.world (of-value name.now pointer.now value does.0.change old.world does.0.seen old.input new.input does.0.is)
+      after old.world does.0.seen new.world (of-value name.now pointer.now value does.0.change old.world does.0.seen
+      old.input new.input does.0.is)
       (of-asked conditions Changing folder.now name.now pointer.now does.0.change does.0.seen new.world status does.0.changes)
   effect (Delete folder name pointer conditions) old new status does not_new =
       of-asked conditions Changing folder.now name.now pointer.now does.0.change old.world new.world status does.0.changes
@@ -292,7 +315,8 @@ module _ {W D F P : Type 0} (world : WorldModel W D F P) (disk : DiskModel D) (r
       of-asked conditions Changing folder.now to.now [] does.0.change old.world new.world status does.0.changes
   effect (Rename folder name to conditions) old new status does not_new =
       of-asked conditions Changing folder.now to.now [] does.0.change old.world new.world status does.0.changes
-  effect (Checkpoint folder) old new status does not_new = of-change Changing folder.now [] change.Checkpoint old.world new.world status does.0
+  effect (Checkpoint folder) old new status does not_new =
+      of-change Changing folder.now [] change.Checkpoint old.world new.world status does.0
   effect (Run folder grouping) old new status does not_new = of-run folder.now (grouping_of grouping) old new status does
   effect (Export folder name form) old new status does not_new =
       of-export form folder.now name.now old.world new.world old.output new.output status does.0
@@ -332,9 +356,11 @@ module _ {W D F P : Type 0} (world : WorldModel W D F P) (disk : DiskModel D) (r
   spares path (Init folder) old new status does is_other image is =
       beside path old.world new.world (effect (Init folder) old new status does refl) is_other image is
   spares path (Import folder name file absent conditions reporting) old new status does is_other image is =
-      beside path old.world new.world (effect (Import folder name file absent conditions reporting) old new status does refl) is_other image is
+      beside path old.world new.world (effect (Import folder name file absent conditions reporting) old new status
+      does refl) is_other image is
   spares path (Set folder name pointer value conditions reporting) old new status does is_other image is =
-      beside path old.world new.world (effect (Set folder name pointer value conditions reporting) old new status does refl) is_other image is
+      beside path old.world new.world (effect (Set folder name pointer value conditions reporting) old new status does
+      refl) is_other image is
   spares path (Delete folder name pointer conditions) old new status does is_other image is =
       beside path old.world new.world (effect (Delete folder name pointer conditions) old new status does refl) is_other image is
   spares path (Copy folder name to conditions) old new status does is_other image is =
@@ -421,9 +447,11 @@ module _ {W D F P : Type 0} (world : WorldModel W D F P) (disk : DiskModel D) (r
       let opens = saving.opens in
       let made = opens.0 in
       let seen = opens.1 in
-      saved_there seen saving.opened given saving.left saving.first saving.result (saving.saved honest) (saving.survives honest) held written
+      saved_there seen saving.opened given saving.left saving.first saving.result (saving.saved honest)
+      (saving.survives honest) held written
       (then old made seen (keeps.made folder old made _ opens.2) (keeps.stores folder made seen _ opens.3)) opens.4
-      (same-disk saving.result folder seen saving.first new (keeps.disks _ folder seen saving.opened new saving.first _ opens.4 saving.gives_back)) saving.writes
+      (same-disk saving.result folder seen saving.first new
+      (keeps.disks _ folder seen saving.opened new saving.first _ opens.4 saving.gives_back)) saving.writes
 
   of-saved : (folder : List ℕ) (file : Result F ReadingFault) (old new : W) (held written : Option (List ℕ)) (status : Status)
       (saving : SavesFound world disk remaining folder file old new held written status)
@@ -434,7 +462,8 @@ module _ {W D F P : Type 0} (world : WorldModel W D F P) (disk : DiskModel D) (r
   -- what a salvage does
   pub salvaged : (folder new_folder : List ℕ) (old new : W) (held written : Option (List ℕ)) (status : Status)
       (does : Salvages world disk remaining folder new_folder old new held written status)
-      → Backed new_folder old new status (saved_of world disk remaining honest new_folder does.file does.found new held written status does.saves)
+      → Backed new_folder old new status (saved_of world disk remaining honest new_folder does.file does.found new
+      held written status does.saves)
   salvaged folder new_folder old new held written status does =
       after-that old does.found new (of-open folder old does.file does.found does.opens)
       (of-saved new_folder does.file does.found new held written status does.saves)

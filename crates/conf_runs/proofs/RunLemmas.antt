@@ -1,5 +1,6 @@
 -- What runs of the program keep, one run after the other.
-use Rattle.std.proofs.Common.{◌≡◌, ◌≢◌, ◌≤◌, ◌⊎◌, inl, inr, ℕ, List, [], ◌∷◌, take, Option, None, Some, Result, Ok, Err, IfOk, true, refl, sym, ap, ◌∙◌, subst, arith}
+use Rattle.std.proofs.Common.{◌≡◌, ◌≢◌, ◌≤◌, ◌⊎◌, inl, inr, ℕ, List, [], ◌∷◌, take, Option, None, Some, Result, Ok}
+use Rattle.std.proofs.Common.{Err, IfOk, true, refl, sym, ap, ◌∙◌, subst, arith}
 use Rattle.conf_disk.specs.Folder.{bytes_under}
 use Rattle.conf_disk.specs.Image.{Image, IsImage, image_now}
 use Rattle.conf_disk.specs.Laws.{ReadingIsAnImage}
@@ -31,9 +32,14 @@ use Rattle.conf_tools.specs.Worlds.{Around, WorldModel}
 use Rattle.conf_tools.specs.declared.program.Status.{Status}
 use Rattle.conf_tools.specs.declared.program.Status.TheVariants.{Done, Found, Absent, Refused, WrongWords, Device}
 use Rattle.conf_runs.specs.Folders.{HandsOutNone, IsDiskOf, KeepsFolders}
-use Rattle.conf_runs.specs.Runs.{AreRuns, Deed, EachKept, Ending, Event, Holds, IsMade, Kept, KeptOf, Leads, LeavesAfter, MakesStore, MayLeave, MeantBy, Where, accepted_in, acknowledged, anew, makes_new, calls, commands, copies, cut_off, deed_at, deed_in, elsewhere, ending_of_call, first_disk, folder_of, here, last_disk, new_store, not_begun, own, returned, saves}
+use Rattle.conf_runs.specs.Runs.{AreRuns, Deed, EachKept, Ending, Event, Holds, IsMade, Kept, KeptOf, Leads}
+use Rattle.conf_runs.specs.Runs.{LeavesAfter, MakesStore, MayLeave, MeantBy, Where, accepted_in, acknowledged, anew}
+use Rattle.conf_runs.specs.Runs.{makes_new, calls, commands, copies, cut_off, deed_at, deed_in, elsewhere}
+use Rattle.conf_runs.specs.Runs.{ending_of_call, first_disk, folder_of, here, last_disk, new_store, not_begun, own}
+use Rattle.conf_runs.specs.Runs.{returned, saves}
 use Rattle.conf_runs.proofs.StatusLemmas.{not-done, not-backed-up}
-use Rattle.conf_runs.proofs.Effects.{Backed, Effect, Fits, backed, effect, made_there, none_made, nothing, on_disk, salvaged, saved_there, spares}
+use Rattle.conf_runs.proofs.Effects.{Backed, Effect, Fits, backed, effect, made_there, none_made, nothing, on_disk}
+use Rattle.conf_runs.proofs.Effects.{salvaged, saved_there, spares}
 
 -- a file means one state at most
 file-one : OneMeaning → (file : Option (List ℕ)) (s t : Contents) → FileMeans file s → FileMeans file t → s ≡ t
@@ -91,7 +97,8 @@ module _ {W D F P : Type 0} (world : WorldModel W D F P) (disk : DiskModel D) (r
   copy-done : (status : Status) (given left : Option (List ℕ)) (first : D) (result : Result D (D × SalvageFault))
       (made : IfOk result (λ made. BacksUp given left (disk.folder first) (disk.folder made)))
       (survives : LeavesOldOrCopy disk given left first (copied_disk result)) → status ≡ status_after_backup result → status ≡ Done
-      → (image : Image) → IsImage (disk.folder (copied_disk result)) image → IsNew (copies given left first result made survives) image.store
+      → (image : Image) → IsImage (disk.folder (copied_disk result)) image
+      → IsNew (copies given left first result made survives) image.store
   copy-done status given left first (Ok new) made survives ends done image is = record {
     state = made.reads.s;
     makes = record { copy = made.copy; reads = made.reads; is = refl };
@@ -121,7 +128,8 @@ module _ {W D F P : Type 0} (world : WorldModel W D F P) (disk : DiskModel D) (r
   is-saved given left first result made survives file (inr saved) = inr (record {
     state = saved.s;
     makes = record { findings = saved.findings; reads = saved.reads };
-    means = base-file-means saved.s (base_bytes saved.s) (base-of read close fit saved.s (base_bytes saved.s) saved.reads.kept refl) file saved.is;
+    means = base-file-means saved.s (base_bytes saved.s)
+        (base-of read close fit saved.s (base_bytes saved.s) saved.reads.kept refl) file saved.is;
   })
 
   salvage-done : (status : Status) (held written : Option (List ℕ)) (given left : Option (List ℕ)) (first : D)
@@ -158,7 +166,8 @@ module _ {W D F P : Type 0} (world : WorldModel W D F P) (disk : DiskModel D) (r
         → ((image : Image) → Leaves ending (Some (calls call)) old new image
         → program.MayLeave disk (ending_of_call ending) (disk_before disk call) (disk_behind disk call) image)
         → Fits world disk remaining honest leaves keeps status call → At ending old new status (Some (calls call))
-    fresh : (deed : Deed disk) → MakesNew status deed → ((image : Image) → IsImage (disk.folder (first_disk disk deed)) image → leaves old path image)
+    fresh : (deed : Deed disk) → MakesNew status deed
+        → ((image : Image) → IsImage (disk.folder (first_disk disk deed)) image → leaves old path image)
         → ((image : Image) → Leaves ending (Some deed) old new image
         → program.MayLeave disk (ending_of_call ending) (first_disk disk deed) (last_disk disk deed) image)
         → bytes_under (disk.folder (first_disk disk deed)) Store ≡ None → At ending old new status (Some deed)
@@ -166,20 +175,24 @@ module _ {W D F P : Type 0} (world : WorldModel W D F P) (disk : DiskModel D) (r
   abbrev Did : W → W → Status → Option (List ℕ) → Option (Call disk) → Type 0
   Did = Effect world disk remaining honest leaves keeps
 
-  at-returned : (old new : W) (status : Status) (folder : Option (List ℕ)) (c : Option (Call disk)) → Did old new status folder c → folder ≡ Some path
+  at-returned : (old new : W) (status : Status) (folder : Option (List ℕ)) (c : Option (Call disk))
+      → Did old new status folder c → folder ≡ Some path
       → At returned old new status (own disk c)
   at-returned old new status folder None (nothing _ steady) is = quiet (λ image left. steady path image left)
   at-returned old new status None (Some call) did is = elim did [ ]
   at-returned old new status (Some own_path) (Some call) (on_disk _ found _ begins of fits) is =
-      let here = subst (λ (p : List ℕ). IsDiskOf disk leaves p found (disk_before disk call) (disk_behind disk call) new) (some-one own_path path is) of in
+      let here = subst (λ (p : List ℕ). IsDiskOf disk leaves p found (disk_before disk call)
+      (disk_behind disk call) new) (some-one own_path path is) of in
       busy call (λ image was. begins path image (here.handed_out image was)) (λ image now. here.given_back image now) fits
 
-  at-cut-off : (old new : W) (status : Status) (folder : Option (List ℕ)) (c : Option (Call disk)) → Did old new status folder c → folder ≡ Some path
+  at-cut-off : (old new : W) (status : Status) (folder : Option (List ℕ)) (c : Option (Call disk))
+      → Did old new status folder c → folder ≡ Some path
       → At cut_off old new status (own disk c)
   at-cut-off old new status folder None (nothing _ steady) is = quiet (λ image left. left)
   at-cut-off old new status None (Some call) did is = elim did [ ]
   at-cut-off old new status (Some own_path) (Some call) (on_disk _ found _ begins of fits) is =
-      let here = subst (λ (p : List ℕ). IsDiskOf disk leaves p found (disk_before disk call) (disk_behind disk call) new) (some-one own_path path is) of in
+      let here = subst (λ (p : List ℕ). IsDiskOf disk leaves p found (disk_before disk call)
+      (disk_behind disk call) new) (some-one own_path path is) of in
       busy call (λ image was. begins path image (here.handed_out image was)) (λ image left. left) fits
 
   abbrev DidCopy : List ℕ → W → W → Status → Option (Deed disk) → Type 0
@@ -189,38 +202,48 @@ module _ {W D F P : Type 0} (world : WorldModel W D F P) (disk : DiskModel D) (r
       → own_path ≡ path → HandsOutNone world disk → At returned old new status deed
   new-returned own_path old new status None (none_made steady) is empty = quiet (λ image left. steady path image left)
   new-returned own_path old new status (Some (calls call)) did is empty = elim did [ ]
-  new-returned own_path old new status (Some (copies given left first result made survives)) (made_there found opened _ _ _ _ _ _ begins opens of ends) is empty =
+  new-returned own_path old new status (Some (copies given left first result made survives))
+      (made_there found opened _ _ _ _ _ _ begins opens of ends) is empty =
       let here = subst (λ (p : List ℕ). IsDiskOf disk leaves p found first (copied_disk result) new) is of in
       fresh (copies given left first result made survives) (makes-copy status given left first result made survives ends)
-      (λ image was. begins path image (here.handed_out image was)) (λ image now. here.given_back image now) (empty own_path found opened first opens)
-  new-returned own_path old new status (Some (saves given left first result made survives)) (saved_there found opened _ _ _ _ _ _ held written begins opens of writes) is empty =
+      (λ image was. begins path image (here.handed_out image was)) (λ image now. here.given_back image now)
+      (empty own_path found opened first opens)
+  new-returned own_path old new status (Some (saves given left first result made survives))
+      (saved_there found opened _ _ _ _ _ _ held written begins opens of writes) is empty =
       let here = subst (λ (p : List ℕ). IsDiskOf disk leaves p found first (saved_disk result) new) is of in
       fresh (saves given left first result made survives) (makes-saved status held written given left first result made survives writes)
-      (λ image was. begins path image (here.handed_out image was)) (λ image now. here.given_back image now) (empty own_path found opened first opens)
+      (λ image was. begins path image (here.handed_out image was)) (λ image now. here.given_back image now)
+      (empty own_path found opened first opens)
 
   new-cut-off : (own_path : List ℕ) (old new : W) (status : Status) (deed : Option (Deed disk)) → DidCopy own_path old new status deed
       → own_path ≡ path → HandsOutNone world disk → At cut_off old new status deed
   new-cut-off own_path old new status None (none_made steady) is empty = quiet (λ image left. left)
   new-cut-off own_path old new status (Some (calls call)) did is empty = elim did [ ]
-  new-cut-off own_path old new status (Some (copies given left first result made survives)) (made_there found opened _ _ _ _ _ _ begins opens of ends) is empty =
+  new-cut-off own_path old new status (Some (copies given left first result made survives))
+      (made_there found opened _ _ _ _ _ _ begins opens of ends) is empty =
       let here = subst (λ (p : List ℕ). IsDiskOf disk leaves p found first (copied_disk result) new) is of in
       fresh (copies given left first result made survives) (makes-copy status given left first result made survives ends)
       (λ image was. begins path image (here.handed_out image was)) (λ image left. left) (empty own_path found opened first opens)
-  new-cut-off own_path old new status (Some (saves given left first result made survives)) (saved_there found opened _ _ _ _ _ _ held written begins opens of writes) is empty =
+  new-cut-off own_path old new status (Some (saves given left first result made survives))
+      (saved_there found opened _ _ _ _ _ _ held written begins opens of writes) is empty =
       let here = subst (λ (p : List ℕ). IsDiskOf disk leaves p found first (saved_disk result) new) is of in
       fresh (saves given left first result made survives) (makes-saved status held written given left first result made survives writes)
       (λ image was. begins path image (here.handed_out image was)) (λ image left. left) (empty own_path found opened first opens)
 
   -- a run that makes a store of what another one says
-  at-new : (invocation : Invocation) (is : folder_of invocation ≡ Some path) (is_new : makes_new invocation ≡ true) (empty : HandsOutNone world disk)
+  at-new : (invocation : Invocation) (is : folder_of invocation ≡ Some path) (is_new : makes_new invocation ≡ true)
+      (empty : HandsOutNone world disk)
       (ending : Ending) (old new : Around W) (status : Status) (does : Performs world disk remaining invocation old new status)
-      → At ending old.world new.world status (deed_at world disk remaining honest leaves path invocation (anew is is_new empty) ending old new status does)
+      → At ending old.world new.world status (deed_at world disk remaining honest leaves path invocation
+      (anew is is_new empty) ending old new status does)
   at-new invocation is is_new empty not_begun old new status does = quiet (λ image left. left)
   at-new (Backup folder new_folder) is is_new empty returned old new status does =
-      new-returned new_folder.now old.world new.world status _ (backed world disk remaining honest leaves keeps folder.now new_folder.now old.world new.world status does.0)
+      new-returned new_folder.now old.world new.world status _
+      (backed world disk remaining honest leaves keeps folder.now new_folder.now old.world new.world status does.0)
       (some-one new_folder.now path is) empty
   at-new (Backup folder new_folder) is is_new empty cut_off old new status does =
-      new-cut-off new_folder.now old.world new.world status _ (backed world disk remaining honest leaves keeps folder.now new_folder.now old.world new.world status does.0)
+      new-cut-off new_folder.now old.world new.world status _
+      (backed world disk remaining honest leaves keeps folder.now new_folder.now old.world new.world status does.0)
       (some-one new_folder.now path is) empty
   at-new (Salvage folder new_folder) is is_new empty returned old new status does =
       new-returned new_folder.now old.world new.world status _
@@ -241,9 +264,11 @@ module _ {W D F P : Type 0} (world : WorldModel W D F P) (disk : DiskModel D) (r
   at invocation (elsewhere is_other) not_begun old new status does = quiet (λ image left. left)
   at invocation (here is not_new) not_begun old new status does = quiet (λ image left. left)
   at invocation (here is not_new) returned old new status does =
-      at-returned old.world new.world status (folder_of invocation) _ (effect world disk remaining honest leaves keeps invocation old new status does not_new) is
+      at-returned old.world new.world status (folder_of invocation) _
+      (effect world disk remaining honest leaves keeps invocation old new status does not_new) is
   at invocation (here is not_new) cut_off old new status does =
-      at-cut-off old.world new.world status (folder_of invocation) _ (effect world disk remaining honest leaves keeps invocation old new status does not_new) is
+      at-cut-off old.world new.world status (folder_of invocation) _
+      (effect world disk remaining honest leaves keeps invocation old new status does not_new) is
   at invocation (anew is is_new empty) ending old new status does = at-new invocation is is_new empty ending old new status does
 
   -- ---- what is kept of a run
@@ -252,7 +277,8 @@ module _ {W D F P : Type 0} (world : WorldModel W D F P) (disk : DiskModel D) (r
   Run = Event world disk remaining honest leaves path
 
   -- what is acknowledged of a call was answered
-  least : (status : Status) (call : Call disk) → Fits world disk remaining honest leaves keeps status call → (count : ℕ) → program.answered disk call ≤ count
+  least : (status : Status) (call : Call disk) → Fits world disk remaining honest leaves keeps status call
+      → (count : ℕ) → program.answered disk call ≤ count
       → acknowledged world disk remaining honest leaves path status (Some (calls call)) ≤ count
   least status (program.running io grouping old result crashes) fits count le = le
   least status (program.exporting old new crashes) fits count le = omega arith
@@ -290,7 +316,8 @@ module _ {W D F P : Type 0} (world : WorldModel W D F P) (disk : DiskModel D) (r
   Step from (commands kept) to = after from kept ≡ Ok to
   Step from (new_store state) to = (from ≡ empty_state) × (to ≡ state)
 
-  led-on : (from between to : Contents) (first : Kept) (others : List Kept) → Step from first between → Leads between others to → Leads from (first ∷ others) to
+  led-on : (from between to : Contents) (first : Kept) (others : List Kept) → Step from first between
+      → Leads between others to → Leads from (first ∷ others) to
   led-on from between to (commands kept) others step rest = (between, step, rest)
   led-on from between to (new_store state) others step rest = (step.0, subst (λ (s : Contents). Leads s others to) step.1 rest)
 
@@ -353,28 +380,36 @@ module _ {W D F P : Type 0} (world : WorldModel W D F P) (disk : DiskModel D) (r
       }
   kept-either Held event deed makes is not_done found none stands file (inr new) = kept-new Held event deed is found none stands file new
 
-  kept-returned : (Held : Contents → Type 0) (event : Run) (status : Status) → event.status ≡ status → (deed : Deed disk) → MakesNew event.status deed
+  kept-returned : (Held : Contents → Type 0) (event : Run) (status : Status) → event.status ≡ status
+      → (deed : Deed disk) → MakesNew event.status deed
       → deed_in world disk remaining honest leaves path event ≡ Some deed
       → ((image : Image) → IsImage (disk.folder (first_disk disk deed)) image → leaves event.old.world path image)
       → bytes_under (disk.folder (first_disk disk deed)) Store ≡ None → Stands (leaves event.old.world path) Held
       → (image : Image) → IsImage (disk.folder (last_disk disk deed)) image → KeptRun Held event image.store
-  kept-returned Held event Done ended deed makes is found none stands image now = kept-new Held event deed is found none stands image.store (makes.done ended image now)
+  kept-returned Held event Done ended deed makes is found none stands image now =
+      kept-new Held event deed is found none stands image.store (makes.done ended image now)
   kept-returned Held event status ended deed makes is found none stands image now =
       kept-either Held event deed makes is (λ _ done. cc) found none stands image.store
       (makes.either image (counts (last_disk disk deed) (disk.moment (first_disk disk deed)) image makes.later now))
 
-  kept-fresh : (Held : Contents → Type 0) (event : Run) (ending : Ending) → event.ending ≡ ending → (deed : Deed disk) → MakesNew event.status deed
+  kept-fresh : (Held : Contents → Type 0) (event : Run) (ending : Ending) → event.ending ≡ ending → (deed : Deed disk)
+      → MakesNew event.status deed
       → deed_in world disk remaining honest leaves path event ≡ Some deed
       → ((image : Image) → IsImage (disk.folder (first_disk disk deed)) image → leaves event.old.world path image)
       → bytes_under (disk.folder (first_disk disk deed)) Store ≡ None → Stands (leaves event.old.world path) Held
-      → (image : Image) → program.MayLeave disk (ending_of_call ending) (first_disk disk deed) (last_disk disk deed) image → KeptRun Held event image.store
-  kept-fresh Held event returned ended deed makes is found none stands image may = kept-returned Held event event.status refl deed makes is found none stands image may
+      → (image : Image) → program.MayLeave disk (ending_of_call ending) (first_disk disk deed)
+      (last_disk disk deed) image → KeptRun Held event image.store
+  kept-fresh Held event returned ended deed makes is found none stands image may =
+      kept-returned Held event event.status refl deed makes is found none stands image may
   kept-fresh Held event cut_off ended deed makes is found none stands image may =
-      kept-either Held event deed makes is (λ other. absurd (cut-off-returned (sym ended ∙ other))) found none stands image.store (makes.either image may)
+      kept-either Held event deed makes is (λ other. absurd (cut-off-returned (sym ended ∙ other))) found none stands
+      image.store (makes.either image may)
   kept-fresh Held event not_begun ended deed makes is found none stands image may =
-      kept-either Held event deed makes is (λ other. absurd (not-begun-returned (sym ended ∙ other))) found none stands image.store (makes.either image may)
+      kept-either Held event deed makes is (λ other. absurd (not-begun-returned (sym ended ∙ other))) found none
+      stands image.store (makes.either image may)
 
-  kept-at : (Held : Contents → Type 0) (event : Run) (deed : Option (Deed disk)) → deed_in world disk remaining honest leaves path event ≡ deed
+  kept-at : (Held : Contents → Type 0) (event : Run) (deed : Option (Deed disk))
+      → deed_in world disk remaining honest leaves path event ≡ deed
       → At event.ending event.old.world event.new.world event.status deed → Stands (leaves event.old.world path) Held
       → (image : Image) → Leaves event.ending deed event.old.world event.new.world image → KeptRun Held event image.store
   kept-at Held event None is (quiet steady) stands image left =
@@ -407,9 +442,11 @@ module _ {W D F P : Type 0} (world : WorldModel W D F P) (disk : DiskModel D) (r
   kept-at Held event (Some (calls call)) is (fresh _ makes found may none) stands image remains =
       kept-fresh Held event event.ending refl (calls call) makes is found none stands image (may image remains)
   kept-at Held event (Some (copies given left first result made survives)) is (fresh _ makes found may none) stands image remains =
-      kept-fresh Held event event.ending refl (copies given left first result made survives) makes is found none stands image (may image remains)
+      kept-fresh Held event event.ending refl (copies given left first result made survives) makes is found none
+      stands image (may image remains)
   kept-at Held event (Some (saves given left first result made survives)) is (fresh _ makes found may none) stands image remains =
-      kept-fresh Held event event.ending refl (saves given left first result made survives) makes is found none stands image (may image remains)
+      kept-fresh Held event event.ending refl (saves given left first result made survives) makes is found none stands
+      image (may image remains)
 
   kept-run : (Held : Contents → Type 0) (event : Run) → Stands (leaves event.old.world path) Held
       → (image : Image) → MayLeave world disk remaining honest leaves path event image → KeptRun Held event image.store
@@ -429,7 +466,8 @@ module _ {W D F P : Type 0} (world : WorldModel W D F P) (disk : DiskModel D) (r
     means : FileMeans file to
 
   kept-runs : (events : List Run) (Held : Contents → Type 0) (before behind : Image → Type 0) → Stands before Held
-      → AreRuns world disk remaining honest leaves path before events behind → (image : Image) → behind image → KeptOfAll Held events image.store
+      → AreRuns world disk remaining honest leaves path before events behind → (image : Image) → behind image
+      → KeptOfAll Held events image.store
   kept-runs [] Held before behind stands fewer image is =
       let here = stands image (fewer image is) in
       record { kept = []; each = tt; from = here.0; stood = here.1; to = here.0; leads = refl; means = here.2 }
@@ -438,7 +476,8 @@ module _ {W D F P : Type 0} (world : WorldModel W D F P) (disk : DiskModel D) (r
       let Reached : Contents → Type 0 = λ to. (kept : Kept) × KeptOf world disk remaining honest leaves path event kept
       × (from : Contents) × Held from × Step from kept to in
       let rest = kept-runs events Reached (MayLeave world disk remaining honest leaves path event) behind
-      (λ image left. let k = kept-run Held event stood image left in (k.to, (k.kept, k.of, k.from, k.stood, k.leads), k.means)) further image is in
+      (λ image left. let k = kept-run Held event stood image left in
+      (k.to, (k.kept, k.of, k.from, k.stood, k.leads), k.means)) further image is in
       let first = rest.stood in record {
         kept = first.0 ∷ rest.kept;
         each = (first.1, rest.each);
@@ -454,7 +493,17 @@ module _ {W D F P : Type 0} (world : WorldModel W D F P) (disk : DiskModel D) (r
       → AreRuns world disk remaining honest leaves path (leaves first path) events (leaves last path)
       → (image : Image) → leaves last path image → Holds world disk remaining honest leaves path first events image.store
   runs-hold first last events means are image is =
-      let stands : Stands (leaves first path) (MeantBy world disk remaining honest leaves path first) = λ image was. let meant = means image was in
+      let stands : Stands (leaves first path) (MeantBy world disk remaining honest leaves path first) =
+      λ image was. let meant = means image was in
       (meant.0, record { entry = image; is = was; means = meant.1 }, meant.1) in
-      let kept = kept-runs events (MeantBy world disk remaining honest leaves path first) (leaves first path) (leaves last path) stands are image is in
-      record { start = kept.from; began = kept.stood; kept = kept.kept; each = kept.each; state = kept.to; leads = kept.leads; means = kept.means }
+      let kept = kept-runs events (MeantBy world disk remaining honest leaves path first) (leaves first path)
+      (leaves last path) stands are image is in
+      record {
+        start = kept.from;
+        began = kept.stood;
+        kept = kept.kept;
+        each = kept.each;
+        state = kept.to;
+        leads = kept.leads;
+        means = kept.means;
+      }

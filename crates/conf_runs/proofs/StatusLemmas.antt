@@ -12,7 +12,8 @@ use Rattle.conf_tools.specs.Statuses.{status_of_store}
 use Rattle.conf_tools.specs.declared.program.Status.TheVariants.{Done}
 use Rattle.conf_tools.specs.declared.reading_fault.ReadingFault.TheVariants.{Salvage}
 use Rattle.conf_tools.specs.declared.stores.StoreToolFault.{StoreToolFault}
-use Rattle.conf_tools.specs.declared.stores.StoreToolFault.TheVariants.{Folder as InFolder, Open, Session, Export, Condition, Refused, StoreExists}
+use Rattle.conf_tools.specs.declared.stores.StoreToolFault.TheVariants.{Folder as InFolder, Open, Session, Export}
+use Rattle.conf_tools.specs.declared.stores.StoreToolFault.TheVariants.{Condition, Refused, StoreExists}
 
 pub not-done : (fault : StoreToolFault) → Done ≡ status_of_store fault → ⊥
 not-done (InFolder folder.Device) is = cc

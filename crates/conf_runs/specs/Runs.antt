@@ -18,15 +18,18 @@ use Rattle.conf_store.specs.Meaning.{FileMeans, empty_state}
 use Rattle.conf_words.specs.declared.invocation.Conditions.{Conditions}
 use Rattle.conf_words.specs.declared.invocation.Invocation.{Invocation}
 use Rattle.conf_words.specs.declared.invocation.TreeForm.{TreeForm}
-use Rattle.conf_words.specs.declared.invocation.Invocation.TheVariants.{Init, Import, Set, Delete, Copy, Rename, Checkpoint, Run, Export, Salvage, Backup}
+use Rattle.conf_words.specs.declared.invocation.Invocation.TheVariants.{Init, Import, Set, Delete, Copy, Rename}
+use Rattle.conf_words.specs.declared.invocation.Invocation.TheVariants.{Checkpoint, Run, Export, Salvage, Backup}
 use Rattle.conf_tools.specs.Asking.{AskedConditions}
 use Rattle.conf_tools.specs.Backups.{BacksUpFound, BacksUpInFolder}
 use Rattle.conf_tools.specs.Changes.{Performs as ChangePerforms}
 use Rattle.conf_tools.specs.Exports.{disk_back, disk_handed_back}
 use Rattle.conf_tools.specs.Performs.{ChangesAt, ImportsRead, Performs, access_of, grouping_of}
-use Rattle.conf_tools.specs.ProgramCalls.{Call, Ending as CallEnding, accepted, answered, changing, disk_before, disk_behind, exporting, running}
+use Rattle.conf_tools.specs.ProgramCalls.{Call, Ending as CallEnding, accepted, answered, changing, disk_before}
+use Rattle.conf_tools.specs.ProgramCalls.{disk_behind, exporting, running}
 use Rattle.conf_tools.specs.ProgramCalls as call
-use Rattle.conf_tools.specs.StoreWords.{ChangesInFolder, ExportsFromFolder, Inits, MakesChange, MakesInFolder, RunsOnFolder, SavesFound, SavesInFolder}
+use Rattle.conf_tools.specs.StoreWords.{ChangesInFolder, ExportsFromFolder, Inits, MakesChange, MakesInFolder}
+use Rattle.conf_tools.specs.StoreWords.{RunsOnFolder, SavesFound, SavesInFolder}
 use Rattle.conf_tools.specs.Tools.{Taken}
 use Rattle.conf_tools.specs.Worlds.{Around, WorldModel}
 use Rattle.conf_tools.specs.declared.changes.Change.{Change}

@@ -29,7 +29,8 @@ count_end : (ds : List ℕ) → ds ++ codes "\"\n...\n" ≡ ds ++ codes "\"" ++ 
 count_end ds = sym (append_assoc (ds ++ codes "\"") (codes "\n") (codes "...\n") ∙ append_assoc ds (codes "\"") (codes "\n...\n"))
 
 -- the text of a count between its first line and its last, by its digits
-pub framed-count : (ds : List ℕ) → AllDigits 10 ds → codes "---\nok: \"" ++ ds ++ codes "\"\n...\n" ≡ framed_text (one (codes "ok") (text ds))
+pub framed-count : (ds : List ℕ) → AllDigits 10 ds
+    → codes "---\nok: \"" ++ ds ++ codes "\"\n...\n" ≡ framed_text (one (codes "ok") (text ds))
 framed-count ds all =
     ap (λ cs. codes "---\nok: \"" ++ cs) (count_end ds)
     ∙ ap (λ cs. codes "---\nok: " ++ (cs ++ codes "...\n")) (sym (count_line ds all))
@@ -52,7 +53,8 @@ at-within step t v (token ∷ tokens) e = by (child t token) (λ u. at-within (s
     by (Err miss) rest is e = let never : Err (refusal miss step) ≡ Ok v = e in cc
 
 -- a value in a configuration of a state is no deeper than what is written
-pub value-shallow : (s : Contents) (name : List ℕ) (tokens : List (List ℕ)) (v : Tree) → IsState s → tree_at s name tokens ≡ Ok v → depth v ≤ own_limits.depth
+pub value-shallow : (s : Contents) (name : List ℕ) (tokens : List (List ℕ)) (v : Tree) → IsState s
+    → tree_at s name tokens ≡ Ok v → depth v ≤ own_limits.depth
 value-shallow s name tokens v kept e =
     let named = and_then-Ok (tree_named s name) _ v e in
     let within = at-within 1 named.0 v tokens (by_path-Ok (at named.0 tokens) v named.2) in
@@ -70,7 +72,8 @@ join-none no_element = refl
 join-none (element u us) = ap (element u) (join-none us)
 
 -- one name more is in the list, and one less is left
-pub names-more : (was now : List code.Tree) (left later : List (List ℕ)) (t : Text) (name : List ℕ) → now ≡ was ++ code.Text t ∷ [] → left ≡ chars name ∷ later → text_bytes t ≡ name
+pub names-more : (was now : List code.Tree) (left later : List (List ℕ)) (t : Text) (name : List ℕ)
+    → now ≡ was ++ code.Text t ∷ [] → left ≡ chars name ∷ later → text_bytes t ≡ name
     → join_elements (elements_of now) (text_elements later) ≡ join_elements (elements_of was) (text_elements left)
 names-more was now left later t name pushed first bytes =
     ap (λ ts. join_elements (elements_of ts) (text_elements later)) pushed
@@ -80,7 +83,8 @@ names-more was now left later t name pushed first bytes =
     ∙ ap (λ l. join_elements (elements_of was) (text_elements l)) (sym first)
 
 -- none is left
-pub names-all : (names : List code.Tree) (left all : List (List ℕ)) → join_elements (elements_of names) (text_elements left) ≡ text_elements all → left ≡ []
+pub names-all : (names : List code.Tree) (left all : List (List ℕ))
+    → join_elements (elements_of names) (text_elements left) ≡ text_elements all → left ≡ []
     → elements_of names ≡ text_elements all
 names-all names left all are none =
     sym (join-none (elements_of names)) ∙ ap (λ l. join_elements (elements_of names) (text_elements l)) (sym none) ∙ are

@@ -1,6 +1,7 @@
 -- What a piece asks for is answered: no fault of a request is one that ends a session.
 use Rattle.std.proofs.Common.{◌≡◌, ◌≢◌, ⊎_elim, refl, sym, ap, ◌∙◌}
-use Rattle.std.specs.Prelude.{ℕ, suc, ◌+◌, Bool, true, false, nat_le, nat_lt, if◌then◌else◌, List, [], ◌∷◌, Option, Some, None, Result, Ok, Err, is_some, is_ok}
+use Rattle.std.specs.Prelude.{ℕ, suc, ◌+◌, Bool, true, false, nat_le, nat_lt, if◌then◌else◌, List, [], ◌∷◌, Option}
+use Rattle.std.specs.Prelude.{Some, None, Result, Ok, Err, is_some, is_ok}
 use Rattle.yaml_grammar.specs.Texts.{byte_len}
 use Rattle.yaml_grammar.specs.Style.{style_text}
 use Rattle.yaml_grammar.specs.Trees.{Tree, depth}
@@ -16,7 +17,8 @@ use Rattle.conf_state.specs.BaseTexts.{base_length}
 use Rattle.conf_state.specs.Commands.{Edit, import_as, set_at, delete_at, Command, single, batch, name_of}
 use Rattle.conf_state.specs.Names.{good_name}
 use Rattle.conf_state.specs.States.{Entry, Contents, config_named, base_limit, count_limit}
-use Rattle.conf_state.specs.Steps.{step, edited, all_edited, performed, configs_after, with_room, next_state, and_then, checked_tree, with_checked_config, found, by_path, configs_after_delete}
+use Rattle.conf_state.specs.Steps.{step, edited, all_edited, performed, configs_after, with_room, next_state}
+use Rattle.conf_state.specs.Steps.{and_then, checked_tree, with_checked_config, found, by_path, configs_after_delete}
 use Rattle.conf_state.specs.declared.fault.StoreFault.{StoreFault}
 use Rattle.conf_state.specs.declared.fault.StoreFault.TheVariants as store
 use Rattle.conf_state.specs.declared.room.Room.{Room}
@@ -29,9 +31,13 @@ use Rattle.conf_conditions.specs.Conditions.{Condition, first_fault}
 use Rattle.conf_conditions.specs.declared.fault.ConditionFault.{ConditionFault}
 use Rattle.conf_conditions.specs.declared.fault.ConditionFault.TheVariants as condition
 use Rattle.conf_conditions.proofs.ConditionLemmas.{IsTold, told-first}
-use Rattle.conf_session.specs.Said.{Part, import_text, plain, Said, single_part, batch_of_parts, get_at, export_of, all_names, checkpoint_now, conditional, nothing}
-use Rattle.conf_session.specs.Requests.{Request, changing, unread, getting, exporting, naming, checkpointing, if_met, bad, RefusesPart, MeansRequest, Asks}
-use Rattle.conf_session.specs.Answers.{Stored, longest, answer, answered, path_answered, read_answered, refused_answer, answer_or_refusal, value_at_path, condition_answered, unless_failed}
+use Rattle.conf_session.specs.Said.{Part, import_text, plain, Said, single_part, batch_of_parts, get_at, export_of}
+use Rattle.conf_session.specs.Said.{all_names, checkpoint_now, conditional, nothing}
+use Rattle.conf_session.specs.Requests.{Request, changing, unread, getting, exporting, naming, checkpointing, if_met}
+use Rattle.conf_session.specs.Requests.{bad, RefusesPart, MeansRequest, Asks}
+use Rattle.conf_session.specs.Answers.{Stored, longest, answer, answered, path_answered, read_answered}
+use Rattle.conf_session.specs.Answers.{refused_answer, answer_or_refusal, value_at_path, condition_answered}
+use Rattle.conf_session.specs.Answers.{unless_failed}
 
 -- ---- results whose fault is answered
 
@@ -43,13 +49,15 @@ is_path_answered : {A : Type 0} → Result A PathFault → Bool
 is_path_answered (Ok x) = true
 is_path_answered (Err why) = is_ok (path_answered why)
 
-then-answered : {A B : Type 0} (r : Result A StoreFault) (next : A → Result B StoreFault) → is_answered r ≡ true → ((x : A) → is_answered (next x) ≡ true)
+then-answered : {A B : Type 0} (r : Result A StoreFault) (next : A → Result B StoreFault) → is_answered r ≡ true
+    → ((x : A) → is_answered (next x) ≡ true)
     → is_answered (and_then r next) ≡ true
 unfolding is_answered
 then-answered (Ok x) next is more = more x
 then-answered (Err why) next is more = is
 
-if-answered : {A : Type 0} (b : Bool) (r q : Result A StoreFault) → is_answered r ≡ true → is_answered q ≡ true → is_answered (if b then r else q) ≡ true
+if-answered : {A : Type 0} (b : Bool) (r q : Result A StoreFault) → is_answered r ≡ true → is_answered q ≡ true
+    → is_answered (if b then r else q) ≡ true
 if-answered true r q one other = one
 if-answered false r q one other = other
 
@@ -60,13 +68,15 @@ by_path-answered (Err why) is = is
 
 -- ---- paths
 
-step-answered : (n : ℕ) (r : Result Tree Miss) (next : Tree → Result Tree PathFault) → ((u : Tree) → is_path_answered (next u) ≡ true) → is_path_answered (at_step n r next) ≡ true
+step-answered : (n : ℕ) (r : Result Tree Miss) (next : Tree → Result Tree PathFault)
+    → ((u : Tree) → is_path_answered (next u) ≡ true) → is_path_answered (at_step n r next) ≡ true
 unfolding is_path_answered
 step-answered n (Ok u) next more = more u
 step-answered n (Err Absent) next more = refl
 step-answered n (Err NoIndex) next more = refl
 
-then_path-answered : (r : Result Tree PathFault) (next : Tree → Result Tree PathFault) → is_path_answered r ≡ true → ((u : Tree) → is_path_answered (next u) ≡ true)
+then_path-answered : (r : Result Tree PathFault) (next : Tree → Result Tree PathFault) → is_path_answered r ≡ true
+    → ((u : Tree) → is_path_answered (next u) ≡ true)
     → is_path_answered (then_path r next) ≡ true
 unfolding is_path_answered
 then_path-answered (Ok u) next is more = more u
@@ -77,12 +87,14 @@ unfolding is_path_answered
 at-answered [] n t = refl
 at-answered (token ∷ tokens) n t = step-answered n (child t token) (λ u. at_from (suc n) u tokens) (λ u. at-answered tokens (suc n) u)
 
-edit-answered : (edit : Tree → List ℕ → Result Tree Miss) (tokens : List (List ℕ)) (n : ℕ) (t : Tree) (token : List ℕ) → is_path_answered (edit_from edit n t token tokens) ≡ true
+edit-answered : (edit : Tree → List ℕ → Result Tree Miss) (tokens : List (List ℕ)) (n : ℕ) (t : Tree) (token : List ℕ)
+    → is_path_answered (edit_from edit n t token tokens) ≡ true
 unfolding is_path_answered
 edit-answered edit [] n t token = step-answered n (edit t token) Ok (λ u. refl)
 edit-answered edit (next ∷ tokens) n t token =
     step-answered n (child t token) (λ u. then_path (edit_from edit (suc n) u next tokens) (λ v. at_step n (put t token v) Ok)) (λ u.
-    then_path-answered (edit_from edit (suc n) u next tokens) (λ v. at_step n (put t token v) Ok) (edit-answered edit tokens (suc n) u next) (λ v.
+    then_path-answered (edit_from edit (suc n) u next tokens) (λ v. at_step n (put t token v) Ok)
+    (edit-answered edit tokens (suc n) u next) (λ v.
     step-answered n (put t token v) Ok (λ w. refl)))
 
 set-answered : (t v : Tree) (tokens : List (List ℕ)) → is_path_answered (set t tokens v) ≡ true
@@ -121,7 +133,8 @@ with_checked_config-answered : (configs : List Entry) (name : List ℕ) (t : Tre
 unfolding is_answered
 with_checked_config-answered configs name t = then-answered (checked_tree t) _ (checked_tree-answered t) (λ u. refl)
 
-configs_after_delete-answered : (configs : List Entry) (name : List ℕ) (t : Tree) (tokens : List (List ℕ)) → is_answered (configs_after_delete configs name t tokens) ≡ true
+configs_after_delete-answered : (configs : List Entry) (name : List ℕ) (t : Tree) (tokens : List (List ℕ))
+    → is_answered (configs_after_delete configs name t tokens) ≡ true
 unfolding is_answered
 configs_after_delete-answered configs name t [] = refl
 configs_after_delete-answered configs name t (token ∷ tokens) =
@@ -133,7 +146,8 @@ configs-answered configs (import_as name tree) = with_checked_config-answered co
 configs-answered configs (set_at name path value) =
     then-answered (found (config_named configs name)) _ (found-answered (config_named configs name)) (λ t.
     then-answered (by_path (path_of path)) _ (by_path-answered (path_of path) (path_of-answered path)) (λ tokens.
-    then-answered (by_path (set t tokens value)) (with_checked_config configs name) (by_path-answered (set t tokens value) (set-answered t value tokens))
+    then-answered (by_path (set t tokens value)) (with_checked_config configs name)
+    (by_path-answered (set t tokens value) (set-answered t value tokens))
     (with_checked_config-answered configs name)))
 configs-answered configs (delete_at name path) =
     then-answered (found (config_named configs name)) _ (found-answered (config_named configs name)) (λ t.
@@ -142,13 +156,15 @@ configs-answered configs (delete_at name path) =
 
 edited-answered : (configs : List Entry) (edit : Edit) → is_answered (edited configs edit) ≡ true
 unfolding is_answered
-edited-answered configs edit = if-answered (good_name (name_of edit)) (configs_after configs edit) (Err store.BadName) (configs-answered configs edit) refl
+edited-answered configs edit = if-answered (good_name (name_of edit)) (configs_after configs edit) (Err store.BadName)
+    (configs-answered configs edit) refl
 
 all_edited-answered : (configs : List Entry) (edits : List Edit) → is_answered (all_edited configs edits) ≡ true
 unfolding is_answered
 all_edited-answered configs [] = refl
 all_edited-answered configs (edit ∷ edits) =
-    then-answered (edited configs edit) (λ next. all_edited next edits) (edited-answered configs edit) (λ next. all_edited-answered next edits)
+    then-answered (edited configs edit) (λ next. all_edited next edits) (edited-answered configs edit)
+    (λ next. all_edited-answered next edits)
 
 performed-answered : (configs : List Entry) (command : Command) → is_answered (performed configs command) ≡ true
 unfolding is_answered
@@ -168,7 +184,8 @@ next_state-answered s room configs =
     let new : Contents = record { configs = configs; count = s.count + 1 } in
     let last : Result Contents StoreFault = if nat_le count_limit s.count then Err store.CountFull else Ok new in
     if-answered {A = Contents} (nat_lt base_limit (base_length new)) (Err store.StoreFull) (with_room room last) refl
-    (room-answered {A = Contents} room last (if-answered {A = Contents} (nat_le count_limit s.count) (Err store.CountFull) (Ok new) refl refl))
+    (room-answered {A = Contents} room last (if-answered {A = Contents} (nat_le count_limit s.count)
+    (Err store.CountFull) (Ok new) refl refl))
 
 step-answers : (s : Contents) (command : Command) (room : Room) → is_answered (step s command room) ≡ true
 step-answers s command room =
@@ -178,12 +195,14 @@ step-answers s command room =
 
 named-answered : (s : Contents) (name : List ℕ) → is_answered (tree_named s name) ≡ true
 unfolding is_answered
-named-answered s name = if-answered {A = Tree} (good_name name) (found (config_named s.configs name)) (Err store.BadName) (found-answered (config_named s.configs name)) refl
+named-answered s name = if-answered {A = Tree} (good_name name) (found (config_named s.configs name))
+    (Err store.BadName) (found-answered (config_named s.configs name)) refl
 
 value-answered : (s : Contents) (name p : List ℕ) → is_answered (value_at_path s name p) ≡ true
 value-answered s name p =
     then-answered (tree_named s name) _ (named-answered s name) (λ t.
-    then-answered (by_path (path_of p)) _ (by_path-answered (path_of p) (path_of-answered p)) (λ tokens. by_path-answered (at t tokens) (at-answered tokens 1 t)))
+    then-answered (by_path (path_of p)) _ (by_path-answered (path_of p) (path_of-answered p))
+    (λ tokens. by_path-answered (at t tokens) (at-answered tokens 1 t)))
 
 some-answer : (r : Result Refusal SessionFault) → is_ok r ≡ true → is_some (refused_answer r) ≡ true
 some-answer (Ok reason) is = refl
@@ -209,7 +228,8 @@ read-answered read.TooDeep some = refl
 read-answered read.LargeInStyle some = refl
 read-answered read.OutOfMemory some = absurd (some refl)
 
-text-answered : (name source : List ℕ) (why : StoreFault) → why ≢ store.OutOfMemory → RefusesText name source why → is_ok (answered why) ≡ true
+text-answered : (name source : List ℕ) (why : StoreFault) → why ≢ store.OutOfMemory → RefusesText name source why
+    → is_ok (answered why) ≡ true
 text-answered name source store.BadName some refuses = refl
 text-answered name source (store.Read why) some refuses = read-answered why refuses.1
 text-answered name source store.OutOfMemory some refuses = absurd (some refl)
@@ -234,7 +254,8 @@ change-answer-some now command =
     let room = room_for (longest now) now.state command in
     result-answer _ (outcome (longest now) now.state command) (step-answers now.state command room)
 
-at-request : (now : Stored) (request asked : Request) → request ≡ asked → is_some (answer now asked) ≡ true → is_some (answer now request) ≡ true
+at-request : (now : Stored) (request asked : Request) → request ≡ asked → is_some (answer now asked) ≡ true
+    → is_some (answer now request) ≡ true
 at-request now request asked is some = ap (λ r. is_some (answer now r)) is ∙ some
 
 -- a condition that fails is answered, since its path is never refused for memory
@@ -245,7 +266,8 @@ condition-told condition.BadName told = refl
 condition-told (condition.Path why) told = ap is_path_answered (sym told.1) ∙ path_of-answered told.0
 condition-told condition.OutOfMemory told = absurd told
 
-conditional-answer : (now : Stored) (conditions : List Condition) (met : Request) → is_some (answer now met) ≡ true → is_some (answer now (if_met conditions met)) ≡ true
+conditional-answer : (now : Stored) (conditions : List Condition) (met : Request) → is_some (answer now met) ≡ true
+    → is_some (answer now (if_met conditions met)) ≡ true
 conditional-answer now conditions met some = by (first_fault now.state conditions) refl
   where
     by : (failed : Option ConditionFault) → first_fault now.state conditions ≡ failed
@@ -257,16 +279,22 @@ said-answer : (now : Stored) (said : Said) (request : Request) → MeansRequest 
 said-answer now (single_part (import_text name source)) request means =
     ⊎_elim (λ read. at-request now request (changing read.0) read.2 (change-answer-some now read.0))
     (λ why. at-request now request (unread why.0) why.3 (unread-answer now why.0 (text-answered name _ why.0 why.1 why.2))) means
-said-answer now (single_part (plain edit)) request means = at-request now request (changing (single edit)) means (change-answer-some now (single edit))
+said-answer now (single_part (plain edit)) request means =
+    at-request now request (changing (single edit)) means (change-answer-some now (single edit))
 said-answer now (batch_of_parts parts) request means =
     ⊎_elim (λ read. at-request now request (changing (batch read.0)) read.2 (change-answer-some now (batch read.0)))
-    (λ why. at-request now request (unread (store.Read why.0)) why.2 (unread-answer now (store.Read why.0) (part-answered why.1.part why.0 why.1.refuses))) means
-said-answer now (get_at name p) request means = at-request now request (getting name p) means (result-answer _ (value_at_path now.state name p) (value-answered now.state name p))
-said-answer now (export_of name) request means = at-request now request (exporting name) means (result-answer _ (tree_named now.state name) (named-answered now.state name))
+    (λ why. at-request now request (unread (store.Read why.0)) why.2
+    (unread-answer now (store.Read why.0) (part-answered why.1.part why.0 why.1.refuses))) means
+said-answer now (get_at name p) request means =
+    at-request now request (getting name p) means
+    (result-answer _ (value_at_path now.state name p) (value-answered now.state name p))
+said-answer now (export_of name) request means =
+    at-request now request (exporting name) means (result-answer _ (tree_named now.state name) (named-answered now.state name))
 said-answer now all_names request means = at-request now request naming means refl
 said-answer now checkpoint_now request means = at-request now request checkpointing means refl
 said-answer now (conditional conditions said) request means =
-    at-request now request (if_met conditions means.0) means.2 (conditional-answer now conditions means.0 (said-answer now said means.0 means.1))
+    at-request now request (if_met conditions means.0) means.2
+    (conditional-answer now conditions means.0 (said-answer now said means.0 means.1))
 said-answer now nothing request means = at-request now request bad means refl
 
 -- each request that a piece asks for has an answer

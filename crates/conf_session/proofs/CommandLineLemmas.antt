@@ -1,6 +1,7 @@
 -- What commands that are spelled one key a line say.
 use Rattle.std.proofs.Common.{◌≡◌, refl, sym, ap, subst, ◌∙◌, inl, arith, ◌≤◌, append_assoc, append-nil}
-use Rattle.std.specs.Prelude.{ℕ, zero, suc, ◌+◌, ◌*◌, ◌==◌, Bool, true, false, nat_lt, if◌then◌else◌, List, [], ◌∷◌, ◌++◌, codes, length, Some}
+use Rattle.std.specs.Prelude.{ℕ, zero, suc, ◌+◌, ◌*◌, ◌==◌, Bool, true, false, nat_lt, if◌then◌else◌, List, [], ◌∷◌}
+use Rattle.std.specs.Prelude.{◌++◌, codes, length, Some}
 use Rattle.std.specs.List.{list_all}
 use Rattle.std.specs.Str.{chars, IsUtf8, IsAscii}
 use Rattle.std.proofs.lemmas.Bool.{and_parts, and_from, ltb-true}
@@ -8,8 +9,12 @@ use Rattle.std.proofs.lemmas.Bool.Decides.{nat_tests}
 use Rattle.std.proofs.lemmas.Str.{chars-IsAscii}
 use Rattle.yaml_chars.specs.Classes.{code_point, is_in}
 use Rattle.yaml_grammar.specs.Texts.{IsText, byte_len, spaces}
-use Rattle.yaml_grammar.specs.Trees.{text, sequence, mapping, Elements, no_member, member, AreTextMembers, AreTextElements, members_depth, elements_depth, members_distinct, elements_distinct}
-use Rattle.yaml_grammar.specs.Style.{word_char, plain_in_style, literal_in_style, literal_mark, literal_lines, feeds_at_end, in_double_quotes, scalar_lines, long_key, key_lines, value_at, members_at, members_after, elements_after, style_text}
+use Rattle.yaml_grammar.specs.Trees.{text, sequence, mapping, Elements, no_member, member, AreTextMembers}
+use Rattle.yaml_grammar.specs.Trees.{AreTextElements, members_depth, elements_depth, members_distinct}
+use Rattle.yaml_grammar.specs.Trees.{elements_distinct}
+use Rattle.yaml_grammar.specs.Style.{word_char, plain_in_style, literal_in_style, literal_mark, literal_lines}
+use Rattle.yaml_grammar.specs.Style.{feeds_at_end, in_double_quotes, scalar_lines, long_key, key_lines, value_at}
+use Rattle.yaml_grammar.specs.Style.{members_at, members_after, elements_after, style_text}
 use Rattle.yaml_grammar.specs.Reads.{Good, Gives}
 use Rattle.yaml_recognizers.proofs.OneStyle.Characters.{every_joined}
 use Rattle.yaml_data.proofs.CharacterLemmas.{every-IsAscii}
@@ -23,8 +28,14 @@ use Rattle.std.specs.Borrow.{Bor}
 use Rattle.conf_record.specs.EditLines.{member_line, lines_of}
 use Rattle.conf_record.specs.declared.edit_members.EditMembers.TheVariants as cut
 use Rattle.conf_record.proofs.SizeLemmas.{scalar_most}
-use Rattle.conf_session.specs.Said.{Part, Said, Says, command_limits, piece_limit, import_text, plain, single_part, batch_of_parts, get_at, said_by, part_from, parts_of, parts_said, first_and_rest}
-use Rattle.conf_session.specs.CommandLines.{Spelling, bare, quoted, Line, spelled, bare_char, begins_bare, stands, IsField, line_text, lines_text, members_of_lines, IsSpelled, IsLine, AreLines, Entry, entry_text, entry_members, elements_text, elements_of_entries, AreEntries, SaysPart, SayParts, SpellsPart, ArePartLines, Layout, single, batch_of, layout_text, layout_members, IsLayout, IsCommandLines}
+use Rattle.conf_session.specs.Said.{Part, Said, Says, command_limits, piece_limit, import_text, plain, single_part}
+use Rattle.conf_session.specs.Said.{batch_of_parts, get_at, said_by, part_from, parts_of, parts_said, first_and_rest}
+use Rattle.conf_session.specs.CommandLines.{Spelling, bare, quoted, Line, spelled, bare_char, begins_bare, stands}
+use Rattle.conf_session.specs.CommandLines.{IsField, line_text, lines_text, members_of_lines, IsSpelled, IsLine}
+use Rattle.conf_session.specs.CommandLines.{AreLines, Entry, entry_text, entry_members, elements_text}
+use Rattle.conf_session.specs.CommandLines.{elements_of_entries, AreEntries, SaysPart, SayParts, SpellsPart}
+use Rattle.conf_session.specs.CommandLines.{ArePartLines, Layout, single, batch_of, layout_text, layout_members}
+use Rattle.conf_session.specs.CommandLines.{IsLayout, IsCommandLines}
 use Rattle.conf_session.proofs.LinesPresented.{Unambiguous, KeysAreText, AllKeysAreText, LayoutIsText, marker_text, document_of, lines_give}
 
 -- ---- all is ASCII
@@ -70,7 +81,8 @@ spelled_low quoted value h = every_joined low value (codes "\"") h refl
 line_low : (l : Line) → IsLine l → list_all low (line_text l) ≡ true
 line_low l is =
     every_joined low l.key (codes ": " ++ (spelled l.spelling l.value ++ codes "\n")) (key_low l.key is.word)
-    (every_joined low (spelled l.spelling l.value) (codes "\n") (spelled_low l.spelling l.value (value_low l.spelling l.value is.stands)) refl)
+    (every_joined low (spelled l.spelling l.value) (codes "\n")
+    (spelled_low l.spelling l.value (value_low l.spelling l.value is.stands)) refl)
 
 spaces_low : (n : ℕ) → list_all low (spaces n) ≡ true
 spaces_low zero = refl
@@ -84,7 +96,8 @@ lines_low indent l (m ∷ ms) are =
 
 elements_low : (es : List Entry) → AreEntries es → list_all low (elements_text es) ≡ true
 elements_low [] are = refl
-elements_low (e ∷ es) are = every_joined low (entry_text 4 e) (elements_text es) (lines_low 4 e.first e.more are.0.are) (elements_low es are.1)
+elements_low (e ∷ es) are = every_joined low (entry_text 4 e) (elements_text es)
+    (lines_low 4 e.first e.more are.0.are) (elements_low es are.1)
 
 layout_low : (layout : Layout) → IsLayout layout → list_all low (layout_text layout) ≡ true
 layout_low (single e) is = lines_low 0 e.first e.more is.are
@@ -114,8 +127,11 @@ layout_is_text (batch_of e es) is = all_keys_are_text (e ∷ es) is
 
 members_are_text : (ls : List Line) → AreLines ls → AreTextMembers (members_of_lines ls)
 members_are_text [] are = tt
-members_are_text (l ∷ ls) are =
-    (low_is_text l.key (key_low l.key are.0.word), low_is_text l.value (value_low l.spelling l.value are.0.stands), members_are_text ls are.1)
+members_are_text (l ∷ ls) are = (
+  low_is_text l.key (key_low l.key are.0.word),
+  low_is_text l.value (value_low l.spelling l.value are.0.stands),
+  members_are_text ls are.1,
+)
 
 elements_are_text : (es : List Entry) → AreEntries es → AreTextElements (elements_of_entries es)
 elements_are_text [] are = tt
@@ -127,7 +143,8 @@ layout_members_are_text (batch_of e es) is = (refl, elements_are_text (e ∷ es)
 
 elements_differ : (es : List Entry) → AreEntries es → elements_distinct (elements_of_entries es) ≡ true
 elements_differ [] are = refl
-elements_differ (e ∷ es) are = and_from (members_distinct (entry_members e)) (elements_distinct (elements_of_entries es)) are.0.differ (elements_differ es are.1)
+elements_differ (e ∷ es) are = and_from (members_distinct (entry_members e))
+    (elements_distinct (elements_of_entries es)) are.0.differ (elements_differ es are.1)
 
 layout_differs : (layout : Layout) → IsLayout layout → members_distinct (layout_members layout) ≡ true
 layout_differs (single e) is = is.differ
@@ -178,13 +195,18 @@ flat_lines i j value none = by (plain_in_style value) (literal_in_style value) n
     no_literal = rw none refl
 
     by : (plain literal : Bool) → literal ≡ false
-        → (if plain then value ++ codes "\n" else if literal then literal_mark (feeds_at_end value) ++ codes "\n" ++ literal_lines i true value else in_double_quotes value ++ codes "\n")
-        ≡ (if plain then value ++ codes "\n" else if literal then literal_mark (feeds_at_end value) ++ codes "\n" ++ literal_lines j true value else in_double_quotes value ++ codes "\n")
+        → (if plain then value ++ codes "\n" else if literal
+        then literal_mark (feeds_at_end value) ++ codes "\n" ++ literal_lines i true value
+        else in_double_quotes value ++ codes "\n")
+        ≡ (if plain then value ++ codes "\n" else if literal
+        then literal_mark (feeds_at_end value) ++ codes "\n" ++ literal_lines j true value
+        else in_double_quotes value ++ codes "\n")
     by true literal e = refl
     by false false e = refl
     by false true e = cc
 
-line_bytes : (indent : ℕ) (l : Line) → IsLine l → byte_len (key_lines indent l.key ++ value_at (text l.value) indent) ≤ 4 * byte_len (line_text l)
+line_bytes : (indent : ℕ) (l : Line) → IsLine l
+    → byte_len (key_lines indent l.key ++ value_at (text l.value) indent) ≤ 4 * byte_len (line_text l)
 line_bytes indent l is =
     let flat = ap byte_len (flat_lines (indent + 2) 2 l.value (value_no_feed l.spelling l.value is.stands)) in
     let value = scalar_most l.value in
@@ -198,10 +220,13 @@ line_bytes indent l is =
 regrouped : (a b c d : List ℕ) → ((a ++ b) ++ c) ++ d ≡ a ++ ((b ++ c) ++ d)
 regrouped a b c d = ap (λ t. t ++ d) (append_assoc a b c) ∙ append_assoc a (b ++ c) d
 
-members_next : (indent : ℕ) (l : Line) (ls : List Line) → members_after (members_of_lines (l ∷ ls)) indent ≡ spaces indent ++ members_at (members_of_lines (l ∷ ls)) indent
-members_next indent l ls = regrouped (spaces indent) (key_lines indent l.key) (value_at (text l.value) indent) (members_after (members_of_lines ls) indent)
+members_next : (indent : ℕ) (l : Line) (ls : List Line)
+    → members_after (members_of_lines (l ∷ ls)) indent ≡ spaces indent ++ members_at (members_of_lines (l ∷ ls)) indent
+members_next indent l ls = regrouped (spaces indent) (key_lines indent l.key) (value_at (text l.value) indent)
+    (members_after (members_of_lines ls) indent)
 
-members_bytes : (indent : ℕ) (l : Line) (ls : List Line) → AreLines (l ∷ ls) → byte_len (members_at (members_of_lines (l ∷ ls)) indent) ≤ 4 * byte_len (lines_text indent l ls)
+members_bytes : (indent : ℕ) (l : Line) (ls : List Line) → AreLines (l ∷ ls)
+    → byte_len (members_at (members_of_lines (l ∷ ls)) indent) ≤ 4 * byte_len (lines_text indent l ls)
 members_bytes indent l [] are =
     let own = line_bytes indent l are.0 in
     let whole = byte_len-append (key_lines indent l.key ++ value_at (text l.value) indent) [] in
@@ -212,7 +237,8 @@ members_bytes indent l (m ∷ ms) are =
     let further = members_at (members_of_lines (m ∷ ms)) indent in
     let next = members_next indent m ms in
     let same = ap byte_len next in
-    let whole = byte_len-append (key_lines indent l.key ++ value_at (text l.value) indent) (members_after (members_of_lines (m ∷ ms)) indent) in
+    let whole = byte_len-append (key_lines indent l.key ++ value_at (text l.value) indent)
+    (members_after (members_of_lines (m ∷ ms)) indent) in
     let spaced = byte_len-append (spaces indent) further in
     let lines = byte_len-append (line_text l) (spaces indent ++ lines_text indent m ms) in
     let apart = byte_len-append (spaces indent) (lines_text indent m ms) in
@@ -227,7 +253,8 @@ elements_bytes (e ∷ es) are =
     let lines = byte_len-append (entry_text 4 e) (elements_text es) in
     omega (arith, own, rest, style, lines)
 
-layout_bytes : (layout : Layout) → IsLayout layout → byte_len (style_text (mapping (layout_members layout))) ≤ 4 * byte_len (layout_text layout)
+layout_bytes : (layout : Layout) → IsLayout layout
+    → byte_len (style_text (mapping (layout_members layout))) ≤ 4 * byte_len (layout_text layout)
 layout_bytes (single e) is = members_bytes 0 e.first e.more is.are
 layout_bytes (batch_of e es) is =
     let own = elements_bytes (e ∷ es) is in
@@ -246,7 +273,8 @@ lines_say one marked piece lines said is utf8 short command =
     let layout : Layout = command.layout in
     let same : piece ≡ document_of marked layout = is ∙ ap (λ t. marker_text marked ++ t) command.is in
     let itself : chars piece ≡ document_of marked layout =
-    ap chars same ∙ chars-IsAscii (document_of marked layout) (low_ascii (document_of marked layout) (document_low marked layout command.are)) in
+    ap chars same ∙ chars-IsAscii (document_of marked layout)
+    (low_ascii (document_of marked layout) (document_low marked layout command.are)) in
     let bytes : byte_len (document_of marked layout) ≡ length piece = ap byte_len (sym itself) ∙ byte_len-chars piece utf8 in
     let flat = layout_flat layout in
     let style = layout_bytes layout command.are in
@@ -259,7 +287,14 @@ lines_say one marked piece lines said is utf8 short command =
     } in
     let gives = lines_give one marked layout command_limits command.are (layout_is_text layout command.are)
     (low_is_text (document_of marked layout) (document_low marked layout command.are)) (omega (arith, bytes, short)) good in
-    inl (mapping (layout_members layout), record { utf8 = utf8; gives = subst (λ cs. Gives cs command_limits (mapping (layout_members layout))) (sym itself) gives }, command.says)
+    inl (
+      mapping (layout_members layout),
+      record {
+        utf8 = utf8;
+        gives = subst (λ cs. Gives cs command_limits (mapping (layout_members layout))) (sym itself) gives;
+      },
+      command.says,
+    )
 
 -- ---- lines of keys as mappings
 
@@ -271,7 +306,8 @@ field_line key value lines rest spelling is =
     ∙ sym (append_assoc key (codes ": " ++ (spelled spelling value ++ codes "\n")) rest)
 
 -- a line before others of its mapping
-next_line : (indent : ℕ) (l m : Line) (ms : List Line) (lines between rest : List ℕ) → lines ≡ line_text l ++ between → between ≡ spaces indent ++ (lines_text indent m ms ++ rest)
+next_line : (indent : ℕ) (l m : Line) (ms : List Line) (lines between rest : List ℕ) → lines ≡ line_text l ++ between
+    → between ≡ spaces indent ++ (lines_text indent m ms ++ rest)
     → lines ≡ lines_text indent l (m ∷ ms) ++ rest
 next_line indent l m ms lines between rest is follows =
     is ∙ ap (λ t. line_text l ++ t) (follows ∙ sym (append_assoc (spaces indent) (lines_text indent m ms) rest))
@@ -288,7 +324,13 @@ import_spelled n v name source one two =
     let b : Line = record { key = codes "text"; spelling = two.spelling; value = source } in
     let entry : Entry = record { first = a; more = b ∷ [] } in
     let said : SaysPart entry (import_text name source) = record {
-      is = record { are = (record { word = refl; short = refl; stands = one.stands }, (record { word = refl; short = refl; stands = two.stands }, tt)); differ = refl };
+      is = record {
+        are = (
+          record { word = refl; short = refl; stands = one.stands },
+          (record { word = refl; short = refl; stands = two.stands }, tt),
+        );
+        differ = refl;
+      };
       within = refl;
       alone = refl;
     } in
@@ -340,7 +382,13 @@ delete_spelled n p name path one two =
     let b : Line = record { key = codes "path"; spelling = two.spelling; value = path } in
     let entry : Entry = record { first = a; more = b ∷ [] } in
     let said : SaysPart entry (plain (delete_at name path)) = record {
-      is = record { are = (record { word = refl; short = refl; stands = one.stands }, (record { word = refl; short = refl; stands = two.stands }, tt)); differ = refl };
+      is = record {
+        are = (
+          record { word = refl; short = refl; stands = one.stands },
+          (record { word = refl; short = refl; stands = two.stands }, tt),
+        );
+        differ = refl;
+      };
       within = refl;
       alone = refl;
     } in
@@ -355,7 +403,8 @@ delete_spelled n p name path one two =
 -- ---- commands
 
 -- the lines of a get
-pub get_lines : (name path lines after_name : List ℕ) → IsField lines (codes "get: ") name after_name → IsField after_name (codes "path: ") path (codes "...\n")
+pub get_lines : (name path lines after_name : List ℕ) → IsField lines (codes "get: ") name after_name
+    → IsField after_name (codes "path: ") path (codes "...\n")
     → IsCommandLines lines (get_at name path)
 unfolding said_by part_from
 get_lines name path lines after_name one two =
@@ -363,7 +412,13 @@ get_lines name path lines after_name one two =
     let b : Line = record { key = codes "path"; spelling = two.spelling; value = path } in
     record {
       layout = single (record { first = a; more = b ∷ [] });
-      are = record { are = (record { word = refl; short = refl; stands = one.stands }, (record { word = refl; short = refl; stands = two.stands }, tt)); differ = refl };
+      are = record {
+        are = (
+          record { word = refl; short = refl; stands = one.stands },
+          (record { word = refl; short = refl; stands = two.stands }, tt),
+        );
+        differ = refl;
+      };
       is = next_line 0 a b [] lines after_name (codes "...\n") (field_line (codes "get") name lines after_name one.spelling one.is)
           (field_line (codes "path") path after_name (codes "...\n") two.spelling two.is);
       says = refl;
@@ -391,7 +446,8 @@ elements_one (d ∷ ds) e =
     let first = codes "  - " ++ entry_text 4 d in
     ap (λ t. first ++ t) (elements_one ds e) ∙ sym (append_assoc first (elements_text ds) (codes "  - " ++ entry_text 4 e))
 
-say_one : (es : List Entry) (parts : List Part) (e : Entry) (part : Part) → SayParts es parts → SaysPart e part → SayParts (es ++ e ∷ []) (parts ++ part ∷ [])
+say_one : (es : List Entry) (parts : List Part) (e : Entry) (part : Part) → SayParts es parts → SaysPart e part
+    → SayParts (es ++ e ∷ []) (parts ++ part ∷ [])
 say_one [] [] e part say one = (one, tt)
 say_one [] (p ∷ ps) e part say one = absurd say
 say_one (d ∷ ds) [] e part say one = absurd say
@@ -422,15 +478,18 @@ are_entries [] parts say = tt
 are_entries (e ∷ es) [] say = absurd say
 are_entries (e ∷ es) (p ∷ ps) say = (say.0.is, are_entries es ps say.1)
 
-batch_says : (ts : Elements) (parts : List Part) → parts_of ts ≡ Some parts → batch_of_parts parts ≡ said_by (mapping (member (codes "batch") (sequence ts) no_member))
+batch_says : (ts : Elements) (parts : List Part) → parts_of ts ≡ Some parts
+    → batch_of_parts parts ≡ said_by (mapping (member (codes "batch") (sequence ts) no_member))
 unfolding said_by
 batch_says ts parts is = ap parts_said (sym is)
 
 -- all elements of a batch, and the closing line
-pub batch_lines : (elements : List ℕ) (parts : List Part) → (parts ≡ [] → ⊥) → ArePartLines elements parts (codes "...\n") → IsCommandLines (codes "batch:\n" ++ elements) (batch_of_parts parts)
+pub batch_lines : (elements : List ℕ) (parts : List Part) → (parts ≡ [] → ⊥)
+    → ArePartLines elements parts (codes "...\n") → IsCommandLines (codes "batch:\n" ++ elements) (batch_of_parts parts)
 batch_lines elements parts some so = by so.entries parts some so.say so.is
   where
-    by : (es : List Entry) (ps : List Part) → (ps ≡ [] → ⊥) → SayParts es ps → elements ≡ elements_text es ++ codes "...\n" → IsCommandLines (codes "batch:\n" ++ elements) (batch_of_parts ps)
+    by : (es : List Entry) (ps : List Part) → (ps ≡ [] → ⊥) → SayParts es ps
+        → elements ≡ elements_text es ++ codes "...\n" → IsCommandLines (codes "batch:\n" ++ elements) (batch_of_parts ps)
     by [] [] some say is = absurd (some refl)
     by [] (p ∷ ps) some say is = absurd say
     by (e ∷ es) ps some say is = record {

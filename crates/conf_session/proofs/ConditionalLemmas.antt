@@ -2,7 +2,8 @@
 use Rattle.std.proofs.Common.{◌≡◌, ◌≢◌, inl, inr, refl, sym, ap, subst, ◌∙◌, ◌≤◌}
 use Rattle.std.proofs.lemmas.Bool.{false≢true}
 use Rattle.std.proofs.lemmas.List.{append-nil}
-use Rattle.std.specs.Prelude.{ℕ, true, false, if◌then◌else◌, List, [], ◌∷◌, ◌++◌, length, Option, Some, None, Result, Ok, Err, IfOk, IfErr, is_ok}
+use Rattle.std.specs.Prelude.{ℕ, true, false, if◌then◌else◌, List, [], ◌∷◌, ◌++◌, length, Option, Some, None, Result}
+use Rattle.std.specs.Prelude.{Ok, Err, IfOk, IfErr, is_ok}
 use Rattle.std.specs.Str.{chars, IsUtf8}
 use Rattle.yaml_events.specs.declared.read_fault.ReadFault.{ReadFault}
 use Rattle.yaml_events.specs.declared.read_fault.ReadFault.TheVariants as read_faults
@@ -30,7 +31,10 @@ use Rattle.conf_session.specs.declared.reply.Reply.TheVariants.{Refused}
 use Rattle.conf_session.specs.declared.words.Refusal.{Refusal}
 use Rattle.conf_session.specs.Said.{import_text, single_part}
 use Rattle.conf_session.specs.Requests.{Request, MeansRequest, changing, unread, if_met}
-use Rattle.conf_session.specs.Answers.{Stored, answer, answer_limit, document_bytes, answered, read_answered, condition_answered, refused_answer, unless_failed, stored_after, file_after, staged_after, accepted_command, refused_of, syncs, flushed_after, waiting_after}
+use Rattle.conf_session.specs.Answers.{Stored, answer, answer_limit, document_bytes, answered, read_answered}
+use Rattle.conf_session.specs.Answers.{condition_answered, refused_answer, unless_failed, stored_after, file_after}
+use Rattle.conf_session.specs.Answers.{staged_after, accepted_command, refused_of, syncs, flushed_after}
+use Rattle.conf_session.specs.Answers.{waiting_after}
 use Rattle.conf_session.specs.Conditional.{RefusesFirst, IsGuarded, ConditionsGuard}
 use Rattle.conf_session.specs.ReadChanges.{IsRequest, EndsByMemory, ReadsAsked, IfMet}
 use Rattle.conf_session.specs.Replies.{DidAsked, Handles, MeansPrefixes, Performs, Replies, refused_as, unmet_after, unmet_as}
@@ -64,12 +68,14 @@ module _ (now : Stored) (conditions : List Condition) (request : Request) (none 
   met-syncs : syncs false now (if_met conditions request) ≡ syncs false now request
   met-syncs = ap (λ o. unless_failed o (syncs false now request) (λ f. false)) none
 
-  met-flushed : (flushed : Contents) → flushed_after false now flushed (if_met conditions request ∷ []) ≡ flushed_after false now flushed (request ∷ [])
+  met-flushed : (flushed : Contents) → flushed_after false now flushed (if_met conditions request ∷ [])
+      ≡ flushed_after false now flushed (request ∷ [])
   met-flushed flushed =
       ap (λ b. if b then (stored_after now (if_met conditions request)).state else flushed) (met-syncs)
       ∙ ap (λ (t : Stored). if syncs false now request then t.state else flushed) met-stored
 
-  met-waiting : (waiting : List Command) → waiting_after false now waiting (if_met conditions request ∷ []) ≡ waiting_after false now waiting (request ∷ [])
+  met-waiting : (waiting : List Command) → waiting_after false now waiting (if_met conditions request ∷ [])
+      ≡ waiting_after false now waiting (request ∷ [])
   met-waiting waiting =
       ap (λ b. if b then [] else waiting ++ accepted_command now (if_met conditions request)) (met-syncs)
       ∙ ap (λ cs. if syncs false now request then [] else waiting ++ cs) met-accepted
@@ -84,7 +90,8 @@ module _ (now : Stored) (conditions : List Condition) (request : Request) (none 
 
 -- ---- where a condition fails
 
-module _ (now : Stored) (conditions : List Condition) (request : Request) (f : ConditionFault) (some : first_fault now.state conditions ≡ Some f) where
+module _ (now : Stored) (conditions : List Condition) (request : Request) (f : ConditionFault)
+    (some : first_fault now.state conditions ≡ Some f) where
   unmet-answer : answer now (if_met conditions request) ≡ refused_answer (condition_answered f)
   unmet-answer = ap (λ o. unless_failed o (answer now request) (λ g. refused_answer (condition_answered g))) some
 
@@ -128,7 +135,8 @@ module _ (now : Stored) (conditions : List Condition) (request : Request) (f : C
 pub guarded : ConditionsGuard
 guarded now conditions request = by (first_fault now.state conditions) refl
   where
-    refuses : (f : ConditionFault) → first_fault now.state conditions ≡ Some f → (r : Result Refusal SessionFault) → condition_answered f ≡ r → is_ok r ≡ true → RefusesFirst now conditions request
+    refuses : (f : ConditionFault) → first_fault now.state conditions ≡ Some f → (r : Result Refusal SessionFault)
+        → condition_answered f ≡ r → is_ok r ≡ true → RefusesFirst now conditions request
     refuses f some (Ok reason) told is = record {
       fault = f;
       first = first-some now.state conditions f some;
@@ -166,7 +174,8 @@ condition-memory (condition.Path why) = path-memory why
 condition-memory condition.OutOfMemory = refl
 
 module _ {D : Type 0} (model : DiskModel D) where
-  met-performs : (old new : StoreView D) (conditions : List Condition) (request : Request) → first_fault old.state conditions ≡ None → Performs false model old new request
+  met-performs : (old new : StoreView D) (conditions : List Condition) (request : Request)
+      → first_fault old.state conditions ≡ None → Performs false model old new request
       → Performs false model old new (if_met conditions request)
   met-performs old new conditions request none p =
       let now = stored_of old in
@@ -177,18 +186,33 @@ module _ {D : Type 0} (model : DiskModel D) where
         reads = λ h on. p.reads h on ∙ sym (met-file now conditions request none (bytes_under (model.folder old.disk) Store));
         stages = λ h on. p.stages h on ∙ sym (met-staged now conditions request none (staged_text (model.folder old.disk) old.staged));
         any_moment = λ h flushed waiting has.
-            subst (λ cs. LeavesOnly model old.disk new.disk (λ image. AfterPrefix flushed (waiting ++ cs) image.store)) (sym (met-accepted now conditions request none)) (p.any_moment h flushed waiting has);
+            subst (λ cs. LeavesOnly model old.disk new.disk
+            (λ image. AfterPrefix flushed (waiting ++ cs) image.store))
+            (sym (met-accepted now conditions request none)) (p.any_moment h flushed waiting has);
         waits = λ h on flushed waiting has.
-            subst (λ s. HasFlushed (model.folder new.disk) s (waiting_after false now waiting (if_met conditions request ∷ [])) new.state) (sym (met-flushed now conditions request none flushed))
-            (subst (λ cs. HasFlushed (model.folder new.disk) (flushed_after false now flushed (request ∷ [])) cs new.state) (sym (met-waiting now conditions request none waiting))
+            subst (λ s. HasFlushed (model.folder new.disk) s
+            (waiting_after false now waiting (if_met conditions request ∷ [])) new.state)
+            (sym (met-flushed now conditions request none flushed))
+            (subst (λ cs. HasFlushed (model.folder new.disk)
+            (flushed_after false now flushed (request ∷ [])) cs new.state)
+            (sym (met-waiting now conditions request none waiting))
             (p.waits h on flushed waiting has));
       }
 
-  did-met : (old new : StoreView D) (conditions : List Condition) (A : Request → Type 0) → first_fault old.state conditions ≡ None → (r : Result Reply SessionFault)
+  did-met : (old new : StoreView D) (conditions : List Condition) (A : Request → Type 0)
+      → first_fault old.state conditions ≡ None → (r : Result Reply SessionFault)
       → DidAsked model old new A r → DidAsked model old new (IfMet conditions A) r
-  did-met old new conditions A none (Ok reply) did =
-      (if_met conditions did.0, (did.0, did.1, refl), (met-replies (stored_of old) conditions did.0 none reply did.2.0, did.2.1, met-performs old new conditions did.0 none did.2.2))
-  did-met old new conditions A none (Err fault.Device) did = (if_met conditions did.0, (did.0, did.1, refl), (did.2.0, met-performs old new conditions did.0 none did.2.1))
+  did-met old new conditions A none (Ok reply) did = (
+    if_met conditions did.0,
+    (did.0, did.1, refl),
+    (
+      met-replies (stored_of old) conditions did.0 none reply did.2.0,
+      did.2.1,
+      met-performs old new conditions did.0 none did.2.2,
+    ),
+  )
+  did-met old new conditions A none (Err fault.Device) did =
+      (if_met conditions did.0, (did.0, did.1, refl), (did.2.0, met-performs old new conditions did.0 none did.2.1))
   did-met old new conditions A none (Err fault.OutOfMemory) did = did
   did-met old new conditions A none (Err fault.Read) did = absurd did
   did-met old new conditions A none (Err fault.TooLong) did = absurd did
@@ -197,13 +221,17 @@ module _ {D : Type 0} (model : DiskModel D) where
   did-met old new conditions A none (Err (fault.Write written)) did = absurd did
 
   -- no condition failed, and the request was handled
-  pub handles-met : (old new : StoreView D) (conditions : List Condition) (A : Request → Type 0) → first_fault old.state conditions ≡ None → (r : Result Reply SessionFault)
+  pub handles-met : (old new : StoreView D) (conditions : List Condition) (A : Request → Type 0)
+      → first_fault old.state conditions ≡ None → (r : Result Reply SessionFault)
       → Handles model old new A r → Handles model old new (IfMet conditions A) r
   handles-met old new conditions A none r h = record { did = λ off. did-met old new conditions A none r (h.did off); failures = h.failures }
 
-  module _ (store : StoreView D) (means : MeansPrefixes model store) (only : (image : Image) → model.honest → model.left store.disk (model.moment store.disk) image → IsImage (model.folder store.disk) image)
+  module _ (store : StoreView D) (means : MeansPrefixes model store)
+      (only : (image : Image) → model.honest → model.left store.disk (model.moment store.disk) image
+      → IsImage (model.folder store.disk) image)
       (conditions : List Condition) where
-    unmet-performs : (request : Request) (f : ConditionFault) → first_fault store.state conditions ≡ Some f → store.reopen ≡ false → Performs false model store store (if_met conditions request)
+    unmet-performs : (request : Request) (f : ConditionFault) → first_fault store.state conditions ≡ Some f
+        → store.reopen ≡ false → Performs false model store store (if_met conditions request)
     unmet-performs request f some off =
         let now = stored_of store in
         let same = unmet-stored now conditions request f some in
@@ -214,31 +242,47 @@ module _ {D : Type 0} (model : DiskModel D) where
           stages = λ h on. sym (unmet-staged now conditions request f some (staged_text (model.folder store.disk) store.staged));
           any_moment = unchanged model store off (accepted_command now (if_met conditions request)) only means;
           waits = λ h on flushed waiting has.
-              subst (λ s. HasFlushed (model.folder store.disk) s (waiting_after false now waiting (if_met conditions request ∷ [])) store.state) (sym (unmet-flushed now conditions request f some flushed))
-              (subst (λ cs. HasFlushed (model.folder store.disk) flushed cs store.state) (sym (unmet-waiting now conditions request f some waiting)) has);
+              subst (λ s. HasFlushed (model.folder store.disk) s
+              (waiting_after false now waiting (if_met conditions request ∷ [])) store.state)
+              (sym (unmet-flushed now conditions request f some flushed))
+              (subst (λ cs. HasFlushed (model.folder store.disk) flushed cs store.state)
+              (sym (unmet-waiting now conditions request f some waiting)) has);
         }
 
     -- a condition failed
-    handles-unmet : (A : Request → Type 0) (request : Request) → A request → (f : ConditionFault) → (f ≢ condition.OutOfMemory → first_fault store.state conditions ≡ Some f)
+    handles-unmet : (A : Request → Type 0) (request : Request) → A request → (f : ConditionFault)
+        → (f ≢ condition.OutOfMemory → first_fault store.state conditions ≡ Some f)
         → Handles model store store (IfMet conditions A) (refused_as (condition_answered f))
     handles-unmet A request asks f some = by (condition_answered f) refl (condition-memory f)
       where
-        by : (r : Result Refusal SessionFault) → condition_answered f ≡ r → OnlyMemory r → Handles model store store (IfMet conditions A) (refused_as r)
+        by : (r : Result Refusal SessionFault) → condition_answered f ≡ r → OnlyMemory r
+            → Handles model store store (IfMet conditions A) (refused_as r)
         by (Ok reason) is memory =
-            let first : first_fault store.state conditions ≡ Some f = some (λ same. let never : (◌≡◌ {A = Result Refusal SessionFault} (Err fault.OutOfMemory) (Ok reason)) = sym (ap condition_answered same) ∙ is in cc never) in
+            let first : first_fault store.state conditions ≡ Some f =
+            some (λ same. let never : (◌≡◌ {A = Result Refusal SessionFault} (Err fault.OutOfMemory)
+            (Ok reason)) = sym (ap condition_answered same) ∙ is in cc never) in
             handles-same model store (IfMet conditions A) (Ok (Refused reason)) tt
-            (λ off. (if_met conditions request, (request, asks, refl), (unmet-replies (stored_of store) conditions request f first reason is, off, unmet-performs request f first off)))
-        by (Err end) is memory = subst (λ (e : SessionFault). Handles model store store (IfMet conditions A) (Err e)) (sym memory) (handles-none model store (IfMet conditions A))
+            (λ off. (
+              if_met conditions request,
+              (request, asks, refl),
+              (unmet-replies (stored_of store) conditions request f first reason is, off, unmet-performs request f first off),
+            ))
+        by (Err end) is memory = subst (λ (e : SessionFault). Handles model store store (IfMet conditions A) (Err e))
+            (sym memory) (handles-none model store (IfMet conditions A))
 
     -- the same of a command whose texts were read
-    pub handles-unmet-read : (read : Result code.Command StoreFault) → EndsByMemory read → (f : ConditionFault) → (f ≢ condition.OutOfMemory → first_fault store.state conditions ≡ Some f)
+    pub handles-unmet-read : (read : Result code.Command StoreFault) → EndsByMemory read → (f : ConditionFault)
+        → (f ≢ condition.OutOfMemory → first_fault store.state conditions ≡ Some f)
         → Handles model store store (IfMet conditions (IsRequest read)) (unmet_as read f)
     handles-unmet-read (Ok command) memory f some = handles-unmet (IsRequest (Ok command)) (changing (command_of command)) refl f some
     handles-unmet-read (Err why) memory f some = by (answered why) refl memory
       where
-        by : (r : Result Refusal SessionFault) → answered why ≡ r → OnlyMemory r → Handles model store store (IfMet conditions (IsRequest (Err why))) (unmet_after r (refused_as (condition_answered f)))
+        by : (r : Result Refusal SessionFault) → answered why ≡ r → OnlyMemory r
+            → Handles model store store (IfMet conditions (IsRequest (Err why)))
+            (unmet_after r (refused_as (condition_answered f)))
         by (Ok reason) is memory = handles-unmet (IsRequest (Err why)) (unread why) (refl, ap is_ok is) f some
-        by (Err end) is memory = subst (λ (e : SessionFault). Handles model store store (IfMet conditions (IsRequest (Err why))) (Err e)) (sym memory)
+        by (Err end) is memory = subst (λ (e : SessionFault).
+            Handles model store store (IfMet conditions (IsRequest (Err why))) (Err e)) (sym memory)
             (handles-none model store (IfMet conditions (IsRequest (Err why))))
 
 -- ---- texts that are read before
@@ -252,13 +296,16 @@ pub answered-read : (why : ReadFault) → is_ok (read_answered why) ≡ true →
 answered-read why is same = false≢true (sym (ap (λ x. is_ok (read_answered x)) same) ∙ is)
 
 -- an import is read, or its name or its text is refused
-pub reads-import : (name bytes : List ℕ) → IsUtf8 bytes → (read : Result code.Command StoreFault) → IfOk read (λ command. IsImportOf name bytes (command_of command)) → IfErr read (RefusesText name bytes)
+pub reads-import : (name bytes : List ℕ) → IsUtf8 bytes → (read : Result code.Command StoreFault)
+    → IfOk read (λ command. IsImportOf name bytes (command_of command)) → IfErr read (RefusesText name bytes)
     → ReadsAsked (MeansRequest (single_part (import_text name (chars bytes)))) read
 reads-import name bytes utf8 (Ok command) given refuses = record {
-  asked = λ request is. subst (MeansRequest (single_part (import_text name (chars bytes)))) (sym is) (text-given name bytes (command_of command) utf8 given);
+  asked = λ request is. subst (MeansRequest (single_part (import_text name (chars bytes)))) (sym is)
+      (text-given name bytes (command_of command) utf8 given);
   memory = tt;
 }
 reads-import name bytes utf8 (Err why) given refuses = record {
-  asked = λ request is. subst (MeansRequest (single_part (import_text name (chars bytes)))) (sym is.0) (text-refused name bytes why utf8 (answered-fault why is.1) refuses);
+  asked = λ request is. subst (MeansRequest (single_part (import_text name (chars bytes)))) (sym is.0)
+      (text-refused name bytes why utf8 (answered-fault why is.1) refuses);
   memory = text-memory name bytes why refuses;
 }

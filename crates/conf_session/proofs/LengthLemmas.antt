@@ -1,6 +1,7 @@
 -- How many bytes answers have: no more than a base.
 use Rattle.std.proofs.Common.{◌≡◌, refl, ◌∙◌, ap, subst, arith, ◌≤◌, ◌<◌}
-use Rattle.std.specs.Prelude.{ℕ, suc, ◌+◌, ◌==◌, Bool, true, false, ◌&&◌, nat_le, nat_lt, if◌then◌else◌, List, [], ◌∷◌, ◌++◌, length, codes, decimal, Option, Some, None, Result, Ok, Err}
+use Rattle.std.specs.Prelude.{ℕ, suc, ◌+◌, ◌==◌, Bool, true, false, ◌&&◌, nat_le, nat_lt, if◌then◌else◌, List, []}
+use Rattle.std.specs.Prelude.{◌∷◌, ◌++◌, length, codes, decimal, Option, Some, None, Result, Ok, Err}
 use Rattle.std.proofs.lemmas.Bool.{and_parts}
 use Rattle.std.proofs.lemmas.Bool.Decides.{nat_tests}
 use Rattle.std.proofs.lemmas.Fmt.{decimal_is_IsNumeral, length-decimal-le}
@@ -9,7 +10,9 @@ use Rattle.std.specs.List.{list_all}
 use Rattle.yaml_grammar.specs.Reads.{Good}
 use Rattle.yaml_grammar.specs.Texts.{byte_len, spaces, first, same_text}
 use Rattle.yaml_grammar.specs.Trees.{Tree, text, sequence, mapping, no_element, element, no_member, member}
-use Rattle.yaml_grammar.specs.Style.{plain_in_style, literal_in_style, literal_mark, literal_lines, feeds_at_end, in_double_quotes, scalar_lines, key_text, long_key, key_lines, elements_after, value_at, style_text}
+use Rattle.yaml_grammar.specs.Style.{plain_in_style, literal_in_style, literal_mark, literal_lines, feeds_at_end}
+use Rattle.yaml_grammar.specs.Style.{in_double_quotes, scalar_lines, key_text, long_key, key_lines, elements_after}
+use Rattle.yaml_grammar.specs.Style.{value_at, style_text}
 use Rattle.yaml_recognizers.specs.Closings.{framed_text_bytes, framed_text}
 use Rattle.yaml_writer.specs.BudgetLaws.{byte_len-append}
 use Rattle.yaml_config.specs.Limits.{config_limits}
@@ -36,7 +39,9 @@ use Rattle.conf_store.specs.Calls.{outcome, room_for, tree_named}
 use Rattle.conf_conditions.specs.Conditions.{first_fault}
 use Rattle.conf_conditions.specs.declared.fault.ConditionFault.{ConditionFault}
 use Rattle.conf_session.specs.Requests.{Request, changing, unread, getting, exporting, naming, checkpointing, if_met, bad}
-use Rattle.conf_session.specs.Answers.{Stored, longest, one, text_elements, answered, refused_answer, answer_or_refusal, value_at_path, change_answer, document_bytes, answer, answer_bytes, answer_limit, condition_answered, unless_failed}
+use Rattle.conf_session.specs.Answers.{Stored, longest, one, text_elements, answered, refused_answer}
+use Rattle.conf_session.specs.Answers.{answer_or_refusal, value_at_path, change_answer, document_bytes, answer}
+use Rattle.conf_session.specs.Answers.{answer_bytes, answer_limit, condition_answered, unless_failed}
 use Rattle.conf_session.specs.declared.fault.SessionFault.{SessionFault}
 use Rattle.conf_session.specs.declared.words.Refusal.{Refusal}
 use Rattle.conf_session.specs.declared.words.Refusal.TheVariants as why
@@ -45,7 +50,8 @@ use Rattle.conf_session.proofs.WordLemmas.{refusal-short}
 -- ---- a document of one key
 
 -- its key, its value, and 8 bytes around them
-pub document-length : (key : List ℕ) (v : Tree) → length (framed_text_bytes (one key v)) ≡ 8 + byte_len (key_lines 0 key) + byte_len (value_at v 0)
+pub document-length : (key : List ℕ) (v : Tree)
+    → length (framed_text_bytes (one key v)) ≡ 8 + byte_len (key_lines 0 key) + byte_len (value_at v 0)
 document-length key v =
     let style = key_lines 0 key ++ value_at v 0 ++ [] in
     omega (
@@ -75,7 +81,8 @@ named-good : (es : List Entry) (name : List ℕ) (t : Tree) → AreConfigs es �
 named-good [] name t all is = cc
 named-good (e ∷ es) name t all is = by (same_text name e.0) is (named-good es name t all.2)
   where
-    by : (b : Bool) → (if b then Some e.1 else config_named es name) ≡ Some t → (config_named es name ≡ Some t → Good t config_limits) → Good t config_limits
+    by : (b : Bool) → (if b then Some e.1 else config_named es name) ≡ Some t
+        → (config_named es name ≡ Some t → Good t config_limits) → Good t config_limits
     by true here rest = let same : e.1 ≡ t = cc in subst (λ u. Good u config_limits) same all.1
     by false there rest = rest there
 
@@ -104,7 +111,8 @@ name-element name good = by (plain_in_style name) (literal_in_style name) no_lit
         rw (names_no_feed name (and_parts (first small_letter name) (list_all name_char name) outer.0).1) refl
 
     by : (plain literal : Bool) → literal ≡ false
-        → byte_len (if plain then name ++ codes "\n" else if literal then literal_mark (feeds_at_end name) ++ codes "\n" ++ literal_lines 4 true name else in_double_quotes name ++ codes "\n")
+        → byte_len (if plain then name ++ codes "\n" else if literal
+        then literal_mark (feeds_at_end name) ++ codes "\n" ++ literal_lines 4 true name else in_double_quotes name ++ codes "\n")
         ≡ 1 + byte_len (if plain then name else in_double_quotes name)
     by true literal e = omega (arith, byte_len-append name (codes "\n"))
     by false false e = omega (arith, byte_len-append (in_double_quotes name) (codes "\n"))
@@ -128,7 +136,9 @@ scalar-bytes : (j : ℕ) (value : List ℕ) → 1 ≤ byte_len (scalar_lines j v
 scalar-bytes j value = by (plain_in_style value) (literal_in_style value)
   where
     by : (plain literal : Bool)
-        → 1 ≤ byte_len (if plain then value ++ codes "\n" else if literal then literal_mark (feeds_at_end value) ++ codes "\n" ++ literal_lines j true value else in_double_quotes value ++ codes "\n")
+        → 1 ≤ byte_len (if plain then value ++ codes "\n" else if literal
+        then literal_mark (feeds_at_end value) ++ codes "\n" ++ literal_lines j true value
+        else in_double_quotes value ++ codes "\n")
     by true literal = omega (arith, byte_len-append value (codes "\n"))
     by false true =
         omega (
@@ -146,7 +156,8 @@ value-bytes (mapping no_member) = omega arith
 value-bytes (mapping (member key t ms)) = omega arith
 
 -- a name in a list has no more bytes than its configuration in a base text
-name-bytes : (name : List ℕ) (t : Tree) → good_name name ≡ true → byte_len (spaces 2 ++ codes "- " ++ scalar_lines 4 name) ≤ entry_length name t
+name-bytes : (name : List ℕ) (t : Tree) → good_name name ≡ true
+    → byte_len (spaces 2 ++ codes "- " ++ scalar_lines 4 name) ≤ entry_length name t
 unfolding entry_length
 name-bytes name t good =
     omega (
@@ -169,7 +180,8 @@ names-bytes (e ∷ es) all =
     )
 
 -- the list of the names, as a value
-pub names-value-length : (es : List Entry) → AreConfigs es → byte_len (value_at (sequence (text_elements (names_of es))) 0) ≤ 4 + entries_length es
+pub names-value-length : (es : List Entry) → AreConfigs es
+    → byte_len (value_at (sequence (text_elements (names_of es))) 0) ≤ 4 + entries_length es
 names-value-length [] all = omega arith
 names-value-length (e ∷ es) all = omega (arith, names-bytes (e ∷ es) all)
 
@@ -185,7 +197,11 @@ entries-short s kept =
 -- a count as a value has at most 24 bytes
 pub count-value-length : (n : ℕ) → n ≤ count_limit → byte_len (value_at (text (decimal n)) 0) ≤ 24
 count-value-length n small =
-    omega (arith, count_bytes (decimal n) (decimal_is_IsNumeral n (omega arith)).0.1, length-decimal-le 20 n (omega arith) (omega arith) (omega arith))
+    omega (
+      arith,
+      count_bytes (decimal n) (decimal_is_IsNumeral n (omega arith)).0.1,
+      length-decimal-le 20 n (omega arith) (omega arith) (omega arith),
+    )
 
 -- ---- the count after a command
 
@@ -198,7 +214,8 @@ next_state-few s new room configs e =
     (by (nat_lt base_limit (base_length (record { configs = configs; count = s.count + 1 }))) room (nat_le count_limit s.count) e)
   where
     by : (full : Bool) (room : Room) (last : Bool)
-        → (if full then Err store.StoreFull else with_room room (if last then Err store.CountFull else Ok (record { configs = configs; count = s.count + 1 }))) ≡ Ok new
+        → (if full then Err store.StoreFull else with_room room
+        (if last then Err store.CountFull else Ok (record { configs = configs; count = s.count + 1 }))) ≡ Ok new
         → last ≡ false
     by true room last is = cc
     by false LongRecord last is = cc
@@ -208,7 +225,8 @@ next_state-few s new room configs e =
 
 -- a step is accepted only below the greatest count
 pub step-few : (s new : Contents) (command : Command) (room : Room) → step s command room ≡ Ok new → s.count < count_limit
-step-few s new command room e = let done = and_then-Ok (performed s.configs command) (next_state s room) new e in next_state-few s new room done.0 done.2
+step-few s new command room e = let done = and_then-Ok (performed s.configs command) (next_state s room) new e in
+    next_state-few s new room done.0 done.2
 
 -- ---- refusals
 
@@ -228,7 +246,8 @@ by_path-Ok (Err fault) x is = let refused : Err (store.Path fault) ≡ Ok x = is
 pub tree_named-good : (s : Contents) (name : List ℕ) (t : Tree) → IsState s → tree_named s name ≡ Ok t → Good t config_limits
 tree_named-good s name t kept is = by (good_name name) (config_named s.configs name) refl is
   where
-    by : (good : Bool) (o : Option Tree) → config_named s.configs name ≡ o → (if good then found o else Err store.BadName) ≡ Ok t → Good t config_limits
+    by : (good : Bool) (o : Option Tree) → config_named s.configs name ≡ o
+        → (if good then found o else Err store.BadName) ≡ Ok t → Good t config_limits
     by true (Some u) there e = let same : u ≡ t = cc in named-good s.configs name t kept.configs (there ∙ ap Some same)
     by true None there e = cc
     by false o there e = cc
@@ -252,7 +271,13 @@ value-answer-short s kept name p (Err fault) is = refused-short (answered fault)
 text-answer-short : (s : Contents) → IsState s → (name : List ℕ) (r : Result Tree StoreFault) → tree_named s name ≡ r
     → length (document_bytes (answer_or_refusal (λ t. one (codes "text") (text (style_text t))) r)) ≤ answer_limit
 text-answer-short s kept name (Ok t) is =
-    omega (arith, document-length (codes "text") (text (style_text t)), scalar_most (style_text t), text-value-length (style_text t), (tree_named-good s name t kept is).long)
+    omega (
+      arith,
+      document-length (codes "text") (text (style_text t)),
+      scalar_most (style_text t),
+      text-value-length (style_text t),
+      (tree_named-good s name t kept is).long,
+    )
 text-answer-short s kept name (Err fault) is = refused-short (answered fault)
 
 count-answer-short : (n : ℕ) → n ≤ count_limit → length (framed_text_bytes (one (codes "ok") (text (decimal n)))) ≤ answer_limit
@@ -280,7 +305,8 @@ answer-short now checkpointing kept = count-answer-short now.state.count kept.nu
 answer-short now (if_met conditions request) kept = by (first_fault now.state conditions) (answer-short now request kept)
   where
     by : (failed : Option ConditionFault) → length (answer_bytes now request) ≤ answer_limit
-        → length (document_bytes (unless_failed failed (answer now request) (λ fault. refused_answer (condition_answered fault)))) ≤ answer_limit
+        → length (document_bytes (unless_failed failed (answer now request)
+        (λ fault. refused_answer (condition_answered fault)))) ≤ answer_limit
     by None short = short
     by (Some fault) short = refused-short (condition_answered fault)
 answer-short now bad kept = refusal-short why.BadCommand

@@ -1,25 +1,38 @@
 -- Lines of keys and texts, and batches of such lines, are a document that reads as their mapping: a presentation of it,
 -- which fits and means it.
 use Rattle.std.proofs.Common.{◌≡◌, refl, sym, ◌∙◌, ap, arith, ◌<◌, ◌≤◌, append_assoc, append-nil, subst}
-use Rattle.std.specs.Prelude.{ℕ, suc, ◌+◌, ◌==◌, Bool, true, false, not, ◌&&◌, ◌||◌, List, [], ◌∷◌, ◌++◌, codes, map, flat_map, length, Some, None}
+use Rattle.std.specs.Prelude.{ℕ, suc, ◌+◌, ◌==◌, Bool, true, false, not, ◌&&◌, ◌||◌, List, [], ◌∷◌, ◌++◌, codes, map}
+use Rattle.std.specs.Prelude.{flat_map, length, Some, None}
 use Rattle.std.specs.List.{list_all}
-use Rattle.std.proofs.lemmas.Bool.{and_parts, and_from, or_left, or_right, not-true, not_from_false, le-leb, ltb-false, leb-true, agree_below_at, false≢true}
+use Rattle.std.proofs.lemmas.Bool.{and_parts, and_from, or_left, or_right, not-true, not_from_false, le-leb}
+use Rattle.std.proofs.lemmas.Bool.{ltb-false, leb-true, agree_below_at, false≢true}
 use Rattle.yaml_chars.specs.Classes.{is_in, ns, white, indicator, line_break}
 use Rattle.yaml_grammar.specs.Texts.{IsText, spaces, starts_line, byte_len}
 use Rattle.yaml_grammar.specs.Separation.{comments_text}
-use Rattle.yaml_grammar.specs.FlowScalars.{raw, quoted_char_text, quoted_char_fits, quoted_char_value, char_value, plain_text, values, Scalar, plain, double, scalar_text, scalar_value, scalar_fits, outer, block_key, plain_run}
+use Rattle.yaml_grammar.specs.FlowScalars.{raw, quoted_char_text, quoted_char_fits, quoted_char_value, char_value}
+use Rattle.yaml_grammar.specs.FlowScalars.{plain_text, values, Scalar, plain, double, scalar_text, scalar_value}
+use Rattle.yaml_grammar.specs.FlowScalars.{scalar_fits, outer, block_key, plain_run}
 use Rattle.yaml_grammar.specs.FlowNodes.{scalar, flow_text, flow_fits, short_key}
-use Rattle.yaml_grammar.specs.BlockNodes.{Node, flow, items, pairs, Items, item, item_and, Pairs, pair, pair_and, Pair, keyed, compact_pairs, node_text, node_fits, indented_text, items_text, items_fit, items_events, pair_text, pair_fits, pairs_text, pairs_fit, pairs_events}
-use Rattle.yaml_grammar.specs.Streams.{Stream, Document, bare as bare_document, explicit, content, suffixes, stream_text, stream_events, fits}
+use Rattle.yaml_grammar.specs.BlockNodes.{Node, flow, items, pairs, Items, item, item_and, Pairs, pair, pair_and}
+use Rattle.yaml_grammar.specs.BlockNodes.{Pair, keyed, compact_pairs, node_text, node_fits, indented_text, items_text}
+use Rattle.yaml_grammar.specs.BlockNodes.{items_fit, items_events, pair_text, pair_fits, pairs_text, pairs_fit}
+use Rattle.yaml_grammar.specs.BlockNodes.{pairs_events}
+use Rattle.yaml_grammar.specs.Streams.{Stream, Document, bare as bare_document, explicit, content, suffixes}
+use Rattle.yaml_grammar.specs.Streams.{stream_text, stream_events, fits}
 use Rattle.yaml_grammar.specs.Events.{Event, as_document, as_seq, as_map, seq_end, map_start, map_end, document_end}
-use Rattle.yaml_grammar.specs.Trees.{sequence, mapping, Members, scalar_of, seq_from, seq_to, map_from, map_to, document_from, document_to, shape, shapes, tree_shapes, elements_shapes, members_shapes, IsTreeOf}
+use Rattle.yaml_grammar.specs.Trees.{sequence, mapping, Members, scalar_of, seq_from, seq_to, map_from, map_to}
+use Rattle.yaml_grammar.specs.Trees.{document_from, document_to, shape, shapes, tree_shapes, elements_shapes}
+use Rattle.yaml_grammar.specs.Trees.{members_shapes, IsTreeOf}
 use Rattle.yaml_grammar.specs.Style.{plain_in_style, key_text}
 use Rattle.yaml_grammar.specs.Reads.{Presents, CanRead, Limits, Good, Gives}
 use Rattle.yaml_recognizers.proofs.OneStyle.Presented.{feed, one_space, word_flow}
 use Rattle.yaml_recognizers.proofs.OneStyle.ScalarsFit.{word_flow_fits}
 use Rattle.yaml_recognizers.proofs.OneStyle.Spelled.{word_flow_spelled}
 use Rattle.yaml_writer.specs.Runs.{stands_alone}
-use Rattle.conf_session.specs.CommandLines.{Spelling, bare, quoted, Line, spelled, bare_char, begins_bare, stands, line_text, lines_text, members_of_lines, IsLine, AreLines, Entry, entry_text, entry_members, elements_text, elements_of_entries, AreEntries, Layout, single, batch_of, layout_text, layout_members, IsLayout}
+use Rattle.conf_session.specs.CommandLines.{Spelling, bare, quoted, Line, spelled, bare_char, begins_bare, stands}
+use Rattle.conf_session.specs.CommandLines.{line_text, lines_text, members_of_lines, IsLine, AreLines, Entry}
+use Rattle.conf_session.specs.CommandLines.{entry_text, entry_members, elements_text, elements_of_entries, AreEntries}
+use Rattle.conf_session.specs.CommandLines.{Layout, single, batch_of, layout_text, layout_members, IsLayout}
 
 -- ---- presentations
 
@@ -64,7 +77,12 @@ document_on false ps = bare_document (pairs [] 0 ps)
 
 abbrev stream_on : Bool → Layout → Stream
 stream_on marked layout =
-    record { mark = false; prefix = []; document = Some (document_on marked (layout_on layout)); parts = suffixes (feed ∷ []) [] [] None ∷ [] }
+    record {
+      mark = false;
+      prefix = [];
+      document = Some (document_on marked (layout_on layout));
+      parts = suffixes (feed ∷ []) [] [] None ∷ [];
+    }
 
 -- ---- what they spell
 
@@ -82,7 +100,8 @@ scalar_spelled quoted value = ap (λ t. 34 ∷ (t ++ (34 ∷ []))) (append-nil _
 
 pair_spelled : (l : Line) (indent : ℕ) → pair_text (pair_on l) indent ≡ line_text l
 pair_spelled l indent =
-    ap (λ t. ((t ++ []) ++ codes ":") ++ ((codes " " ++ scalar_text (scalar_as l.spelling l.value)) ++ codes "\n")) (append-nil _ ∙ plain_spelled l.key)
+    ap (λ t. ((t ++ []) ++ codes ":") ++ ((codes " " ++ scalar_text (scalar_as l.spelling l.value)) ++ codes "\n"))
+    (append-nil _ ∙ plain_spelled l.key)
     ∙ ap (λ t. (t ++ codes ":") ++ ((codes " " ++ scalar_text (scalar_as l.spelling l.value)) ++ codes "\n")) (append-nil l.key)
     ∙ ap (λ t. (l.key ++ codes ":") ++ ((codes " " ++ t) ++ codes "\n")) (scalar_spelled l.spelling l.value)
     ∙ append_assoc l.key (codes ":") ((codes " " ++ spelled l.spelling l.value) ++ codes "\n")
@@ -127,7 +146,8 @@ after_not true b e h = e
 after_not false b e h = absurd (false≢true h)
 
 bare_tells : (c : ℕ) → bare_char c ≡ true → in_plain c ≡ true
-bare_tells c h = after_not (bare_char c) (in_plain c) (agree_below_at (λ x. not (bare_char x) || in_plain x) (λ x. true) 128 c refl (bare_low c h)) h
+bare_tells c h = after_not (bare_char c) (in_plain c)
+    (agree_below_at (λ x. not (bare_char x) || in_plain x) (λ x. true) 128 c refl (bare_low c h)) h
 
 alone_low : (c : ℕ) → stands_alone c ≡ true → c < 128
 alone_low c h =
@@ -137,7 +157,8 @@ alone_low c h =
 
 alone_tells : (c : ℕ) → stands_alone c ≡ true → quoted_char_fits (raw c) ≡ true
 alone_tells c h =
-    after_not (stands_alone c) (quoted_char_fits (raw c)) (agree_below_at (λ x. not (stands_alone x) || quoted_char_fits (raw x)) (λ x. true) 128 c refl (alone_low c h)) h
+    after_not (stands_alone c) (quoted_char_fits (raw c))
+    (agree_below_at (λ x. not (stands_alone x) || quoted_char_fits (raw x)) (λ x. true) 128 c refl (alone_low c h)) h
 
 run_fits : (prev : ℕ) (xs after : List ℕ) → white prev ≡ false → list_all bare_char xs ≡ true → plain_run outer prev xs after ≡ true
 run_fits prev [] after p h = not_from_false _ p
@@ -146,14 +167,17 @@ run_fits prev (x ∷ xs) after p h =
     let r : (ns x && not (is_in x (codes ":#")) ≡ true) × (not (white x) ≡ true) = and_parts _ _ (bare_tells x q.0) in
     and_from _ _ (or_right (white x) _ (or_left _ _ (or_left _ _ r.0))) (run_fits x xs after (not-true _ r.1) q.1)
 
-plain_fits : (n : ℕ) (value after : List ℕ) → begins_bare value && list_all bare_char value ≡ true → scalar_fits n outer false (plain value []) after ≡ true
+plain_fits : (n : ℕ) (value after : List ℕ) → begins_bare value && list_all bare_char value ≡ true
+    → scalar_fits n outer false (plain value []) after ≡ true
 plain_fits n [] after h = absurd (false≢true h)
 plain_fits n (x ∷ xs) after h =
     let p : (not (indicator x) ≡ true) × (list_all bare_char (x ∷ xs) ≡ true) = and_parts _ _ h in
     let q : (bare_char x ≡ true) × (list_all bare_char xs ≡ true) = and_parts _ _ p.1 in
     let r : (ns x && not (is_in x (codes ":#")) ≡ true) × (not (white x) ≡ true) = and_parts _ _ (bare_tells x q.0) in
     let s : (ns x ≡ true) × (not (is_in x (codes ":#")) ≡ true) = and_parts _ _ r.0 in
-    and_from _ _ (and_from _ _ (and_from _ _ refl (and_from _ _ (and_from _ _ s.0 (or_left (not (indicator x)) _ p.0)) (run_fits x xs after (not-true _ r.1) q.1))) refl) refl
+    and_from _ _ (and_from _ _ (and_from _ _ refl
+    (and_from _ _ (and_from _ _ s.0 (or_left (not (indicator x)) _ p.0))
+    (run_fits x xs after (not-true _ r.1) q.1))) refl) refl
 
 raws_fit : (value : List ℕ) → list_all stands_alone value ≡ true → list_all quoted_char_fits (map raw value) ≡ true
 raws_fit [] h = refl
@@ -161,7 +185,8 @@ raws_fit (c ∷ cs) h =
     let p : (stands_alone c ≡ true) × (list_all stands_alone cs ≡ true) = and_parts _ _ h in
     and_from _ _ (alone_tells c p.0) (raws_fit cs p.1)
 
-scalar_as_fits : (n : ℕ) (spelling : Spelling) (value after : List ℕ) → stands spelling value ≡ true → scalar_fits n outer false (scalar_as spelling value) after ≡ true
+scalar_as_fits : (n : ℕ) (spelling : Spelling) (value after : List ℕ) → stands spelling value ≡ true
+    → scalar_fits n outer false (scalar_as spelling value) after ≡ true
 scalar_as_fits n bare value after h = plain_fits n value after h
 scalar_as_fits n quoted value after h = and_from _ _ (and_from _ _ (raws_fit value h) refl) refl
 
@@ -173,10 +198,13 @@ key_itself : (key : List ℕ) → plain_in_style key ≡ true → key_text key �
 key_itself key e = rw e refl
 
 -- a key before its `:`
-key_on_fits : (key : List ℕ) (bol : Bool) (after : List ℕ) → plain_in_style key ≡ true → IsText key → flow_fits (scalar (plain key [])) 0 block_key bol (58 ∷ after) ≡ true
-key_on_fits key bol after word t = subst (λ f. flow_fits f 0 block_key bol (58 ∷ after) ≡ true) (key_flow key word) (word_flow_fits key 0 block_key bol (58 ∷ after) (λ x. refl) t)
+key_on_fits : (key : List ℕ) (bol : Bool) (after : List ℕ) → plain_in_style key ≡ true → IsText key
+    → flow_fits (scalar (plain key [])) 0 block_key bol (58 ∷ after) ≡ true
+key_on_fits key bol after word t = subst (λ f. flow_fits f 0 block_key bol (58 ∷ after) ≡ true) (key_flow key word)
+    (word_flow_fits key 0 block_key bol (58 ∷ after) (λ x. refl) t)
 
-pair_on_fits : (l : Line) (indent : ℕ) (bol : Bool) (after : List ℕ) → IsLine l → IsText l.key → pair_fits (pair_on l) indent bol after ≡ true
+pair_on_fits : (l : Line) (indent : ℕ) (bol : Bool) (after : List ℕ) → IsLine l → IsText l.key
+    → pair_fits (pair_on l) indent bol after ≡ true
 pair_on_fits l indent bol after is t =
     let value : Node = flow one_space (scalar (scalar_as l.spelling l.value)) (feed ∷ []) in
     let key_fits = key_on_fits l.key bol (node_text value ++ after) is.word t in
@@ -202,18 +230,22 @@ abbrev pub LayoutIsText : Layout → Type 0
 LayoutIsText (single e) = KeysAreText (e.first ∷ e.more)
 LayoutIsText (batch_of e es) = AllKeysAreText (e ∷ es)
 
-pairs_on_fit : (l : Line) (ls : List Line) (indent : ℕ) (bol : Bool) (after : List ℕ) → AreLines (l ∷ ls) → KeysAreText (l ∷ ls) → pairs_fit (pairs_on l ls) indent bol after ≡ true
+pairs_on_fit : (l : Line) (ls : List Line) (indent : ℕ) (bol : Bool) (after : List ℕ) → AreLines (l ∷ ls)
+    → KeysAreText (l ∷ ls) → pairs_fit (pairs_on l ls) indent bol after ≡ true
 pairs_on_fit l [] indent bol after are t = pair_on_fits l indent bol after are.0 t.0
 pairs_on_fit l (m ∷ ms) indent bol after are t =
     and_from _ _ (pair_on_fits l indent bol (spaces indent ++ (pairs_text (pairs_on m ms) indent ++ after)) are.0 t.0)
     (pairs_on_fit m ms indent (indent == 0) after are.1 t.1)
 
-items_on_fit : (e : Entry) (es : List Entry) (after : List ℕ) → AreEntries (e ∷ es) → AllKeysAreText (e ∷ es) → items_fit (items_on e es) 2 after ≡ true
+items_on_fit : (e : Entry) (es : List Entry) (after : List ℕ) → AreEntries (e ∷ es) → AllKeysAreText (e ∷ es)
+    → items_fit (items_on e es) 2 after ≡ true
 items_on_fit e [] after are t = pairs_on_fit e.first e.more 4 false after are.0.are t.0
 items_on_fit e (d ∷ ds) after are t =
-    and_from _ _ (pairs_on_fit e.first e.more 4 false (spaces 2 ++ (items_text (items_on d ds) 2 ++ after)) are.0.are t.0) (items_on_fit d ds after are.1 t.1)
+    and_from _ _ (pairs_on_fit e.first e.more 4 false
+    (spaces 2 ++ (items_text (items_on d ds) 2 ++ after)) are.0.are t.0) (items_on_fit d ds after are.1 t.1)
 
-batch_fits : (e : Entry) (es : List Entry) (after : List ℕ) → AreEntries (e ∷ es) → AllKeysAreText (e ∷ es) → pairs_fit (layout_on (batch_of e es)) 0 true after ≡ true
+batch_fits : (e : Entry) (es : List Entry) (after : List ℕ) → AreEntries (e ∷ es) → AllKeysAreText (e ∷ es)
+    → pairs_fit (layout_on (batch_of e es)) 0 true after ≡ true
 batch_fits e es after are t =
     let value : Node = items (feed ∷ []) 2 (items_on e es) in
     let rest = node_text value ++ after in
@@ -246,7 +278,8 @@ lines_start bol indent l (m ∷ ms) =
 elements_start : (bol : Bool) (es : List Entry) → bol ≡ true → starts_line bol (elements_text es) ≡ true
 elements_start bol [] is = is
 elements_start bol (e ∷ es) is =
-    starts_joined false (entry_text 4 e) (elements_text es) ∙ elements_start (starts_line false (entry_text 4 e)) es (lines_start false 4 e.first e.more)
+    starts_joined false (entry_text 4 e) (elements_text es)
+    ∙ elements_start (starts_line false (entry_text 4 e)) es (lines_start false 4 e.first e.more)
 
 layout_starts : (layout : Layout) → starts_line true (layout_text layout) ≡ true
 layout_starts (single e) = lines_start true 0 e.first e.more
@@ -257,7 +290,8 @@ pairs_start layout = ap (starts_line true) (layout_spelled layout) ∙ layout_st
 
 stream_fits : (marked : Bool) (layout : Layout) → IsLayout layout → LayoutIsText layout → fits (stream_on marked layout) ≡ true
 stream_fits true layout is t =
-    and_from _ _ (and_from _ _ refl (and_from _ _ refl (and_from _ _ refl (layout_fits layout (codes "...\n") is t)))) (rw (pairs_start layout) refl)
+    and_from _ _ (and_from _ _ refl (and_from _ _ refl (and_from _ _ refl (layout_fits layout (codes "...\n") is t))))
+    (rw (pairs_start layout) refl)
 stream_fits false layout is t =
     and_from _ _ (and_from _ _ refl (and_from _ _ refl (layout_fits layout (codes "...\n") is t))) (rw (pairs_start layout) refl)
 
@@ -275,10 +309,12 @@ scalar_meant : (spelling : Spelling) (value : List ℕ) → scalar_value (scalar
 scalar_meant bare value = append-nil _ ∙ plain_meant value
 scalar_meant quoted value = append-nil _ ∙ raw_meant value
 
-pairs_meant : (l : Line) (ls : List Line) (indent at : ℕ) → shapes (pairs_events (pairs_on l ls) indent at) ≡ members_shapes (members_of_lines (l ∷ ls))
+pairs_meant : (l : Line) (ls : List Line) (indent at : ℕ)
+    → shapes (pairs_events (pairs_on l ls) indent at) ≡ members_shapes (members_of_lines (l ∷ ls))
 pairs_meant l [] indent at = λ i. scalar_of (scalar_meant bare l.key i) ∷ scalar_of (scalar_meant l.spelling l.value i) ∷ []
 pairs_meant l (m ∷ ms) indent at =
-    λ i. scalar_of (scalar_meant bare l.key i) ∷ scalar_of (scalar_meant l.spelling l.value i) ∷ pairs_meant m ms indent (at + byte_len (pair_text (pair_on l) indent) + indent) i
+    λ i. scalar_of (scalar_meant bare l.key i) ∷ scalar_of (scalar_meant l.spelling l.value i)
+    ∷ pairs_meant m ms indent (at + byte_len (pair_text (pair_on l) indent) + indent) i
 
 shapes_joined : (one other : List Event) → shapes (one ++ other) ≡ shapes one ++ shapes other
 shapes_joined [] other = refl
@@ -291,7 +327,8 @@ mapping_meant es ms is = ap (λ t. map_from ∷ t) (shapes_joined es (map_end �
 entry_meant : (e : Entry) (indent at : ℕ) → shapes (as_map (pairs_events (entry_on e) indent at)) ≡ tree_shapes (mapping (entry_members e))
 entry_meant e indent at = mapping_meant (pairs_events (entry_on e) indent at) (entry_members e) (pairs_meant e.first e.more indent at)
 
-items_meant : (e : Entry) (es : List Entry) (at : ℕ) → shapes (items_events (items_on e es) 2 at) ≡ elements_shapes (elements_of_entries (e ∷ es))
+items_meant : (e : Entry) (es : List Entry) (at : ℕ)
+    → shapes (items_events (items_on e es) 2 at) ≡ elements_shapes (elements_of_entries (e ∷ es))
 items_meant e [] at = entry_meant e 4 (at + 1 + 1) ∙ sym (append-nil (tree_shapes (mapping (entry_members e))))
 items_meant e (d ∷ ds) at =
     let next = at + 1 + byte_len (indented_text (compact_pairs 1 (entry_on e)) 2) + 2 in
@@ -299,9 +336,11 @@ items_meant e (d ∷ ds) at =
     ∙ ap (λ t. t ++ shapes (items_events (items_on d ds) 2 next)) (entry_meant e 4 (at + 1 + 1))
     ∙ ap (λ t. tree_shapes (mapping (entry_members e)) ++ t) (items_meant d ds next)
 
-batch_meant : (e : Entry) (es : List Entry) (at : ℕ) → shapes (as_seq (items_events (items_on e es) 2 at)) ≡ tree_shapes (sequence (elements_of_entries (e ∷ es)))
+batch_meant : (e : Entry) (es : List Entry) (at : ℕ)
+    → shapes (as_seq (items_events (items_on e es) 2 at)) ≡ tree_shapes (sequence (elements_of_entries (e ∷ es)))
 batch_meant e es at =
-    ap (λ t. seq_from ∷ t) (shapes_joined (items_events (items_on e es) 2 at) (seq_end ∷ []) ∙ ap (λ t. t ++ seq_to ∷ []) (items_meant e es at))
+    ap (λ t. seq_from ∷ t) (shapes_joined (items_events (items_on e es) 2 at) (seq_end ∷ [])
+    ∙ ap (λ t. t ++ seq_to ∷ []) (items_meant e es at))
 
 layout_meant : (layout : Layout) (at : ℕ) → shapes (pairs_events (layout_on layout) 0 at) ≡ members_shapes (layout_members layout)
 layout_meant (single e) at = pairs_meant e.first e.more 0 at
@@ -313,7 +352,8 @@ document_meant : (layout : Layout) (at : ℕ) (es : List Event) → es ≡ pairs
     → IsTreeOf (as_document (map_start ∷ (es ++ map_end ∷ [])) ++ []) (mapping (layout_members layout))
 document_meant layout at es is =
     ap shapes (append-nil (as_document (map_start ∷ (es ++ map_end ∷ []))))
-    ∙ ap (λ x. document_from ∷ map_from ∷ x) (shapes_joined (es ++ map_end ∷ []) (document_end ∷ []) ∙ ap (λ x. x ++ document_to ∷ []) (shapes_joined es (map_end ∷ [])
+    ∙ ap (λ x. document_from ∷ map_from ∷ x) (shapes_joined (es ++ map_end ∷ []) (document_end ∷ [])
+    ∙ ap (λ x. x ++ document_to ∷ []) (shapes_joined es (map_end ∷ [])
     ∙ ap (λ x. x ++ map_to ∷ []) (ap shapes is ∙ layout_meant layout at)))
 
 stream_meant : (marked : Bool) (layout : Layout) → IsTreeOf (stream_events (stream_on marked layout)) (mapping (layout_members layout))
@@ -331,8 +371,10 @@ pub lines_give : Unambiguous → (marked : Bool) (layout : Layout) (limits : Lim
     → IsText (document_of marked layout) → byte_len (document_of marked layout) ≤ limits.bytes
     → Good (mapping (layout_members layout)) limits → Gives (document_of marked layout) limits (mapping (layout_members layout))
 lines_give one marked layout limits are keys source short good =
-    let presents : Presents (stream_on marked layout) (document_of marked layout) = record { fits = stream_fits marked layout are keys; spells = stream_spelled marked layout } in
-    let can : CanRead (document_of marked layout) (stream_events (stream_on marked layout)) = record { presentation = stream_on marked layout; presents = presents; means = refl } in
+    let presents : Presents (stream_on marked layout) (document_of marked layout) =
+    record { fits = stream_fits marked layout are keys; spells = stream_spelled marked layout } in
+    let can : CanRead (document_of marked layout) (stream_events (stream_on marked layout)) =
+    record { presentation = stream_on marked layout; presents = presents; means = refl } in
     record {
       short = short;
       events = stream_events (stream_on marked layout);

@@ -1,6 +1,7 @@
 -- One request after others.
 use Rattle.std.proofs.Common.{◌≡◌, refl, sym, ◌∙◌, ap, subst, arith, ◌≤◌, append_assoc, length-append}
-use Rattle.std.specs.Prelude.{ℕ, ◌+◌, ◌-◌, suc, Bool, true, false, if◌then◌else◌, List, [], ◌∷◌, ◌++◌, length, take, Option, Some, None, Result, Ok, Err}
+use Rattle.std.specs.Prelude.{ℕ, ◌+◌, ◌-◌, suc, Bool, true, false, if◌then◌else◌, List, [], ◌∷◌, ◌++◌, length, take}
+use Rattle.std.specs.Prelude.{Option, Some, None, Result, Ok, Err}
 use Rattle.std.proofs.lemmas.List.{append-nil}
 use Rattle.std.proofs.lemmas.List.Elements.{All-push}
 use Rattle.yaml_grammar.specs.Closings.{ClosesOnce}
@@ -25,14 +26,19 @@ use Rattle.conf_conditions.specs.Conditions.{first_fault}
 use Rattle.conf_conditions.specs.declared.fault.ConditionFault.{ConditionFault}
 use Rattle.conf_session.specs.Said.{piece_limit}
 use Rattle.conf_session.specs.Requests.{Request, Asks, AllAsk, changing, unread, getting, exporting, naming, checkpointing, if_met, bad}
-use Rattle.conf_session.specs.Answers.{Stored, longest, syncs, flushed_after, waiting_after, acknowledged, AllAreAcknowledged, answer_bytes, output, stored_after, stored_after_all, file_after, file_after_all, staged_after, staged_after_all, accepted_commands, accepted_command, accepted_by, stored_after_change, refused_of, refusals, is_refused, value_at_path, unless_failed}
+use Rattle.conf_session.specs.Answers.{Stored, longest, syncs, flushed_after, waiting_after, acknowledged}
+use Rattle.conf_session.specs.Answers.{AllAreAcknowledged, answer_bytes, output, stored_after, stored_after_all}
+use Rattle.conf_session.specs.Answers.{file_after, file_after_all, staged_after, staged_after_all, accepted_commands}
+use Rattle.conf_session.specs.Answers.{accepted_command, accepted_by, stored_after_change, refused_of, refusals}
+use Rattle.conf_session.specs.Answers.{is_refused, value_at_path, unless_failed}
 use Rattle.conf_session.specs.Runs.{stored_of, ArePieces, AfterAtLeast}
 use Rattle.conf_session.specs.Replies.{LeavesPrefixes, Performs, PerformsAll}
 
 -- ---- what the definitions give for one request more
 
 -- what is stored after one more request
-pub stored-last : (now : Stored) (rs : List Request) (r : Request) → stored_after_all now (rs ++ r ∷ []) ≡ stored_after (stored_after_all now rs) r
+pub stored-last : (now : Stored) (rs : List Request) (r : Request)
+    → stored_after_all now (rs ++ r ∷ []) ≡ stored_after (stored_after_all now rs) r
 stored-last now [] r = refl
 stored-last now (x ∷ rs) r = stored-last (stored_after now x) rs r
 
@@ -49,11 +55,13 @@ staged-last file now [] r = refl
 staged-last file now (x ∷ rs) r = staged-last (staged_after file now x) (stored_after now x) rs r
 
 -- the accepted commands with one more request
-pub accepted_commands-last : (now : Stored) (rs : List Request) (r : Request) → accepted_commands now (rs ++ r ∷ []) ≡ accepted_commands now rs ++ accepted_command (stored_after_all now rs) r
+pub accepted_commands-last : (now : Stored) (rs : List Request) (r : Request)
+    → accepted_commands now (rs ++ r ∷ []) ≡ accepted_commands now rs ++ accepted_command (stored_after_all now rs) r
 accepted_commands-last now [] r = append-nil (accepted_command now r)
 accepted_commands-last now (x ∷ rs) r =
     ap (λ l. accepted_command now x ++ l) (accepted_commands-last (stored_after now x) rs r)
-    ∙ sym (append_assoc (accepted_command now x) (accepted_commands (stored_after now x) rs) (accepted_command (stored_after_all (stored_after now x) rs) r))
+    ∙ sym (append_assoc (accepted_command now x) (accepted_commands (stored_after now x) rs)
+    (accepted_command (stored_after_all (stored_after now x) rs) r))
 
 -- the output with one more request
 pub output-last : (now : Stored) (rs : List Request) (r : Request)
@@ -64,11 +72,13 @@ output-last now (x ∷ rs) r =
     ∙ sym (append_assoc (answer_bytes now x) (output (stored_after now x) rs) (answer_bytes (stored_after_all (stored_after now x) rs) r))
 
 -- the number of refusals with one more request
-pub refusals-last : (now : Stored) (rs : List Request) (r : Request) → refusals now (rs ++ r ∷ []) ≡ refusals now rs + refused_of (stored_after_all now rs) r
+pub refusals-last : (now : Stored) (rs : List Request) (r : Request)
+    → refusals now (rs ++ r ∷ []) ≡ refusals now rs + refused_of (stored_after_all now rs) r
 refusals-last now [] r = omega arith
 refusals-last now (x ∷ rs) r = let more = refusals-last (stored_after now x) rs r in omega (arith, more)
 
-ask-last : (pieces : List (List ℕ)) (rs : List Request) (piece : List ℕ) (r : Request) → AllAsk pieces rs → Asks piece r → AllAsk (pieces ++ piece ∷ []) (rs ++ r ∷ [])
+ask-last : (pieces : List (List ℕ)) (rs : List Request) (piece : List ℕ) (r : Request) → AllAsk pieces rs
+    → Asks piece r → AllAsk (pieces ++ piece ∷ []) (rs ++ r ∷ [])
 ask-last [] [] piece r all one = (one, tt)
 ask-last [] (x ∷ rs) piece r all one = absurd all
 ask-last (p ∷ pieces) [] piece r all one = absurd all
@@ -103,7 +113,8 @@ few-accepted now naming = omega arith
 few-accepted now checkpointing = omega arith
 few-accepted now (if_met conditions r) = by (first_fault now.state conditions) (few-accepted now r)
   where
-    by : (failed : Option ConditionFault) → length (accepted_command now r) ≤ 1 → length (unless_failed failed (accepted_command now r) (λ fault. [])) ≤ 1
+    by : (failed : Option ConditionFault) → length (accepted_command now r) ≤ 1
+        → length (unless_failed failed (accepted_command now r) (λ fault. [])) ≤ 1
     by None few = few
     by (Some fault) few = omega arith
 few-accepted now bad = omega arith
@@ -128,8 +139,10 @@ few-refused now bad = omega arith
 pub leads-one : (now : Stored) (r : Request) → after now.state (accepted_command now r) ≡ Ok (stored_after now r).state
 leads-one now (changing command) = by (outcome (longest now) now.state command) refl
   where
-    by : (j : Result Contents StoreFault) → outcome (longest now) now.state command ≡ j → after now.state (accepted_by j command) ≡ Ok (stored_after_change now command j).state
-    by (Ok new) e = after-done now.state new command (accepted-anyway accepted-room now.state new command (room_for (longest now) now.state command) e)
+    by : (j : Result Contents StoreFault) → outcome (longest now) now.state command ≡ j
+        → after now.state (accepted_by j command) ≡ Ok (stored_after_change now command j).state
+    by (Ok new) e = after-done now.state new command
+        (accepted-anyway accepted-room now.state new command (room_for (longest now) now.state command) e)
     by (Err fault) e = refl
 leads-one now (unread fault) = refl
 leads-one now (getting name path) = refl
@@ -139,7 +152,8 @@ leads-one now checkpointing = refl
 leads-one now (if_met conditions r) = by (first_fault now.state conditions) (leads-one now r)
   where
     by : (failed : Option ConditionFault) → after now.state (accepted_command now r) ≡ Ok (stored_after now r).state
-        → after now.state (unless_failed failed (accepted_command now r) (λ fault. [])) ≡ Ok (unless_failed failed (stored_after now r) (λ fault. now)).state
+        → after now.state (unless_failed failed (accepted_command now r) (λ fault. []))
+        ≡ Ok (unless_failed failed (stored_after now r) (λ fault. now)).state
     by None leads = leads
     by (Some fault) leads = refl
 leads-one now bad = refl
@@ -148,19 +162,22 @@ leads-one now bad = refl
 pub leads-all : (now : Stored) (rs : List Request) → after now.state (accepted_commands now rs) ≡ Ok (stored_after_all now rs).state
 leads-all now [] = refl
 leads-all now (x ∷ rs) =
-    after-joined now.state (stored_after now x).state (stored_after_all now (x ∷ rs)).state (accepted_command now x) (accepted_commands (stored_after now x) rs) (leads-one now x) (leads-all (stored_after now x) rs)
+    after-joined now.state (stored_after now x).state (stored_after_all now (x ∷ rs)).state (accepted_command now x)
+    (accepted_commands (stored_after now x) rs) (leads-one now x) (leads-all (stored_after now x) rs)
 
 -- ---- what is flushed, and what waits
 
 -- with one request more
 flushed-last : (each : Bool) (now : Stored) (flushed : Contents) (rs : List Request) (r : Request)
-    → flushed_after each now flushed (rs ++ r ∷ []) ≡ flushed_after each (stored_after_all now rs) (flushed_after each now flushed rs) (r ∷ [])
+    → flushed_after each now flushed (rs ++ r ∷ [])
+    ≡ flushed_after each (stored_after_all now rs) (flushed_after each now flushed rs) (r ∷ [])
 flushed-last each now flushed [] r = refl
 flushed-last each now flushed (x ∷ rs) r =
     flushed-last each (stored_after now x) (if syncs each now x then (stored_after now x).state else flushed) rs r
 
 waiting-last : (each : Bool) (now : Stored) (waiting : List Command) (rs : List Request) (r : Request)
-    → waiting_after each now waiting (rs ++ r ∷ []) ≡ waiting_after each (stored_after_all now rs) (waiting_after each now waiting rs) (r ∷ [])
+    → waiting_after each now waiting (rs ++ r ∷ [])
+    ≡ waiting_after each (stored_after_all now rs) (waiting_after each now waiting rs) (r ∷ [])
 waiting-last each now waiting [] r = refl
 waiting-last each now waiting (x ∷ rs) r =
     waiting-last each (stored_after now x) (if syncs each now x then [] else waiting ++ accepted_command now x) rs r
@@ -175,16 +192,20 @@ pub acknowledged-all : AllAreAcknowledged
 acknowledged-all = record {
   accepted = λ now requests. (let none = ap length (none-waits now requests) in omega (arith, none));
   waited = λ now waiting request requests.
-      (let none : length (waiting_after true now waiting (request ∷ requests)) ≡ 0 = ap length (none-waits (stored_after now request) requests) in omega (arith, none));
+      (let none : length (waiting_after true now waiting (request ∷ requests)) ≡ 0 =
+      ap length (none-waits (stored_after now request) requests) in omega (arith, none));
 }
 
 -- one request more acknowledges no fewer commands
-pub acknowledged-more : (now : Stored) (waiting : List Command) (rs : List Request) (r : Request) → acknowledged now waiting rs ≤ acknowledged now waiting (rs ++ r ∷ [])
+pub acknowledged-more : (now : Stored) (waiting : List Command) (rs : List Request) (r : Request)
+    → acknowledged now waiting rs ≤ acknowledged now waiting (rs ++ r ∷ [])
 acknowledged-more now waiting rs r =
-    subst (λ (l : List Command). acknowledged now waiting rs ≤ length (waiting ++ accepted_commands now (rs ++ r ∷ [])) - length l) (sym (waiting-last true now waiting rs r))
+    subst (λ (l : List Command). acknowledged now waiting rs
+    ≤ length (waiting ++ accepted_commands now (rs ++ r ∷ [])) - length l) (sym (waiting-last true now waiting rs r))
     none-left
   where
-    grown : length (waiting ++ accepted_commands now (rs ++ r ∷ [])) ≡ length (waiting ++ accepted_commands now rs) + length (accepted_command (stored_after_all now rs) r)
+    grown : length (waiting ++ accepted_commands now (rs ++ r ∷ []))
+        ≡ length (waiting ++ accepted_commands now rs) + length (accepted_command (stored_after_all now rs) r)
     grown =
         let last = ap length (accepted_commands-last now rs r) in
         let sum = length-append (accepted_commands now rs) (accepted_command (stored_after_all now rs) r) in
@@ -192,7 +213,8 @@ acknowledged-more now waiting rs r =
         let two = length-append waiting (accepted_commands now rs) in
         omega (arith, last, sum, one, two)
 
-    none-left : length (waiting ++ accepted_commands now rs) - length (waiting_after true now waiting rs) ≤ length (waiting ++ accepted_commands now (rs ++ r ∷ [])) - 0
+    none-left : length (waiting ++ accepted_commands now rs) - length (waiting_after true now waiting rs)
+        ≤ length (waiting ++ accepted_commands now (rs ++ r ∷ [])) - 0
     none-left = omega (arith, grown)
 
 -- ---- prefixes of commands, with more after them
@@ -213,7 +235,8 @@ pub record Continues (start : Contents) (commands : List Command) (flushed : Con
   pub leads : after start first ≡ Ok flushed
 
 -- so it is of what waited and what the requests accept
-pub continues : (each : Bool) (now : Stored) (flushed : Contents) (waiting : List Command) (rs : List Request) → after flushed waiting ≡ Ok now.state
+pub continues : (each : Bool) (now : Stored) (flushed : Contents) (waiting : List Command) (rs : List Request)
+    → after flushed waiting ≡ Ok now.state
     → Continues flushed (waiting ++ accepted_commands now rs) (flushed_after each now flushed rs) (waiting_after each now waiting rs)
 continues each now flushed waiting [] leads = record { first = []; is = append-nil waiting; leads = refl }
 continues each now flushed waiting (x ∷ rs) leads =
@@ -223,13 +246,16 @@ continues each now flushed waiting (x ∷ rs) leads =
     there : after flushed (waiting ++ accepted_command now x) ≡ Ok (stored_after now x).state
     there = after-joined flushed now.state (stored_after now x).state waiting (accepted_command now x) leads (leads-one now x)
 
-    grouped : waiting ++ (accepted_command now x ++ accepted_commands (stored_after now x) rs) ≡ (waiting ++ accepted_command now x) ++ accepted_commands (stored_after now x) rs
+    grouped : waiting ++ (accepted_command now x ++ accepted_commands (stored_after now x) rs)
+        ≡ (waiting ++ accepted_command now x) ++ accepted_commands (stored_after now x) rs
     grouped = sym (append_assoc waiting (accepted_command now x) (accepted_commands (stored_after now x) rs))
 
     by : (b : Bool)
-        → Continues (stored_after now x).state (accepted_commands (stored_after now x) rs) (flushed_after each (stored_after now x) (stored_after now x).state rs)
+        → Continues (stored_after now x).state (accepted_commands (stored_after now x) rs)
+        (flushed_after each (stored_after now x) (stored_after now x).state rs)
         (waiting_after each (stored_after now x) [] rs)
-        → Continues flushed ((waiting ++ accepted_command now x) ++ accepted_commands (stored_after now x) rs) (flushed_after each (stored_after now x) flushed rs)
+        → Continues flushed ((waiting ++ accepted_command now x) ++ accepted_commands (stored_after now x) rs)
+        (flushed_after each (stored_after now x) flushed rs)
         (waiting_after each (stored_after now x) (waiting ++ accepted_command now x) rs)
         → Continues flushed (waiting ++ (accepted_command now x ++ accepted_commands (stored_after now x) rs))
         (flushed_after each (stored_after now x) (if b then (stored_after now x).state else flushed) rs)
@@ -238,12 +264,15 @@ continues each now flushed waiting (x ∷ rs) leads =
       first = (waiting ++ accepted_command now x) ++ synced.first;
       is = grouped ∙ ap (λ l. (waiting ++ accepted_command now x) ++ l) synced.is
           ∙ sym (append_assoc (waiting ++ accepted_command now x) synced.first (waiting_after each (stored_after now x) [] rs));
-      leads = after-joined flushed (stored_after now x).state (flushed_after each (stored_after now x) (stored_after now x).state rs) (waiting ++ accepted_command now x) synced.first there synced.leads;
+      leads = after-joined flushed (stored_after now x).state
+          (flushed_after each (stored_after now x) (stored_after now x).state rs)
+          (waiting ++ accepted_command now x) synced.first there synced.leads;
     }
     by false synced waits = record { first = waits.first; is = grouped ∙ waits.is; leads = waits.leads }
 
 -- a file after a prefix of what waits, and more, is after at least the commands that are flushed
-pub at-least : (start flushed : Contents) (commands waiting more : List Command) (file : Option (List ℕ)) → Continues start commands flushed waiting → AfterPrefix flushed (waiting ++ more) file
+pub at-least : (start flushed : Contents) (commands waiting more : List Command) (file : Option (List ℕ))
+    → Continues start commands flushed waiting → AfterPrefix flushed (waiting ++ more) file
     → AfterAtLeast start (length commands - length waiting) (commands ++ more) file
 at-least start flushed commands waiting more file c some =
     let same : c.first ++ (waiting ++ more) ≡ commands ++ more = sym (append_assoc c.first waiting more) ∙ ap (λ l. l ++ more) (sym c.is) in
@@ -254,21 +283,25 @@ at-least start flushed commands waiting more file c some =
       count = length c.first + some.count;
       enough = omega (arith, long, sum);
       state = some.state;
-      leads = ap (after start) (take-beyond some.count c.first (waiting ++ more)) ∙ after-joined start flushed some.state c.first (take some.count (waiting ++ more)) c.leads some.leads;
+      leads = ap (after start) (take-beyond some.count c.first (waiting ++ more))
+          ∙ after-joined start flushed some.state c.first (take some.count (waiting ++ more)) c.leads some.leads;
       means = some.means;
     })
 
 -- and so after a prefix of all
-pub prefix-continued : (start flushed : Contents) (commands waiting more : List Command) (file : Option (List ℕ)) → Continues start commands flushed waiting → AfterPrefix flushed (waiting ++ more) file
+pub prefix-continued : (start flushed : Contents) (commands waiting more : List Command) (file : Option (List ℕ))
+    → Continues start commands flushed waiting → AfterPrefix flushed (waiting ++ more) file
     → AfterPrefix start (commands ++ more) file
 prefix-continued start flushed commands waiting more file c some =
     let all = at-least start flushed commands waiting more file c some in
     record { count = all.count; state = all.state; leads = all.leads; means = all.means }
 
 -- where none comes after what waits
-pub prefix-whole : (start flushed : Contents) (commands waiting : List Command) (file : Option (List ℕ)) → Continues start commands flushed waiting → AfterPrefix flushed waiting file → AfterPrefix start commands file
+pub prefix-whole : (start flushed : Contents) (commands waiting : List Command) (file : Option (List ℕ))
+    → Continues start commands flushed waiting → AfterPrefix flushed waiting file → AfterPrefix start commands file
 prefix-whole start flushed commands waiting file c some =
-    subst (λ (l : List Command). AfterPrefix start l file) (append-nil commands) (prefix-continued start flushed commands waiting [] file c (prefix-longer flushed waiting [] file some))
+    subst (λ (l : List Command). AfterPrefix start l file) (append-nil commands)
+    (prefix-continued start flushed commands waiting [] file c (prefix-longer flushed waiting [] file some))
 
 -- ---- requests that were performed
 
@@ -288,61 +321,83 @@ module _ (each : Bool) {D : Type 0} (model : DiskModel D) where
     waits = λ h flushed waiting has. has;
   }
 
-  module _ (old mid new : StoreView D) (rs : List Request) (r : Request) (before : PerformsAll each model old mid rs) (does : Performs each model mid new r) where
+  module _ (old mid new : StoreView D) (rs : List Request) (r : Request) (before : PerformsAll each model old mid rs)
+      (does : Performs each model mid new r) where
     pub state-more : new.state ≡ (stored_after_all (stored_of old) (rs ++ r ∷ [])).state
-    state-more = does.state ∙ ap (λ t. (stored_after t r).state) before.stored ∙ ap (λ (t : Stored). t.state) (sym (stored-last (stored_of old) rs r))
+    state-more = does.state ∙ ap (λ t. (stored_after t r).state) before.stored
+        ∙ ap (λ (t : Stored). t.state) (sym (stored-last (stored_of old) rs r))
 
     pub stored-more : new.reopen ≡ false → stored_of new ≡ stored_after_all (stored_of old) (rs ++ r ∷ [])
     stored-more off = does.stored off ∙ ap (λ t. stored_after t r) before.stored ∙ sym (stored-last (stored_of old) rs r)
 
     -- what `store.yaml` reads as after one request more
-    pub reads-more : model.honest → new.reopen ≡ false → bytes_under (model.folder new.disk) Store ≡ file_after_all (bytes_under (model.folder old.disk) Store) (stored_of old) (rs ++ r ∷ [])
+    pub reads-more : model.honest → new.reopen ≡ false
+        → bytes_under (model.folder new.disk) Store
+        ≡ file_after_all (bytes_under (model.folder old.disk) Store) (stored_of old) (rs ++ r ∷ [])
     reads-more h off =
         let file = bytes_under (model.folder old.disk) Store in
-        does.reads h off ∙ ap (λ f. file_after f (stored_of mid) r) (before.reads h) ∙ ap (λ t. file_after (file_after_all file (stored_of old) rs) t r) before.stored
+        does.reads h off ∙ ap (λ f. file_after f (stored_of mid) r) (before.reads h)
+        ∙ ap (λ t. file_after (file_after_all file (stored_of old) rs) t r) before.stored
         ∙ sym (file-last file (stored_of old) rs r)
 
     -- and the new file of a running checkpoint
-    pub stages-more : model.honest → new.reopen ≡ false → staged_text (model.folder new.disk) new.staged ≡ staged_after_all (staged_text (model.folder old.disk) old.staged) (stored_of old) (rs ++ r ∷ [])
+    pub stages-more : model.honest → new.reopen ≡ false
+        → staged_text (model.folder new.disk) new.staged
+        ≡ staged_after_all (staged_text (model.folder old.disk) old.staged) (stored_of old) (rs ++ r ∷ [])
     stages-more h off =
         let file = staged_text (model.folder old.disk) old.staged in
-        does.stages h off ∙ ap (λ f. staged_after f (stored_of mid) r) (before.stages h) ∙ ap (λ t. staged_after (staged_after_all file (stored_of old) rs) t r) before.stored
+        does.stages h off ∙ ap (λ f. staged_after f (stored_of mid) r) (before.stages h)
+        ∙ ap (λ t. staged_after (staged_after_all file (stored_of old) rs) t r) before.stored
         ∙ sym (staged-last file (stored_of old) rs r)
 
-    module _ (h : model.honest) (flushed : Contents) (waiting : List Command) (has : HasFlushed (model.folder old.disk) flushed waiting old.state) where
+    module _ (h : model.honest) (flushed : Contents) (waiting : List Command)
+        (has : HasFlushed (model.folder old.disk) flushed waiting old.state) where
       -- what is flushed before the last request, and what waits
-      continued : Continues flushed (waiting ++ accepted_commands (stored_of old) rs) (flushed_after each (stored_of old) flushed rs) (waiting_after each (stored_of old) waiting rs)
+      continued : Continues flushed (waiting ++ accepted_commands (stored_of old) rs)
+          (flushed_after each (stored_of old) flushed rs) (waiting_after each (stored_of old) waiting rs)
       continued = continues each (stored_of old) flushed waiting rs has.journal.leads
 
       -- all commands, with that of the last request
-      joined : (waiting ++ accepted_commands (stored_of old) rs) ++ accepted_command (stored_of mid) r ≡ waiting ++ accepted_commands (stored_of old) (rs ++ r ∷ [])
+      joined : (waiting ++ accepted_commands (stored_of old) rs) ++ accepted_command (stored_of mid) r
+          ≡ waiting ++ accepted_commands (stored_of old) (rs ++ r ∷ [])
       joined =
           append_assoc waiting (accepted_commands (stored_of old) rs) (accepted_command (stored_of mid) r)
-          ∙ ap (λ l. waiting ++ l) (ap (λ t. accepted_commands (stored_of old) rs ++ accepted_command t r) before.stored ∙ sym (accepted_commands-last (stored_of old) rs r))
+          ∙ ap (λ l. waiting ++ l) (ap (λ t. accepted_commands (stored_of old) rs ++ accepted_command t r)
+          before.stored ∙ sym (accepted_commands-last (stored_of old) rs r))
 
       -- what a crash leaves during the last request
-      last-moments : LeavesOnly model mid.disk new.disk (λ image. AfterPrefix (flushed_after each (stored_of old) flushed rs) (waiting_after each (stored_of old) waiting rs ++ accepted_command (stored_of mid) r) image.store)
-      last-moments = does.any_moment h (flushed_after each (stored_of old) flushed rs) (waiting_after each (stored_of old) waiting rs) (before.waits h flushed waiting has)
+      last-moments : LeavesOnly model mid.disk new.disk
+          (λ image. AfterPrefix (flushed_after each (stored_of old) flushed rs)
+          (waiting_after each (stored_of old) waiting rs ++ accepted_command (stored_of mid) r) image.store)
+      last-moments = does.any_moment h (flushed_after each (stored_of old) flushed rs)
+          (waiting_after each (stored_of old) waiting rs) (before.waits h flushed waiting has)
 
       -- and during all
-      pub moments-more : LeavesOnly model old.disk new.disk (λ image. AfterPrefix flushed (waiting ++ accepted_commands (stored_of old) (rs ++ r ∷ [])) image.store)
+      pub moments-more : LeavesOnly model old.disk new.disk
+          (λ image. AfterPrefix flushed (waiting ++ accepted_commands (stored_of old) (rs ++ r ∷ [])) image.store)
       moments-more =
           let first = waiting ++ accepted_commands (stored_of old) rs in
           let second = accepted_command (stored_of mid) r in
           subst (λ (l : List Command). LeavesOnly model old.disk new.disk (λ image. AfterPrefix flushed l image.store)) joined
           (LeavesOnly-joined model old.disk mid.disk new.disk _ _ _ (before.any_moment h flushed waiting has) last-moments
           (λ image. prefix-longer flushed first second image.store)
-          (λ image. prefix-continued flushed (flushed_after each (stored_of old) flushed rs) first (waiting_after each (stored_of old) waiting rs) second image.store continued))
+          (λ image. prefix-continued flushed (flushed_after each (stored_of old) flushed rs) first
+          (waiting_after each (stored_of old) waiting rs) second image.store continued))
 
       -- what waits after one request more
-      pub waits-more : new.reopen ≡ false → HasFlushed (model.folder new.disk) (flushed_after each (stored_of old) flushed (rs ++ r ∷ [])) (waiting_after each (stored_of old) waiting (rs ++ r ∷ [])) new.state
+      pub waits-more : new.reopen ≡ false → HasFlushed (model.folder new.disk)
+          (flushed_after each (stored_of old) flushed (rs ++ r ∷ []))
+          (waiting_after each (stored_of old) waiting (rs ++ r ∷ [])) new.state
       waits-more off =
           let f = flushed_after each (stored_of old) flushed rs in
           let w = waiting_after each (stored_of old) waiting rs in
           let flushes = ap (λ t. flushed_after each t f (r ∷ [])) before.stored ∙ sym (flushed-last each (stored_of old) flushed rs r) in
           let waits = ap (λ t. waiting_after each t w (r ∷ [])) before.stored ∙ sym (waiting-last each (stored_of old) waiting rs r) in
-          subst (λ (l : List Command). HasFlushed (model.folder new.disk) (flushed_after each (stored_of old) flushed (rs ++ r ∷ [])) l new.state) waits
-          (subst (λ (s : Contents). HasFlushed (model.folder new.disk) s (waiting_after each (stored_of mid) w (r ∷ [])) new.state) flushes (does.waits h off f w (before.waits h flushed waiting has)))
+          subst (λ (l : List Command). HasFlushed (model.folder new.disk)
+          (flushed_after each (stored_of old) flushed (rs ++ r ∷ [])) l new.state) waits
+          (subst (λ (s : Contents). HasFlushed (model.folder new.disk) s
+          (waiting_after each (stored_of mid) w (r ∷ [])) new.state) flushes
+          (does.waits h off f w (before.waits h flushed waiting has)))
 
     pub performs-more : new.reopen ≡ false → PerformsAll each model old new (rs ++ r ∷ [])
     performs-more off = record {
@@ -358,22 +413,30 @@ module _ (each : Bool) {D : Type 0} (model : DiskModel D) where
 
 module _ {D : Type 0} (model : DiskModel D) where
   -- a crash after the last request, of which it isn't known how far it came
-  pub kept-most : (old mid new : StoreView D) (rs : List Request) (r : Request) → PerformsAll true model old mid rs → Performs true model mid new r
+  pub kept-most : (old mid new : StoreView D) (rs : List Request) (r : Request) → PerformsAll true model old mid rs
+      → Performs true model mid new r
       → (h : model.honest) (flushed : Contents) (waiting : List Command) → HasFlushed (model.folder old.disk) flushed waiting old.state
-      → ((t : ℕ) (image : Image) → model.honest → t ≤ model.moment new.disk → IsImage (model.folder new.disk) image → model.left new.disk t image)
+      → ((t : ℕ) (image : Image) → model.honest → t ≤ model.moment new.disk → IsImage (model.folder new.disk) image
+      → model.left new.disk t image)
       → (image : Image) → IsImage (model.folder new.disk) image
-      → AfterAtLeast flushed (acknowledged (stored_of old) waiting rs) (waiting ++ accepted_commands (stored_of old) (rs ++ r ∷ [])) image.store
+      → AfterAtLeast flushed (acknowledged (stored_of old) waiting rs)
+      (waiting ++ accepted_commands (stored_of old) (rs ++ r ∷ [])) image.store
   kept-most old mid new rs r before does h flushed waiting has counts_now image is =
       let run = last-moments true model old mid new rs r before does h flushed waiting has in
       let some = run.each image (counts_now (model.moment mid.disk) image h run.later is) in
-      subst (λ (l : List Command). AfterAtLeast flushed (acknowledged (stored_of old) waiting rs) l image.store) (joined true model old mid new rs r before does h flushed waiting has)
-      (at-least flushed (flushed_after true (stored_of old) flushed rs) (waiting ++ accepted_commands (stored_of old) rs) (waiting_after true (stored_of old) waiting rs) (accepted_command (stored_of mid) r) image.store
+      subst (λ (l : List Command). AfterAtLeast flushed (acknowledged (stored_of old) waiting rs) l image.store)
+      (joined true model old mid new rs r before does h flushed waiting has)
+      (at-least flushed (flushed_after true (stored_of old) flushed rs)
+      (waiting ++ accepted_commands (stored_of old) rs) (waiting_after true (stored_of old) waiting rs)
+      (accepted_command (stored_of mid) r) image.store
       (continues true (stored_of old) flushed waiting rs has.journal.leads) some)
 
   -- a crash after requests that are all performed
-  pub kept-all : (old new : StoreView D) (rs : List Request) (least : ℕ) → new.reopen ≡ false → (model.honest → new.reopen ≡ false → LeavesPrefixes (model.folder new.disk) new.state)
+  pub kept-all : (old new : StoreView D) (rs : List Request) (least : ℕ) → new.reopen ≡ false
+      → (model.honest → new.reopen ≡ false → LeavesPrefixes (model.folder new.disk) new.state)
       → (h : model.honest) (flushed : Contents) (waiting : List Command) → HasFlushed (model.folder old.disk) flushed waiting old.state
-      → HasFlushed (model.folder new.disk) (flushed_after true (stored_of old) flushed rs) (waiting_after true (stored_of old) waiting rs) new.state
+      → HasFlushed (model.folder new.disk) (flushed_after true (stored_of old) flushed rs)
+      (waiting_after true (stored_of old) waiting rs) new.state
       → least ≤ acknowledged (stored_of old) waiting rs → (image : Image) → IsImage (model.folder new.disk) image
       → AfterAtLeast flushed least (waiting ++ accepted_commands (stored_of old) rs) image.store
   kept-all old new rs least off means h flushed waiting has waits few image is =

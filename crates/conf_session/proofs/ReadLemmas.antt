@@ -9,7 +9,9 @@ use Rattle.std.proofs.lemmas.List.Folds.{concat-append}
 use Rattle.std.proofs.lemmas.List.Elements.{All-nil, All-append}
 use Rattle.yaml_grammar.specs.Closings.{ClosesOnce}
 use Rattle.conf_session.specs.Said.{piece_limit}
-use Rattle.conf_session.specs.Input.{session_limit, IsSound, ahead, bytes_read, piece_or_rest as piece_of, AdvancesToPiece, AdvancesToEnd, FailsToRead, FindsTooLong, FindsSessionLong, RunsOutOfMemory, Advances}
+use Rattle.conf_session.specs.Input.{session_limit, IsSound, ahead, bytes_read, piece_or_rest as piece_of}
+use Rattle.conf_session.specs.Input.{AdvancesToPiece, AdvancesToEnd, FailsToRead, FindsTooLong, FindsSessionLong}
+use Rattle.conf_session.specs.Input.{RunsOutOfMemory, Advances}
 use Rattle.conf_session.specs.declared.fault.SessionFault.{SessionFault}
 use Rattle.conf_session.specs.declared.fault.SessionFault.TheVariants as fault
 use Rattle.conf_session.specs.declared.input.Input.{Input}
@@ -40,13 +42,19 @@ pieces-joined ps qs rs ss are more = record {
 }
 
 -- more bytes were read
-taken-more : (given mid left : Option (List ℕ)) (prefix further more : List ℕ) → Consumes given mid (prefix ++ further) → Consumes mid left more → Consumes given left (prefix ++ (further ++ more))
+taken-more : (given mid left : Option (List ℕ)) (prefix further more : List ℕ)
+    → Consumes given mid (prefix ++ further) → Consumes mid left more → Consumes given left (prefix ++ (further ++ more))
 taken-more given mid left prefix further more one two =
     subst (Consumes given left) (append_assoc prefix further more) (Consumes-trans given mid left (prefix ++ further) more one two)
 
 -- nothing was read and answered
 pub nothing-read : (given held : Option (List ℕ)) → EndsEarly (streams_of given given held held) [] [] []
-nothing-read given held = record { bytes = []; taken = Consumes-nil given; begins = record { further = []; takes = record { pieces = []; joined = refl; are = none-are } }; out = Appends-nil held }
+nothing-read given held = record {
+  bytes = [];
+  taken = Consumes-nil given;
+  begins = record { further = []; takes = record { pieces = []; joined = refl; are = none-are } };
+  out = Appends-nil held;
+}
 
 -- ---- so far
 
@@ -80,9 +88,11 @@ read-none given held further kept total none d a r w t = record {
 }
 
 -- the same in other words
-pub read-as : (given left held written : Option (List ℕ)) (requests rs : List Request) (answers bytes : List ℕ) (accepted a refused r : ℕ) (further : List ℕ) (kept : Unwritten) (total : ℕ)
+pub read-as : (given left held written : Option (List ℕ)) (requests rs : List Request) (answers bytes : List ℕ)
+    (accepted a refused r : ℕ) (further : List ℕ) (kept : Unwritten) (total : ℕ)
     → requests ≡ rs → answers ≡ bytes → accepted ≡ a → refused ≡ r
-    → ReadSoFar given left held written requests answers accepted refused further kept total → ReadSoFar given left held written rs bytes a r further kept total
+    → ReadSoFar given left held written requests answers accepted refused further kept total
+    → ReadSoFar given left held written rs bytes a r further kept total
 read-as given left held written requests rs answers bytes accepted a refused r further kept total same out accepts refuses s = record {
   pieces = s.pieces;
   taken = s.taken;
@@ -96,29 +106,38 @@ read-as given left held written requests rs answers bytes accepted a refused r f
 }
 
 -- a session ends as it stands
-pub ends-here : (given left held written : Option (List ℕ)) (requests : List Request) (answers : List ℕ) (accepted refused : ℕ) (further : List ℕ) (kept : Unwritten) (total : ℕ)
-    → ReadSoFar given left held written requests answers accepted refused further kept total → EndsEarly (streams_of given left held written) requests [] answers
+pub ends-here : (given left held written : Option (List ℕ)) (requests : List Request) (answers : List ℕ)
+    (accepted refused : ℕ) (further : List ℕ) (kept : Unwritten) (total : ℕ)
+    → ReadSoFar given left held written requests answers accepted refused further kept total
+    → EndsEarly (streams_of given left held written) requests [] answers
 ends-here given left held written requests answers accepted refused further kept total s = record {
   bytes = concat s.pieces ++ further;
   taken = s.taken;
-  begins = record { further = further; takes = record { pieces = s.pieces; joined = refl; are = subst (ArePieces s.pieces) (sym (append-nil requests)) s.are } };
+  begins = record {
+    further = further;
+    takes =
+        record { pieces = s.pieces; joined = refl; are = subst (ArePieces s.pieces) (sym (append-nil requests)) s.are };
+  };
   out = s.out;
 }
 
-module _ (given mid left held between : Option (List ℕ)) (requests : List Request) (answers : List ℕ) (accepted refused : ℕ) (was then : Input) (kept : Unwritten)
+module _ (given mid left held between : Option (List ℕ)) (requests : List Request) (answers : List ℕ)
+    (accepted refused : ℕ) (was then : Input) (kept : Unwritten)
     (s : ReadSoFar given mid held between requests answers accepted refused (ahead was) kept (bytes_read was)) where
   -- ---- how a session ends at its input
 
   -- all was read
   pub ends-well : (tally : Tally) → AdvancesToEnd mid left was then
-      → tally.documents ≡ kept.tally.documents → tally.accepted ≡ kept.tally.accepted → tally.refused ≡ kept.tally.refused → tally.rest ≡ length (piece_of then)
+      → tally.documents ≡ kept.tally.documents → tally.accepted ≡ kept.tally.accepted
+      → tally.refused ≡ kept.tally.refused → tally.rest ≡ length (piece_of then)
       → EndsAnswered (streams_of given left held between) requests answers accepted refused (Ok tally)
   ends-well tally end d a r rest = record {
     bytes = concat s.pieces ++ (ahead was ++ end.more);
     rest = piece_of then;
     taken = taken-more given mid left (concat s.pieces) (ahead was) end.more s.taken end.taken;
     at_end = end.at_end;
-    within = (let total = s.read in let size = length-append (concat s.pieces) (ahead was ++ end.more) in let prefix = length-append (concat s.pieces) (ahead was) in
+    within = (let total = s.read in let size = length-append (concat s.pieces) (ahead was ++ end.more) in
+        let prefix = length-append (concat s.pieces) (ahead was) in
         let back = length-append (ahead was) end.more in let few = end.total in omega (arith, total, size, prefix, back, few));
     input = record {
       pieces = s.pieces;
@@ -133,53 +152,87 @@ module _ (given mid left held between : Option (List ℕ)) (requests : List Requ
     unclosed = rest;
   }
 
-  ends-reading : FailsToRead mid left was → EndsAnswered (streams_of given left held between) requests answers accepted refused (Err fault.Read)
+  ends-reading : FailsToRead mid left was → EndsAnswered
+      (streams_of given left held between) requests answers accepted refused (Err fault.Read)
   ends-reading fails = record {
     bytes = concat s.pieces ++ (ahead was ++ fails.more);
     taken = taken-more given mid left (concat s.pieces) (ahead was) fails.more s.taken fails.taken;
     shows = record {
       rest = ahead was ++ fails.more;
-      input = record { pieces = s.pieces; cut = record { joined = refl; closed = s.are.closed; unclosed = fails.unclosed }; are = s.are; short = fails.short };
+      input = record {
+        pieces = s.pieces;
+        cut = record {
+          joined = refl;
+          closed = s.are.closed;
+          unclosed = fails.unclosed;
+        };
+        are = s.are;
+        short = fails.short;
+      };
     };
     out = s.out;
   }
 
-  ends-too_long : FindsTooLong mid left was → EndsAnswered (streams_of given left held between) requests answers accepted refused (Err fault.TooLong)
+  ends-too_long : FindsTooLong mid left was → EndsAnswered
+      (streams_of given left held between) requests answers accepted refused (Err fault.TooLong)
   ends-too_long finds = record {
     bytes = concat s.pieces ++ (ahead was ++ finds.more);
     taken = taken-more given mid left (concat s.pieces) (ahead was) finds.more s.taken finds.taken;
-    shows = record { begins = record { further = ahead was ++ finds.more; takes = record { pieces = s.pieces; joined = refl; are = s.are } }; overlong = finds.overlong };
+    shows = record {
+      begins = record {
+        further = ahead was ++ finds.more;
+        takes = record { pieces = s.pieces; joined = refl; are = s.are };
+      };
+      overlong = finds.overlong;
+    };
     out = s.out;
   }
 
-  ends-session_long : FindsSessionLong mid left was → EndsAnswered (streams_of given left held between) requests answers accepted refused (Err fault.SessionLong)
+  ends-session_long : FindsSessionLong mid left was
+      → EndsAnswered (streams_of given left held between) requests answers accepted refused (Err fault.SessionLong)
   ends-session_long finds =
       let rest = ahead was ++ finds.more in
       let prefix = concat s.pieces ++ rest in
       let bytes = concat s.pieces ++ (ahead was ++ (finds.more ++ finds.beyond)) in
-      let split : bytes ≡ prefix ++ finds.beyond = ap (λ l. concat s.pieces ++ l) (sym (append_assoc (ahead was) finds.more finds.beyond)) ∙ sym (append_assoc (concat s.pieces) rest finds.beyond) in
-      let size : length prefix ≡ session_limit = (let total = s.read in let full = finds.full in let one = length-append (concat s.pieces) rest in let two = length-append (concat s.pieces) (ahead was) in
+      let split : bytes ≡ prefix ++ finds.beyond =
+      ap (λ l. concat s.pieces ++ l) (sym (append_assoc (ahead was) finds.more finds.beyond))
+      ∙ sym (append_assoc (concat s.pieces) rest finds.beyond) in
+      let size : length prefix ≡ session_limit =
+      (let total = s.read in let full = finds.full in let one = length-append (concat s.pieces) rest in
+      let two = length-append (concat s.pieces) (ahead was) in
       let three = length-append (ahead was) finds.more in omega (arith, total, full, one, two, three)) in
       let within : take session_limit bytes ≡ prefix =
-      ap (take session_limit) split ∙ take-append-le session_limit prefix finds.beyond (omega (arith, size)) ∙ take_all session_limit prefix (omega (arith, size)) in
+      ap (take session_limit) split ∙ take-append-le session_limit prefix finds.beyond (omega (arith, size))
+      ∙ take_all session_limit prefix (omega (arith, size)) in
       record {
         bytes = bytes;
         taken = taken-more given mid left (concat s.pieces) (ahead was) (finds.more ++ finds.beyond) s.taken finds.taken;
         shows = record {
           input = record {
             rest = rest;
-            input = record { pieces = s.pieces; cut = record { joined = within; closed = s.are.closed; unclosed = finds.unclosed }; are = s.are; short = finds.short };
+            input = record {
+              pieces = s.pieces;
+              cut =
+                  record { joined = within; closed = s.are.closed; unclosed = finds.unclosed };
+              are = s.are;
+              short = finds.short;
+            };
           };
-          long = (let all = ap length split in let more = length-append prefix finds.beyond in let some = finds.some in omega (arith, all, more, size, some));
+          long = (let all = ap length split in let more = length-append prefix finds.beyond in
+              let some = finds.some in omega (arith, all, more, size, some));
         };
         out = s.out;
       }
 
   -- the bytes that were read begin with the pieces that are answered
   answered-begins : (further : List ℕ) → BeginsWith (concat s.pieces ++ further) (requests ++ [])
-  answered-begins further = record { further = further; takes = record { pieces = s.pieces; joined = refl; are = subst (ArePieces s.pieces) (sym (append-nil requests)) s.are } }
+  answered-begins further = record {
+    further = further;
+    takes = record { pieces = s.pieces; joined = refl; are = subst (ArePieces s.pieces) (sym (append-nil requests)) s.are };
+  }
 
-  ends-starved : RunsOutOfMemory mid left → EndsAnswered (streams_of given left held between) requests answers accepted refused (Err fault.OutOfMemory)
+  ends-starved : RunsOutOfMemory mid left → EndsAnswered
+      (streams_of given left held between) requests answers accepted refused (Err fault.OutOfMemory)
   ends-starved out = record {
     bytes = concat s.pieces ++ (ahead was ++ out.more);
     taken = taken-more given mid left (concat s.pieces) (ahead was) out.more s.taken out.taken;
@@ -188,7 +241,8 @@ module _ (given mid left held between : Option (List ℕ)) (requests : List Requ
   }
 
   -- the input has no further piece for a reason
-  pub ends-in_input : (f : SessionFault) → Advances mid left was then (Err f) → EndsAnswered (streams_of given left held between) requests answers accepted refused (Err f)
+  pub ends-in_input : (f : SessionFault) → Advances mid left was then (Err f)
+      → EndsAnswered (streams_of given left held between) requests answers accepted refused (Err f)
   ends-in_input fault.Read fails = ends-reading fails
   ends-in_input fault.TooLong fails = ends-too_long fails
   ends-in_input fault.SessionLong fails = ends-session_long fails
@@ -213,11 +267,13 @@ module _ (given mid left held between : Option (List ℕ)) (requests : List Requ
       -- what was read, with these pieces after the others
       joined-more : concat s.pieces ++ (ahead was ++ advances.more) ≡ concat (s.pieces ++ takes.pieces) ++ further
       joined-more =
-          ap (λ l. concat s.pieces ++ l) (advances.joined ∙ takes.joined) ∙ sym (append_assoc (concat s.pieces) (concat takes.pieces) further)
+          ap (λ l. concat s.pieces ++ l) (advances.joined ∙ takes.joined)
+          ∙ sym (append_assoc (concat s.pieces) (concat takes.pieces) further)
           ∙ ap (λ l. l ++ further) (sym (concat-append s.pieces takes.pieces))
 
       pub all-taken : Consumes given left (concat (s.pieces ++ takes.pieces) ++ further)
-      all-taken = subst (Consumes given left) joined-more (taken-more given mid left (concat s.pieces) (ahead was) advances.more s.taken advances.taken)
+      all-taken = subst (Consumes given left) joined-more
+          (taken-more given mid left (concat s.pieces) (ahead was) advances.more s.taken advances.taken)
 
       pub all-are : ArePieces (s.pieces ++ takes.pieces) (requests ++ rs)
       all-are = pieces-joined s.pieces takes.pieces requests rs s.are takes.are
@@ -228,7 +284,8 @@ module _ (given mid left held between : Option (List ℕ)) (requests : List Requ
           let three = length-append (ahead was) advances.more in omega (arith, all, before, grown, one, two, three))
 
       -- they have no answers
-      pub ends-unanswered : (written : Option (List ℕ)) → Appends held written answers → EndsEarly (streams_of given left held written) requests rs answers
+      pub ends-unanswered : (written : Option (List ℕ)) → Appends held written answers
+          → EndsEarly (streams_of given left held written) requests rs answers
       ends-unanswered written out = record {
         bytes = concat (s.pieces ++ takes.pieces) ++ further;
         taken = all-taken;
@@ -237,8 +294,10 @@ module _ (given mid left held between : Option (List ℕ)) (requests : List Requ
       }
 
     -- and all their answers are written
-    pub read-more : (written : Option (List ℕ)) (further : List ℕ) (start : Stored) (rs : List Request) (after : Unwritten) → SendsAnswers between written (piece_of then ++ ahead then) further start rs kept after
-        → ReadSoFar given left held written (requests ++ rs) (answers ++ output start rs) (accepted + length (accepted_commands start rs)) (refused + refusals start rs) further after (bytes_read then)
+    pub read-more : (written : Option (List ℕ)) (further : List ℕ) (start : Stored) (rs : List Request)
+        (after : Unwritten) → SendsAnswers between written (piece_of then ++ ahead then) further start rs kept after
+        → ReadSoFar given left held written (requests ++ rs) (answers ++ output start rs)
+        (accepted + length (accepted_commands start rs)) (refused + refusals start rs) further after (bytes_read then)
     read-more written further start rs after sends = record {
       pieces = s.pieces ++ sends.takes.pieces;
       taken = all-taken further rs sends.takes;
@@ -267,8 +326,10 @@ pub none-unwritten : (answers : Unwritten) → answers.text.items ≡ [] → ans
 none-unwritten answers text last = ap (λ l. l ++ last_bytes answers.last) text ∙ ap last_bytes last
 
 -- there is room before anything is read
-pub room-none : (input : Input) (answers : Unwritten) → IsSound input → ahead input ≡ [] → bytes_read input ≡ 0 → answers.text.items ≡ [] → answers.last ≡ None
-    → answers.tally.documents ≡ 0 → answers.tally.accepted ≡ 0 → answers.tally.refused ≡ 0 → answers.written ≡ 0 → HasRoomFor answers (length (ahead input)) (bytes_read input)
+pub room-none : (input : Input) (answers : Unwritten) → IsSound input → ahead input ≡ [] → bytes_read input ≡ 0
+    → answers.text.items ≡ [] → answers.last ≡ None
+    → answers.tally.documents ≡ 0 → answers.tally.accepted ≡ 0 → answers.tally.refused ≡ 0 → answers.written ≡ 0
+    → HasRoomFor answers (length (ahead input)) (bytes_read input)
 room-none input answers sound start read text last documents accepted refused written =
     let none = ap length start in
     let empty = ap length text in
@@ -283,17 +344,20 @@ room-none input answers sound start read text last documents accepted refused wr
     }
 
 -- an advance that tells of a piece is at one
-pub at-piece : (given left : Option (List ℕ)) (was next : Input) (more : Bool) → Advances given left was next (Ok more) → more ≡ true → AdvancesToPiece given left was next
+pub at-piece : (given left : Option (List ℕ)) (was next : Input) (more : Bool)
+    → Advances given left was next (Ok more) → more ≡ true → AdvancesToPiece given left was next
 at-piece given left was next true advances is = advances
 at-piece given left was next false advances is = cc
 
 -- one that tells of none is at the end
-pub at-end : (given left : Option (List ℕ)) (was next : Input) (more : Bool) → Advances given left was next (Ok more) → more ≡ false → AdvancesToEnd given left was next
+pub at-end : (given left : Option (List ℕ)) (was next : Input) (more : Bool) → Advances given left was next (Ok more)
+    → more ≡ false → AdvancesToEnd given left was next
 at-end given left was next true advances is = cc
 at-end given left was next false advances is = advances
 
 -- there is room for the answers to what was read now
-pub room-read : (given left : Option (List ℕ)) (was next : Input) (kept : Unwritten) → HasRoomFor kept (length (ahead was)) (bytes_read was) → AdvancesToPiece given left was next
+pub room-read : (given left : Option (List ℕ)) (was next : Input) (kept : Unwritten)
+    → HasRoomFor kept (length (ahead was)) (bytes_read was) → AdvancesToPiece given left was next
     → HasRoomFor kept (length (piece_of next ++ ahead next)) (bytes_read next)
 room-read given left was next kept room advances =
     let joined = ap length advances.joined in

@@ -62,10 +62,12 @@ answered-memory store.OutOfMemory shut device = refl
 
 -- what is answered did not run out of memory
 pub answered-some : (why : StoreFault) (reason : Refusal) → answered why ≡ Ok reason → why ≢ store.OutOfMemory
-answered-some why reason is e = let never : (◌≡◌ {A = Result Refusal SessionFault} (Err OutOfMemory) (Ok reason)) = sym (ap answered e) ∙ is in cc never
+answered-some why reason is e = let never : (◌≡◌ {A = Result Refusal SessionFault} (Err OutOfMemory) (Ok reason)) =
+    sym (ap answered e) ∙ is in cc never
 
 pub read-some : (why : ReadFault) (reason : Refusal) → read_answered why ≡ Ok reason → why ≢ read.OutOfMemory
-read-some why reason is e = let never : (◌≡◌ {A = Result Refusal SessionFault} (Err OutOfMemory) (Ok reason)) = sym (ap read_answered e) ∙ is in cc never
+read-some why reason is e = let never : (◌≡◌ {A = Result Refusal SessionFault} (Err OutOfMemory) (Ok reason)) =
+    sym (ap read_answered e) ∙ is in cc never
 
 -- a text that is refused is answered
 pub text-memory : (name source : List ℕ) (why : StoreFault) → RefusesText name source why → OnlyMemory (answered why)
@@ -94,21 +96,24 @@ named-memory s name why e = by (good_name name) (config_named s.configs name) e
     by false o e = let same : store.BadName ≡ why = cc e in subst (λ f. OnlyMemory (answered f)) same tt
 
 -- and a path without a place
-pub placed-memory : (s : Contents) (name : List ℕ) (tokens : List (List ℕ)) (why : StoreFault) → tree_at s name tokens ≡ Err why → OnlyMemory (answered why)
+pub placed-memory : (s : Contents) (name : List ℕ) (tokens : List (List ℕ)) (why : StoreFault)
+    → tree_at s name tokens ≡ Err why → OnlyMemory (answered why)
 placed-memory s name tokens why e = by (tree_named s name) refl e
   where
     at-place : (r : Result Tree PathFault) → by_path r ≡ Err why → OnlyMemory (answered why)
     at-place (Ok t) e = let never : (◌≡◌ {A = Result Tree StoreFault} (Ok t) (Err why)) = e in absurd (cc never)
     at-place (Err f) e = let same : store.Path f ≡ why = cc e in subst (λ g. OnlyMemory (answered g)) same (path-memory f)
 
-    by : (r : Result Tree StoreFault) → tree_named s name ≡ r → and_then r (λ t. by_path (at t tokens)) ≡ Err why → OnlyMemory (answered why)
+    by : (r : Result Tree StoreFault) → tree_named s name ≡ r → and_then r (λ t. by_path (at t tokens)) ≡ Err why
+        → OnlyMemory (answered why)
     by (Ok t) is e = at-place (at t tokens) e
     by (Err f) is e = let same : f ≡ why = cc e in named-memory s name why (subst (λ g. tree_named s name ≡ Err g) same is)
 
 -- ---- replies
 
 -- the reply by a refusal
-pub refused-ok : (P : Reply → Type 0) (r : Result Refusal SessionFault) → ((reason : Refusal) → r ≡ Ok reason → P (Refused reason)) → IfOk (refused_as r) P
+pub refused-ok : (P : Reply → Type 0) (r : Result Refusal SessionFault)
+    → ((reason : Refusal) → r ≡ Ok reason → P (Refused reason)) → IfOk (refused_as r) P
 refused-ok P (Ok reason) holds = holds reason refl
 refused-ok P (Err fault) holds = tt
 

@@ -1,6 +1,7 @@
 -- What one request does.
 use Rattle.std.proofs.Common.{◌≡◌, ◌≢◌, ◌≤◌, ◌⊎◌, inl, inr, ⊎_elim, refl, sym, ◌∙◌, ap, subst, arith, length-append}
-use Rattle.std.specs.Prelude.{ℕ, ◌+◌, min, max, false, List, [], ◌∷◌, ◌++◌, length, decimal, codes, Option, Some, None, option_map, unwrap_or, Result, Ok, Err, IfOk, String, string_bytes}
+use Rattle.std.specs.Prelude.{ℕ, ◌+◌, min, max, false, List, [], ◌∷◌, ◌++◌, length, decimal, codes, Option, Some}
+use Rattle.std.specs.Prelude.{None, option_map, unwrap_or, Result, Ok, Err, IfOk, String, string_bytes}
 use Rattle.std.specs.Str.{chars, IsUtf8}
 use Rattle.std.specs.declared.alloc.Global.{Global}
 use Rattle.std.proofs.lemmas.Bool.{cases_lt}
@@ -37,9 +38,12 @@ use Rattle.conf_session.specs.Said.{import_text, single_part}
 use Rattle.conf_session.specs.declared.fault.SessionFault.{SessionFault}
 use Rattle.conf_session.specs.declared.fault.SessionFault.TheVariants as fault
 use Rattle.conf_session.specs.Requests.{MeansRequest, Request, changing, unread, getting, exporting, naming, checkpointing, if_met, bad}
-use Rattle.conf_session.specs.Answers.{Stored, longest, one, change_answer, stored_after_change, stored_after, file_after_change, accepted_by, accepted_command, is_refused, answered, refused_answer, document_bytes}
+use Rattle.conf_session.specs.Answers.{Stored, longest, one, change_answer, stored_after_change, stored_after}
+use Rattle.conf_session.specs.Answers.{file_after_change, accepted_by, accepted_command, is_refused, answered}
+use Rattle.conf_session.specs.Answers.{refused_answer, document_bytes}
 use Rattle.conf_session.specs.Runs.{stored_of}
-use Rattle.conf_session.specs.Replies.{OnlyReads, LeavesPrefixes, MeansPrefixes, Performs, Replies, Did, DidAsked, CountsFailures, Handles, refused_as}
+use Rattle.conf_session.specs.Replies.{OnlyReads, LeavesPrefixes, MeansPrefixes, Performs, Replies, Did, DidAsked}
+use Rattle.conf_session.specs.Replies.{CountsFailures, Handles, refused_as}
 use Rattle.conf_session.specs.declared.words.Refusal.{Refusal}
 use Rattle.conf_session.proofs.LengthLemmas.{step-few, answer-short, refused-short}
 use Rattle.conf_session.proofs.RefusalLemmas.{OnlyMemory, answered-memory, is-device, no-device}
@@ -66,9 +70,11 @@ lengths-more bytes (Some s) =
     ap Some same
 
 -- an accepted command adds the length of its record to both files
-stored-accepted : {D : Type 0} (old new : StoreView D) (command : Command) → Accepts old command new → stored_of new ≡ stored_after_change (stored_of old) command (Ok new.state)
+stored-accepted : {D : Type 0} (old new : StoreView D) (command : Command) → Accepts old command new
+    → stored_of new ≡ stored_after_change (stored_of old) command (Ok new.state)
 stored-accepted old new command accepts =
-    let lengths = ap (option_map (λ (s : Staged). s.written + length s.left)) accepts.staged ∙ lengths-more (next_record old.state command) old.staged in
+    let lengths = ap (option_map (λ (s : Staged). s.written + length s.left)) accepts.staged
+    ∙ lengths-more (next_record old.state command) old.staged in
     λ i. record { state = new.state; size = accepts.size i; staged = lengths i }
 
 -- ---- what a crash leaves
@@ -83,12 +89,15 @@ synced-leaves folder s means flushed waiting has image is = record {
 }
 
 -- and so it does of a store that is as it was
-pub leaves-same : {D : Type 0} (model : DiskModel D) (old new : StoreView D) → new ≡ old → (model.honest → old.reopen ≡ false → LeavesPrefixes (model.folder old.disk) old.state)
+pub leaves-same : {D : Type 0} (model : DiskModel D) (old new : StoreView D) → new ≡ old
+    → (model.honest → old.reopen ≡ false → LeavesPrefixes (model.folder old.disk) old.state)
     → model.honest → new.reopen ≡ false → LeavesPrefixes (model.folder new.disk) new.state
-leaves-same {D} model old new same means = subst (λ (s : StoreView D). model.honest → s.reopen ≡ false → LeavesPrefixes (model.folder s.disk) s.state) (sym same) means
+leaves-same {D} model old new same means = subst
+    (λ (s : StoreView D). model.honest → s.reopen ≡ false → LeavesPrefixes (model.folder s.disk) s.state) (sym same) means
 
 -- the state after all commands that wait, and one more
-all-after : (flushed s end : Contents) (waiting : List Command) (command : Command) (file : Option (List ℕ)) → after flushed waiting ≡ Ok s → after s (command ∷ []) ≡ Ok end → FileMeans file end
+all-after : (flushed s end : Contents) (waiting : List Command) (command : Command) (file : Option (List ℕ))
+    → after flushed waiting ≡ Ok s → after s (command ∷ []) ≡ Ok end → FileMeans file end
     → AfterPrefix flushed (waiting ++ command ∷ []) file
 all-after flushed s end waiting command file leads done means =
     let all = waiting ++ command ∷ [] in
@@ -102,7 +111,8 @@ all-after flushed s end waiting command file leads done means =
 -- ---- what waits after a command
 
 -- the commands that wait, where none is added
-pub still : (folder : Folder) (flushed s : Contents) (waiting : List Command) → HasFlushed folder flushed waiting s → HasFlushed folder flushed (waiting ++ []) s
+pub still : (folder : Folder) (flushed s : Contents) (waiting : List Command) → HasFlushed folder flushed waiting s
+    → HasFlushed folder flushed (waiting ++ []) s
 still folder flushed s waiting has = subst (λ (l : List Command). HasFlushed folder flushed l s) (sym (append-nil waiting)) has
 
 -- ---- failures of the device
@@ -115,78 +125,134 @@ failed-before old mid new rose risen (inr most) =
 
 module _ {D : Type 0} (model : DiskModel D) where
   -- a call that is handed on
-  pub failures-told : {A B : Type 0} (old new : StoreView D) (r : Result A SessionFault) (q : Result B SessionFault) → (q ≡ Err fault.Device → r ≡ Err fault.Device)
+  pub failures-told : {A B : Type 0} (old new : StoreView D) (r : Result A SessionFault) (q : Result B SessionFault)
+      → (q ≡ Err fault.Device → r ≡ Err fault.Device)
       → CountsFailures model old new r → CountsFailures model old new q
   failures-told old new r q told h = record { cause = λ e. h.cause (told e); risen = h.risen }
 
   -- the last of some calls, which did not fail before
-  pub failures-after : {A : Type 0} (old mid new : StoreView D) (r : Result A SessionFault) → model.failure_count old.disk ≤ model.failure_count mid.disk
+  pub failures-after : {A : Type 0} (old mid new : StoreView D) (r : Result A SessionFault)
+      → model.failure_count old.disk ≤ model.failure_count mid.disk
       → CountsFailures model mid new r → CountsFailures model old new r
   failures-after old mid new r rose h = record {
-    cause = λ e. failed-before (model.failure_count old.disk) (model.failure_count mid.disk) (model.failure_count new.disk) rose h.risen (h.cause e);
+    cause = λ e. failed-before (model.failure_count old.disk) (model.failure_count mid.disk)
+        (model.failure_count new.disk) rose h.risen (h.cause e);
     risen = (let risen = h.risen in omega (arith, rose, risen));
   }
 
   -- a call that did not fail by the device
-  pub failures-none : {A : Type 0} (old new : StoreView D) (r : Result A SessionFault) → model.failure_count old.disk ≤ model.failure_count new.disk → (r ≡ Err fault.Device → ⊥)
+  pub failures-none : {A : Type 0} (old new : StoreView D) (r : Result A SessionFault)
+      → model.failure_count old.disk ≤ model.failure_count new.disk → (r ≡ Err fault.Device → ⊥)
       → CountsFailures model old new r
   failures-none old new r rose other = record { cause = λ e. absurd (other e); risen = rose }
 
 module _ {D : Type 0} (model : DiskModel D) where
   -- a store that is as it was
-  pub unchanged : (store : StoreView D) → store.reopen ≡ false → (more : List Command) → ((image : Image) → model.honest → model.left store.disk (model.moment store.disk) image → IsImage (model.folder store.disk) image)
+  pub unchanged : (store : StoreView D) → store.reopen ≡ false → (more : List Command)
+      → ((image : Image) → model.honest → model.left store.disk (model.moment store.disk) image
+      → IsImage (model.folder store.disk) image)
       → (model.honest → store.reopen ≡ false → LeavesPrefixes (model.folder store.disk) store.state)
       → model.honest → (flushed : Contents) (waiting : List Command) → HasFlushed (model.folder store.disk) flushed waiting store.state
       → LeavesOnly model store.disk store.disk (λ image. AfterPrefix flushed (waiting ++ more) image.store)
   unchanged store off more only means h flushed waiting has =
-      LeavesOnly-start model store.disk _ (λ image is. prefix-longer flushed waiting more image.store (means h off flushed waiting has image (only image h is)))
+      LeavesOnly-start model store.disk _ (λ image is.
+      prefix-longer flushed waiting more image.store (means h off flushed waiting has image (only image h is)))
 
   -- a request that only reads leaves the store as it is
   pub only-read : (store : StoreView D) → store.reopen ≡ false → (request : Request) → OnlyReads request
       → ((image : Image) → model.honest → model.left store.disk (model.moment store.disk) image → IsImage (model.folder store.disk) image)
-      → (model.honest → store.reopen ≡ false → LeavesPrefixes (model.folder store.disk) store.state) → Performs false model store store request
+      → (model.honest → store.reopen ≡ false → LeavesPrefixes (model.folder store.disk) store.state)
+      → Performs false model store store request
   only-read store off (changing command) is only means = absurd is
   only-read store off checkpointing is only means = absurd is
   only-read store off (if_met conditions request) is only means = absurd is
-  only-read store off (unread f) is only means = record { state = refl; stored = λ on. refl; reads = λ h on. refl; stages = λ h on. refl; any_moment = unchanged store off [] only means; waits = λ h on flushed waiting. still (model.folder store.disk) flushed store.state waiting }
-  only-read store off (getting name path) is only means = record { state = refl; stored = λ on. refl; reads = λ h on. refl; stages = λ h on. refl; any_moment = unchanged store off [] only means; waits = λ h on flushed waiting. still (model.folder store.disk) flushed store.state waiting }
-  only-read store off (exporting name) is only means = record { state = refl; stored = λ on. refl; reads = λ h on. refl; stages = λ h on. refl; any_moment = unchanged store off [] only means; waits = λ h on flushed waiting. still (model.folder store.disk) flushed store.state waiting }
-  only-read store off naming is only means = record { state = refl; stored = λ on. refl; reads = λ h on. refl; stages = λ h on. refl; any_moment = unchanged store off [] only means; waits = λ h on flushed waiting. still (model.folder store.disk) flushed store.state waiting }
-  only-read store off bad is only means = record { state = refl; stored = λ on. refl; reads = λ h on. refl; stages = λ h on. refl; any_moment = unchanged store off [] only means; waits = λ h on flushed waiting. still (model.folder store.disk) flushed store.state waiting }
+  only-read store off (unread f) is only means =
+      record {
+        state = refl;
+        stored = λ on. refl;
+        reads = λ h on. refl;
+        stages = λ h on. refl;
+        any_moment = unchanged store off [] only means;
+        waits = λ h on flushed waiting. still (model.folder store.disk) flushed store.state waiting;
+      }
+  only-read store off (getting name path) is only means =
+      record {
+        state = refl;
+        stored = λ on. refl;
+        reads = λ h on. refl;
+        stages = λ h on. refl;
+        any_moment = unchanged store off [] only means;
+        waits = λ h on flushed waiting. still (model.folder store.disk) flushed store.state waiting;
+      }
+  only-read store off (exporting name) is only means =
+      record {
+        state = refl;
+        stored = λ on. refl;
+        reads = λ h on. refl;
+        stages = λ h on. refl;
+        any_moment = unchanged store off [] only means;
+        waits = λ h on flushed waiting. still (model.folder store.disk) flushed store.state waiting;
+      }
+  only-read store off naming is only means = record {
+    state = refl;
+    stored = λ on. refl;
+    reads = λ h on. refl;
+    stages = λ h on. refl;
+    any_moment = unchanged store off [] only means;
+    waits = λ h on flushed waiting. still (model.folder store.disk) flushed store.state waiting;
+  }
+  only-read store off bad is only means = record {
+    state = refl;
+    stored = λ on. refl;
+    reads = λ h on. refl;
+    stages = λ h on. refl;
+    any_moment = unchanged store off [] only means;
+    waits = λ h on flushed waiting. still (model.folder store.disk) flushed store.state waiting;
+  }
 
   -- ---- a command
 
   -- a command that is accepted is performed, and its record appended
   pub command-performed : (old new : StoreView D) (command : Command) → outcome (journal_length old) old.state command ≡ Ok new.state
       → (new.reopen ≡ false → Accepts old command new)
-      → (model.honest → new.reopen ≡ false → bytes_under (model.folder new.disk) Store ≡ file_with_bytes (bytes_under (model.folder old.disk) Store) (next_record old.state command))
-      → (model.honest → new.reopen ≡ false → staged_text (model.folder new.disk) new.staged ≡ file_with_bytes (staged_text (model.folder old.disk) old.staged) (next_record old.state command))
+      → (model.honest → new.reopen ≡ false → bytes_under (model.folder new.disk) Store
+      ≡ file_with_bytes (bytes_under (model.folder old.disk) Store) (next_record old.state command))
+      → (model.honest → new.reopen ≡ false → staged_text (model.folder new.disk) new.staged
+      ≡ file_with_bytes (staged_text (model.folder old.disk) old.staged) (next_record old.state command))
       → (model.honest → (flushed : Contents) (waiting : List Command) → HasFlushed (model.folder old.disk) flushed waiting old.state
       → LeavesOnly model old.disk new.disk (λ image. AfterPrefix flushed waiting image.store ⊎ FileMeans image.store new.state))
-      → (model.honest → new.reopen ≡ false → (flushed : Contents) (waiting : List Command) → HasFlushed (model.folder old.disk) flushed waiting old.state
+      → (model.honest → new.reopen ≡ false → (flushed : Contents) (waiting : List Command)
+      → HasFlushed (model.folder old.disk) flushed waiting old.state
       → HasFlushed (model.folder new.disk) flushed (waiting ++ command ∷ []) new.state)
       → Performs false model old new (changing command)
   command-performed old new command done accepts grown staged moments flushes =
       let now = stored_of old in
       let here : outcome (longest now) now.state command ≡ Ok new.state = ap (λ n. outcome n old.state command) (longest-of old) ∙ done in
-      let goes : stored_after now (changing command) ≡ stored_after_change now command (Ok new.state) = ap (stored_after_change now command) here in
+      let goes : stored_after now (changing command) ≡ stored_after_change now command (Ok new.state) =
+      ap (stored_after_change now command) here in
       let one : accepted_command now (changing command) ≡ command ∷ [] = ap (λ r. accepted_by r command) here in
-      let leads : after old.state (command ∷ []) ≡ Ok new.state = after-done old.state new.state command (accepted-anyway accepted-room old.state new.state command (room_for (journal_length old) old.state command) done) in
+      let leads : after old.state (command ∷ []) ≡ Ok new.state =
+      after-done old.state new.state command (accepted-anyway accepted-room old.state new.state command
+      (room_for (journal_length old) old.state command) done) in
       record {
         state = sym (ap (λ (t : Stored). t.state) goes);
         stored = λ on. stored-accepted old new command (accepts on) ∙ sym goes;
         reads = λ h on. grown h on ∙ sym (ap (file_after_change (bytes_under (model.folder old.disk) Store) now command) here);
         stages = λ h on. staged h on ∙ sym (ap (file_after_change (staged_text (model.folder old.disk) old.staged) now command) here);
-        any_moment = λ h flushed waiting has. subst (λ cs. LeavesOnly model old.disk new.disk (λ image. AfterPrefix flushed (waiting ++ cs) image.store)) (sym one)
+        any_moment = λ h flushed waiting has. subst
+            (λ cs. LeavesOnly model old.disk new.disk (λ image. AfterPrefix flushed (waiting ++ cs) image.store)) (sym one)
             (LeavesOnly-weaker model old.disk new.disk _ _ (moments h flushed waiting has)
-            (λ image. ⊎_elim (prefix-longer flushed waiting (command ∷ []) image.store) (all-after flushed old.state new.state waiting command image.store has.journal.leads leads)));
+            (λ image. ⊎_elim (prefix-longer flushed waiting (command ∷ []) image.store)
+            (all-after flushed old.state new.state waiting command image.store has.journal.leads leads)));
         waits = λ h on flushed waiting has.
             subst (λ cs. HasFlushed (model.folder new.disk) flushed (waiting ++ cs) new.state) (sym one) (flushes h on flushed waiting has);
       }
 
-  pub command-refused : (store : StoreView D) → store.reopen ≡ false → (command : Command) (f : StoreFault) → outcome (journal_length store) store.state command ≡ Err f
+  pub command-refused : (store : StoreView D) → store.reopen ≡ false → (command : Command) (f : StoreFault)
+      → outcome (journal_length store) store.state command ≡ Err f
       → ((image : Image) → model.honest → model.left store.disk (model.moment store.disk) image → IsImage (model.folder store.disk) image)
-      → (model.honest → store.reopen ≡ false → LeavesPrefixes (model.folder store.disk) store.state) → Performs false model store store (changing command)
+      → (model.honest → store.reopen ≡ false → LeavesPrefixes (model.folder store.disk) store.state)
+      → Performs false model store store (changing command)
   command-refused store off command f refused only means =
       let now = stored_of store in
       let here : outcome (longest now) now.state command ≡ Err f = ap (λ n. outcome n store.state command) (longest-of store) ∙ refused in
@@ -198,12 +264,14 @@ module _ {D : Type 0} (model : DiskModel D) where
         stages = λ h on. sym (ap (file_after_change (staged_text (model.folder store.disk) store.staged) now command) here);
         any_moment = unchanged store off (accepted_command now (changing command)) only means;
         waits = λ h on flushed waiting has.
-            subst (λ cs. HasFlushed (model.folder store.disk) flushed (waiting ++ cs) store.state) (sym (ap (λ r. accepted_by r command) here)) (still (model.folder store.disk) flushed store.state waiting has);
+            subst (λ cs. HasFlushed (model.folder store.disk) flushed (waiting ++ cs) store.state)
+            (sym (ap (λ r. accepted_by r command) here)) (still (model.folder store.disk) flushed store.state waiting has);
       }
 
   -- ---- a checkpoint
 
-  pub checkpointed : (old new : StoreView D) → new.state ≡ old.state → (new.reopen ≡ false → (new.staged ≡ None) × (new.size ≡ length (base_bytes old.state)))
+  pub checkpointed : (old new : StoreView D) → new.state ≡ old.state
+      → (new.reopen ≡ false → (new.staged ≡ None) × (new.size ≡ length (base_bytes old.state)))
       → (model.honest → new.reopen ≡ false → bytes_under (model.folder new.disk) Store ≡ Some (base_bytes old.state))
       → (model.honest → (flushed : Contents) (waiting : List Command) → HasFlushed (model.folder old.disk) flushed waiting old.state
       → LeavesOnly model old.disk new.disk (λ image. AfterPrefix flushed waiting image.store))
@@ -211,10 +279,15 @@ module _ {D : Type 0} (model : DiskModel D) where
       → Performs false model old new checkpointing
   checkpointed old new same long base moments flushes = record {
     state = same;
-    stored = λ on. (λ i. record { state = same i; size = (long on).1 i; staged = option_map (λ (s : Staged). s.written + length s.left) ((long on).0 i) });
+    stored = λ on. (λ i. record {
+      state = same i;
+      size = (long on).1 i;
+      staged = option_map (λ (s : Staged). s.written + length s.left) ((long on).0 i);
+    });
     reads = base;
     stages = λ h on. ap (staged_text (model.folder new.disk)) (long on).0;
-    any_moment = λ h flushed waiting has. LeavesOnly-weaker model old.disk new.disk _ _ (moments h flushed waiting has) (λ image. prefix-longer flushed waiting [] image.store);
+    any_moment = λ h flushed waiting has. LeavesOnly-weaker model old.disk new.disk _ _
+        (moments h flushed waiting has) (λ image. prefix-longer flushed waiting [] image.store);
     waits = λ h on flushed waiting has. subst (λ (s : Contents). HasFlushed (model.folder new.disk) s [] new.state) same (flushes h on);
   }
 
@@ -233,7 +306,8 @@ module _ {D : Type 0} (model : DiskModel D) where
   did-asked old new Asked request is (Err (fault.Write written)) did = absurd did
 
   -- what is asked for is told in other words
-  pub did-retold : (old new : StoreView D) (A B : Request → Type 0) → ((request : Request) → A request → B request) → (r : Result Reply SessionFault)
+  pub did-retold : (old new : StoreView D) (A B : Request → Type 0) → ((request : Request) → A request → B request)
+      → (r : Result Reply SessionFault)
       → DidAsked model old new A r → DidAsked model old new B r
   did-retold old new A B told (Ok reply) did = (did.0, told did.0 did.1, did.2)
   did-retold old new A B told (Err fault.Device) did = (did.0, told did.0 did.1, did.2)
@@ -244,14 +318,16 @@ module _ {D : Type 0} (model : DiskModel D) where
   did-retold old new A B told (Err fault.Reopen) did = absurd did
   did-retold old new A B told (Err (fault.Write written)) did = absurd did
 
-  pub handles-retold : (old new : StoreView D) (A B : Request → Type 0) → ((request : Request) → A request → B request) → (r : Result Reply SessionFault)
+  pub handles-retold : (old new : StoreView D) (A B : Request → Type 0)
+      → ((request : Request) → A request → B request) → (r : Result Reply SessionFault)
       → Handles model old new A r → Handles model old new B r
   handles-retold old new A B told r h = record { did = λ off. did-retold old new A B told r (h.did off); failures = h.failures }
 
   -- ---- where the store stays as it is
 
   module _ (store : StoreView D) (Asked : Request → Type 0) where
-    pub handles-same : (r : Result Reply SessionFault) → OnlyMemory r → (store.reopen ≡ false → DidAsked model store store Asked r) → Handles model store store Asked r
+    pub handles-same : (r : Result Reply SessionFault) → OnlyMemory r
+        → (store.reopen ≡ false → DidAsked model store store Asked r) → Handles model store store Asked r
     handles-same r memory did = record { did = did; failures = record { cause = λ e. absurd (no-device r memory e); risen = omega arith } }
 
     -- memory ran out
@@ -259,13 +335,16 @@ module _ {D : Type 0} (model : DiskModel D) where
     handles-none = handles-same (Err fault.OutOfMemory) refl (λ off. refl)
 
   module _ (store : StoreView D) (means : MeansPrefixes model store) (Asked : Request → Type 0)
-      (only : (image : Image) → model.honest → model.left store.disk (model.moment store.disk) image → IsImage (model.folder store.disk) image) where
+      (only : (image : Image) → model.honest → model.left store.disk (model.moment store.disk) image
+      → IsImage (model.folder store.disk) image) where
     -- a request that only reads is answered
-    pub handles-reading : (request : Request) → Asked request → OnlyReads request → (r : Result Reply SessionFault) → IfOk r (Replies (stored_of store) request) → OnlyMemory r
+    pub handles-reading : (request : Request) → Asked request → OnlyReads request → (r : Result Reply SessionFault)
+        → IfOk r (Replies (stored_of store) request) → OnlyMemory r
         → Handles model store store Asked r
     handles-reading request asks is r replies memory = handles-same store Asked r memory (λ off. by off r replies memory)
       where
-        by : store.reopen ≡ false → (r : Result Reply SessionFault) → IfOk r (Replies (stored_of store) request) → OnlyMemory r → DidAsked model store store Asked r
+        by : store.reopen ≡ false → (r : Result Reply SessionFault) → IfOk r (Replies (stored_of store) request)
+            → OnlyMemory r → DidAsked model store store Asked r
         by off (Ok reply) replies memory = (request, asks, (replies, off, only-read store off request is only means))
         by off (Err end) replies memory = subst (λ (e : SessionFault). DidAsked model store store Asked (Err e)) (sym memory) refl
 
@@ -277,37 +356,51 @@ module _ {D : Type 0} (model : DiskModel D) where
         by : (r : Result Refusal SessionFault) → answered f ≡ r → OnlyMemory r → Handles model store store Asked (refused_as r)
         by (Ok reason) is memory =
             handles-reading (unread f) (asks reason is) tt (Ok (Refused reason))
-            (record { bytes = ap (λ a. document_bytes (refused_answer a)) (sym is); accepted = refl; refused = refl; short = refused-short (answered f) }) tt
-        by (Err end) is memory = subst (λ (e : SessionFault). Handles model store store Asked (Err e)) (sym memory) (handles-none store Asked)
+            (record {
+              bytes = ap (λ a. document_bytes (refused_answer a)) (sym is);
+              accepted = refl;
+              refused = refl;
+              short = refused-short (answered f);
+            }) tt
+        by (Err end) is memory = subst (λ (e : SessionFault). Handles model store store Asked (Err e)) (sym memory)
+            (handles-none store Asked)
 
 -- an `import` under a good name whose text gives a tree is the command
-pub text-given : (name bytes : List ℕ) (command : Command) → IsUtf8 bytes → IsImportOf name bytes command → MeansRequest (single_part (import_text name (chars bytes))) (changing command)
+pub text-given : (name bytes : List ℕ) (command : Command) → IsUtf8 bytes → IsImportOf name bytes command
+    → MeansRequest (single_part (import_text name (chars bytes))) (changing command)
 text-given name bytes command utf8 is = inl (command, subst (λ b. IsImportOf name b command) (sym (encodes-chars bytes utf8)) is, refl)
 
 -- an `import` whose name or text is refused is refused so
-pub text-refused : (name bytes : List ℕ) (f : StoreFault) → IsUtf8 bytes → f ≢ state.OutOfMemory → RefusesText name bytes f → MeansRequest (single_part (import_text name (chars bytes))) (unread f)
-text-refused name bytes f utf8 some refuses = inr (f, some, subst (λ b. RefusesText name b f) (sym (encodes-chars bytes utf8)) refuses, refl)
+pub text-refused : (name bytes : List ℕ) (f : StoreFault) → IsUtf8 bytes → f ≢ state.OutOfMemory
+    → RefusesText name bytes f → MeansRequest (single_part (import_text name (chars bytes))) (unread f)
+text-refused name bytes f utf8 some refuses =
+    inr (f, some, subst (λ b. RefusesText name b f) (sym (encodes-chars bytes utf8)) refuses, refl)
 
 -- ---- the count that is answered, which is known before the command
 
 -- the count that is answered is the one of the state after the command
-pub count-after : (s new : Contents) (command : Command) (room : Room) (count : ℕ) → step s command room ≡ Ok new → new.count ≡ s.count + 1 → count ≡ min (s.count + 1) count_limit → count ≡ new.count
+pub count-after : (s new : Contents) (command : Command) (room : Room) (count : ℕ) → step s command room ≡ Ok new
+    → new.count ≡ s.count + 1 → count ≡ min (s.count + 1) count_limit → count ≡ new.count
 count-after s new command room count e one is = let few = step-few s new command room e in omega (arith, one, few, is)
 
 -- ---- replies
 
 -- the answer to a command that is accepted is the count
-pub accepted-reply : (now : Stored) → IsState now.state → (new : Contents) (command : Command) (written : String Global) (count : ℕ) → outcome (longest now) now.state command ≡ Ok new → count ≡ new.count
+pub accepted-reply : (now : Stored) → IsState now.state
+    → (new : Contents) (command : Command) (written : String Global) (count : ℕ)
+    → outcome (longest now) now.state command ≡ Ok new → count ≡ new.count
     → string_bytes written ≡ framed_text_bytes (one (codes "ok") (text (decimal count))) → Replies now (changing command) (Accepted written)
 accepted-reply now kept new command written count done is bytes = record {
-  bytes = bytes ∙ ap (λ n. framed_text_bytes (one (codes "ok") (text (decimal n)))) is ∙ ap (λ r. document_bytes (change_answer r)) (sym done);
+  bytes = bytes ∙ ap (λ n. framed_text_bytes (one (codes "ok") (text (decimal n)))) is
+      ∙ ap (λ r. document_bytes (change_answer r)) (sym done);
   accepted = ap (λ r. length (accepted_by r command)) (sym done);
   refused = ap is_refused (sym done);
   short = answer-short now (changing command) kept;
 }
 
 -- the answer to a command that is refused is its refusal
-pub refused-reply : (now : Stored) → IsState now.state → (command : Command) (f : StoreFault) (reason : Refusal) → outcome (longest now) now.state command ≡ Err f → answered f ≡ Ok reason
+pub refused-reply : (now : Stored) → IsState now.state → (command : Command) (f : StoreFault) (reason : Refusal)
+    → outcome (longest now) now.state command ≡ Err f → answered f ≡ Ok reason
     → Replies now (changing command) (Refused reason)
 refused-reply now kept command f reason refused is = record {
   bytes = ap (λ a. document_bytes (refused_answer a)) (sym is) ∙ ap (λ r. document_bytes (change_answer r)) (sym refused);
@@ -332,10 +425,12 @@ module _ {D : Type 0} (model : DiskModel D) where
       → Did model old new request (refused_as (answered f))
   did-refused old new request f shut device same reply =
       ⊎_elim (λ is. subst (λ (x : StoreFault). Did model old new request (refused_as (answered x))) (sym is) (device is))
-      (λ other. settled old new request (answered f) (answered-memory f shut other) (same other) (λ reason. reply reason other)) (is-device f)
+      (λ other. settled old new request (answered f) (answered-memory f shut other) (same other)
+      (λ reason. reply reason other)) (is-device f)
 
 -- why a command was refused that is answered by a refusal
-pub refused-outcome : {D : Type 0} (old new : StoreView D) (command : Command) (f : StoreFault) (reason : Refusal) → answered f ≡ Ok reason → RefusesCommand old command new f
+pub refused-outcome : {D : Type 0} (old new : StoreView D) (command : Command) (f : StoreFault) (reason : Refusal)
+    → answered f ≡ Ok reason → RefusesCommand old command new f
     → outcome (journal_length old) old.state command ≡ Err f
 refused-outcome old new command state.EmptyBatch reason is refuses = refuses
 refused-outcome old new command state.BadName reason is refuses = refuses

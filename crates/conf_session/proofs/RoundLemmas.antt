@@ -31,7 +31,13 @@ use Rattle.conf_session.proofs.GatherLemmas.{all-flushed, flush-moments, flush-s
 -- ---- pieces that are closed once
 
 closes-within : (bytes : List ℕ) (place : ℕ) → ClosesAt bytes place → place ≤ length bytes
-closes-within bytes place c = omega (arith, c.ends, ap length c.is, length-append c.before (codes "...\n" ++ c.after), length-append (codes "...\n") c.after)
+closes-within bytes place c = omega (
+  arith,
+  c.ends,
+  ap length c.is,
+  length-append c.before (codes "...\n" ++ c.after),
+  length-append (codes "...\n") c.after,
+)
 
 -- the first closing line is at the end
 pub once-at : (bytes : List ℕ) (place : ℕ) → IsNextClosing bytes 0 place → place ≡ length bytes → ClosesOnce bytes
@@ -66,7 +72,8 @@ pub all-pieces : (pieces : List Piece) → length (piece_bytes pieces) ≡ lengt
 all-pieces pieces = length-map pieces (λ (p : Piece). p.bytes.items)
 
 -- one answer more
-pub one-more : (old new : List (Vec ℕ Global)) (bytes : List ℕ) → answer_bytes new ≡ answer_bytes old ++ bytes ∷ [] → length new ≡ length old + 1
+pub one-more : (old new : List (Vec ℕ Global)) (bytes : List ℕ) → answer_bytes new ≡ answer_bytes old ++ bytes ∷ []
+    → length new ≡ length old + 1
 one-more old new bytes e =
     let same = ap length e in
     let sum = length-append (answer_bytes old) (bytes ∷ []) in
@@ -78,7 +85,8 @@ one-more old new bytes e =
 
 module _ {D : Type 0} (model : DiskModel D) (old new : StoreView D) where
   -- a piece that was not performed, or whose command met the device's failure
-  pub fails-by : (piece : List ℕ) (f : SessionFault) (count performed : ℕ) → performed ≡ count → DidAsked model old new (RoundAsks piece) (Err f)
+  pub fails-by : (piece : List ℕ) (f : SessionFault) (count performed : ℕ) → performed ≡ count
+      → DidAsked model old new (RoundAsks piece) (Err f)
       → FailsPiece model old new piece count (round_fault f performed)
   fails-by piece session.OutOfMemory count performed is did = inl (is, did)
   fails-by piece session.Device count performed is did = (did.2.0, record { request = did.0; asks = did.1; performs = did.2.1 })
@@ -89,7 +97,8 @@ module _ {D : Type 0} (model : DiskModel D) (old new : StoreView D) where
   fails-by piece (session.Write written) count performed is did = absurd did
 
   -- a piece that was performed and answered
-  pub answered : (piece : List ℕ) (reply : Reply) (before after : List (List ℕ)) → DidAsked model old new (RoundAsks piece) (Ok reply) → after ≡ before ++ reply_bytes reply ∷ []
+  pub answered : (piece : List ℕ) (reply : Reply) (before after : List (List ℕ))
+      → DidAsked model old new (RoundAsks piece) (Ok reply) → after ≡ before ++ reply_bytes reply ∷ []
       → AnswersPiece model old new piece before after
   answered piece reply before after did is = record {
     takes = record { request = did.0; asks = did.1; performs = did.2.2 };
@@ -100,11 +109,13 @@ module _ {D : Type 0} (model : DiskModel D) (old new : StoreView D) where
 -- ---- one piece more
 
 -- the answers with one request more
-answers-last : (now : Stored) (rs : List Request) (r : Request) → answers now (rs ++ r ∷ []) ≡ answers now rs ++ answer_to (stored_after_all now rs) r ∷ []
+answers-last : (now : Stored) (rs : List Request) (r : Request)
+    → answers now (rs ++ r ∷ []) ≡ answers now rs ++ answer_to (stored_after_all now rs) r ∷ []
 answers-last now [] r = refl
 answers-last now (x ∷ rs) r = ap (λ l. answer_to now x ∷ l) (answers-last (stored_after now x) rs r)
 
-ask-last : (pieces : List (List ℕ)) (rs : List Request) (piece : List ℕ) (r : Request) → AllRoundAsk pieces rs → RoundAsks piece r → AllRoundAsk (pieces ++ piece ∷ []) (rs ++ r ∷ [])
+ask-last : (pieces : List (List ℕ)) (rs : List Request) (piece : List ℕ) (r : Request) → AllRoundAsk pieces rs
+    → RoundAsks piece r → AllRoundAsk (pieces ++ piece ∷ []) (rs ++ r ∷ [])
 ask-last [] [] piece r all one = (one, tt)
 ask-last [] (x ∷ rs) piece r all one = absurd all
 ask-last (p ∷ pieces) [] piece r all one = absurd all
@@ -129,7 +140,12 @@ module _ {D : Type 0} (model : DiskModel D) where
   pub round-none : (store : StoreView D) → store.reopen ≡ false
       → ((image : Image) → model.honest → model.left store.disk (model.moment store.disk) image → IsImage (model.folder store.disk) image)
       → MeansPrefixes model store → RoundSoFar model store store [] []
-  round-none store off only means = record { requests = []; ask = tt; answers = refl; performs = performs-none false model store off only means }
+  round-none store off only means = record {
+    requests = [];
+    ask = tt;
+    answers = refl;
+    performs = performs-none false model store off only means;
+  }
 
   module _ (old now : StoreView D) (pieces written : List (List ℕ)) (s : RoundSoFar model old now pieces written) where
     -- ---- one piece more
@@ -178,7 +194,8 @@ module _ {D : Type 0} (model : DiskModel D) where
         any_moment = λ h on. flush-moments model old now new s.requests s.performs stops.any_moment h;
       }
 
-      pub ends-failed : (new : StoreView D) (f : SessionFault) → FlushesAll model now new (Err f) → Rounds model old new all (Err fault.Device)
+      pub ends-failed : (new : StoreView D) (f : SessionFault) → FlushesAll model now new (Err f)
+          → Rounds model old new all (Err fault.Device)
       ends-failed new session.Device stops = ends-unflushed new stops
       ends-failed new session.OutOfMemory stops = absurd stops
       ends-failed new session.Read stops = absurd stops
@@ -188,7 +205,8 @@ module _ {D : Type 0} (model : DiskModel D) where
       ends-failed new (session.Write count) stops = absurd stops
 
       -- all is flushed
-      pub ends-flushed : i ≡ length all → (new : StoreView D) (given : Vec (Vec ℕ Global) Global) → answer_bytes given.items ≡ written → PerformsTurns model now new []
+      pub ends-flushed : i ≡ length all → (new : StoreView D) (given : Vec (Vec ℕ Global) Global)
+          → answer_bytes given.items ≡ written → PerformsTurns model now new []
           → Rounds model old new all (Ok given)
       ends-flushed whole new given is flush =
           let performs = all-flushed model old now new s.requests s.performs flush in
@@ -207,15 +225,21 @@ module _ {D : Type 0} (model : DiskModel D) where
               now = performs.now;
             };
             any_moment = λ h on flushed waiting has.
-                subst (λ (l : List Command). LeavesOnly model old.disk new.disk (λ image. AfterPrefix flushed (waiting ++ l) image.store)) (asked-accepted (stored_of old) s.requests) (performs.any_moment h flushed waiting has);
+                subst (λ (l : List Command). LeavesOnly model old.disk new.disk
+                (λ image. AfterPrefix flushed (waiting ++ l) image.store))
+                (asked-accepted (stored_of old) s.requests) (performs.any_moment h flushed waiting has);
           }
 
       -- the device failed at the next piece
-      pub ends-device : (new : StoreView D) (piece : List ℕ) (r : Request) → RoundAsks piece r → Performs false model now new r → i + 1 ≤ length all → take (i + 1) all ≡ take i all ++ piece ∷ []
+      pub ends-device : (new : StoreView D) (piece : List ℕ) (r : Request) → RoundAsks piece r
+          → Performs false model now new r → i + 1 ≤ length all → take (i + 1) all ≡ take i all ++ piece ∷ []
           → Rounds model old new all (Err fault.Device)
       ends-device new piece r asks does more next =
-          let ask : AllRoundAsk (take (i + 1) all) (s.requests ++ r ∷ []) = subst (λ ps. AllRoundAsk ps (s.requests ++ r ∷ [])) (ap (λ ps. ps ++ piece ∷ []) first ∙ sym next) (ask-last pieces s.requests piece r s.ask asks) in
-          let count : length (s.requests ++ r ∷ []) ≡ i + 1 = ask-count (take (i + 1) all) (s.requests ++ r ∷ []) ask ∙ length-take-le (i + 1) all more in
+          let ask : AllRoundAsk (take (i + 1) all) (s.requests ++ r ∷ []) =
+          subst (λ ps. AllRoundAsk ps (s.requests ++ r ∷ [])) (ap (λ ps. ps ++ piece ∷ []) first ∙ sym next)
+          (ask-last pieces s.requests piece r s.ask asks) in
+          let count : length (s.requests ++ r ∷ []) ≡ i + 1 = ask-count (take (i + 1) all) (s.requests ++ r ∷ []) ask
+          ∙ length-take-le (i + 1) all more in
           record {
             requests = s.requests ++ r ∷ [];
             ask = subst (λ n. AllRoundAsk (take n all) (s.requests ++ r ∷ [])) (sym count) ask;
@@ -224,22 +248,28 @@ module _ {D : Type 0} (model : DiskModel D) where
           }
 
   -- a round that ends at the next piece
-  pub ends-failing : (old now new : StoreView D) (written : List (List ℕ)) (all : List (List ℕ)) (i : ℕ) (piece : List ℕ) (f : RoundFault) → RoundSoFar model old now (take i all) written
+  pub ends-failing : (old now new : StoreView D) (written : List (List ℕ)) (all : List (List ℕ)) (i : ℕ)
+      (piece : List ℕ) (f : RoundFault) → RoundSoFar model old now (take i all) written
       → i + 1 ≤ length all → take (i + 1) all ≡ take i all ++ piece ∷ [] → (count : ℕ) → count ≡ i → FailsPiece model now new piece count f
       → Rounds model old new all (Err f)
   ends-failing old now new written all i piece (fault.OutOfMemory performed) s more next count is (inl fails) =
       let here : i ≡ performed = sym (fails.0 ∙ is) in
       subst (λ (t : StoreView D). Rounds model old t all (Err (fault.OutOfMemory performed))) (sym fails.1)
-      (subst (λ n. Rounds model old now all (Err (fault.OutOfMemory n))) here (ends-memory old now (take i all) written s all i (omega (arith, more)) refl))
+      (subst (λ n. Rounds model old now all (Err (fault.OutOfMemory n))) here
+      (ends-memory old now (take i all) written s all i (omega (arith, more)) refl))
   ends-failing old now new written all i piece (fault.OutOfMemory performed) s more next count is (inr fails) =
       let here : i + 1 ≡ performed = omega (arith, fails.0, is) in
       let takes = fails.2 in
       subst (λ n. Rounds model old new all (Err (fault.OutOfMemory n))) here
-      (ends-memory old new (take i all ++ piece ∷ []) _ (round-more old now (take i all) written s new piece takes.request takes.asks takes.performs fails.1) all (i + 1) more (sym next))
+      (ends-memory old new (take i all ++ piece ∷ []) _
+      (round-more old now (take i all) written s new piece takes.request takes.asks takes.performs fails.1) all
+      (i + 1) more (sym next))
   ends-failing old now new written all i piece fault.Device s more next count is fails =
-      ends-device old now (take i all) written s all i (omega (arith, more)) refl new piece fails.1.request fails.1.asks fails.1.performs more next
+      ends-device old now (take i all) written s all i
+      (omega (arith, more)) refl new piece fails.1.request fails.1.asks fails.1.performs more next
   ends-failing old now new written all i piece fault.Reopen s more next count is fails = absurd fails
 
   -- a store that has to be opened again
-  pub round-reopens : (store : StoreView D) (all : List (List ℕ)) → (store.reopen ≡ false → ⊥) → Rounds model store store all (Err fault.Reopen)
+  pub round-reopens : (store : StoreView D) (all : List (List ℕ)) → (store.reopen ≡ false → ⊥)
+      → Rounds model store store all (Err fault.Reopen)
   round-reopens store all broken = record { requests = []; ask = tt; ends = refl; any_moment = λ h on. absurd (broken on) }

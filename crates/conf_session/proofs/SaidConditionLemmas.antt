@@ -10,7 +10,9 @@ use Rattle.conf_record.specs.RecordsRead.{keys_are, values}
 use Rattle.conf_record.specs.Reading.{AreKeptElements, texts}
 use Rattle.conf_conditions.specs.Conditions.{Condition, condition_of, conditions_of}
 use Rattle.conf_conditions.specs.declared.condition.Condition as code
-use Rattle.conf_session.specs.SaidConditions.{test_keys, absent_keys, missing_keys, count_keys, test_in, absent_in, missing_in, count_in, condition_from, condition_in, first_and_rest, all_conditions_in, conditions_in}
+use Rattle.conf_session.specs.SaidConditions.{test_keys, absent_keys, missing_keys, count_keys, test_in, absent_in}
+use Rattle.conf_session.specs.SaidConditions.{missing_in, count_in, condition_from, condition_in, first_and_rest}
+use Rattle.conf_session.specs.SaidConditions.{all_conditions_in, conditions_in}
 
 -- ---- one condition, by its keys
 
@@ -20,22 +22,26 @@ unfolding condition_from
 from-test ms e0 = rw (e0) refl
 
 -- a mapping with the keys of an `absent` is read as one
-pub from-absent : (ms : Members) → keys_are test_keys ms ≡ false → keys_are absent_keys ms ≡ true → condition_from ms ≡ absent_in (values ms)
+pub from-absent : (ms : Members) → keys_are test_keys ms ≡ false → keys_are absent_keys ms ≡ true
+    → condition_from ms ≡ absent_in (values ms)
 unfolding condition_from
 from-absent ms e0 e1 = rw (e0, e1) refl
 
 -- a mapping with the one key of an `absent` is read as one
-pub from-missing : (ms : Members) → keys_are test_keys ms ≡ false → keys_are absent_keys ms ≡ false → keys_are missing_keys ms ≡ true → condition_from ms ≡ missing_in (values ms)
+pub from-missing : (ms : Members) → keys_are test_keys ms ≡ false → keys_are absent_keys ms ≡ false
+    → keys_are missing_keys ms ≡ true → condition_from ms ≡ missing_in (values ms)
 unfolding condition_from
 from-missing ms e0 e1 e2 = rw (e0, e1, e2) refl
 
 -- a mapping with the key of a `count` is read as one
-pub from-count : (ms : Members) → keys_are test_keys ms ≡ false → keys_are absent_keys ms ≡ false → keys_are missing_keys ms ≡ false → keys_are count_keys ms ≡ true → condition_from ms ≡ count_in (values ms)
+pub from-count : (ms : Members) → keys_are test_keys ms ≡ false → keys_are absent_keys ms ≡ false
+    → keys_are missing_keys ms ≡ false → keys_are count_keys ms ≡ true → condition_from ms ≡ count_in (values ms)
 unfolding condition_from
 from-count ms e0 e1 e2 e3 = rw (e0, e1, e2, e3) refl
 
 -- a mapping with other keys is none
-pub from-none : (ms : Members) → keys_are test_keys ms ≡ false → keys_are absent_keys ms ≡ false → keys_are missing_keys ms ≡ false → keys_are count_keys ms ≡ false → condition_from ms ≡ None
+pub from-none : (ms : Members) → keys_are test_keys ms ≡ false → keys_are absent_keys ms ≡ false
+    → keys_are missing_keys ms ≡ false → keys_are count_keys ms ≡ false → condition_from ms ≡ None
 unfolding condition_from
 from-none ms e0 e1 e2 e3 = rw (e0, e1, e2, e3) refl
 
@@ -73,12 +79,14 @@ behind-none (Some conditions) = refl
 pub none-found : (all : List code_tree.Tree) → AreKeptElements (elements_of all) → FoundSoFar all [] all
 none-found all kept = record { whole = behind-none (all_conditions_in (elements_of all)); kept = kept }
 
-behind-one : (conditions : List Condition) (c : Condition) (rest : Option (List Condition)) → behind (conditions ++ c ∷ []) rest ≡ behind conditions (first_and_rest (Some c) rest)
+behind-one : (conditions : List Condition) (c : Condition) (rest : Option (List Condition))
+    → behind (conditions ++ c ∷ []) rest ≡ behind conditions (first_and_rest (Some c) rest)
 behind-one conditions c None = refl
 behind-one conditions c (Some more) = ap Some (append_assoc conditions (c ∷ []) more)
 
 -- one more element is a condition
-pub one-found : (all : List code_tree.Tree) (done : List code.Condition) (t : code_tree.Tree) (left : List code_tree.Tree) (c : code.Condition) → Some (condition_of c) ≡ condition_in (tree_of t)
+pub one-found : (all : List code_tree.Tree) (done : List code.Condition) (t : code_tree.Tree)
+    (left : List code_tree.Tree) (c : code.Condition) → Some (condition_of c) ≡ condition_in (tree_of t)
     → FoundSoFar all done (t ∷ left) → (new : List code.Condition) → new ≡ done ++ c ∷ [] → FoundSoFar all new left
 one-found all done t left c is so new more =
     let rest = all_conditions_in (elements_of left) in
@@ -93,12 +101,15 @@ one-found all done t left c is so new more =
     }
 
 -- an element is none, and so the sequence holds no conditions
-pub not-found : (all : List code_tree.Tree) (done : List code.Condition) (t : code_tree.Tree) (left : List code_tree.Tree) → None ≡ condition_in (tree_of t) → FoundSoFar all done (t ∷ left)
+pub not-found : (all : List code_tree.Tree) (done : List code.Condition) (t : code_tree.Tree)
+    (left : List code_tree.Tree) → None ≡ condition_in (tree_of t) → FoundSoFar all done (t ∷ left)
     → None ≡ all_conditions_in (elements_of all)
-not-found all done t left none so = ap (λ o. behind (conditions_of done) (first_and_rest o (all_conditions_in (elements_of left)))) none ∙ so.whole
+not-found all done t left none so = ap (λ o.
+    behind (conditions_of done) (first_and_rest o (all_conditions_in (elements_of left)))) none ∙ so.whole
 
 -- no element is left
-pub all-found : (all : List code_tree.Tree) (done : List code.Condition) (left : List code_tree.Tree) → length left ≡ 0 → FoundSoFar all done left → Some (conditions_of done) ≡ all_conditions_in (elements_of all)
+pub all-found : (all : List code_tree.Tree) (done : List code.Condition) (left : List code_tree.Tree)
+    → length left ≡ 0 → FoundSoFar all done left → Some (conditions_of done) ≡ all_conditions_in (elements_of all)
 all-found all done [] none so = ap Some (sym (append-nil (conditions_of done))) ∙ so.whole
 all-found all done (t ∷ ts) none so = absurd (omega arith)
 
@@ -110,6 +121,7 @@ none-in [] none = refl
 none-in (t ∷ ts) none = absurd (omega arith)
 
 -- any other holds those of its elements
-pub some-in : (ts : List code_tree.Tree) → (length ts ≡ 0 → ⊥) → conditions_in (sequence (elements_of ts)) ≡ all_conditions_in (elements_of ts)
+pub some-in : (ts : List code_tree.Tree) → (length ts ≡ 0 → ⊥)
+    → conditions_in (sequence (elements_of ts)) ≡ all_conditions_in (elements_of ts)
 some-in [] some = absurd (some refl)
 some-in (t ∷ ts) some = refl

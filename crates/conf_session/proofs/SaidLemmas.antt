@@ -10,7 +10,9 @@ use Rattle.conf_state.specs.Commands.{Edit}
 use Rattle.conf_record.specs.RecordsRead.{keys_are, values, edit_under}
 use Rattle.conf_state.proofs.LineLemmas.{ascii}
 use Rattle.conf_record.specs.Reading.{texts}
-use Rattle.conf_session.specs.Said.{as_part, nothing, said_by, part_from, part_said, batch_keys, get_keys, export_keys, names_keys, checkpoint_keys, batch_said, get_said, export_said, names_said, checkpoint_said, begins_with_if, conditional_said, change_said}
+use Rattle.conf_session.specs.Said.{as_part, nothing, said_by, part_from, part_said, batch_keys, get_keys}
+use Rattle.conf_session.specs.Said.{export_keys, names_keys, checkpoint_keys, batch_said, get_said, export_said}
+use Rattle.conf_session.specs.Said.{names_said, checkpoint_said, begins_with_if, conditional_said, change_said}
 
 -- a text says nothing
 pub said-text : (value : List ℕ) → said_by (text value) ≡ nothing
@@ -41,25 +43,29 @@ unfolding said_by
 said-export ms e0 e1 e2 = rw (e0, e1, e2) refl
 
 -- a mapping with the key of `names` asks for the names
-pub said-names : (ms : Members) → keys_are batch_keys ms ≡ false → keys_are get_keys ms ≡ false → keys_are export_keys ms ≡ false → keys_are names_keys ms ≡ true
+pub said-names : (ms : Members) → keys_are batch_keys ms ≡ false → keys_are get_keys ms ≡ false
+    → keys_are export_keys ms ≡ false → keys_are names_keys ms ≡ true
     → said_by (mapping ms) ≡ names_said (values ms)
 unfolding said_by
 said-names ms e0 e1 e2 e3 = rw (e0, e1, e2, e3) refl
 
 -- a mapping with the key of a `checkpoint` asks for one
-pub said-checkpoint : (ms : Members) → keys_are batch_keys ms ≡ false → keys_are get_keys ms ≡ false → keys_are export_keys ms ≡ false → keys_are names_keys ms ≡ false → keys_are checkpoint_keys ms ≡ true
+pub said-checkpoint : (ms : Members) → keys_are batch_keys ms ≡ false → keys_are get_keys ms ≡ false
+    → keys_are export_keys ms ≡ false → keys_are names_keys ms ≡ false → keys_are checkpoint_keys ms ≡ true
     → said_by (mapping ms) ≡ checkpoint_said (values ms)
 unfolding said_by
 said-checkpoint ms e0 e1 e2 e3 e4 = rw (e0, e1, e2, e3, e4) refl
 
 -- a mapping that begins with `if` says a command with conditions
-pub said-conditional : (ms : Members) → keys_are batch_keys ms ≡ false → keys_are get_keys ms ≡ false → keys_are export_keys ms ≡ false → keys_are names_keys ms ≡ false → keys_are checkpoint_keys ms ≡ false
+pub said-conditional : (ms : Members) → keys_are batch_keys ms ≡ false → keys_are get_keys ms ≡ false
+    → keys_are export_keys ms ≡ false → keys_are names_keys ms ≡ false → keys_are checkpoint_keys ms ≡ false
     → begins_with_if ms ≡ true → said_by (mapping ms) ≡ conditional_said ms
 unfolding said_by
 said-conditional ms e0 e1 e2 e3 e4 e5 = rw (e0, e1, e2, e3, e4, e5) refl
 
 -- a mapping with other keys says what it is as a part
-pub said-part : (ms : Members) → keys_are batch_keys ms ≡ false → keys_are get_keys ms ≡ false → keys_are export_keys ms ≡ false → keys_are names_keys ms ≡ false → keys_are checkpoint_keys ms ≡ false
+pub said-part : (ms : Members) → keys_are batch_keys ms ≡ false → keys_are get_keys ms ≡ false
+    → keys_are export_keys ms ≡ false → keys_are names_keys ms ≡ false → keys_are checkpoint_keys ms ≡ false
     → begins_with_if ms ≡ false → said_by (mapping ms) ≡ part_said (part_from ms)
 unfolding said_by
 said-part ms e0 e1 e2 e3 e4 e5 = rw (e0, e1, e2, e3, e4, e5) refl
@@ -75,7 +81,8 @@ pub change-part : (ms : Members) → keys_are batch_keys ms ≡ false → change
 change-part ms e = rw e refl
 
 -- the first key, by the first pair
-pub first-if : (ps : List Pair) (p : Pair) → (length ps ≡ 0 → ⊥) → begins_with_if (members_of ps) ≡ same_text (chars (text_bytes (get_or ps 0 p).0)) (codes "if")
+pub first-if : (ps : List Pair) (p : Pair) → (length ps ≡ 0 → ⊥)
+    → begins_with_if (members_of ps) ≡ same_text (chars (text_bytes (get_or ps 0 p).0)) (codes "if")
 first-if [] p some = absurd (some refl)
 first-if (q ∷ qs) p some = refl
 

@@ -24,8 +24,10 @@ use Rattle.conf_session.proofs.TurnLemmas.{asked-output, leads-turns, output-joi
 
 module _ {D : Type 0} (model : DiskModel D) where
   -- answers that are kept may be handed out once their requests are flushed
-  pub kept-acknowledged : (taken : Option (List ℕ)) (old new : StoreView D) (rs : List Request) (before mid : Unwritten) → SentSoFar model taken old → unwritten_bytes before ≡ []
-      → KeepsAnswers (stored_of old) rs before mid → PerformsFlushed model old new rs → AreAcknowledged model taken new (unwritten_bytes mid)
+  pub kept-acknowledged : (taken : Option (List ℕ)) (old new : StoreView D) (rs : List Request)
+      (before mid : Unwritten) → SentSoFar model taken old → unwritten_bytes before ≡ []
+      → KeepsAnswers (stored_of old) rs before mid → PerformsFlushed model old new rs
+      → AreAcknowledged model taken new (unwritten_bytes mid)
   kept-acknowledged taken old new rs before mid s none keeps performs =
       let sent = turns_output s.start s.turns in
       let kept : unwritten_bytes mid ≡ output (stored_of old) rs = keeps.bytes ∙ ap (λ l. l ++ output (stored_of old) rs) none in
@@ -37,14 +39,17 @@ module _ {D : Type 0} (model : DiskModel D) where
         rest = [];
         before = s.out;
         part = output-joined s.start s.turns (all_asked rs)
-            ∙ ap (λ l. sent ++ l) (ap (λ t. turns_output t (all_asked rs)) (sym s.stored) ∙ asked-output (stored_of old) rs ∙ sym kept ∙ sym (append-nil (unwritten_bytes mid)));
+            ∙ ap (λ l. sent ++ l) (ap (λ t. turns_output t (all_asked rs)) (sym s.stored)
+            ∙ asked-output (stored_of old) rs ∙ sym kept ∙ sym (append-nil (unwritten_bytes mid)));
         sound = performs.sound;
-        stored = performs.stored ∙ ap (λ t. stored_after_turns t (all_asked rs)) s.stored ∙ sym (stored-joined s.start s.turns (all_asked rs));
+        stored = performs.stored ∙ ap (λ t. stored_after_turns t (all_asked rs)) s.stored
+            ∙ sym (stored-joined s.start s.turns (all_asked rs));
         flushed = performs.flushed;
         now = performs.now;
       }
 
-  module _ (taken : Option (List ℕ)) (store : StoreView D) (text last : List ℕ) (told : AreAcknowledged model taken store (text ++ last)) where
+  module _ (taken : Option (List ℕ)) (store : StoreView D) (text last : List ℕ)
+      (told : AreAcknowledged model taken store (text ++ last)) where
     -- the first bytes of some may be handed out
     pub first-acknowledged : AreAcknowledged model taken store text
     first-acknowledged = record {
@@ -70,7 +75,8 @@ module _ {D : Type 0} (model : DiskModel D) where
       sent = told.sent ++ text;
       rest = told.rest;
       before = Appends-trans told.held taken next told.sent text told.before out;
-      part = told.part ∙ ap (λ l. told.sent ++ l) (append_assoc text last told.rest) ∙ sym (append_assoc told.sent text (last ++ told.rest));
+      part = told.part ∙ ap (λ l. told.sent ++ l) (append_assoc text last told.rest)
+          ∙ sym (append_assoc told.sent text (last ++ told.rest));
       sound = told.sound;
       stored = told.stored;
       flushed = told.flushed;
@@ -78,13 +84,15 @@ module _ {D : Type 0} (model : DiskModel D) where
     }
 
 -- a file after a prefix of further commands is after all that were accepted before
-further-kept : (start s : Contents) (accepted further : List Command) (file : Option (List ℕ)) → after start accepted ≡ Ok s → AfterPrefix s further file
+further-kept : (start s : Contents) (accepted further : List Command) (file : Option (List ℕ))
+    → after start accepted ≡ Ok s → AfterPrefix s further file
     → AfterAtLeast start (length accepted) (accepted ++ further) file
 further-kept start s accepted further file leads some = record {
   count = length accepted + some.count;
   enough = omega arith;
   state = some.state;
-  leads = ap (after start) (take-beyond some.count accepted further) ∙ after-joined start s some.state accepted (take some.count further) leads some.leads;
+  leads = ap (after start) (take-beyond some.count accepted further)
+      ∙ after-joined start s some.state accepted (take some.count further) leads some.leads;
   means = some.means;
 }
 
@@ -96,8 +104,11 @@ none-is-taken-back {D} model = record {
       (record { count = 0; state = store.state; leads = refl; means = told.now h image is });
   later = λ taken store bytes told disk further leaves.
       LeavesOnly-weaker model store.disk disk _ _ leaves
-      (λ image. further-kept told.start.state store.state (turns_accepted told.start told.turns) further image.store (leads taken store bytes told));
+      (λ image. further-kept told.start.state store.state (turns_accepted told.start told.turns) further image.store
+      (leads taken store bytes told));
 }
   where
-    leads : (taken : Option (List ℕ)) (store : StoreView D) (bytes : List ℕ) (told : AreAcknowledged model taken store bytes) → after told.start.state (turns_accepted told.start told.turns) ≡ Ok store.state
+    leads : (taken : Option (List ℕ)) (store : StoreView D) (bytes : List ℕ)
+        (told : AreAcknowledged model taken store bytes)
+        → after told.start.state (turns_accepted told.start told.turns) ≡ Ok store.state
     leads taken store bytes told = leads-turns told.start told.turns ∙ ap Ok (ap (λ (t : Stored). t.state) (sym told.stored))

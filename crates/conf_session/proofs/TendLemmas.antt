@@ -31,7 +31,8 @@ use Rattle.conf_session.proofs.TurnLemmas.{quiet-now}
 -- ---- where all is flushed
 
 -- commands that lead to the state, all of them, are a prefix
-whole-prefix : (flushed s : Contents) (waiting : List Command) (file : Option (List ℕ)) → after flushed waiting ≡ Ok s → FileMeans file s → AfterPrefix flushed waiting file
+whole-prefix : (flushed s : Contents) (waiting : List Command) (file : Option (List ℕ)) → after flushed waiting ≡ Ok s
+    → FileMeans file s → AfterPrefix flushed waiting file
 whole-prefix flushed s waiting file leads means = record {
   count = length waiting;
   state = s;
@@ -57,39 +58,50 @@ module _ {D : Type 0} (model : DiskModel D) where
   -- nothing is done
   pub stays : (store : StoreView D) → store.reopen ≡ false
       → ((image : Image) → model.honest → model.left store.disk (model.moment store.disk) image → IsImage (model.folder store.disk) image)
-      → (model.honest → HasFlushed (model.folder store.disk) store.state [] store.state) → (model.honest → AllImagesMean (model.folder store.disk) store.state)
+      → (model.honest → HasFlushed (model.folder store.disk) store.state [] store.state)
+      → (model.honest → AllImagesMean (model.folder store.disk) store.state)
       → PerformsTurns model store store []
   stays store off only flushed means = record {
     sound = off;
     stored = refl;
     files = λ h. refl;
     any_moment = λ h from waiting has. LeavesOnly-start model store.disk _
-        (λ image is. whole-prefix from store.state (waiting ++ []) image.store (ap (after from) (append-nil waiting) ∙ has.journal.leads) (means h image (only image h is)));
+        (λ image is. whole-prefix from store.state (waiting ++ []) image.store
+        (ap (after from) (append-nil waiting) ∙ has.journal.leads) (means h image (only image h is)));
     flushed = flushed;
     now = means;
   }
 
   module _ (old new : StoreView D) (state : new.state ≡ old.state)
-      (any_moment : model.honest → (flushed : Contents) (waiting : List Command) → HasFlushed (model.folder old.disk) flushed waiting old.state → LeavesOnly model old.disk new.disk (λ image. AfterPrefix flushed waiting image.store))
+      (any_moment : model.honest → (flushed : Contents) (waiting : List Command)
+      → HasFlushed (model.folder old.disk) flushed waiting old.state
+      → LeavesOnly model old.disk new.disk (λ image. AfterPrefix flushed waiting image.store))
       (flushed : model.honest → HasFlushed (model.folder old.disk) old.state [] old.state)
-      (counts_now : (t : ℕ) (image : Image) → model.honest → t ≤ model.moment new.disk → IsImage (model.folder new.disk) image → model.left new.disk t image) where
-    moments-none : model.honest → (from : Contents) (waiting : List Command) → HasFlushed (model.folder old.disk) from waiting old.state → LeavesOnly model old.disk new.disk (λ image. AfterPrefix from (waiting ++ []) image.store)
+      (counts_now : (t : ℕ) (image : Image) → model.honest → t ≤ model.moment new.disk
+      → IsImage (model.folder new.disk) image → model.left new.disk t image) where
+    moments-none : model.honest → (from : Contents) (waiting : List Command)
+        → HasFlushed (model.folder old.disk) from waiting old.state
+        → LeavesOnly model old.disk new.disk (λ image. AfterPrefix from (waiting ++ []) image.store)
     moments-none h from waiting has =
-        subst (λ (l : List Command). LeavesOnly model old.disk new.disk (λ image. AfterPrefix from l image.store)) (sym (append-nil waiting)) (any_moment h from waiting has)
+        subst (λ (l : List Command). LeavesOnly model old.disk new.disk (λ image. AfterPrefix from l image.store))
+        (sym (append-nil waiting)) (any_moment h from waiting has)
 
     means-now : model.honest → AllImagesMean (model.folder new.disk) new.state
     means-now h = subst (AllImagesMean (model.folder new.disk)) (sym state)
         (quiet-now model old.disk new.disk old.state (any_moment h old.state [] (flushed h)) (λ t image. counts_now t image h))
 
     -- the same is flushed
-    flushed-now : (model.honest → (from : Contents) (waiting : List Command) → HasFlushed (model.folder old.disk) from waiting old.state → HasFlushed (model.folder new.disk) from waiting new.state)
+    flushed-now : (model.honest → (from : Contents) (waiting : List Command)
+        → HasFlushed (model.folder old.disk) from waiting old.state → HasFlushed (model.folder new.disk) from waiting new.state)
         → model.honest → HasFlushed (model.folder new.disk) new.state [] new.state
-    flushed-now waits h = subst (λ (s : Contents). HasFlushed (model.folder new.disk) s [] new.state) (sym state) (waits h old.state [] (flushed h))
+    flushed-now waits h = subst (λ (s : Contents). HasFlushed (model.folder new.disk) s [] new.state) (sym state)
+        (waits h old.state [] (flushed h))
 
     -- a checkpoint is begun
     pub begins : Begins old new → (model.honest → bytes_under (model.folder new.disk) Store ≡ bytes_under (model.folder old.disk) Store)
         → (model.honest → staged_text (model.folder new.disk) new.staged ≡ Some (base_bytes old.state))
-        → (model.honest → (from : Contents) (waiting : List Command) → HasFlushed (model.folder old.disk) from waiting old.state → HasFlushed (model.folder new.disk) from waiting new.state)
+        → (model.honest → (from : Contents) (waiting : List Command)
+        → HasFlushed (model.folder old.disk) from waiting old.state → HasFlushed (model.folder new.disk) from waiting new.state)
         → PerformsTurns model old new (begun ∷ [])
     begins is reads stages waits =
         let length_of : Option Staged → Option ℕ = option_map (λ (s : Staged). s.written + length s.left) in
@@ -107,11 +119,13 @@ module _ {D : Type 0} (model : DiskModel D) where
 
     -- a slice is written, and something is left
     slices-part : (bytes : ℕ) → SlicesPart old bytes new → (model.honest → SliceReads model.folder old new (Left bytes))
-        → (model.honest → (from : Contents) (waiting : List Command) → HasFlushed (model.folder old.disk) from waiting old.state → HasFlushed (model.folder new.disk) from waiting new.state)
+        → (model.honest → (from : Contents) (waiting : List Command)
+        → HasFlushed (model.folder old.disk) from waiting old.state → HasFlushed (model.folder new.disk) from waiting new.state)
         → PerformsTurns model old new []
     slices-part bytes is reads waits =
         let length_of : Option Staged → Option ℕ = option_map (λ (s : Staged). s.written + length s.left) in
-        let same : length_of new.staged ≡ length_of old.staged = ap length_of is.staged ∙ ap Some (slice-size is.before) ∙ ap length_of (sym is.ran) in
+        let same : length_of new.staged ≡ length_of old.staged = ap length_of is.staged
+        ∙ ap Some (slice-size is.before) ∙ ap length_of (sym is.ran) in
         record {
           sound = is.reopen;
           stored = λ i. record { state = state i; size = is.size i; staged = same i };
@@ -123,13 +137,19 @@ module _ {D : Type 0} (model : DiskModel D) where
 
     -- the last slice is written
     slices-last : SlicesLast old new → (model.honest → SliceReads model.folder old new Done)
-        → (model.honest → (from : Contents) (waiting : List Command) → HasFlushed (model.folder old.disk) from waiting old.state → SliceFlushes model.folder from waiting new Done)
+        → (model.honest → (from : Contents) (waiting : List Command)
+        → HasFlushed (model.folder old.disk) from waiting old.state → SliceFlushes model.folder from waiting new Done)
         → PerformsTurns model old new (finished ∷ [])
     slices-last is reads waits =
-        let size : new.size ≡ unwrap_or (option_map (λ (s : Staged). s.written + length s.left) old.staged) 0 = is.size ∙ staged-size old.staged in
+        let size : new.size ≡ unwrap_or (option_map (λ (s : Staged). s.written + length s.left) old.staged) 0 =
+        is.size ∙ staged-size old.staged in
         record {
           sound = is.reopen;
-          stored = λ i. record { state = state i; size = size i; staged = option_map (λ (s : Staged). s.written + length s.left) (is.staged i) };
+          stored = λ i. record {
+            state = state i;
+            size = size i;
+            staged = option_map (λ (s : Staged). s.written + length s.left) (is.staged i);
+          };
           files = λ h i. record { store = reads h i; staged = staged_text (model.folder new.disk) (is.staged i) };
           any_moment = moments-none;
           flushed = λ h. (waits h old.state [] (flushed h)).0;
@@ -138,7 +158,8 @@ module _ {D : Type 0} (model : DiskModel D) where
 
     -- a slice is a turn if it is the last one, and else none
     pub slices : (p : Progress) → Slices old new p → (model.honest → SliceReads model.folder old new p)
-        → (model.honest → (from : Contents) (waiting : List Command) → HasFlushed (model.folder old.disk) from waiting old.state → SliceFlushes model.folder from waiting new p)
+        → (model.honest → (from : Contents) (waiting : List Command)
+        → HasFlushed (model.folder old.disk) from waiting old.state → SliceFlushes model.folder from waiting new p)
         → TendsBySlice model old new (Ok tt)
     slices (Left bytes) is reads waits = ([], refl, λ count. tt, slices-part bytes is reads waits)
     slices Done is reads waits = (finished ∷ [], refl, λ count. (tt, tt), slices-last is reads waits)
@@ -161,8 +182,14 @@ module _ {D : Type 0} (model : DiskModel D) where
 
     pub tends-beginning : (grown : ℕ) → (model.honest → HasGrown (files_of model.folder old).store grown) → bytes ≤ grown
         → (r : Result (Unit {0}) SessionFault) → TendsByBeginning model old new r → Tends model checkpoints old new r
-    tends-beginning grown has le (Ok done) t =
-        (t.0, t.1, not-asked t.0, λ h other e. (let same : other ≡ bytes = ap due_bytes (sym e ∙ wanted) in t.2 other grown (has h) (omega (arith, same, le))), t.3)
+    tends-beginning grown has le (Ok done) t = (
+      t.0,
+      t.1,
+      not-asked t.0,
+      λ h other e. (let same : other ≡ bytes = ap due_bytes (sym e ∙ wanted) in
+          t.2 other grown (has h) (omega (arith, same, le))),
+      t.3,
+    )
     tends-beginning grown has le (Err fault.Device) stops = stops
     tends-beginning grown has le (Err fault.OutOfMemory) stops = absurd stops
     tends-beginning grown has le (Err fault.Read) stops = absurd stops

@@ -15,15 +15,21 @@ use Rattle.conf_store.specs.View.{StoreView}
 use Rattle.conf_store.proofs.MeaningLemmas.{after-joined}
 use Rattle.conf_store.proofs.HeldLemmas.{after-nothing, prefix-longer}
 use Rattle.conf_session.specs.Requests.{Request}
-use Rattle.conf_session.specs.Answers.{Stored, answer_bytes, output, stored_after, stored_after_all, file_after, file_after_all, staged_after, staged_after_all, accepted_command, accepted_commands, refusals}
+use Rattle.conf_session.specs.Answers.{Stored, answer_bytes, output, stored_after, stored_after_all, file_after}
+use Rattle.conf_session.specs.Answers.{file_after_all, staged_after, staged_after_all, accepted_command}
+use Rattle.conf_session.specs.Answers.{accepted_commands, refusals}
 use Rattle.conf_session.specs.Runs.{AfterAtLeast, stored_of}
-use Rattle.conf_session.specs.Groups.{AreDue, Turn, asked, begun, finished, Files, all_asked, requests_of, files_of, stored_after_turn, stored_after_turns, files_after_turn, files_after_turns, turn_output, turns_output, turn_accepted, turns_accepted, turns_refused, acknowledged_turns}
+use Rattle.conf_session.specs.Groups.{AreDue, Turn, asked, begun, finished, Files, all_asked, requests_of, files_of}
+use Rattle.conf_session.specs.Groups.{stored_after_turn, stored_after_turns, files_after_turn, files_after_turns}
+use Rattle.conf_session.specs.Groups.{turn_output, turns_output, turn_accepted, turns_accepted, turns_refused}
+use Rattle.conf_session.specs.Groups.{acknowledged_turns}
 use Rattle.conf_session.specs.Gathering.{PerformsTurns}
 use Rattle.conf_session.proofs.PassedLemmas.{Continues, at-least, prefix-continued, leads-one}
 
 -- ---- two lists of turns
 
-pub stored-joined : (now : Stored) (ts us : List Turn) → stored_after_turns now (ts ++ us) ≡ stored_after_turns (stored_after_turns now ts) us
+pub stored-joined : (now : Stored) (ts us : List Turn)
+    → stored_after_turns now (ts ++ us) ≡ stored_after_turns (stored_after_turns now ts) us
 stored-joined now [] us = refl
 stored-joined now (t ∷ ts) us = stored-joined (stored_after_turn now t) ts us
 
@@ -32,19 +38,23 @@ files-joined : (files : Files) (now : Stored) (ts us : List Turn)
 files-joined files now [] us = refl
 files-joined files now (t ∷ ts) us = files-joined (files_after_turn files now t) (stored_after_turn now t) ts us
 
-pub output-joined : (now : Stored) (ts us : List Turn) → turns_output now (ts ++ us) ≡ turns_output now ts ++ turns_output (stored_after_turns now ts) us
+pub output-joined : (now : Stored) (ts us : List Turn)
+    → turns_output now (ts ++ us) ≡ turns_output now ts ++ turns_output (stored_after_turns now ts) us
 output-joined now [] us = refl
 output-joined now (t ∷ ts) us =
     ap (λ l. turn_output now t ++ l) (output-joined (stored_after_turn now t) ts us)
     ∙ sym (append_assoc (turn_output now t) (turns_output (stored_after_turn now t) ts) (turns_output (stored_after_turns now (t ∷ ts)) us))
 
-pub accepted-joined : (now : Stored) (ts us : List Turn) → turns_accepted now (ts ++ us) ≡ turns_accepted now ts ++ turns_accepted (stored_after_turns now ts) us
+pub accepted-joined : (now : Stored) (ts us : List Turn)
+    → turns_accepted now (ts ++ us) ≡ turns_accepted now ts ++ turns_accepted (stored_after_turns now ts) us
 accepted-joined now [] us = refl
 accepted-joined now (t ∷ ts) us =
     ap (λ l. turn_accepted now t ++ l) (accepted-joined (stored_after_turn now t) ts us)
-    ∙ sym (append_assoc (turn_accepted now t) (turns_accepted (stored_after_turn now t) ts) (turns_accepted (stored_after_turns now (t ∷ ts)) us))
+    ∙ sym (append_assoc (turn_accepted now t) (turns_accepted (stored_after_turn now t) ts)
+    (turns_accepted (stored_after_turns now (t ∷ ts)) us))
 
-pub refused-joined : (now : Stored) (ts us : List Turn) → turns_refused now (ts ++ us) ≡ turns_refused now ts + turns_refused (stored_after_turns now ts) us
+pub refused-joined : (now : Stored) (ts us : List Turn)
+    → turns_refused now (ts ++ us) ≡ turns_refused now ts + turns_refused (stored_after_turns now ts) us
 refused-joined now [] us = omega arith
 refused-joined now (t ∷ ts) us = let more = refused-joined (stored_after_turn now t) ts us in omega (arith, more)
 
@@ -69,7 +79,8 @@ asked-stored now [] = refl
 asked-stored now (r ∷ rs) = asked-stored (stored_after now r) rs
 
 asked-files : (store staged : Option (List ℕ)) (now : Stored) (rs : List Request)
-    → files_after_turns (record { store = store; staged = staged }) now (all_asked rs) ≡ record { store = file_after_all store now rs; staged = staged_after_all staged now rs }
+    → files_after_turns (record { store = store; staged = staged }) now (all_asked rs)
+    ≡ record { store = file_after_all store now rs; staged = staged_after_all staged now rs }
 asked-files store staged now [] = refl
 asked-files store staged now (r ∷ rs) = asked-files (file_after store now r) (staged_after staged now r) (stored_after now r) rs
 
@@ -91,7 +102,8 @@ pub files-asked : {D : Type 0} (folder : D → Folder) (old new : StoreView D) (
     → (files_of folder new).staged ≡ staged_after_all (files_of folder old).staged (stored_of old) rs
     → files_of folder new ≡ files_after_turns (files_of folder old) (stored_of old) (all_asked rs)
 files-asked folder old new rs store staged =
-    (λ i. record { store = store i; staged = staged i }) ∙ sym (asked-files (files_of folder old).store (files_of folder old).staged (stored_of old) rs)
+    (λ i. record { store = store i; staged = staged i })
+    ∙ sym (asked-files (files_of folder old).store (files_of folder old).staged (stored_of old) rs)
 
 -- turns without a request among them answer, accept and refuse nothing
 pub quiet-output : (now : Stored) (ts : List Turn) → requests_of ts ≡ [] → turns_output now ts ≡ []
@@ -113,10 +125,12 @@ quiet-refused now (begun ∷ ts) none = let more = quiet-refused (stored_after_t
 quiet-refused now (finished ∷ ts) none = let more = quiet-refused (stored_after_turn now finished) ts none in omega (arith, more)
 
 -- turns that are due, and then further ones
-pub due-joined : (bytes : ℕ) (files : Files) (now : Stored) (ts us : List Turn) → AreDue bytes files now ts → AreDue bytes (files_after_turns files now ts) (stored_after_turns now ts) us
+pub due-joined : (bytes : ℕ) (files : Files) (now : Stored) (ts us : List Turn) → AreDue bytes files now ts
+    → AreDue bytes (files_after_turns files now ts) (stored_after_turns now ts) us
     → AreDue bytes files now (ts ++ us)
 due-joined bytes files now [] us due more = more
-due-joined bytes files now (t ∷ ts) us due more = (due.0, due-joined bytes (files_after_turn files now t) (stored_after_turn now t) ts us due.1 more)
+due-joined bytes files now (t ∷ ts) us due more =
+    (due.0, due-joined bytes (files_after_turn files now t) (stored_after_turn now t) ts us due.1 more)
 
 -- a request is always due
 pub asked-due : (bytes : ℕ) (files : Files) (now : Stored) (rs : List Request) → AreDue bytes files now (all_asked rs)
@@ -134,10 +148,13 @@ leads-turn now finished = refl
 pub leads-turns : (now : Stored) (ts : List Turn) → after now.state (turns_accepted now ts) ≡ Ok (stored_after_turns now ts).state
 leads-turns now [] = refl
 leads-turns now (t ∷ ts) =
-    after-joined now.state (stored_after_turn now t).state (stored_after_turns now (t ∷ ts)).state (turn_accepted now t) (turns_accepted (stored_after_turn now t) ts) (leads-turn now t) (leads-turns (stored_after_turn now t) ts)
+    after-joined now.state (stored_after_turn now t).state (stored_after_turns now (t ∷ ts)).state
+    (turn_accepted now t) (turns_accepted (stored_after_turn now t) ts) (leads-turn now t)
+    (leads-turns (stored_after_turn now t) ts)
 
 -- what is acknowledged was accepted
-pub few-acknowledged : (now : Stored) (waiting : List Command) (ts us : List Turn) → acknowledged_turns now waiting ts ≤ length (waiting ++ turns_accepted now (ts ++ us))
+pub few-acknowledged : (now : Stored) (waiting : List Command) (ts us : List Turn)
+    → acknowledged_turns now waiting ts ≤ length (waiting ++ turns_accepted now (ts ++ us))
 few-acknowledged now waiting [] us = omega arith
 few-acknowledged now waiting (t ∷ ts) us =
     let same = ap length (accepted-joined now (t ∷ ts) us) in
@@ -151,18 +168,25 @@ few-acknowledged now waiting (t ∷ ts) us =
 module _ {D : Type 0} (model : DiskModel D) where
   -- what a crash leaves, where the state is flushed and stays
   pub quiet-now : (old new : D) (s : Contents) → LeavesOnly model old new (λ image. AfterPrefix s [] image.store)
-      → ((t : ℕ) (image : Image) → t ≤ model.moment new → IsImage (model.folder new) image → model.left new t image) → AllImagesMean (model.folder new) s
-  quiet-now old new s run counts_now image is = after-nothing s image.store (run.each image (counts_now (model.moment old) image run.later is))
+      → ((t : ℕ) (image : Image) → t ≤ model.moment new → IsImage (model.folder new) image → model.left new t image)
+      → AllImagesMean (model.folder new) s
+  quiet-now old new s run counts_now image is =
+      after-nothing s image.store (run.each image (counts_now (model.moment old) image run.later is))
 
   module _ (old mid : StoreView D) (ts : List Turn) (before : PerformsTurns model old mid ts)
-      (h : model.honest) (flushed : Contents) (waiting : List Command) (has : HasFlushed (model.folder old.disk) flushed waiting old.state) where
+      (h : model.honest) (flushed : Contents) (waiting : List Command)
+      (has : HasFlushed (model.folder old.disk) flushed waiting old.state) where
     leads : after flushed (waiting ++ turns_accepted (stored_of old) ts) ≡ Ok mid.state
     leads =
         after-joined flushed old.state mid.state waiting (turns_accepted (stored_of old) ts) has.journal.leads
         (leads-turns (stored_of old) ts ∙ ap (λ (t : Stored). Ok t.state) (sym before.stored))
 
     continued : Continues flushed (waiting ++ turns_accepted (stored_of old) ts) mid.state []
-    continued = record { first = waiting ++ turns_accepted (stored_of old) ts; is = sym (append-nil (waiting ++ turns_accepted (stored_of old) ts)); leads = leads }
+    continued = record {
+      first = waiting ++ turns_accepted (stored_of old) ts;
+      is = sym (append-nil (waiting ++ turns_accepted (stored_of old) ts));
+      leads = leads;
+    }
 
     -- what a crash leaves of the turns and of what comes after them
     pub moments-after : (new : D) (more : List Command) → LeavesOnly model mid.disk new (λ image. AfterPrefix mid.state more image.store)
@@ -174,11 +198,18 @@ module _ {D : Type 0} (model : DiskModel D) where
         (λ image. prefix-continued flushed mid.state first [] more image.store continued)
 
     -- a crash after the turns
-    pub kept-after : (least : ℕ) → least ≤ length (waiting ++ turns_accepted (stored_of old) ts) → (image : Image) → IsImage (model.folder mid.disk) image
+    pub kept-after : (least : ℕ) → least ≤ length (waiting ++ turns_accepted (stored_of old) ts) → (image : Image)
+        → IsImage (model.folder mid.disk) image
         → AfterAtLeast flushed least (waiting ++ turns_accepted (stored_of old) ts) image.store
     kept-after least few image is =
         let all = waiting ++ turns_accepted (stored_of old) ts in
-        record { count = length all; enough = few; state = mid.state; leads = ap (after flushed) (take_all (length all) all (omega arith)) ∙ leads; means = before.now h image is }
+        record {
+          count = length all;
+          enough = few;
+          state = mid.state;
+          leads = ap (after flushed) (take_all (length all) all (omega arith)) ∙ leads;
+          means = before.now h image is;
+        }
 
     -- a crash during what comes after them
     pub kept-during : (new : D) (more : List Command) → LeavesOnly model mid.disk new (λ image. AfterPrefix mid.state more image.store)
@@ -204,8 +235,10 @@ module _ {D : Type 0} (model : DiskModel D) where
     any_moment = λ h flushed waiting has.
         subst (λ (l : List Command). LeavesOnly model old.disk new.disk (λ image. AfterPrefix flushed l image.store))
         (append_assoc waiting (turns_accepted (stored_of old) ts) (turns_accepted (stored_of mid) us)
-        ∙ ap (λ l. waiting ++ l) (ap (λ t. turns_accepted (stored_of old) ts ++ turns_accepted t us) before.stored ∙ sym (accepted-joined (stored_of old) ts us)))
-        (moments-after old mid ts before h flushed waiting has new.disk (turns_accepted (stored_of mid) us) (next.any_moment h mid.state [] (before.flushed h)));
+        ∙ ap (λ l. waiting ++ l) (ap (λ t. turns_accepted (stored_of old) ts ++ turns_accepted t us) before.stored
+        ∙ sym (accepted-joined (stored_of old) ts us)))
+        (moments-after old mid ts before h flushed waiting has new.disk (turns_accepted (stored_of mid) us)
+        (next.any_moment h mid.state [] (before.flushed h)));
     flushed = next.flushed;
     now = next.now;
   }

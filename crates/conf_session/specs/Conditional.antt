@@ -4,7 +4,8 @@ use Rattle.conf_conditions.specs.Conditions.{Condition, AllHold, FailsFirst}
 use Rattle.conf_conditions.specs.declared.fault.ConditionFault.{ConditionFault}
 use Rattle.conf_session.specs.declared.words.Refusal.{Refusal}
 use Rattle.conf_session.specs.Requests.{Request, if_met}
-use Rattle.conf_session.specs.Answers.{Stored, answer, stored_after, file_after, staged_after, accepted_command, condition_answered, refusal, word}
+use Rattle.conf_session.specs.Answers.{Stored, answer, stored_after, file_after, staged_after, accepted_command}
+use Rattle.conf_session.specs.Answers.{condition_answered, refusal, word}
 
 -- both requests are answered alike, and leave the same
 pub record AreAlike (now : Stored) (one other : Request) : Type 0 where

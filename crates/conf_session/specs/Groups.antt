@@ -1,5 +1,6 @@
 -- What a grouped session has read, answered and stored, for each of its results.
-use Rattle.std.specs.Prelude.{◌≡◌, ℕ, ◌+◌, ◌*◌, ◌<◌, ◌≤◌, false, List, [], ◌∷◌, ◌++◌, length, take, map, Option, Some, None, unwrap_or, Result, Err}
+use Rattle.std.specs.Prelude.{◌≡◌, ℕ, ◌+◌, ◌*◌, ◌<◌, ◌≤◌, false, List, [], ◌∷◌, ◌++◌, length, take, map, Option, Some}
+use Rattle.std.specs.Prelude.{None, unwrap_or, Result, Err}
 use Rattle.std.specs.Io.KnownBytes.{Consumes, Keeps, Appends}
 use Rattle.conf_disk.specs.Folder.{Folder, bytes_under}
 use Rattle.conf_disk.specs.Image.{Image, IsImage}
@@ -13,7 +14,8 @@ use Rattle.conf_store.specs.Durable.{AfterPrefix, AllImagesMean, HasFlushed, sta
 use Rattle.conf_store.specs.Grown.{HasGrown}
 use Rattle.conf_store.specs.View.{StoreView}
 use Rattle.conf_session.specs.Requests.{Request}
-use Rattle.conf_session.specs.Answers.{Stored, answer_bytes, answer_limit, stored_after, file_after, staged_after, accepted_command, refused_of}
+use Rattle.conf_session.specs.Answers.{Stored, answer_bytes, answer_limit, stored_after, file_after, staged_after}
+use Rattle.conf_session.specs.Answers.{accepted_command, refused_of}
 use Rattle.conf_session.specs.Runs.{AfterAtLeast, BeginsWith, EndsAnswered, EndsEarly, stored_of}
 use Rattle.conf_session.specs.declared.fault.SessionFault.{SessionFault}
 use Rattle.conf_session.specs.declared.fault.SessionFault.TheVariants as fault

@@ -16,7 +16,10 @@ use Rattle.conf_state.specs.declared.command.Command as code_command
 use Rattle.conf_state.specs.declared.fault.StoreFault.{StoreFault}
 use Rattle.conf_conditions.specs.declared.fault.ConditionFault.{ConditionFault}
 use Rattle.conf_session.specs.Requests.{Request, changing, checkpointing, if_met}
-use Rattle.conf_session.specs.Answers.{Stored, answered, condition_answered, answer_bytes, answer_limit, refusal, word, stored_after, file_after, staged_after, accepted_command, refused_of, flushed_after, waiting_after, stored_after_all, file_after_all, staged_after_all, accepted_commands}
+use Rattle.conf_session.specs.Answers.{Stored, answered, condition_answered, answer_bytes, answer_limit, refusal}
+use Rattle.conf_session.specs.Answers.{word, stored_after, file_after, staged_after, accepted_command, refused_of}
+use Rattle.conf_session.specs.Answers.{flushed_after, waiting_after, stored_after_all, file_after_all}
+use Rattle.conf_session.specs.Answers.{staged_after_all, accepted_commands}
 use Rattle.conf_session.specs.Runs.{stored_of}
 use Rattle.conf_session.specs.declared.words.Refusal.{Refusal}
 use Rattle.conf_session.specs.declared.reply.Reply.{Reply}

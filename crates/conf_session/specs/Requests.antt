@@ -11,7 +11,8 @@ use Rattle.conf_state.specs.declared.fault.StoreFault.{StoreFault}
 use Rattle.conf_state.specs.declared.fault.StoreFault.TheVariants.{Read, OutOfMemory}
 use Rattle.conf_store.specs.Imports.{IsImportOf, RefusesText}
 use Rattle.conf_conditions.specs.Conditions.{Condition}
-use Rattle.conf_session.specs.Said.{Part, import_text, plain, Said, Says, single_part, batch_of_parts, get_at, export_of, all_names, checkpoint_now, conditional, nothing}
+use Rattle.conf_session.specs.Said.{Part, import_text, plain, Said, Says, single_part, batch_of_parts, get_at}
+use Rattle.conf_session.specs.Said.{export_of, all_names, checkpoint_now, conditional, nothing}
 
 -- What a document says, with the texts of imports read, or with the reason why there is no command to perform. With
 -- conditions it asks for a request only if they are met.

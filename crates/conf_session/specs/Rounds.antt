@@ -12,7 +12,8 @@ use Rattle.conf_state.specs.States.{Contents}
 use Rattle.conf_store.specs.Durable.{AfterPrefix, AllImagesMean, HasFlushed, staged_text}
 use Rattle.conf_store.specs.View.{StoreView}
 use Rattle.conf_session.specs.Requests.{Request, bad, Asks}
-use Rattle.conf_session.specs.Answers.{answer_bytes as answer_to, answers, stored_after_all, file_after_all, staged_after_all, accepted_commands, flushed_after, waiting_after}
+use Rattle.conf_session.specs.Answers.{answer_bytes as answer_to, answers, stored_after_all, file_after_all}
+use Rattle.conf_session.specs.Answers.{staged_after_all, accepted_commands, flushed_after, waiting_after}
 use Rattle.conf_session.specs.Runs.{stored_of}
 use Rattle.conf_session.specs.Replies.{Performs}
 use Rattle.conf_session.specs.declared.fault.SessionFault.{SessionFault}

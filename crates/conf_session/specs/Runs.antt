@@ -1,5 +1,6 @@
 -- What a run of a session has read, answered and stored, for each of its results.
-use Rattle.std.specs.Prelude.{◌≡◌, ℕ, ◌+◌, ◌*◌, ◌<◌, ◌≤◌, true, false, List, [], ◌∷◌, ◌++◌, length, take, Option, option_map, Result, Ok, Err, All}
+use Rattle.std.specs.Prelude.{◌≡◌, ℕ, ◌+◌, ◌*◌, ◌<◌, ◌≤◌, true, false, List, [], ◌∷◌, ◌++◌, length, take, Option}
+use Rattle.std.specs.Prelude.{option_map, Result, Ok, Err, All}
 use Rattle.std.specs.List.{concat}
 use Rattle.std.specs.Io.KnownBytes.{Consumes, IsAtEnd, Keeps, Appends}
 use Rattle.yaml_grammar.specs.Closings.{ClosesOnce, Pieces}
@@ -20,7 +21,9 @@ use Rattle.conf_session.specs.Input.{session_limit, IsOverlong}
 use Rattle.conf_session.specs.declared.fault.SessionFault.{SessionFault}
 use Rattle.conf_session.specs.declared.fault.SessionFault.TheVariants as fault
 use Rattle.conf_session.specs.Requests.{Request, AllAsk}
-use Rattle.conf_session.specs.Answers.{Stored, answer_limit, output, stored_after_all, file_after_all, staged_after_all, accepted_commands, refusals, flushed_after, waiting_after, acknowledged}
+use Rattle.conf_session.specs.Answers.{Stored, answer_limit, output, stored_after_all, file_after_all}
+use Rattle.conf_session.specs.Answers.{staged_after_all, accepted_commands, refusals, flushed_after, waiting_after}
+use Rattle.conf_session.specs.Answers.{acknowledged}
 use Rattle.conf_session.specs.declared.session.Tally.{Tally}
 use Rattle.conf_session.specs.Streams.{Streams}
 

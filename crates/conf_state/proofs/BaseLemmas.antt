@@ -1,5 +1,6 @@
 -- The length of a base text: what is around the configurations, and each of them.
-use Rattle.std.proofs.Common.{◌≡◌, ℕ, ◌+◌, ◌<◌, ◌≤◌, ◌^◌, Bool, true, false, ◌==◌, if◌then◌else◌, List, [], ◌∷◌, ◌++◌, length, codes, decimal, refl, ap, ap₂, ◌∙◌, arith}
+use Rattle.std.proofs.Common.{◌≡◌, ℕ, ◌+◌, ◌<◌, ◌≤◌, ◌^◌, Bool, true, false, ◌==◌, if◌then◌else◌, List, [], ◌∷◌, ◌++◌}
+use Rattle.std.proofs.Common.{length, codes, decimal, refl, ap, ap₂, ◌∙◌, arith}
 use Rattle.std.proofs.lemmas.Bool.Decides.{nat_tests}
 use Rattle.std.proofs.lemmas.Fmt.{decimal_is_IsNumeral_wide}
 use Rattle.std.proofs.lemmas.Str.Parse.{tells_digits}
@@ -8,7 +9,9 @@ use Rattle.std.specs.Str.Parse.{AllDigits}
 use Rattle.yaml_chars.specs.Classes.{in_range, is_in}
 use Rattle.yaml_grammar.specs.Texts.{byte_len, spaces}
 use Rattle.yaml_grammar.specs.Trees.{Tree, mapping}
-use Rattle.yaml_grammar.specs.Style.{letter, plain_in_style, literal_in_style, quoted_char, quoted_chars, in_double_quotes, scalar_lines, literal_mark, literal_lines, feeds_at_end, key_lines, value_at, members_after, style_text}
+use Rattle.yaml_grammar.specs.Style.{letter, plain_in_style, literal_in_style, quoted_char, quoted_chars}
+use Rattle.yaml_grammar.specs.Style.{in_double_quotes, scalar_lines, literal_mark, literal_lines, feeds_at_end}
+use Rattle.yaml_grammar.specs.Style.{key_lines, value_at, members_after, style_text}
 use Rattle.yaml_writer.specs.BudgetLaws.{byte_len-append}
 use Rattle.conf_state.specs.States.{Entry, Contents, base_limit, count_limit}
 use Rattle.conf_state.specs.BaseTexts.{members, base_tree, base_text, base_length, entry_lines, entry_length, entries_length, framed_length}
@@ -53,7 +56,8 @@ digits_bytes (c ∷ cs) all =
 digits_not_literal : (ds : List ℕ) → AllDigits 10 ds → literal_in_style ds ≡ false
 digits_not_literal ds all = rw (digits_no_feed ds all) refl
 
-by_tests : (p l : Bool) (plain literal double : List ℕ) → p ≡ false → l ≡ false → (if p then plain else if l then literal else double) ≡ double
+by_tests : (p l : Bool) (plain literal double : List ℕ) → p ≡ false → l ≡ false
+    → (if p then plain else if l then literal else double) ≡ double
 by_tests p l plain literal double not_plain not_literal = rw (not_plain, not_literal) refl
 
 -- the line of a count: its digits in quotes
@@ -92,7 +96,8 @@ some_bytes name t =
     omega (arith, byte_len-append (spaces 2 ++ key_lines 2 name) (value_at t 2), byte_len-append (spaces 2) (key_lines 2 name))
 
 -- after `configs:`
-configs_bytes : (es : List Entry) → byte_len (value_at (mapping (members es)) 0) ≡ (if entries_length es == 0 then 4 else 1 + entries_length es)
+configs_bytes : (es : List Entry) → byte_len (value_at (mapping (members es)) 0)
+    ≡ (if entries_length es == 0 then 4 else 1 + entries_length es)
 configs_bytes [] = refl
 configs_bytes (e ∷ es) =
     let first = byte_len-append (codes "\n") (entry_lines e.0 e.1 ++ members_after (members es) 2) in
@@ -104,7 +109,8 @@ configs_bytes (e ∷ es) =
 
 -- the lines of the count and of the configurations
 around : (n : ℕ) (es : List Entry) → AllDigits 10 (decimal n)
-    → byte_len (style_text (base_tree (record { configs = es; count = n }))) ≡ 34 + length (decimal n) + (if entries_length es == 0 then 4 else 1 + entries_length es)
+    → byte_len (style_text (base_tree (record { configs = es; count = n })))
+    ≡ 34 + length (decimal n) + (if entries_length es == 0 then 4 else 1 + entries_length es)
 around n es all =
     let configs = value_at (mapping (members es)) 0 in
     omega (
@@ -116,7 +122,8 @@ around n es all =
     )
 
 -- the length of a base text, from its count and the bytes of its configurations
-pub base_length-framed : (n : ℕ) (es : List Entry) → n < 10 ^ 64 → base_length (record { configs = es; count = n }) ≡ framed_length n (entries_length es)
+pub base_length-framed : (n : ℕ) (es : List Entry) → n < 10 ^ 64
+    → base_length (record { configs = es; count = n }) ≡ framed_length n (entries_length es)
 unfolding base_length base_text
 base_length-framed n es small =
     let s : Contents = record { configs = es; count = n } in
@@ -128,7 +135,8 @@ base_length-framed n es small =
     )
 
 -- where the base text is short, so are the configurations
-pub entries_length-short : (n : ℕ) (es : List Entry) → n ≤ count_limit → base_length (record { configs = es; count = n }) ≤ base_limit → entries_length es ≤ base_limit
+pub entries_length-short : (n : ℕ) (es : List Entry) → n ≤ count_limit
+    → base_length (record { configs = es; count = n }) ≤ base_limit → entries_length es ≤ base_limit
 entries_length-short n es numbered short =
     let whole = base_length-framed n es (omega arith) in
     grind (arith, nat_tests, whole)

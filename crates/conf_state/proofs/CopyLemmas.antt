@@ -1,5 +1,6 @@
 -- A copy of configurations, made one by one.
-use Rattle.std.proofs.Common.{◌≡◌, true, List, [], ◌∷◌, ◌++◌, String, Global, None, string_bytes, IsAscii, append_assoc, sym, ap, subst, ◌∙◌}
+use Rattle.std.proofs.Common.{◌≡◌, true, List, [], ◌∷◌, ◌++◌, String, Global, None, string_bytes, IsAscii}
+use Rattle.std.proofs.Common.{append_assoc, sym, ap, subst, ◌∙◌}
 use Rattle.std.proofs.lemmas.Str.{IsUtf8-string_bytes}
 use Rattle.std.specs.Str.{chars}
 use Rattle.yaml_data.specs.Seen.{tree_of}
@@ -13,14 +14,17 @@ use Rattle.conf_state.proofs.PartLemmas.{put_absent, twice}
 use Rattle.conf_state.proofs.PlaceLemmas.{none_of}
 
 -- one more configuration is copied, under a name that is not among those before
-pub copied_more : (all : List Entry) (done : List (String Global × Tree)) (key name : String Global) (value config : Tree) (left new : List (String Global × Tree))
-    → names_differ (names_of all) ≡ true → entries_of done ++ entries_of ((key, value) ∷ left) ≡ all → ArePlain done → IsAscii (string_bytes key)
+pub copied_more : (all : List Entry) (done : List (String Global × Tree)) (key name : String Global)
+    (value config : Tree) (left new : List (String Global × Tree))
+    → names_differ (names_of all) ≡ true → entries_of done ++ entries_of ((key, value) ∷ left) ≡ all → ArePlain done
+    → IsAscii (string_bytes key)
     → string_bytes name ≡ string_bytes key → tree_of config ≡ tree_of value → new ≡ put_under name config done
     → (entries_of new ++ entries_of left ≡ all) × ArePlain new
 copied_more all done key name value config left new differ whole plain ascii named same is =
     let es = entries_of done in
     let absent : config_named es (text_of key) ≡ None =
-    none_of (config_named es (text_of key)) (λ there. twice es (text_of key) (tree_of value) (entries_of left) there (ap (λ xs. names_differ (names_of xs)) whole ∙ differ)) in
+    none_of (config_named es (text_of key)) (λ there.
+    twice es (text_of key) (tree_of value) (entries_of left) there (ap (λ xs. names_differ (names_of xs)) whole ∙ differ)) in
     let last : entries_of new ≡ es ++ (text_of key, tree_of value) ∷ [] =
     ap entries_of is ∙ put_under-named name (IsUtf8-string_bytes name) config done plain
     ∙ ap (λ bs. put_config es (chars bs) (tree_of config)) named ∙ ap (put_config es (text_of key)) same

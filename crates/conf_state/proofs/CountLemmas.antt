@@ -1,5 +1,6 @@
 -- When a state has room for one command more.
-use Rattle.std.proofs.Common.{◌≡◌, ℕ, ◌+◌, ◌<◌, ◌≤◌, ◌^◌, Bool, true, false, min, nat_le, nat_lt, if◌then◌else◌, List, Result, Ok, Err, refl, ap, sym, ◌∙◌, arith}
+use Rattle.std.proofs.Common.{◌≡◌, ℕ, ◌+◌, ◌<◌, ◌≤◌, ◌^◌, Bool, true, false, min, nat_le, nat_lt, if◌then◌else◌, List}
+use Rattle.std.proofs.Common.{Result, Ok, Err, refl, ap, sym, ◌∙◌, arith}
 use Rattle.std.proofs.lemmas.Bool.Decides.{nat_tests}
 use Rattle.conf_state.specs.States.{Entry, Contents, base_limit, count_limit}
 use Rattle.conf_state.specs.BaseTexts.{base_length, framed_length, entries_length}
@@ -29,7 +30,8 @@ abbrev first_fault : Bool → Room → Bool → Contents → Result Contents Sto
 first_fault full room last new = if full then Err StoreFull else with_room room (if last then Err CountFull else Ok new)
 
 -- the frame's length passes the limit alike where lengths are cut off at the greatest number
-cut : (n l : ℕ) → nat_lt base_limit (min (framed_length n (min l 18446744073709551615)) 18446744073709551615) ≡ nat_lt base_limit (framed_length n l)
+cut : (n l : ℕ) → nat_lt base_limit (min (framed_length n (min l 18446744073709551615)) 18446744073709551615)
+    ≡ nat_lt base_limit (framed_length n l)
 cut n l = grind (arith, nat_tests)
 
 module _ (s : Contents) (room : Room) (configs : List Entry) where
@@ -37,7 +39,8 @@ module _ (s : Contents) (room : Room) (configs : List Entry) where
   new = record { configs = configs; count = s.count + 1 }
 
   -- l is the length that the code computes
-  module _ (small : s.count + 1 < 10 ^ 64) (l : ℕ) (is : l ≡ min (framed_length (s.count + 1) (min (entries_length configs) 18446744073709551615)) 18446744073709551615) where
+  module _ (small : s.count + 1 < 10 ^ 64) (l : ℕ)
+      (is : l ≡ min (framed_length (s.count + 1) (min (entries_length configs) 18446744073709551615)) 18446744073709551615) where
     same : nat_lt base_limit (base_length new) ≡ nat_lt base_limit l
     same =
         ap (nat_lt base_limit) (base_length-framed (s.count + 1) configs small)

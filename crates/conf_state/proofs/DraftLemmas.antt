@@ -1,5 +1,6 @@
 -- Configurations that are removed and put in one after the other.
-use Rattle.std.proofs.Common.{◌≡◌, ℕ, Bool, true, false, not, ◌||◌, if◌then◌else◌, List, [], ◌∷◌, ◌++◌, Some, None, is_some, refl, sym, ap, ◌∙◌}
+use Rattle.std.proofs.Common.{◌≡◌, ℕ, Bool, true, false, not, ◌||◌, if◌then◌else◌, List, [], ◌∷◌, ◌++◌, Some, None}
+use Rattle.std.proofs.Common.{is_some, refl, sym, ap, ◌∙◌}
 use Rattle.std.proofs.lemmas.Bool.{and_parts, and_from}
 use Rattle.yaml_grammar.specs.Texts.{same_text}
 use Rattle.yaml_grammar.specs.Trees.{Tree}
@@ -26,17 +27,20 @@ not_true true e = cc
 not_true false e = refl
 
 -- where no name comes twice, no other configuration has the name of the first
-named-alone : (e : Entry) (es : List Entry) (n : List ℕ) → names_differ (names_of (e ∷ es)) ≡ true → same_text n e.0 ≡ true → config_named es n ≡ None
+named-alone : (e : Entry) (es : List Entry) (n : List ℕ) → names_differ (names_of (e ∷ es)) ≡ true
+    → same_text n e.0 ≡ true → config_named es n ≡ None
 named-alone e es n differ same =
     let parts = and_parts (not (has_name e.0 (names_of es))) (names_differ (names_of es)) differ in
     is_none (config_named es n)
-    (sym (has_name-named es n) ∙ ap (λ m. has_name m (names_of es)) (same_text-true n e.0 same) ∙ not_true (has_name e.0 (names_of es)) parts.0)
+    (sym (has_name-named es n) ∙ ap (λ m. has_name m (names_of es)) (same_text-true n e.0 same)
+    ∙ not_true (has_name e.0 (names_of es)) parts.0)
 
 others-differ : (e : Entry) (es : List Entry) → names_differ (names_of (e ∷ es)) ≡ true → names_differ (names_of es) ≡ true
 others-differ e es differ = (and_parts (not (has_name e.0 (names_of es))) (names_differ (names_of es)) differ).1
 
 -- one more name that differs from the others
-pub names_differ-push : (ns : List (List ℕ)) (n : List ℕ) → names_differ ns ≡ true → has_name n ns ≡ false → names_differ (ns ++ n ∷ []) ≡ true
+pub names_differ-push : (ns : List (List ℕ)) (n : List ℕ) → names_differ ns ≡ true → has_name n ns ≡ false
+    → names_differ (ns ++ n ∷ []) ≡ true
 names_differ-push [] n differ other = refl
 names_differ-push (m ∷ ns) n differ other = by (same_text n m) refl (names_differ-push ns n parts.1)
   where
@@ -54,7 +58,8 @@ names_differ-push (m ∷ ns) n differ other = by (same_text n m) refl (names_dif
     has_name-push [] apart = last (same_text m n) apart
     has_name-push (x ∷ xs) apart = ap (λ b. same_text m x || b) (has_name-push xs apart)
 
-    by : (b : Bool) → same_text n m ≡ b → (has_name n ns ≡ false → names_differ (ns ++ n ∷ []) ≡ true) → names_differ (m ∷ (ns ++ n ∷ [])) ≡ true
+    by : (b : Bool) → same_text n m ≡ b → (has_name n ns ≡ false → names_differ (ns ++ n ∷ []) ≡ true)
+        → names_differ (m ∷ (ns ++ n ∷ [])) ≡ true
     by true same rest = let found = rw same at other in absurd (cc)
     by false same rest =
         let others = rw same at other in
@@ -64,7 +69,8 @@ names_differ-push (m ∷ ns) n differ other = by (same_text n m) refl (names_dif
 -- ---- one put
 
 -- it changes nothing under another name
-pub named-put-other : (es : List Entry) (n m : List ℕ) (u : Tree) → same_text n m ≡ false → config_named (put_config es m u) n ≡ config_named es n
+pub named-put-other : (es : List Entry) (n m : List ℕ) (u : Tree) → same_text n m ≡ false
+    → config_named (put_config es m u) n ≡ config_named es n
 named-put-other [] n m u differ = rw differ refl
 named-put-other (e ∷ es) n m u differ = by (same_text m e.0) refl (named-put-other es n m u differ)
   where
@@ -160,7 +166,8 @@ cut-none (e ∷ es) n none = by (same_text n e.0) none (cut-none es n)
     by false found rest = ap (λ xs. e ∷ xs) (rest found)
 
 -- a put and a removal of different names
-cut-put-other : (es : List Entry) (n m : List ℕ) (u : Tree) → same_text n m ≡ false → cut_config (put_config es m u) n ≡ put_config (cut_config es n) m u
+cut-put-other : (es : List Entry) (n m : List ℕ) (u : Tree) → same_text n m ≡ false
+    → cut_config (put_config es m u) n ≡ put_config (cut_config es n) m u
 cut-put-other [] n m u differ = rw differ refl
 cut-put-other (e ∷ es) n m u differ = by (same_text n e.0) refl (same_text m e.0) refl (cut-put-other es n m u differ)
   where
@@ -263,7 +270,8 @@ named-put_all-none (p ∷ ts) es n none = by (same_text n p.0) refl (named-put_a
 pub named-put_all-some : (ts es : List Entry) (n : List ℕ) (t : Tree) → names_differ (names_of ts) ≡ true → config_named ts n ≡ Some t
     → config_named (put_all es ts) n ≡ Some t
 named-put_all-some [] es n t differ some = cc
-named-put_all-some (p ∷ ts) es n t differ some = by (same_text n p.0) refl (named-put_all-some ts (put_config es p.0 p.1) n t (others-differ p ts differ))
+named-put_all-some (p ∷ ts) es n t differ some =
+    by (same_text n p.0) refl (named-put_all-some ts (put_config es p.0 p.1) n t (others-differ p ts differ))
   where
     by : (b : Bool) → same_text n p.0 ≡ b → (config_named ts n ≡ Some t → config_named (put_all (put_config es p.0 p.1) ts) n ≡ Some t)
         → config_named (put_all (put_config es p.0 p.1) ts) n ≡ Some t
@@ -283,11 +291,13 @@ cut_all-append [] es m = refl
 cut_all-append (n ∷ ns) es m = cut_all-append ns (cut_config es n) m
 
 -- a name that is not among them is found as before
-pub named-cut_all-other : (ns : List (List ℕ)) (es : List Entry) (n : List ℕ) → has_name n ns ≡ false → config_named (cut_all es ns) n ≡ config_named es n
+pub named-cut_all-other : (ns : List (List ℕ)) (es : List Entry) (n : List ℕ) → has_name n ns ≡ false
+    → config_named (cut_all es ns) n ≡ config_named es n
 named-cut_all-other [] es n other = refl
 named-cut_all-other (m ∷ ns) es n other = by (same_text n m) refl (named-cut_all-other ns (cut_config es m) n)
   where
-    by : (b : Bool) → same_text n m ≡ b → (has_name n ns ≡ false → config_named (cut_all (cut_config es m) ns) n ≡ config_named (cut_config es m) n)
+    by : (b : Bool) → same_text n m ≡ b → (has_name n ns ≡ false
+        → config_named (cut_all (cut_config es m) ns) n ≡ config_named (cut_config es m) n)
         → config_named (cut_all (cut_config es m) ns) n ≡ config_named es n
     by true same rest = let found = rw same at other in absurd (cc)
     by false same rest =
@@ -302,12 +312,14 @@ named-cut_all-none (m ∷ ns) es n none = named-cut_all-none ns (cut_config es m
 pub named-cut_all-gone : (ns : List (List ℕ)) (es : List Entry) (n : List ℕ) → has_name n ns ≡ true → names_differ (names_of es) ≡ true
     → config_named (cut_all es ns) n ≡ None
 named-cut_all-gone [] es n among differ = cc
-named-cut_all-gone (m ∷ ns) es n among differ = by (same_text n m) refl (λ others. named-cut_all-gone ns (cut_config es m) n others (names_differ-cut es m differ))
+named-cut_all-gone (m ∷ ns) es n among differ =
+    by (same_text n m) refl (λ others. named-cut_all-gone ns (cut_config es m) n others (names_differ-cut es m differ))
   where
     by : (b : Bool) → same_text n m ≡ b → (has_name n ns ≡ true → config_named (cut_all (cut_config es m) ns) n ≡ None)
         → config_named (cut_all (cut_config es m) ns) n ≡ None
     by true same rest =
-        named-cut_all-none ns (cut_config es m) n (ap (λ k. config_named (cut_config es k) n) (sym (same_text-true n m same)) ∙ named-cut-same es n differ)
+        named-cut_all-none ns (cut_config es m) n
+        (ap (λ k. config_named (cut_config es k) n) (sym (same_text-true n m same)) ∙ named-cut-same es n differ)
     by false same rest =
         let others = rw same at among in
         rest others

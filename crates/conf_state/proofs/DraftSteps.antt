@@ -1,5 +1,7 @@
 -- What a put and a removal make of a draft.
-use Rattle.std.proofs.Common.{◌≡◌, ℕ, Bool, true, false, ◌||◌, if◌then◌else◌, List, [], ◌∷◌, ◌++◌, String, Global, Option, Some, None, option_map, IfSome, Bor, string_bytes, IsUtf8, refl, sym, ap, subst, ◌∙◌}
+use Rattle.std.proofs.Common.{◌≡◌, ℕ, Bool, true, false, ◌||◌, if◌then◌else◌, List, [], ◌∷◌, ◌++◌, String, Global}
+use Rattle.std.proofs.Common.{Option, Some, None, option_map, IfSome, Bor, string_bytes, IsUtf8, refl, sym, ap, subst}
+use Rattle.std.proofs.Common.{◌∙◌}
 use Rattle.std.proofs.lemmas.Str.{IsUtf8-string_bytes}
 use Rattle.std.specs.List.{list_any}
 use Rattle.std.specs.Str.{chars}
@@ -52,7 +54,8 @@ differ-insert : (keys : List (String Global)) (name : String Global) → names_d
     → names_differ (texts_of (insert_key string_eq keys name)) ≡ true
 differ-insert keys name differ = by (list_any (is_name (string_bytes name)) keys) refl
   where
-    by : (b : Bool) → list_any (is_name (string_bytes name)) keys ≡ b → names_differ (texts_of (if b then keys else keys ++ name ∷ [])) ≡ true
+    by : (b : Bool) → list_any (is_name (string_bytes name)) keys ≡ b
+        → names_differ (texts_of (if b then keys else keys ++ name ∷ [])) ≡ true
     by true is = differ
     by false is =
         let other = sym (listed (string_bytes name) (IsUtf8-string_bytes name) keys) ∙ is in
@@ -63,7 +66,8 @@ differ-insert keys name differ = by (list_any (is_name (string_bytes name)) keys
 -- a tree is put under a name
 pub put-made : (old : Draft) (touched : List (String Global × Tree)) (length : ℕ) (name : List ℕ) (t : grammar.Tree) → IsDraft old
     → entries_of touched ≡ put_config (entries_of old.touched) name t
-    → (es : List Entry) → drafted es (record { removed = old.removed; touched = touched; length = length }) ≡ put_config (drafted es old) name t
+    → (es : List Entry) → drafted es (record { removed = old.removed; touched = touched; length = length })
+    ≡ put_config (drafted es old) name t
 put-made old touched length name t kept seen es =
     ap (put_all (cut_all es (texts_of old.removed.keys))) seen
     ∙ put_all-put (entries_of old.touched) (cut_all es (texts_of old.removed.keys)) name t kept.distinct
@@ -106,7 +110,8 @@ is_cut old new name kept cut keys =
 -- ---- options
 
 -- what holds of a tree that is found holds of the configuration that has it
-pub found-holds : (P : grammar.Tree → Type 0) (result : Option (Bor Tree)) (o : Option grammar.Tree) → option_map (λ config. tree_of config.now) result ≡ o
+pub found-holds : (P : grammar.Tree → Type 0) (result : Option (Bor Tree)) (o : Option grammar.Tree)
+    → option_map (λ config. tree_of config.now) result ≡ o
     → ((t : grammar.Tree) → o ≡ Some t → P t) → IfSome result (λ config. P (tree_of config.now))
 found-holds P None o is so = tt
 found-holds P (Some config) o is so = so (tree_of config.now) (sym is)

@@ -1,5 +1,7 @@
 -- What an edit inside a configuration makes of a state's configurations and of their length.
-use Rattle.std.proofs.Common.{inl, inr, ◌⊎◌, ◌==◌, length, ◌≡◌, ℕ, ◌+◌, ◌*◌, ◌<◌, ◌≤◌, nat_le, Bool, true, false, if◌then◌else◌, List, [], ◌∷◌, ◌++◌, Option, Some, None, option_map, Result, Ok, Err, String, Global, IsUtf8, refl, sym, ap, subst, ◌∙◌, arith}
+use Rattle.std.proofs.Common.{inl, inr, ◌⊎◌, ◌==◌, length, ◌≡◌, ℕ, ◌+◌, ◌*◌, ◌<◌, ◌≤◌, nat_le, Bool, true, false}
+use Rattle.std.proofs.Common.{if◌then◌else◌, List, [], ◌∷◌, ◌++◌, Option, Some, None, option_map, Result, Ok, Err}
+use Rattle.std.proofs.Common.{String, Global, IsUtf8, refl, sym, ap, subst, ◌∙◌, arith}
 use Rattle.std.proofs.lemmas.Bool.Decides.{nat_tests}
 use Rattle.std.specs.Map.{lookup}
 use Rattle.std.specs.Str.{chars}
@@ -42,7 +44,8 @@ pub named-good : (es : List Entry) (name : List ℕ) (t : grammar.Tree) → AreC
 named-good [] name t all is = cc
 named-good (e ∷ es) name t all is = by (same_text name e.0) is (named-good es name t all.2)
   where
-    by : (b : Bool) → (if b then Some e.1 else config_named es name) ≡ Some t → (config_named es name ≡ Some t → Good t config_limits) → Good t config_limits
+    by : (b : Bool) → (if b then Some e.1 else config_named es name) ≡ Some t
+        → (config_named es name ≡ Some t → Good t config_limits) → Good t config_limits
     by true found rest = let same : e.1 ≡ t = cc in subst (λ x. Good x config_limits) same all.1
     by false found rest = rest found
 
@@ -68,7 +71,8 @@ unfolding entry_length
 entry_value name t = byte_len-append (spaces 2 ++ key_lines 2 name) (value_at t 2)
 
 -- the bytes of all configurations after an edit of one, from the measured change
-pub edit-length : (es : List Entry) (name : List ℕ) (old new : grammar.Tree) (change : Change) → config_named es name ≡ Some old → Changes change old new
+pub edit-length : (es : List Entry) (name : List ℕ) (old new : grammar.Tree) (change : Change)
+    → config_named es name ≡ Some old → Changes change old new
     → entries_length (put_config es name new) + length_at change.removed 4 ≡ entries_length es + length_at change.added 4
 edit-length es name old new change there is =
     let value = is.after_key 2 in
@@ -85,7 +89,8 @@ value_fits : (t : grammar.Tree) → byte_len (style_text t) ≤ config_limits.st
 value_fits t short = omega (arith, value_law t 2, value_bound t, value_small t)
 
 -- these bytes stay within a 64-bit number
-pub edit-short : (es : List Entry) (name : List ℕ) (old new : grammar.Tree) → config_named es name ≡ Some old → entries_length es ≤ base_limit
+pub edit-short : (es : List Entry) (name : List ℕ) (old new : grammar.Tree) → config_named es name ≡ Some old
+    → entries_length es ≤ base_limit
     → byte_len (style_text new) ≤ config_limits.style → entries_length (put_config es name new) < 18446744073709551616
 edit-short es name old new there short small =
     omega (
@@ -100,7 +105,8 @@ edit-short es name old new there short small =
 -- ---- the path of a pointer
 
 -- what is read of a pointer is its path
-pub parsed-Ok : (pointer : List ℕ) (path : List (List ℕ)) → (◌≡◌ {A = Result (List (List ℕ)) PathFault} (Ok path) (Err path_faults.OutOfMemory)) ⊎ (Ok path ≡ path_of pointer)
+pub parsed-Ok : (pointer : List ℕ) (path : List (List ℕ))
+    → (◌≡◌ {A = Result (List (List ℕ)) PathFault} (Ok path) (Err path_faults.OutOfMemory)) ⊎ (Ok path ≡ path_of pointer)
     → path_of pointer ≡ Ok path
 parsed-Ok pointer path (inl none) = cc
 parsed-Ok pointer path (inr read) = sym read
@@ -122,7 +128,8 @@ path-refused r (path_faults.NotIndex step) (inr e) = inr (ap by_path e)
 path-refused r path_faults.OutOfMemory (inr e) = inl refl
 
 -- a pointer with a character has a step
-pub pointer-steps : (pointer : List ℕ) (path : List (List ℕ)) → IsUtf8 pointer → 0 < length pointer → chars pointer ≡ pointer_text path → 0 < length path
+pub pointer-steps : (pointer : List ℕ) (path : List (List ℕ)) → IsUtf8 pointer → 0 < length pointer
+    → chars pointer ≡ pointer_text path → 0 < length path
 pointer-steps pointer [] utf8 some is =
     let none : pointer ≡ [] = sym (encodes-chars pointer utf8) ∙ ap encodes is in
     omega (arith, some, ap length none)

@@ -1,5 +1,7 @@
 -- What the map's calls do to a state's configurations.
-use Rattle.std.proofs.Common.{◌≡◌, ℕ, Bool, true, false, cond, if◌then◌else◌, List, [], ◌∷◌, String, Global, Option, Some, option_map, string_bytes, bytes_eq, IsUtf8, IsAscii, encode_utf8_all, refl, sym, ap, ◌∙◌}
+use Rattle.std.proofs.Common.{◌≡◌, ℕ, Bool, true, false, cond, if◌then◌else◌, List, [], ◌∷◌, String, Global, Option}
+use Rattle.std.proofs.Common.{Some, option_map, string_bytes, bytes_eq, IsUtf8, IsAscii, encode_utf8_all, refl, sym}
+use Rattle.std.proofs.Common.{ap, ◌∙◌}
 use Rattle.std.proofs.lemmas.Bool.Decides.{same_from_decides}
 use Rattle.std.proofs.lemmas.Slice.Eq.{bytes_eq-Decides}
 use Rattle.std.proofs.lemmas.Str.{encodes-chars, IsUtf8-string_bytes}
@@ -34,7 +36,8 @@ module _ (q : List ℕ) (utf8 : IsUtf8 q) where
   lookup-named [] plain = refl
   lookup-named (e ∷ es) plain =
       by (bytes_eq q (string_bytes e.0)) _ _ (lookup-named es plain.1)
-      ∙ ap (λ b. if b then Some (tree_of e.1) else config_named (entries_of es) (chars q)) (same_key q (string_bytes e.0) utf8 (IsUtf8-string_bytes e.0))
+      ∙ ap (λ b. if b then Some (tree_of e.1) else config_named (entries_of es) (chars q))
+      (same_key q (string_bytes e.0) utf8 (IsUtf8-string_bytes e.0))
     where
       by : (b : Bool) (found : Option Tree) (named : Option grammar.Tree) → option_map tree_of found ≡ named
           → option_map tree_of (cond b (Some e.1) found) ≡ (if b then Some (tree_of e.1) else named)
@@ -47,7 +50,8 @@ module _ (q : List ℕ) (utf8 : IsUtf8 q) where
   cut_from-named [] plain = refl
   cut_from-named (e ∷ es) plain =
       by (bytes_eq q (string_bytes e.0)) _ _ (cut_from-named es plain.1)
-      ∙ ap (λ b. if b then entries_of es else (chars (string_bytes e.0), tree_of e.1) ∷ cut_config (entries_of es) (chars q)) (same_key q (string_bytes e.0) utf8 (IsUtf8-string_bytes e.0))
+      ∙ ap (λ b. if b then entries_of es else (chars (string_bytes e.0), tree_of e.1) ∷ cut_config (entries_of es)
+      (chars q)) (same_key q (string_bytes e.0) utf8 (IsUtf8-string_bytes e.0))
     where
       by : (b : Bool) (rest : List (String Global × Tree)) (cut : List Entry) → entries_of rest ≡ cut
           → entries_of (cond b es (e ∷ rest)) ≡ (if b then entries_of es else (chars (string_bytes e.0), tree_of e.1) ∷ cut)
@@ -60,13 +64,15 @@ module _ (q : List ℕ) (utf8 : IsUtf8 q) where
   set_value-named [] old t plain is = cc
   set_value-named (e ∷ es) old t plain is =
       by (bytes_eq q (string_bytes e.0)) refl is (set_value-named es old t plain.1)
-      ∙ ap (λ b. if b then (chars (string_bytes e.0), tree_of t) ∷ entries_of es else (chars (string_bytes e.0), tree_of e.1) ∷ put_config (entries_of es) (chars q) (tree_of t))
+      ∙ ap (λ b. if b then (chars (string_bytes e.0), tree_of t) ∷ entries_of es
+      else (chars (string_bytes e.0), tree_of e.1) ∷ put_config (entries_of es) (chars q) (tree_of t))
       (same_key q (string_bytes e.0) utf8 (IsUtf8-string_bytes e.0))
     where
       by : (b : Bool) → bytes_eq q (string_bytes e.0) ≡ b → cond b (Some e.1) (lookup (is_name q) es) ≡ Some old
           → (lookup (is_name q) es ≡ Some old → entries_of (set_value (is_name q) es t) ≡ put_config (entries_of es) (chars q) (tree_of t))
           → entries_of (cond b ((e.0, t) ∷ es) (e ∷ set_value (is_name q) es t))
-          ≡ (if b then (chars (string_bytes e.0), tree_of t) ∷ entries_of es else (chars (string_bytes e.0), tree_of e.1) ∷ put_config (entries_of es) (chars q) (tree_of t))
+          ≡ (if b then (chars (string_bytes e.0), tree_of t) ∷ entries_of es
+          else (chars (string_bytes e.0), tree_of e.1) ∷ put_config (entries_of es) (chars q) (tree_of t))
       by true named is rest = refl
       by false named is rest = ap (λ xs. (chars (string_bytes e.0), tree_of e.1) ∷ xs) (rest is)
 
@@ -77,11 +83,13 @@ module _ (name : String Global) (utf8 : IsUtf8 (string_bytes name)) (t : Tree) w
   put_under-named [] plain = refl
   put_under-named (e ∷ es) plain =
       by (bytes_eq (string_bytes name) (string_bytes e.0)) _ _ (put_under-named es plain.1)
-      ∙ ap (λ b. if b then (chars (string_bytes e.0), tree_of t) ∷ entries_of es else (chars (string_bytes e.0), tree_of e.1) ∷ put_config (entries_of es) (chars (string_bytes name)) (tree_of t))
+      ∙ ap (λ b. if b then (chars (string_bytes e.0), tree_of t) ∷ entries_of es
+      else (chars (string_bytes e.0), tree_of e.1) ∷ put_config (entries_of es) (chars (string_bytes name)) (tree_of t))
       (same_key (string_bytes name) (string_bytes e.0) utf8 (IsUtf8-string_bytes e.0))
     where
       by : (b : Bool) (rest : List (String Global × Tree)) (put : List Entry) → entries_of rest ≡ put
-          → entries_of (cond b ((e.0, t) ∷ es) (e ∷ rest)) ≡ (if b then (chars (string_bytes e.0), tree_of t) ∷ entries_of es else (chars (string_bytes e.0), tree_of e.1) ∷ put)
+          → entries_of (cond b ((e.0, t) ∷ es) (e ∷ rest))
+          ≡ (if b then (chars (string_bytes e.0), tree_of t) ∷ entries_of es else (chars (string_bytes e.0), tree_of e.1) ∷ put)
       by true rest others same = refl
       by false rest others same = ap (λ xs. (chars (string_bytes e.0), tree_of e.1) ∷ xs) same
 
@@ -116,9 +124,11 @@ plain_set_value q t (e ∷ es) plain = by (bytes_eq q (string_bytes e.0)) _ (pla
     by false rest others = (plain.0, others)
 
 -- an ASCII name that is put in leaves all of them ASCII
-pub plain_put_under : (name : String Global) (t : Tree) (es : List (String Global × Tree)) → IsAscii (string_bytes name) → ArePlain es → ArePlain (put_under name t es)
+pub plain_put_under : (name : String Global) (t : Tree) (es : List (String Global × Tree))
+    → IsAscii (string_bytes name) → ArePlain es → ArePlain (put_under name t es)
 plain_put_under name t [] ascii plain = (ascii, tt)
-plain_put_under name t (e ∷ es) ascii plain = by (bytes_eq (string_bytes name) (string_bytes e.0)) _ (plain_put_under name t es ascii plain.1)
+plain_put_under name t (e ∷ es) ascii plain =
+    by (bytes_eq (string_bytes name) (string_bytes e.0)) _ (plain_put_under name t es ascii plain.1)
   where
     by : (b : Bool) (rest : List (String Global × Tree)) → ArePlain rest → ArePlain (cond b ((e.0, t) ∷ es) (e ∷ rest))
     by true rest others = plain

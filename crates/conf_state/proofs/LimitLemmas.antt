@@ -19,7 +19,8 @@ pub entries_length-found : (es : List Entry) (name : List ℕ) (t : Tree) → co
 entries_length-found [] name t is = cc
 entries_length-found (e ∷ es) name t is = by (same_text name e.0) refl (entries_length-found es name t)
   where
-    by : (b : Bool) → same_text name e.0 ≡ b → (config_named es name ≡ Some t → entry_length name t + entries_length (cut_config es name) ≡ entries_length es)
+    by : (b : Bool) → same_text name e.0 ≡ b → (config_named es name ≡ Some t
+        → entry_length name t + entries_length (cut_config es name) ≡ entries_length es)
         → entry_length name t + entries_length (cut_config (e ∷ es) name) ≡ entries_length (e ∷ es)
     by true same rest =
         let found = rw same at is in
@@ -31,7 +32,8 @@ entries_length-found (e ∷ es) name t is = by (same_text name e.0) refl (entrie
         rw same (omega (arith, rest found))
 
 -- taking out a name that is not there changes no length
-pub entries_length-absent : (es : List Entry) (name : List ℕ) → config_named es name ≡ None → entries_length (cut_config es name) ≡ entries_length es
+pub entries_length-absent : (es : List Entry) (name : List ℕ) → config_named es name ≡ None
+    → entries_length (cut_config es name) ≡ entries_length es
 entries_length-absent [] name is = refl
 entries_length-absent (e ∷ es) name is = by (same_text name e.0) refl (entries_length-absent es name)
   where
@@ -43,11 +45,13 @@ entries_length-absent (e ∷ es) name is = by (same_text name e.0) refl (entries
         rw same (omega (arith, rest absent))
 
 -- the bytes after a put are those of the other configurations and of the new one
-pub entries_length-put : (es : List Entry) (name : List ℕ) (t : Tree) → entries_length (put_config es name t) ≡ entries_length (cut_config es name) + entry_length name t
+pub entries_length-put : (es : List Entry) (name : List ℕ) (t : Tree)
+    → entries_length (put_config es name t) ≡ entries_length (cut_config es name) + entry_length name t
 entries_length-put [] name t = omega arith
 entries_length-put (e ∷ es) name t = by (same_text name e.0) refl (entries_length-put es name t)
   where
-    by : (b : Bool) → same_text name e.0 ≡ b → entries_length (put_config es name t) ≡ entries_length (cut_config es name) + entry_length name t
+    by : (b : Bool) → same_text name e.0 ≡ b → entries_length (put_config es name t)
+        ≡ entries_length (cut_config es name) + entry_length name t
         → entries_length (put_config (e ∷ es) name t) ≡ entries_length (cut_config (e ∷ es) name) + entry_length name t
     by true same rest =
         let here = ap (λ n. entry_length n t) (same_text-true name e.0 same) in
@@ -72,7 +76,8 @@ no_name name names h = by (has_name name names) h
 has_name-put : (es : List Entry) (name other : List ℕ) (t : Tree) → same_text other name ≡ false → has_name other (names_of es) ≡ false
     → has_name other (names_of (put_config es name t)) ≡ false
 has_name-put [] name other t differ absent = rw differ refl
-has_name-put (e ∷ es) name other t differ absent = by (same_text name e.0) refl (same_text other e.0) refl (has_name-put es name other t differ)
+has_name-put (e ∷ es) name other t differ absent =
+    by (same_text name e.0) refl (same_text other e.0) refl (has_name-put es name other t differ)
   where
     by : (b : Bool) → same_text name e.0 ≡ b → (d : Bool) → same_text other e.0 ≡ d
         → (has_name other (names_of es) ≡ false → has_name other (names_of (put_config es name t)) ≡ false)
@@ -83,7 +88,8 @@ has_name-put (e ∷ es) name other t differ absent = by (same_text name e.0) ref
         let others = rw is at absent in
         rw (same, is) (rest others)
 
-has_name-cut : (es : List Entry) (name other : List ℕ) → has_name other (names_of es) ≡ false → has_name other (names_of (cut_config es name)) ≡ false
+has_name-cut : (es : List Entry) (name other : List ℕ) → has_name other (names_of es) ≡ false
+    → has_name other (names_of (cut_config es name)) ≡ false
 has_name-cut [] name other absent = refl
 has_name-cut (e ∷ es) name other absent = by (same_text name e.0) refl (same_text other e.0) refl (has_name-cut es name other)
   where
@@ -97,7 +103,8 @@ has_name-cut (e ∷ es) name other absent = by (same_text name e.0) refl (same_t
         rw (same, is) (rest others)
 
 -- a put leaves the names different
-pub names_differ-put : (es : List Entry) (name : List ℕ) (t : Tree) → names_differ (names_of es) ≡ true → names_differ (names_of (put_config es name t)) ≡ true
+pub names_differ-put : (es : List Entry) (name : List ℕ) (t : Tree) → names_differ (names_of es) ≡ true
+    → names_differ (names_of (put_config es name t)) ≡ true
 names_differ-put [] name t differ = refl
 names_differ-put (e ∷ es) name t differ =
     let parts = and_parts (not (has_name e.0 (names_of es))) (names_differ (names_of es)) differ in
@@ -111,7 +118,8 @@ names_differ-put (e ∷ es) name t differ =
         rw (same, apart) rest
 
 -- so does taking one out
-pub names_differ-cut : (es : List Entry) (name : List ℕ) → names_differ (names_of es) ≡ true → names_differ (names_of (cut_config es name)) ≡ true
+pub names_differ-cut : (es : List Entry) (name : List ℕ) → names_differ (names_of es) ≡ true
+    → names_differ (names_of (cut_config es name)) ≡ true
 names_differ-cut [] name differ = refl
 names_differ-cut (e ∷ es) name differ =
     let parts = and_parts (not (has_name e.0 (names_of es))) (names_differ (names_of es)) differ in
@@ -127,7 +135,8 @@ names_differ-cut (e ∷ es) name differ =
 -- ---- limits
 
 -- a put of a good tree under a good name leaves all configurations good
-pub AreConfigs-put : (es : List Entry) (name : List ℕ) (t : Tree) → good_name name ≡ true → Good t config_limits → AreConfigs es → AreConfigs (put_config es name t)
+pub AreConfigs-put : (es : List Entry) (name : List ℕ) (t : Tree) → good_name name ≡ true → Good t config_limits
+    → AreConfigs es → AreConfigs (put_config es name t)
 AreConfigs-put [] name t named good all = (named, good, tt)
 AreConfigs-put (e ∷ es) name t named good all = by (same_text name e.0) _ (AreConfigs-put es name t named good all.2)
   where

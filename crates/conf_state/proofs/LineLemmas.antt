@@ -38,7 +38,8 @@ number_line ds all =
     ∙ ap (λ cs. codes "at: " ++ cs) (sym (count_line ds all))
 
 -- what is between the first line of a document and its last
-pub framed_line : (first rest : List ℕ) → codes "---\n" ++ first ++ rest ++ codes "...\n" ≡ codes "---\n" ++ (first ++ rest) ++ codes "...\n"
+pub framed_line : (first rest : List ℕ) → codes "---\n" ++ first ++ rest ++ codes "...\n"
+    ≡ codes "---\n" ++ (first ++ rest) ++ codes "...\n"
 framed_line first rest = ap (λ cs. cs ++ codes "...\n") (append_assoc (codes "---\n") first rest)
 
 -- the same of a base, whose mapping ends with the configurations

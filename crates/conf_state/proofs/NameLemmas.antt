@@ -15,6 +15,8 @@ name_char-below c e = grind (arith, nat_tests)
 -- a good name is ASCII
 pub good_name-ascii : (name : List ℕ) → IsUtf8 name → good_name (chars name) ≡ true → IsAscii name
 good_name-ascii name utf8 good =
-    let prefix = (and_parts (first small_letter (chars name) && list_all name_char (chars name)) (nat_le (length (chars name)) 64) good).0 in
-    let ascii = every-IsAscii name_char name_char-below (chars name) (and_parts (first small_letter (chars name)) (list_all name_char (chars name)) prefix).1 in
+    let prefix = (and_parts (first small_letter (chars name) && list_all name_char (chars name))
+    (nat_le (length (chars name)) 64) good).0 in
+    let ascii = every-IsAscii name_char name_char-below (chars name)
+    (and_parts (first small_letter (chars name)) (list_all name_char (chars name)) prefix).1 in
     subst IsAscii (chars-same name utf8 ascii) ascii

@@ -1,5 +1,8 @@
 -- A state from its parts: what holds of the configurations so far, and why there is no state with one that is unfit.
-use Rattle.std.proofs.Common.{length, ◌≡◌, ◌≤◌, inl, inr, ℕ, ◌+◌, min, Bool, true, false, not, ◌||◌, if◌then◌else◌, List, [], ◌∷◌, ◌++◌, String, Global, Option, Some, None, is_some, nat_lt, Result, Ok, Err, OnOk, IfErr, is_err, ◌<◌, ◌^◌, append-nil, refl, sym, ap, subst, ◌∙◌, append_assoc, arith}
+use Rattle.std.proofs.Common.{length, ◌≡◌, ◌≤◌, inl, inr, ℕ, ◌+◌, min, Bool, true, false, not, ◌||◌, if◌then◌else◌}
+use Rattle.std.proofs.Common.{List, [], ◌∷◌, ◌++◌, String, Global, Option, Some, None, is_some, nat_lt, Result, Ok}
+use Rattle.std.proofs.Common.{Err, OnOk, IfErr, is_err, ◌<◌, ◌^◌, append-nil, refl, sym, ap, subst, ◌∙◌, append_assoc}
+use Rattle.std.proofs.Common.{arith}
 use Rattle.std.proofs.lemmas.Bool.{and_parts}
 use Rattle.yaml_grammar.specs.Trees as grammar
 use Rattle.yaml_grammar.specs.Reads.{Good}
@@ -22,11 +25,13 @@ use Rattle.conf_state.specs.Kept.{entries_of, ArePlain, IsKept, Appended, IsUnfi
 use Rattle.conf_state.proofs.LimitLemmas.{entries_length-put, entries_length-absent, names_differ-put, AreConfigs-put}
 
 -- a new name goes last
-pub put_absent : (es : List Entry) (name : List ℕ) (t : grammar.Tree) → config_named es name ≡ None → put_config es name t ≡ es ++ (name, t) ∷ []
+pub put_absent : (es : List Entry) (name : List ℕ) (t : grammar.Tree) → config_named es name ≡ None
+    → put_config es name t ≡ es ++ (name, t) ∷ []
 put_absent [] name t absent = refl
 put_absent (e ∷ es) name t absent = by (same_text name e.0) absent (put_absent es name t)
   where
-    by : (b : Bool) → (if b then Some e.1 else config_named es name) ≡ None → (config_named es name ≡ None → put_config es name t ≡ es ++ (name, t) ∷ [])
+    by : (b : Bool) → (if b then Some e.1 else config_named es name) ≡ None
+        → (config_named es name ≡ None → put_config es name t ≡ es ++ (name, t) ∷ [])
         → (if b then (e.0, t) ∷ es else e ∷ put_config es name t) ≡ e ∷ (es ++ (name, t) ∷ [])
     by true found rest = absurd (cc)
     by false found rest = ap (λ xs. e ∷ xs) (rest found)
@@ -39,7 +44,8 @@ pub record SoFar (all : List Entry) (done : List (String Global × Tree)) (left 
   pub bytes : length ≡ min (entries_length (entries_of done)) 18446744073709551615
 
 -- one more configuration is taken in
-pub so_far_more : (all : List Entry) (old new : List (String Global × Tree)) (name : List ℕ) (t : grammar.Tree) (left : List Entry) (before added length : ℕ)
+pub so_far_more : (all : List Entry) (old new : List (String Global × Tree)) (name : List ℕ) (t : grammar.Tree)
+    (left : List Entry) (before added length : ℕ)
     → SoFar all old ((name, t) ∷ left) before → Appended old new name t added
     → length ≡ min (before + added) 18446744073709551615 → SoFar all new left length
 so_far_more all old new name t left before added length so more is =
@@ -63,11 +69,13 @@ one_of : (es : List Entry) (e : Entry) (left : List Entry) → AreConfigs (es ++
 one_of [] e left all = (all.0, all.1)
 one_of (d ∷ es) e left all = one_of es e left all.2
 
-has_name-after : (es : List Entry) (name : List ℕ) (t : grammar.Tree) (left : List Entry) → has_name name (names_of (es ++ (name, t) ∷ left)) ≡ true
+has_name-after : (es : List Entry) (name : List ℕ) (t : grammar.Tree) (left : List Entry)
+    → has_name name (names_of (es ++ (name, t) ∷ left)) ≡ true
 has_name-after [] name t left = ap (λ b. b || has_name name (names_of left)) (same_text-self name)
 has_name-after (e ∷ es) name t left = by (same_text name e.0) (has_name-after es name t left)
   where
-    by : (b : Bool) → has_name name (names_of (es ++ (name, t) ∷ left)) ≡ true → (b || has_name name (names_of (es ++ (name, t) ∷ left))) ≡ true
+    by : (b : Bool) → has_name name (names_of (es ++ (name, t) ∷ left)) ≡ true
+        → (b || has_name name (names_of (es ++ (name, t) ∷ left))) ≡ true
     by true rest = refl
     by false rest = rest
 
@@ -75,7 +83,8 @@ pub twice : (es : List Entry) (name : List ℕ) (t : grammar.Tree) (left : List 
     → names_differ (names_of (es ++ (name, t) ∷ left)) ≡ true → ⊥
 twice [] name t left found differ = cc
 twice (e ∷ es) name t left found differ =
-    let parts = and_parts (not (has_name e.0 (names_of (es ++ (name, t) ∷ left)))) (names_differ (names_of (es ++ (name, t) ∷ left))) differ in
+    let parts = and_parts (not (has_name e.0 (names_of (es ++ (name, t) ∷ left))))
+    (names_differ (names_of (es ++ (name, t) ∷ left))) differ in
     by (same_text name e.0) refl found parts.0 (λ f. twice es name t left f parts.1)
   where
     by : (b : Bool) → same_text name e.0 ≡ b → is_some (if b then Some e.1 else config_named es name) ≡ true
@@ -92,7 +101,8 @@ twice (e ∷ es) name t left found differ =
     by false same found apart rest = rest found
 
 -- where a configuration is unfit, no state has all of them
-pub unfit_none : (all : List Entry) (old : List (String Global × Tree)) (name : List ℕ) (t : grammar.Tree) (left : List Entry) (length count : ℕ)
+pub unfit_none : (all : List Entry) (old : List (String Global × Tree)) (name : List ℕ) (t : grammar.Tree)
+    (left : List Entry) (length count : ℕ)
     → SoFar all old ((name, t) ∷ left) length → IsUnfit (entries_of old) name t → IsState (record { configs = all; count = count }) → ⊥
 unfit_none all old name t left length count so unfit state = by unfit
   where
@@ -130,7 +140,8 @@ over_limits t fault refused good =
     by false e false f same = cc
 
 -- a tree that is refused is over its limits
-pub refused_over : {A : Type 0} (t : grammar.Tree) (r : Result A StoreFault) → is_err r ≡ true → IfErr r (λ fault. checked_tree t ≡ Err fault) → Good t config_limits → ⊥
+pub refused_over : {A : Type 0} (t : grammar.Tree) (r : Result A StoreFault) → is_err r ≡ true
+    → IfErr r (λ fault. checked_tree t ≡ Err fault) → Good t config_limits → ⊥
 refused_over t (Ok x) e refused good = cc
 refused_over t (Err fault) e refused good = over_limits t fault refused good
 
@@ -144,7 +155,8 @@ pub so_far_first : (all : List Entry) → SoFar all [] all 0
 so_far_first all = record { whole = refl; plain = tt; configs = tt; distinct = refl; bytes = refl }
 
 -- none is left: the limits of a state are kept where the base text is short enough, and only there
-module _ (all : List Entry) (done : List (String Global × Tree)) (length count base : ℕ) (so : SoFar all done [] length) (small : count < 2 ^ 64)
+module _ (all : List Entry) (done : List (String Global × Tree)) (length count base : ℕ)
+    (so : SoFar all done [] length) (small : count < 2 ^ 64)
     (is : base ≡ min (framed_length count length) 18446744073709551615) where
   whole : entries_of done ≡ all
   whole = sym (append-nil (entries_of done)) ∙ so.whole
@@ -152,10 +164,12 @@ module _ (all : List Entry) (done : List (String Global × Tree)) (length count 
   framed : base_length (record { configs = entries_of done; count = count }) ≡ framed_length count (entries_length (entries_of done))
   framed = base_length-framed count (entries_of done) (omega (arith, small))
 
-  cut : (e l b : ℕ) → l ≡ min e 18446744073709551615 → b ≡ min (framed_length count l) 18446744073709551615 → b ≤ base_limit → framed_length count e ≤ base_limit
+  cut : (e l b : ℕ) → l ≡ min e 18446744073709551615 → b ≡ min (framed_length count l) 18446744073709551615
+      → b ≤ base_limit → framed_length count e ≤ base_limit
   cut e l b h g f = grind (arith, nat_tests, h, g, f)
 
-  back : (e l b : ℕ) → l ≡ min e 18446744073709551615 → b ≡ min (framed_length count l) 18446744073709551615 → framed_length count e ≤ base_limit → b ≤ base_limit
+  back : (e l b : ℕ) → l ≡ min e 18446744073709551615 → b ≡ min (framed_length count l) 18446744073709551615
+      → framed_length count e ≤ base_limit → b ≤ base_limit
   back e l b h g f = grind (arith, nat_tests, h, g, f)
 
   short_base : base ≤ base_limit → base_length (record { configs = entries_of done; count = count }) ≤ base_limit

@@ -1,5 +1,6 @@
 -- What changes of the places make of the configurations.
-use Rattle.std.proofs.Common.{◌≡◌, ℕ, Bool, true, false, cond, List, [], ◌∷◌, filter, String, Global, Option, Some, None, is_some, string_bytes, MutBor, OnSome, OnErr, Result, Ok, Err, refl, sym, ap, ◌∙◌}
+use Rattle.std.proofs.Common.{◌≡◌, ℕ, Bool, true, false, cond, List, [], ◌∷◌, filter, String, Global, Option, Some}
+use Rattle.std.proofs.Common.{None, is_some, string_bytes, MutBor, OnSome, OnErr, Result, Ok, Err, refl, sym, ap, ◌∙◌}
 use Rattle.std.proofs.lemmas.Map.Steps.{set_value_same}
 use Rattle.std.proofs.lemmas.Map.Keys.{IsDistinct-head, IsDistinct-tail}
 use Rattle.std.proofs.lemmas.Slice.Eq.{bytes_eq-Decides}
@@ -22,7 +23,8 @@ module _ {X : Type 0} (q : List ℕ) where
       → AllByRecursion (λ other. string_eq name other ≡ false) (keys_of ps) → lookup (is_name q) ps ≡ None
   none_further name is [] apart = refl
   none_further name is (p ∷ ps) apart =
-      ap (λ b. cond b (Some p.1) (lookup (is_name q) ps)) (ap (λ bs. is_name bs p.0) ((bytes_eq-Decides q (string_bytes name)).0 is) ∙ apart.0)
+      ap (λ b. cond b (Some p.1) (lookup (is_name q) ps))
+      (ap (λ bs. is_name bs p.0) ((bytes_eq-Decides q (string_bytes name)).0 is) ∙ apart.0)
       ∙ none_further name is ps apart.1
 
   -- a configuration is found in the place of its name
@@ -45,11 +47,14 @@ module _ {X : Type 0} (q : List ℕ) where
   present-set (p ∷ ps) old new is = by p.1 (is_name q p.0) refl is (present-set ps old new)
     where
       by : (place : Option X) (b : Bool) → is_name q p.0 ≡ b → cond b (Some place) (lookup (is_name q) ps) ≡ Some (Some old)
-          → (lookup (is_name q) ps ≡ Some (Some old) → present (set_value (is_name q) ps (Some new)) ≡ set_value (is_name q) (present ps) new)
-          → present (cond b ((p.0, Some new) ∷ ps) ((p.0, place) ∷ set_value (is_name q) ps (Some new))) ≡ set_value (is_name q) (with_place p.0 place (present ps)) new
+          → (lookup (is_name q) ps ≡ Some (Some old)
+          → present (set_value (is_name q) ps (Some new)) ≡ set_value (is_name q) (present ps) new)
+          → present (cond b ((p.0, Some new) ∷ ps) ((p.0, place) ∷ set_value (is_name q) ps (Some new)))
+          ≡ set_value (is_name q) (with_place p.0 place (present ps)) new
       by None true named is rest = cc
       by None false named is rest = rest is
-      by (Some x) true named is rest = ap (λ b. cond b ((p.0, new) ∷ present ps) ((p.0, x) ∷ set_value (is_name q) (present ps) new)) (sym named)
+      by (Some x) true named is rest = ap (λ b. cond b ((p.0, new) ∷ present ps)
+          ((p.0, x) ∷ set_value (is_name q) (present ps) new)) (sym named)
       by (Some x) false named is rest =
           ap (λ es. (p.0, x) ∷ es) (rest is)
           ∙ ap (λ b. cond b ((p.0, new) ∷ present ps) ((p.0, x) ∷ set_value (is_name q) (present ps) new)) (sym named)
@@ -62,7 +67,8 @@ module _ {X : Type 0} (q : List ℕ) where
     where
       by : (place : Option X) (b : Bool) → is_name q p.0 ≡ b → cond b (Some place) (lookup (is_name q) ps) ≡ Some (Some old)
           → (lookup (is_name q) ps ≡ Some (Some old) → present (set_value (is_name q) ps None) ≡ cut_from q (present ps))
-          → present (cond b ((p.0, None) ∷ ps) ((p.0, place) ∷ set_value (is_name q) ps None)) ≡ cut_from q (with_place p.0 place (present ps))
+          → present (cond b ((p.0, None) ∷ ps) ((p.0, place) ∷ set_value (is_name q) ps None))
+          ≡ cut_from q (with_place p.0 place (present ps))
       by None true named is rest = cc
       by None false named is rest = rest is
       by (Some x) true named is rest = ap (λ b. cond b (present ps) ((p.0, x) ∷ cut_from q (present ps))) (sym named)
@@ -80,7 +86,8 @@ module _ {X : Type 0} (q : List ℕ) where
       by false is rest = ap (λ es. e ∷ es) (rest is)
 
   -- emptying a place takes its configuration out, if it has one
-  pub present-cut : (ps : List (String Global × Option X)) (place : Option X) → IsDistinct string_eq (keys_of ps) → lookup (is_name q) ps ≡ Some place
+  pub present-cut : (ps : List (String Global × Option X)) (place : Option X) → IsDistinct string_eq (keys_of ps)
+      → lookup (is_name q) ps ≡ Some place
       → present (set_value (is_name q) ps None) ≡ cut_from q (present ps)
   present-cut ps (Some old) distinct is = present-emptied ps old is
   present-cut ps None distinct is =
@@ -91,7 +98,8 @@ module _ {X : Type 0} (q : List ℕ) where
   closed-filled [] is = cc
   closed-filled (p ∷ ps) is = by p.1 is (closed-filled ps)
     where
-      by : (place : Option X) → lookup (is_name q) (cond (is_some place) ((p.0, place) ∷ filter (λ p. is_some p.1) ps) (filter (λ p. is_some p.1) ps)) ≡ Some None
+      by : (place : Option X) → lookup (is_name q)
+          (cond (is_some place) ((p.0, place) ∷ filter (λ p. is_some p.1) ps) (filter (λ p. is_some p.1) ps)) ≡ Some None
           → (lookup (is_name q) (filter (λ p. is_some p.1) ps) ≡ Some None → ⊥) → ⊥
       by None is rest = rest is
       by (Some x) is rest = at (is_name q p.0) is
@@ -107,7 +115,8 @@ module _ {X : Type 0} where
   present-closed (p ∷ ps) = by p.1 (present-closed ps)
     where
       by : (place : Option X) → present (filter (λ p. is_some p.1) ps) ≡ present ps
-          → present (cond (is_some place) ((p.0, place) ∷ filter (λ p. is_some p.1) ps) (filter (λ p. is_some p.1) ps)) ≡ with_place p.0 place (present ps)
+          → present (cond (is_some place) ((p.0, place) ∷ filter (λ p. is_some p.1) ps)
+          (filter (λ p. is_some p.1) ps)) ≡ with_place p.0 place (present ps)
       by None rest = rest
       by (Some x) rest = ap (λ es. (p.0, x) ∷ es) rest
 
@@ -118,9 +127,12 @@ module _ {X : Type 0} where
     present-put [] filled = refl
     present-put (p ∷ ps) filled = by p.1 (is_name (string_bytes name) p.0) refl filled (present-put ps)
       where
-        by : (place : Option X) (b : Bool) → is_name (string_bytes name) p.0 ≡ b → (cond b (Some place) (lookup (is_name (string_bytes name)) ps) ≡ Some None → ⊥)
-            → ((lookup (is_name (string_bytes name)) ps ≡ Some None → ⊥) → present (insert_entry string_eq ps name (Some x)) ≡ put_under name x (present ps))
-            → present (cond b ((p.0, Some x) ∷ ps) ((p.0, place) ∷ insert_entry string_eq ps name (Some x))) ≡ put_under name x (with_place p.0 place (present ps))
+        by : (place : Option X) (b : Bool) → is_name (string_bytes name) p.0 ≡ b
+            → (cond b (Some place) (lookup (is_name (string_bytes name)) ps) ≡ Some None → ⊥)
+            → ((lookup (is_name (string_bytes name)) ps ≡ Some None → ⊥)
+            → present (insert_entry string_eq ps name (Some x)) ≡ put_under name x (present ps))
+            → present (cond b ((p.0, Some x) ∷ ps) ((p.0, place) ∷ insert_entry string_eq ps name (Some x)))
+            ≡ put_under name x (with_place p.0 place (present ps))
         by None true named filled rest = absurd (filled refl)
         by None false named filled rest = rest filled
         by (Some y) true named filled rest =
@@ -137,7 +149,8 @@ is_none None is = refl
 is_none (Some a) is = cc
 
 -- a reference into a place that is there, if the place has a configuration
-pub on_some : {X : Type 0} {P : Type 0} (r : Option (MutBor X)) (place : Option X) → option_copied_mut r ≡ place → ((old : X) → place ≡ Some old → P) → OnSome r P
+pub on_some : {X : Type 0} {P : Type 0} (r : Option (MutBor X)) (place : Option X) → option_copied_mut r ≡ place
+    → ((old : X) → place ≡ Some old → P) → OnSome r P
 on_some None place is so = tt
 on_some (Some r) place is so = so r.now (sym is)
 

@@ -37,10 +37,12 @@ pub at-path : (edit : PathEdit) (t : Tree) (pointer : List ℕ) (path : List (Li
 at-path edit t pointer path parsed = ap (λ r. and_then (by_path r) (checked_edit edit t)) parsed
 
 -- a planned edit makes what was planned
-pub plan-made : (edit : PathEdit) (old : Tree) (pointer : List ℕ) (plan : EditPlan) (is : IsPlan edit old plan) → path_of pointer ≡ Ok plan.path
+pub plan-made : (edit : PathEdit) (old : Tree) (pointer : List ℕ) (plan : EditPlan) (is : IsPlan edit old plan)
+    → path_of pointer ≡ Ok plan.path
     → edited_at edit old pointer ≡ Ok is.new
 plan-made edit old pointer plan is parsed =
-    at-path edit old pointer plan.path parsed ∙ ap (λ r. and_then (by_path r) checked_tree) is.made ∙ checked_tree-within is.new is.deep is.long
+    at-path edit old pointer plan.path parsed ∙ ap (λ r. and_then (by_path r) checked_tree) is.made
+    ∙ checked_tree-within is.new is.deep is.long
 
 -- ---- one configuration among others
 
@@ -49,7 +51,8 @@ with-edit-put : (es : List Entry) (name : List ℕ) (edit : PathEdit) (t : Tree)
     → configs_with_edit es name edit t path ≡ and_then (checked_edit edit t path) (λ u. Ok (put_config es name u))
 with-edit-put es name edit t path = by (tree_after_edit edit t path)
   where
-    by : (r : Result Tree PathFault) → and_then (by_path r) (with_checked_config es name) ≡ and_then (and_then (by_path r) checked_tree) (λ u. Ok (put_config es name u))
+    by : (r : Result Tree PathFault) → and_then (by_path r) (with_checked_config es name)
+        ≡ and_then (and_then (by_path r) checked_tree) (λ u. Ok (put_config es name u))
     by (Ok u) = refl
     by (Err fault) = refl
 
@@ -60,7 +63,8 @@ edit-put es name edit pointer t there =
     ap (λ o. and_then (found o) (λ t. and_then (by_path (path_of pointer)) (configs_with_edit es name edit t))) there ∙ by (path_of pointer)
   where
     by : (r : Result (List (List ℕ)) PathFault)
-        → and_then (by_path r) (configs_with_edit es name edit t) ≡ and_then (and_then (by_path r) (checked_edit edit t)) (λ u. Ok (put_config es name u))
+        → and_then (by_path r) (configs_with_edit es name edit t)
+        ≡ and_then (and_then (by_path r) (checked_edit edit t)) (λ u. Ok (put_config es name u))
     by (Ok path) = with-edit-put es name edit t path
     by (Err fault) = refl
 

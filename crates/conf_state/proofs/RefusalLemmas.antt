@@ -1,5 +1,6 @@
 -- What a step is refused for, and that an accepted command had room in the journal.
-use Rattle.std.proofs.Common.{◌≡◌, ℕ, ◌+◌, Bool, true, false, nat_le, nat_lt, if◌then◌else◌, List, [], ◌∷◌, Option, Some, None, Result, Ok, Err, refl, subst}
+use Rattle.std.proofs.Common.{◌≡◌, ℕ, ◌+◌, Bool, true, false, nat_le, nat_lt, if◌then◌else◌, List, [], ◌∷◌, Option}
+use Rattle.std.proofs.Common.{Some, None, Result, Ok, Err, refl, subst}
 use Rattle.yaml_grammar.specs.Texts.{byte_len}
 use Rattle.yaml_grammar.specs.Style.{style_text}
 use Rattle.yaml_grammar.specs.Trees.{Tree, depth}
@@ -11,7 +12,9 @@ use Rattle.conf_state.specs.Commands.{Edit, import_as, set_at, delete_at, Comman
 use Rattle.conf_state.specs.Names.{good_name}
 use Rattle.conf_state.specs.States.{Entry, Contents, config_named, base_limit, count_limit}
 use Rattle.yaml_config.specs.Limits.{config_limits}
-use Rattle.conf_state.specs.Steps.{IsRefusal, step, edited, all_edited, performed, configs_after, with_room, next_state, and_then, checked_tree, with_checked_config, found, by_path, configs_after_delete}
+use Rattle.conf_state.specs.Steps.{IsRefusal, step, edited, all_edited, performed, configs_after, with_room}
+use Rattle.conf_state.specs.Steps.{next_state, and_then, checked_tree, with_checked_config, found, by_path}
+use Rattle.conf_state.specs.Steps.{configs_after_delete}
 use Rattle.conf_state.specs.declared.fault.StoreFault.{StoreFault}
 use Rattle.conf_state.specs.declared.fault.StoreFault.TheVariants.{BadName, TooDeep, ConfigLarge, StoreFull, CountFull}
 use Rattle.conf_state.specs.declared.room.Room.{Room}
@@ -25,7 +28,8 @@ next_state-room s new room configs e =
     by (nat_lt base_limit (base_length (record { configs = configs; count = s.count + 1 }))) room e
   where
     by : (full : Bool) (r : Room)
-        → (if full then Err StoreFull else with_room r (if nat_le count_limit s.count then Err CountFull else Ok (record { configs = configs; count = s.count + 1 }))) ≡ Ok new
+        → (if full then Err StoreFull else with_room r
+        (if nat_le count_limit s.count then Err CountFull else Ok (record { configs = configs; count = s.count + 1 }))) ≡ Ok new
         → r ≡ Enough
     by true r is = cc
     by false Enough is = refl
@@ -43,7 +47,8 @@ Refusals : {A : Type 0} → Result A StoreFault → Type 0
 Refusals (Ok x) = Unit {0}
 Refusals (Err fault) = IsRefusal fault
 
-refusals-then : {A B : Type 0} (r : Result A StoreFault) (next : A → Result B StoreFault) → Refusals r → ((x : A) → Refusals (next x)) → Refusals (and_then r next)
+refusals-then : {A B : Type 0} (r : Result A StoreFault) (next : A → Result B StoreFault) → Refusals r
+    → ((x : A) → Refusals (next x)) → Refusals (and_then r next)
 unfolding Refusals
 refusals-then (Ok x) next is more = more x
 refusals-then (Err fault) next is more = is
@@ -73,21 +78,25 @@ unfolding Refusals
 path-refusals (Ok x) = tt
 path-refusals (Err fault) = tt
 
-configs_after_delete-refusals : (configs : List Entry) (name : List ℕ) (t : Tree) (tokens : List (List ℕ)) → Refusals (configs_after_delete configs name t tokens)
+configs_after_delete-refusals : (configs : List Entry) (name : List ℕ) (t : Tree) (tokens : List (List ℕ))
+    → Refusals (configs_after_delete configs name t tokens)
 unfolding Refusals
 configs_after_delete-refusals configs name t [] = tt
 configs_after_delete-refusals configs name t (token ∷ tokens) =
-    refusals-then (by_path (delete t (token ∷ tokens))) (with_checked_config configs name) (path-refusals (delete t (token ∷ tokens))) (with_checked_config-refusals configs name)
+    refusals-then (by_path (delete t (token ∷ tokens))) (with_checked_config configs name)
+    (path-refusals (delete t (token ∷ tokens))) (with_checked_config-refusals configs name)
 
 configs-refusals : (configs : List Entry) (edit : Edit) → Refusals (configs_after configs edit)
 configs-refusals configs (import_as name tree) = with_checked_config-refusals configs name tree
 configs-refusals configs (set_at name path value) =
     refusals-then (found (config_named configs name)) _ (found-refusals (config_named configs name)) (λ t.
     refusals-then (by_path (path_of path)) _ (path-refusals (path_of path)) (λ tokens.
-    refusals-then (by_path (set t tokens value)) (with_checked_config configs name) (path-refusals (set t tokens value)) (with_checked_config-refusals configs name)))
+    refusals-then (by_path (set t tokens value)) (with_checked_config configs name)
+    (path-refusals (set t tokens value)) (with_checked_config-refusals configs name)))
 configs-refusals configs (delete_at name path) =
     refusals-then (found (config_named configs name)) _ (found-refusals (config_named configs name)) (λ t.
-    refusals-then (by_path (path_of path)) (configs_after_delete configs name t) (path-refusals (path_of path)) (configs_after_delete-refusals configs name t))
+    refusals-then (by_path (path_of path)) (configs_after_delete configs name t) (path-refusals (path_of path))
+    (configs_after_delete-refusals configs name t))
 
 edited-refusals : (configs : List Entry) (edit : Edit) → Refusals (edited configs edit)
 unfolding Refusals
@@ -98,7 +107,8 @@ all_edited-refusals : (configs : List Entry) (edits : List Edit) → Refusals (a
 unfolding Refusals
 all_edited-refusals configs [] = tt
 all_edited-refusals configs (edit ∷ edits) =
-    refusals-then (edited configs edit) (λ next. all_edited next edits) (edited-refusals configs edit) (λ next. all_edited-refusals next edits)
+    refusals-then (edited configs edit) (λ next. all_edited next edits) (edited-refusals configs edit)
+    (λ next. all_edited-refusals next edits)
 
 performed-refusals : (configs : List Entry) (command : Command) → Refusals (performed configs command)
 unfolding Refusals

@@ -1,5 +1,6 @@
 -- Runs of commands: what they count, and that one run is two in a row.
-use Rattle.std.proofs.Common.{◌≡◌, ◌+◌, Bool, true, false, nat_le, nat_lt, if◌then◌else◌, List, [], ◌∷◌, ◌++◌, length, Result, Ok, Err, refl, sym, ap, arith}
+use Rattle.std.proofs.Common.{◌≡◌, ◌+◌, Bool, true, false, nat_le, nat_lt, if◌then◌else◌, List, [], ◌∷◌, ◌++◌, length}
+use Rattle.std.proofs.Common.{Result, Ok, Err, refl, sym, ap, arith}
 use Rattle.conf_state.specs.Commands.{Command}
 use Rattle.conf_state.specs.States.{Entry, Contents, base_limit, count_limit}
 use Rattle.conf_state.specs.BaseTexts.{base_length}
@@ -10,7 +11,8 @@ use Rattle.conf_state.specs.declared.room.Room.{Room}
 use Rattle.conf_state.specs.declared.room.Room.TheVariants.{Enough, LongRecord, Missing}
 
 -- a state that is the answer of a call and of another after it
-pub and_then-Ok : {A B : Type 0} (r : Result A StoreFault) (next : A → Result B StoreFault) (y : B) → and_then r next ≡ Ok y → (x : A) × (r ≡ Ok x) × (next x ≡ Ok y)
+pub and_then-Ok : {A B : Type 0} (r : Result A StoreFault) (next : A → Result B StoreFault) (y : B)
+    → and_then r next ≡ Ok y → (x : A) × (r ≡ Ok x) × (next x ≡ Ok y)
 and_then-Ok (Ok x) next y e = (x, refl, e)
 and_then-Ok (Err fault) next y e = let refused : Err fault ≡ Ok y = e in cc
 
@@ -19,7 +21,8 @@ next_state-one s new room configs e =
     by (nat_lt base_limit (base_length (record { configs = configs; count = s.count + 1 }))) room (nat_le count_limit s.count) e
   where
     by : (full : Bool) (room : Room) (last : Bool)
-        → (if full then Err StoreFull else with_room room (if last then Err CountFull else Ok (record { configs = configs; count = s.count + 1 }))) ≡ Ok new
+        → (if full then Err StoreFull else with_room room
+        (if last then Err CountFull else Ok (record { configs = configs; count = s.count + 1 }))) ≡ Ok new
         → new.count ≡ s.count + 1
     by true room last is = cc
     by false LongRecord last is = cc
@@ -41,7 +44,8 @@ after-count s new (command ∷ commands) e =
     omega (arith, step-one s done.0 command Enough done.1, after-count done.0 new commands done.2)
 
 -- a list of commands leads where its first part and then its second lead
-pub after-append : (s : Contents) (first second : List Command) → after s (first ++ second) ≡ and_then (after s first) (λ between. after between second)
+pub after-append : (s : Contents) (first second : List Command)
+    → after s (first ++ second) ≡ and_then (after s first) (λ between. after between second)
 after-append s [] second = refl
 after-append s (command ∷ commands) second = by (step s command Enough) (λ t. after-append t commands second)
   where

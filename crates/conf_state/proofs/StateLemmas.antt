@@ -38,7 +38,8 @@ kept_empty = kept_nothing 0 (omega arith)
 
 module _ (es : List (String Global × Tree)) (count bytes : ℕ) (kept : IsKept es count bytes) (below : count < count_limit) where
   -- with other configurations
-  module _ (configs : List Entry) (all : AreConfigs configs) (distinct : names_differ (names_of configs) ≡ true) (room : Room) (after : Contents)
+  module _ (configs : List Entry) (all : AreConfigs configs) (distinct : names_differ (names_of configs) ≡ true)
+      (room : Room) (after : Contents)
       (ok : next_state (record { configs = entries_of es; count = count }) room configs ≡ Ok after) where
     pub kept_new : (new : List (String Global × Tree)) (length : ℕ) → ArePlain new → entries_of new ≡ configs
         → length ≡ entries_length configs → IsKept new (count + 1) length

@@ -1,5 +1,7 @@
 -- What edits make that put in or take out a whole configuration, or are refused before any change; and batches.
-use Rattle.std.proofs.Common.{◌≡◌, ℕ, ◌<◌, ◌≤◌, ◌==◌, Bool, true, false, List, [], ◌∷◌, ◌++◌, length, Option, Some, None, option_map, option_to_list, is_some, Result, Ok, Err, length-append, refl, ap, ◌∙◌, arith}
+use Rattle.std.proofs.Common.{◌≡◌, ℕ, ◌<◌, ◌≤◌, ◌==◌, Bool, true, false, List, [], ◌∷◌, ◌++◌, length, Option, Some}
+use Rattle.std.proofs.Common.{None, option_map, option_to_list, is_some, Result, Ok, Err, length-append, refl, ap}
+use Rattle.std.proofs.Common.{◌∙◌, arith}
 use Rattle.std.proofs.lemmas.Bool.Decides.{nat_tests}
 use Rattle.yaml_grammar.specs.Style.{style_text}
 use Rattle.yaml_grammar.specs.Texts.{byte_len}
@@ -20,7 +22,8 @@ use Rattle.conf_state.proofs.PlaceLemmas.{is_none}
 pub checked_tree-deep : (t : Tree) → config_limits.depth < depth t → checked_tree t ≡ Err TooDeep
 checked_tree-deep t deep = rw (lt-true config_limits.depth (depth t) deep) refl
 
-pub checked_tree-large : (t : Tree) → depth t ≤ config_limits.depth → config_limits.style < byte_len (style_text t) → checked_tree t ≡ Err ConfigLarge
+pub checked_tree-large : (t : Tree) → depth t ≤ config_limits.depth → config_limits.style < byte_len (style_text t)
+    → checked_tree t ≡ Err ConfigLarge
 checked_tree-large t deep long =
     rw (lt-false config_limits.depth (depth t) deep, lt-true config_limits.style (byte_len (style_text t)) long) refl
 
@@ -60,7 +63,8 @@ module _ (es : List Entry) (name : List ℕ) where
   import-refused t fault is = ap (λ r. and_then r (λ u. Ok (put_config es name u))) is
 
   -- a set and a delete need a configuration of the name
-  pub set-nothing : (path : List ℕ) (t : Tree) → is_some (config_named es name) ≡ false → configs_after es (set_at name path t) ≡ Err NoConfig
+  pub set-nothing : (path : List ℕ) (t : Tree) → is_some (config_named es name) ≡ false
+      → configs_after es (set_at name path t) ≡ Err NoConfig
   set-nothing path t none = rw (is_none (config_named es name) none) refl
 
   pub delete-nothing : (path : List ℕ) → is_some (config_named es name) ≡ false → configs_after es (delete_at name path) ≡ Err NoConfig

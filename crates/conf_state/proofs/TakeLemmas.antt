@@ -1,5 +1,6 @@
 -- A draft that is taken into a state, in the code's lists and in those of the definitions.
-use Rattle.std.proofs.Common.{◌≡◌, ℕ, true, List, [], ◌∷◌, ◌++◌, append-nil, append_assoc, String, Global, string_bytes, refl, sym, ap, subst, ◌∙◌}
+use Rattle.std.proofs.Common.{◌≡◌, ℕ, true, List, [], ◌∷◌, ◌++◌, append-nil, append_assoc, String, Global}
+use Rattle.std.proofs.Common.{string_bytes, refl, sym, ap, subst, ◌∙◌}
 use Rattle.std.proofs.lemmas.Str.{IsUtf8-string_bytes}
 use Rattle.yaml_data.specs.declared.tree.Tree.{Tree}
 use Rattle.conf_state.specs.Configs.{put_under, put_each, cut_from, cut_each}
@@ -18,7 +19,8 @@ use Rattle.conf_state.proofs.LimitLemmas.{AreConfigs-put, AreConfigs-cut, names_
 
 pub plain_cut_each : (names : List (String Global)) (es : List (String Global × Tree)) → ArePlain es → ArePlain (cut_each names es)
 plain_cut_each [] es plain = plain
-plain_cut_each (name ∷ names) es plain = plain_cut_each names (cut_from (string_bytes name) es) (plain_cut_from (string_bytes name) es plain)
+plain_cut_each (name ∷ names) es plain = plain_cut_each names (cut_from (string_bytes name) es)
+    (plain_cut_from (string_bytes name) es plain)
 
 pub plain_put_each : (ps es : List (String Global × Tree)) → ArePlain ps → ArePlain es → ArePlain (put_each ps es)
 plain_put_each [] es put plain = plain
@@ -50,7 +52,8 @@ pub AreConfigs-put_all : (ps es : List Entry) → AreConfigs ps → AreConfigs e
 AreConfigs-put_all [] es put all = all
 AreConfigs-put_all (p ∷ ps) es put all = AreConfigs-put_all ps (put_config es p.0 p.1) put.2 (AreConfigs-put es p.0 p.1 put.0 put.1 all)
 
-pub names_differ-cut_all : (names : List (List ℕ)) (es : List Entry) → names_differ (names_of es) ≡ true → names_differ (names_of (cut_all es names)) ≡ true
+pub names_differ-cut_all : (names : List (List ℕ)) (es : List Entry) → names_differ (names_of es) ≡ true
+    → names_differ (names_of (cut_all es names)) ≡ true
 names_differ-cut_all [] es differ = differ
 names_differ-cut_all (name ∷ names) es differ = names_differ-cut_all names (cut_config es name) (names_differ-cut es name differ)
 
@@ -79,11 +82,13 @@ put_all-new (p ∷ ts) es differ =
 module _ (draft : Draft) (good : IsDraft draft) where
   pub drafted-configs : (es : List Entry) → AreConfigs es → AreConfigs (drafted es draft)
   drafted-configs es all =
-      AreConfigs-put_all (entries_of draft.touched) (cut_all es (texts_of draft.removed.keys)) good.configs (AreConfigs-cut_all (texts_of draft.removed.keys) es all)
+      AreConfigs-put_all (entries_of draft.touched) (cut_all es (texts_of draft.removed.keys)) good.configs
+      (AreConfigs-cut_all (texts_of draft.removed.keys) es all)
 
   pub drafted-distinct : (es : List Entry) → names_differ (names_of es) ≡ true → names_differ (names_of (drafted es draft)) ≡ true
   drafted-distinct es differ =
-      names_differ-put_all (entries_of draft.touched) (cut_all es (texts_of draft.removed.keys)) (names_differ-cut_all (texts_of draft.removed.keys) es differ)
+      names_differ-put_all (entries_of draft.touched) (cut_all es (texts_of draft.removed.keys))
+      (names_differ-cut_all (texts_of draft.removed.keys) es differ)
 
   -- of no configurations it makes those that it holds
   pub drafted-nothing : drafted [] draft ≡ entries_of draft.touched
@@ -91,18 +96,22 @@ module _ (draft : Draft) (good : IsDraft draft) where
       ap (λ xs. put_all xs (entries_of draft.touched)) (cut_all-nothing (texts_of draft.removed.keys))
       ∙ put_all-new (entries_of draft.touched) [] good.distinct
 
-  module _ (es new : List (String Global × Tree)) (plain : ArePlain es) (is : new ≡ put_each draft.touched (cut_each draft.removed.keys es)) where
+  module _ (es new : List (String Global × Tree)) (plain : ArePlain es)
+      (is : new ≡ put_each draft.touched (cut_each draft.removed.keys es)) where
     -- taking out what it removes and putting in what it holds makes the draft's configurations
     pub taken-named : entries_of new ≡ drafted (entries_of es) draft
     taken-named =
-        ap entries_of is ∙ put_each-named draft.touched (cut_each draft.removed.keys es) good.plain (plain_cut_each draft.removed.keys es plain)
+        ap entries_of is ∙ put_each-named draft.touched (cut_each draft.removed.keys es) good.plain
+        (plain_cut_each draft.removed.keys es plain)
         ∙ ap (λ xs. put_all xs (entries_of draft.touched)) (cut_each-named draft.removed.keys es plain)
 
     pub taken-plain : ArePlain new
-    taken-plain = subst ArePlain (sym is) (plain_put_each draft.touched (cut_each draft.removed.keys es) good.plain (plain_cut_each draft.removed.keys es plain))
+    taken-plain = subst ArePlain (sym is) (plain_put_each draft.touched (cut_each draft.removed.keys es) good.plain
+        (plain_cut_each draft.removed.keys es plain))
 
 -- a draft that holds the configurations of a state, and removes none
-module _ (es : List (String Global × Tree)) (count bytes : ℕ) (kept : IsKept es count bytes) (draft : Draft) (none : draft.removed.keys ≡ []) (holds : draft.touched ≡ es) where
+module _ (es : List (String Global × Tree)) (count bytes : ℕ) (kept : IsKept es count bytes) (draft : Draft)
+    (none : draft.removed.keys ≡ []) (holds : draft.touched ≡ es) where
   pub whole-draft : IsDraft draft
   whole-draft = record {
     plain = subst ArePlain (sym holds) kept.plain;

@@ -1,5 +1,6 @@
 -- A command changes no configuration but those under the names of its edits.
-use Rattle.std.proofs.Common.{◌≡◌, ◌+◌, Bool, true, false, nat_le, nat_lt, if◌then◌else◌, List, ℕ, [], ◌∷◌, Result, Ok, Err, Some, None, map, refl, sym, ap, ◌∙◌, subst}
+use Rattle.std.proofs.Common.{◌≡◌, ◌+◌, Bool, true, false, nat_le, nat_lt, if◌then◌else◌, List, ℕ, [], ◌∷◌, Result}
+use Rattle.std.proofs.Common.{Ok, Err, Some, None, map, refl, sym, ap, ◌∙◌, subst}
 use Rattle.yaml_grammar.specs.Texts.{same_text}
 use Rattle.yaml_grammar.specs.Trees.{Tree}
 use Rattle.json_pointer.specs.Pointers.{path_of}
@@ -8,7 +9,8 @@ use Rattle.conf_state.specs.Commands.{Edit, import_as, set_at, delete_at, Comman
 use Rattle.conf_state.specs.Names.{good_name}
 use Rattle.conf_state.specs.States.{Entry, Contents, config_named, put_config, cut_config, base_limit, count_limit}
 use Rattle.conf_state.specs.BaseTexts.{base_length}
-use Rattle.conf_state.specs.Steps.{and_then, found, by_path, checked_tree, with_checked_config, configs_after_delete, configs_after, edited, all_edited, performed, with_room, next_state, step}
+use Rattle.conf_state.specs.Steps.{and_then, found, by_path, checked_tree, with_checked_config, configs_after_delete}
+use Rattle.conf_state.specs.Steps.{configs_after, edited, all_edited, performed, with_room, next_state, step}
 use Rattle.conf_state.specs.Touched.{touched}
 use Rattle.conf_state.specs.declared.fault.StoreFault.{StoreFault}
 use Rattle.conf_state.specs.declared.fault.StoreFault.TheVariants.{StoreFull, CountFull, BadName, EmptyBatch}
@@ -31,7 +33,8 @@ module _ (n : List ℕ) where
       let same : put_config es m done.0 ≡ new = (let ok : Ok (put_config es m done.0) ≡ Ok new = done.2 in cc) in
       ap (λ es. config_named es n) (sym same) ∙ named-put-other es n m done.0 other
 
-  delete-other : (es new : List Entry) (m : List ℕ) (t : Tree) (path : List (List ℕ)) → same_text n m ≡ false → configs_after_delete es m t path ≡ Ok new
+  delete-other : (es new : List Entry) (m : List ℕ) (t : Tree) (path : List (List ℕ)) → same_text n m ≡ false
+      → configs_after_delete es m t path ≡ Ok new
       → config_named new n ≡ config_named es n
   delete-other es new m t [] other e =
       let same : cut_config es m ≡ new = (let ok : Ok (cut_config es m) ≡ Ok new = e in cc) in
@@ -44,8 +47,11 @@ module _ (n : List ℕ) where
       → config_named new n ≡ config_named es n
   configs-other es new (import_as m t) other e = checked-other es new m t other e
   configs-other es new (set_at m path value) other e =
-      let there = and_then-Ok (found (config_named es m)) (λ t. and_then (by_path (path_of path)) (λ tokens. and_then (by_path (set t tokens value)) (with_checked_config es m))) new e in
-      let tokens = and_then-Ok (by_path (path_of path)) (λ tokens. and_then (by_path (set there.0 tokens value)) (with_checked_config es m)) new there.2 in
+      let there = and_then-Ok (found (config_named es m))
+      (λ t. and_then (by_path (path_of path)) (λ tokens.
+      and_then (by_path (set t tokens value)) (with_checked_config es m))) new e in
+      let tokens = and_then-Ok (by_path (path_of path))
+      (λ tokens. and_then (by_path (set there.0 tokens value)) (with_checked_config es m)) new there.2 in
       let done = and_then-Ok (by_path (set there.0 tokens.0 value)) (with_checked_config es m) new tokens.2 in
       checked-other es new m done.0 other done.2
   configs-other es new (delete_at m path) other e =
@@ -79,7 +85,8 @@ next_state-configs s new room configs e =
     by (nat_lt base_limit (base_length (record { configs = configs; count = s.count + 1 }))) room (nat_le count_limit s.count) e
   where
     by : (full : Bool) (room : Room) (last : Bool)
-        → (if full then Err StoreFull else with_room room (if last then Err CountFull else Ok (record { configs = configs; count = s.count + 1 }))) ≡ Ok new
+        → (if full then Err StoreFull else with_room room
+        (if last then Err CountFull else Ok (record { configs = configs; count = s.count + 1 }))) ≡ Ok new
         → new.configs ≡ configs
     by true room last is = cc
     by false LongRecord last is = cc
@@ -88,7 +95,8 @@ next_state-configs s new room configs e =
     by false Enough false is = let same : record { configs = configs; count = s.count + 1 } ≡ new = cc in sym (ap (λ t. t.configs) same)
 
 -- an accepted command leaves each configuration that it does not touch as it was
-pub step-other : (n : List ℕ) (s new : Contents) (command : Command) (room : Room) → IsNoneOf n (touched command) → step s command room ≡ Ok new
+pub step-other : (n : List ℕ) (s new : Contents) (command : Command) (room : Room) → IsNoneOf n (touched command)
+    → step s command room ≡ Ok new
     → config_named new.configs n ≡ config_named s.configs n
 step-other n s new command room other e =
     let done = and_then-Ok (performed s.configs command) (next_state s room) new e in

@@ -13,7 +13,9 @@ use Rattle.conf_state.specs.States.{Entry, Contents, config_named, put_config, c
 use Rattle.yaml_config.specs.Limits.{config_limits}
 use Rattle.conf_state.specs.BaseTexts.{base_length}
 use Rattle.conf_state.specs.declared.fault.StoreFault.{StoreFault}
-use Rattle.conf_state.specs.declared.fault.StoreFault.TheVariants.{EmptyBatch, BadName, NoConfig, Path, Read, TooDeep, ConfigLarge, StoreFull, RecordLong, JournalLong, CountFull, Reopen, Device, OutOfMemory}
+use Rattle.conf_state.specs.declared.fault.StoreFault.TheVariants.{EmptyBatch, BadName, NoConfig, Path, Read, TooDeep}
+use Rattle.conf_state.specs.declared.fault.StoreFault.TheVariants.{ConfigLarge, StoreFull, RecordLong, JournalLong}
+use Rattle.conf_state.specs.declared.fault.StoreFault.TheVariants.{CountFull, Reopen, Device, OutOfMemory}
 use Rattle.conf_state.specs.declared.room.Room.{Room}
 use Rattle.conf_state.specs.declared.room.Room.TheVariants.{Enough, LongRecord, Missing}
 

@@ -3,7 +3,8 @@ use Rattle.std.proofs.Common.{◌≡◌, ℕ, ◌+◌, List, ◌++◌, take, dro
 use Rattle.std.proofs.lemmas.List.{drop-drop}
 
 -- what is in the slice, and what is left of the part, are what was there
-pub cut-same : (slice new bytes : List ℕ) (cut count : ℕ) → new ≡ slice ++ take count (drop cut bytes) → new ++ drop (cut + count) bytes ≡ slice ++ drop cut bytes
+pub cut-same : (slice new bytes : List ℕ) (cut count : ℕ) → new ≡ slice ++ take count (drop cut bytes)
+    → new ++ drop (cut + count) bytes ≡ slice ++ drop cut bytes
 cut-same slice new bytes cut count is =
     ap (λ bs. bs ++ drop (cut + count) bytes) is
     ∙ append_assoc slice (take count (drop cut bytes)) (drop (cut + count) bytes)

@@ -1,12 +1,15 @@
 -- What is read as a record or a base of the first format, and today as the same.
-use Rattle.std.proofs.Common.{◌≡◌, ℕ, Bool, true, false, ◌&&◌, if◌then◌else◌, List, [], ◌∷◌, codes, Option, Some, None, option_map, refl, ap, sym, subst}
+use Rattle.std.proofs.Common.{◌≡◌, ℕ, Bool, true, false, ◌&&◌, if◌then◌else◌, List, [], ◌∷◌, codes, Option, Some}
+use Rattle.std.proofs.Common.{None, option_map, refl, ap, sym, subst}
 use Rattle.std.proofs.lemmas.Bool.{and_parts}
 use Rattle.yaml_grammar.specs.Texts.{same_text}
 use Rattle.yaml_grammar.specs.Trees.{Tree, text, sequence, mapping, Members, no_member, member}
 use Rattle.conf_state.specs.Names.{good_name}
 use Rattle.conf_state.specs.Commands.{Edit, Command, single, name_of}
 use Rattle.conf_state.specs.States.{Contents}
-use Rattle.conf_record.specs.RecordsRead.{keys_are, values, number_from_digits, entries, base_keys, import_keys, set_keys, delete_keys, has_good_path, if_good, import_of, set_of, delete_of, with_number, numbered_of, record_of, contents_of, base_of}
+use Rattle.conf_record.specs.RecordsRead.{keys_are, values, number_from_digits, entries, base_keys, import_keys}
+use Rattle.conf_record.specs.RecordsRead.{set_keys, delete_keys, has_good_path, if_good, import_of, set_of, delete_of}
+use Rattle.conf_record.specs.RecordsRead.{with_number, numbered_of, record_of, contents_of, base_of}
 use Rattle.conf_store.specs.First as first
 use Rattle.conf_store.proofs.FirstStepLemmas.{as_edit}
 
@@ -23,17 +26,20 @@ not_batch k l ls (member key t (member other u ms)) is = by (same_text key (code
 some_same : {A : Type 0} (x y : A) → Some x ≡ Some y → x ≡ y
 some_same x y e = cc
 
-pair_as : (c d : first.Command) (k n : ℕ) → ◌≡◌ {A = Option (first.Command × ℕ)} (Some (c, k)) (Some (d, n)) → ◌≡◌ {A = Option (Command × ℕ)} (Some (single (as_edit c), k)) (Some (single (as_edit d), n))
+pair_as : (c d : first.Command) (k n : ℕ) → ◌≡◌ {A = Option (first.Command × ℕ)} (Some (c, k)) (Some (d, n))
+    → ◌≡◌ {A = Option (Command × ℕ)} (Some (single (as_edit c), k)) (Some (single (as_edit d), n))
 pair_as c d k n e = ap (λ (p : first.Command × ℕ). Some (single (as_edit p.0), p.1)) (some_same (c, k) (d, n) e)
 
 -- a command that is read by the old rules, with its number
-numbered : (c d : first.Command) (digits : List ℕ) (n : ℕ) (o : Option Edit) → o ≡ Some (as_edit c) → has_good_path (as_edit c) ≡ first.has_good_path c → name_of (as_edit c) ≡ first.name_of c
+numbered : (c d : first.Command) (digits : List ℕ) (n : ℕ) (o : Option Edit) → o ≡ Some (as_edit c)
+    → has_good_path (as_edit c) ≡ first.has_good_path c → name_of (as_edit c) ≡ first.name_of c
     → first.command_with_number c digits ≡ Some (d, n) → with_number (option_map single (if_good o)) digits ≡ Some (single (as_edit d), n)
 numbered c d digits n o is path name read =
     by (good_name (first.name_of c) && first.has_good_path c) refl (number_from_digits digits) refl read
   where
     by : (b : Bool) → (good_name (first.name_of c) && first.has_good_path c) ≡ b → (m : Option ℕ) → number_from_digits digits ≡ m
-        → (if b then option_map {U = first.Command × ℕ} (λ number. (c, number)) m else None) ≡ Some (d, n) → with_number (option_map single (if_good o)) digits ≡ Some (single (as_edit d), n)
+        → (if b then option_map {U = first.Command × ℕ} (λ number. (c, number)) m else None) ≡ Some (d, n)
+        → with_number (option_map single (if_good o)) digits ≡ Some (single (as_edit d), n)
     by false good m told e = cc
     by true good None told e = let none : (◌≡◌ {A = Option (first.Command × ℕ)} None (Some (d, n))) = e in cc
     by true good (Some k) told e =
@@ -41,7 +47,8 @@ numbered c d digits n o is path name read =
         rw (is, name, path, good, told) (pair_as c d k n same)
 
 import-more : (t : Tree) (ts : List Tree) (d : first.Command) (n : ℕ) → first.import_of (t ∷ ts) ≡ Some (d, n)
-    → (digits : List ℕ) × (t ≡ text digits) × (with_number (option_map single (if_good (import_of ts))) digits ≡ Some (single (as_edit d), n))
+    → (digits : List ℕ) × (t ≡ text digits) × (with_number (option_map single (if_good (import_of ts))) digits
+    ≡ Some (single (as_edit d), n))
 import-more (text digits) (text name ∷ tree ∷ []) d n is =
     (digits, refl, numbered (first.import_as name tree) d digits n _ refl refl refl is)
 import-more (text digits) [] d n is = cc
@@ -68,7 +75,8 @@ set-more (sequence s) us d n is = cc
 set-more (mapping s) us d n is = cc
 
 delete-more : (t : Tree) (ts : List Tree) (d : first.Command) (n : ℕ) → first.delete_of (t ∷ ts) ≡ Some (d, n)
-    → (digits : List ℕ) × (t ≡ text digits) × (with_number (option_map single (if_good (delete_of ts))) digits ≡ Some (single (as_edit d), n))
+    → (digits : List ℕ) × (t ≡ text digits) × (with_number (option_map single (if_good (delete_of ts))) digits
+    ≡ Some (single (as_edit d), n))
 delete-more (text digits) (text name ∷ text path ∷ []) d n is =
     (digits, refl, numbered (first.delete_at name path) d digits n _ refl refl refl is)
 delete-more (text digits) [] d n is = cc
@@ -89,8 +97,10 @@ record-more (mapping no_member) d n is = cc
 record-more (mapping (member key t ms)) d n is =
     by (same_text key (codes "at")) refl (keys_are import_keys ms) refl (keys_are set_keys ms) refl (keys_are delete_keys ms) refl is
   where
-    by : (a : Bool) → same_text key (codes "at") ≡ a → (i : Bool) → keys_are import_keys ms ≡ i → (s : Bool) → keys_are set_keys ms ≡ s → (x : Bool) → keys_are delete_keys ms ≡ x
-        → (if a && i then first.import_of (t ∷ values ms) else if a && s then first.set_of (t ∷ values ms) else if a && x then first.delete_of (t ∷ values ms) else None) ≡ Some (d, n)
+    by : (a : Bool) → same_text key (codes "at") ≡ a → (i : Bool) → keys_are import_keys ms ≡ i → (s : Bool)
+        → keys_are set_keys ms ≡ s → (x : Bool) → keys_are delete_keys ms ≡ x
+        → (if a && i then first.import_of (t ∷ values ms) else if a && s then first.set_of (t ∷ values ms)
+        else if a && x then first.delete_of (t ∷ values ms) else None) ≡ Some (d, n)
         → numbered_of key t ms ≡ Some (single (as_edit d), n)
     by false at i im s se x de e = cc
     by true at true im s se x de e =
@@ -111,7 +121,8 @@ contents-more : (ts : List Tree) (s : Contents) → first.contents_of ts ≡ Som
 contents-more (text mark ∷ text digits ∷ mapping configs ∷ []) s is = by (same_text mark (codes "confstore-1")) refl is
   where
     by : (b : Bool) → same_text mark (codes "confstore-1") ≡ b
-        → (if b then option_map {U = Contents} (λ number. record { configs = entries configs; count = number }) (number_from_digits digits) else None) ≡ Some s
+        → (if b then option_map {U = Contents} (λ number. record { configs = entries configs; count = number })
+        (number_from_digits digits) else None) ≡ Some s
         → contents_of (text mark ∷ text digits ∷ mapping configs ∷ []) ≡ Some s
     by true mark_is e = rw mark_is e
     by false mark_is e = cc

@@ -1,5 +1,6 @@
 -- What the first format's commands make of a state, and today's make the same of it.
-use Rattle.std.proofs.Common.{◌≡◌, ℕ, ◌≤◌, ◌+◌, Bool, true, false, nat_lt, nat_le, if◌then◌else◌, List, [], ◌∷◌, Result, Ok, Err, refl, ap, subst, ◌∙◌, arith}
+use Rattle.std.proofs.Common.{◌≡◌, ℕ, ◌≤◌, ◌+◌, Bool, true, false, nat_lt, nat_le, if◌then◌else◌, List, [], ◌∷◌}
+use Rattle.std.proofs.Common.{Result, Ok, Err, refl, ap, subst, ◌∙◌, arith}
 use Rattle.std.proofs.lemmas.Bool.Decides.{nat_tests}
 use Rattle.yaml_grammar.specs.Texts.{byte_len}
 use Rattle.yaml_grammar.specs.Trees.{Tree, depth}
@@ -13,7 +14,8 @@ use Rattle.conf_state.specs.States.{Entry, Contents, config_named, put_config, b
 use Rattle.conf_state.specs.BaseTexts.{base_length, base_text}
 use Rattle.conf_state.specs.Commands.{Edit, import_as, set_at, delete_at, Command, single, name_of}
 use Rattle.conf_state.specs.Limits.{AreConfigs, IsState}
-use Rattle.conf_state.specs.Steps.{and_then, found, by_path, checked_tree, with_checked_config, configs_after_delete, configs_after, edited, next_state, step, after}
+use Rattle.conf_state.specs.Steps.{and_then, found, by_path, checked_tree, with_checked_config, configs_after_delete}
+use Rattle.conf_state.specs.Steps.{configs_after, edited, next_state, step, after}
 use Rattle.conf_state.specs.declared.fault.StoreFault.{StoreFault}
 use Rattle.conf_state.specs.declared.fault.StoreFault.TheVariants.{BadName, TooDeep, ConfigLarge, StoreFull, CountFull}
 use Rattle.conf_state.specs.declared.room.Room.TheVariants.{Enough}
@@ -27,7 +29,8 @@ good-wider t less more d s g =
     let long = g.long in
     record { texts = g.texts; keys = g.keys; deep = omega arith; long = omega arith }
 
-pub gives-wider : (source : List ℕ) (t : Tree) (less more : Limits) → less.bytes ≤ more.bytes → less.depth ≤ more.depth → less.style ≤ more.style
+pub gives-wider : (source : List ℕ) (t : Tree) (less more : Limits) → less.bytes ≤ more.bytes
+    → less.depth ≤ more.depth → less.style ≤ more.style
     → Gives source less t → Gives source more t
 gives-wider source t less more b d s g =
     let short = g.short in
@@ -37,9 +40,11 @@ no_less : (a b : ℕ) → nat_lt a b ≡ false → b ≤ a
 no_less a b e = grind (arith, nat_tests)
 
 checked-wider : (t u : Tree) → first.checked_tree t ≡ Ok u → checked_tree t ≡ Ok u
-checked-wider t u is = by (nat_lt first.config_limits.depth (depth t)) refl (nat_lt first.config_limits.style (byte_len (style_text t))) refl is
+checked-wider t u is = by (nat_lt first.config_limits.depth (depth t)) refl
+    (nat_lt first.config_limits.style (byte_len (style_text t))) refl is
   where
-    by : (d : Bool) → nat_lt first.config_limits.depth (depth t) ≡ d → (l : Bool) → nat_lt first.config_limits.style (byte_len (style_text t)) ≡ l
+    by : (d : Bool) → nat_lt first.config_limits.depth (depth t) ≡ d → (l : Bool)
+        → nat_lt first.config_limits.style (byte_len (style_text t)) ≡ l
         → (if d then Err TooDeep else if l then Err ConfigLarge else Ok t) ≡ Ok u → checked_tree t ≡ Ok u
     by true deep l long same = cc
     by false deep true long same = cc
@@ -72,7 +77,8 @@ as_edit (first.import_as name tree) = import_as name tree
 as_edit (first.set_at name path value) = set_at name path value
 as_edit (first.delete_at name path) = delete_at name path
 
-edit-accepted : (es : List Entry) (c : first.Command) (out : List Entry) → first.configs_after es c ≡ Ok out → configs_after es (as_edit c) ≡ Ok out
+edit-accepted : (es : List Entry) (c : first.Command) (out : List Entry) → first.configs_after es c ≡ Ok out
+    → configs_after es (as_edit c) ≡ Ok out
 edit-accepted es (first.import_as name tree) out is = config-wider es name tree out is
 edit-accepted es (first.set_at name path value) out is =
     then-wider (found (config_named es name)) _ _ out
@@ -124,9 +130,19 @@ after-accepted s new (c ∷ cs) is =
 
 configs-wider : (es : List Entry) → first.AreConfigs es → AreConfigs es
 configs-wider [] all = all
-configs-wider (e ∷ es) all = (all.0, good-wider e.1 first.config_limits config_limits (omega arith) (omega arith) all.1, configs-wider es all.2)
+configs-wider (e ∷ es) all = (
+  all.0,
+  good-wider e.1 first.config_limits config_limits (omega arith)
+      (omega arith) all.1,
+  configs-wider es all.2,
+)
 
 pub state-wider : (s : Contents) → first.IsState s → IsState s
 state-wider s kept =
     let short = kept.short in
-    record { configs = configs-wider s.configs kept.configs; distinct = kept.distinct; short = omega (arith, same-length s, short); numbered = kept.numbered }
+    record {
+      configs = configs-wider s.configs kept.configs;
+      distinct = kept.distinct;
+      short = omega (arith, same-length s, short);
+      numbered = kept.numbered;
+    }

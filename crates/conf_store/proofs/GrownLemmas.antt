@@ -27,7 +27,8 @@ use Rattle.conf_store.proofs.StagedLemmas.{text-more, text-same}
 -- ---- bytes
 
 -- the first piece that is read is the base
-pub first-base : PieceBetween → (bytes : List ℕ) (place : ℕ) (s : Contents) → StartsLine bytes 0 → IsNextClosing bytes 0 place → IsBase (take place bytes) s → StartsWithBase bytes place
+pub first-base : PieceBetween → (bytes : List ℕ) (place : ℕ) (s : Contents) → StartsLine bytes 0
+    → IsNextClosing bytes 0 place → IsBase (take place bytes) s → StartsWithBase bytes place
 first-base piece_between bytes place s starts next is = record {
   base = take place bytes;
   others = drop place bytes;
@@ -84,12 +85,14 @@ file-grown None size base starts long = absurd starts
 file-grown (Some bytes) size base starts long = subst (λ n. IsGrown bytes (n - base)) long (starts-grown bytes base starts)
 
 -- more bytes at its end leave the base
-pub file-more : (file : Option (List ℕ)) (more : List ℕ) (base : ℕ) → FileStartsWithBase file base → FileStartsWithBase (file_with_bytes file more) base
+pub file-more : (file : Option (List ℕ)) (more : List ℕ) (base : ℕ) → FileStartsWithBase file base
+    → FileStartsWithBase (file_with_bytes file more) base
 file-more None more base starts = absurd starts
 file-more (Some bytes) more base starts = starts-more bytes more base starts
 
 -- a file that is there and stays as it is
-pub found-base : (file : Option (List ℕ)) (s : Contents) (records dropped n : ℕ) (size : Option ℕ) (base : ℕ) → IsFound file s records dropped size → size ≡ Some n → FoundBase file base → FileStartsWithBase file base
+pub found-base : (file : Option (List ℕ)) (s : Contents) (records dropped n : ℕ) (size : Option ℕ) (base : ℕ)
+    → IsFound file s records dropped size → size ≡ Some n → FoundBase file base → FileStartsWithBase file base
 found-base None s records dropped n size base found is starts = (let stays = found.stays n is in absurd (cc stays.2))
 found-base (Some bytes) s records dropped n size base found is starts = starts
 
@@ -99,24 +102,30 @@ found-base (Some bytes) s records dropped n size base found is starts = starts
 pub staged-begins : (folder : Folder) (s : Contents) (bytes : List ℕ) → IsBaseOf s bytes → bytes_under folder Next ≡ Some []
     → StagedStartsWithBase folder (Some (record { written = 0; left = bytes })) (length bytes)
 staged-begins folder s bytes base reads =
-    subst (λ (o : Option (List ℕ)). FileStartsWithBase o (length bytes)) (sym (ap (λ (o : Option (List ℕ)). file_with_bytes o bytes) reads)) (base-alone s bytes base)
+    subst (λ (o : Option (List ℕ)). FileStartsWithBase o (length bytes))
+    (sym (ap (λ (o : Option (List ℕ)). file_with_bytes o bytes) reads)) (base-alone s bytes base)
 
 -- one whose text stays
-pub staged-stays : (old new : Folder) (before after : Staged) (base : ℕ) → staged_text new (Some after) ≡ staged_text old (Some before) → StagedStartsWithBase old (Some before) base
+pub staged-stays : (old new : Folder) (before after : Staged) (base : ℕ)
+    → staged_text new (Some after) ≡ staged_text old (Some before) → StagedStartsWithBase old (Some before) base
     → StagedStartsWithBase new (Some after) base
 staged-stays old new before after base same starts = subst (λ (o : Option (List ℕ)). FileStartsWithBase o base) (sym same) starts
 
 -- one to which nothing is done
-pub staged-base-same : (old new : Folder) (staged : Option Staged) (base : ℕ) → bytes_under new Next ≡ bytes_under old Next → StagedStartsWithBase old staged base → StagedStartsWithBase new staged base
+pub staged-base-same : (old new : Folder) (staged : Option Staged) (base : ℕ)
+    → bytes_under new Next ≡ bytes_under old Next → StagedStartsWithBase old staged base → StagedStartsWithBase new staged base
 staged-base-same old new None base same starts = tt
-staged-base-same old new (Some staged) base same starts = staged-stays old new staged staged base (text-same old new (Some staged) same) starts
+staged-base-same old new (Some staged) base same starts =
+    staged-stays old new staged staged base (text-same old new (Some staged) same) starts
 
 -- one with more bytes at its end
-pub staged-base-more : (old new : Folder) (more : List ℕ) (staged : Option Staged) (base : ℕ) → bytes_under new Next ≡ bytes_under old Next → StagedStartsWithBase old staged base
+pub staged-base-more : (old new : Folder) (more : List ℕ) (staged : Option Staged) (base : ℕ)
+    → bytes_under new Next ≡ bytes_under old Next → StagedStartsWithBase old staged base
     → StagedStartsWithBase new (with_more more staged) base
 staged-base-more old new more None base same starts = tt
 staged-base-more old new more (Some staged) base same starts =
-    subst (λ (o : Option (List ℕ)). FileStartsWithBase o base) (sym (text-more old new more (Some staged) same)) (file-more (staged_text old (Some staged)) more base starts)
+    subst (λ (o : Option (List ℕ)). FileStartsWithBase o base) (sym (text-more old new more (Some staged) same))
+    (file-more (staged_text old (Some staged)) more base starts)
 
 -- ---- what was read
 
@@ -126,6 +135,7 @@ missing-base None tells = refl
 missing-base (Some bytes) tells = absurd tells
 
 -- the bytes were read
-pub bytes-base : (file : Option (List ℕ)) (read : Vec ℕ Global) (base : ℕ) → Tells file store_limit (Bytes read) → StartsWithBase read.items base → FoundBase file base
+pub bytes-base : (file : Option (List ℕ)) (read : Vec ℕ Global) (base : ℕ) → Tells file store_limit (Bytes read)
+    → StartsWithBase read.items base → FoundBase file base
 bytes-base None read base tells starts = absurd tells
 bytes-base (Some bytes) read base tells starts = subst (λ b. StartsWithBase b base) tells.0 starts

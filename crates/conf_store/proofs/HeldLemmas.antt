@@ -18,20 +18,24 @@ use Rattle.yaml_recognizers.specs.Closings.{OnePieces}
 use Rattle.conf_record.specs.Documents.{OneBase, OneRecord, IsRecord, RecordsTear, RecordsClose, record_pieces, records_bytes}
 use Rattle.conf_record.specs.Records.{record_bytes}
 use Rattle.conf_store.specs.Meaning.{AreRecords, PiecesMean, FileMeans}
-use Rattle.conf_store.specs.Durable.{IsWholeStore, IsJournal, HasFlushed, IsHeld, IsDurable, AllImagesMean, AfterPrefix, AllImagesAfterPrefix, OneFlushed, NothingWaits}
+use Rattle.conf_store.specs.Durable.{IsWholeStore, IsJournal, HasFlushed, IsHeld, IsDurable, AllImagesMean}
+use Rattle.conf_store.specs.Durable.{AfterPrefix, AllImagesAfterPrefix, OneFlushed, NothingWaits}
 use Rattle.conf_store.proofs.PieceLemmas.{pieces-joined, pieces-one, no_closing}
-use Rattle.conf_store.proofs.MeaningLemmas.{records-joined, after-joined, after-done, pieces-mean-more, pieces-mean-one, one-list, journal-left, ok-same}
+use Rattle.conf_store.proofs.MeaningLemmas.{records-joined, after-joined, after-done, pieces-mean-more}
+use Rattle.conf_store.proofs.MeaningLemmas.{pieces-mean-one, one-list, journal-left, ok-same}
 
 -- ---- what a crash leaves
 
 -- of a file that is a journal
-pub journal-images : RecordsTear → (file : File) (flushed s : Contents) (since : List Command) → IsJournal file flushed since s → (store : Option (List ℕ)) → IsLeftOf (Some file) store
+pub journal-images : RecordsTear → (file : File) (flushed s : Contents) (since : List Command)
+    → IsJournal file flushed since s → (store : Option (List ℕ)) → IsLeftOf (Some file) store
     → AfterPrefix flushed since store
 journal-images tear file flushed s since journal None left = absurd left
 journal-images tear file flushed s since journal (Some torn) left = journal-left tear file flushed s since torn journal left
 
 -- the file that every stage has is the one of the last stage
-pub held-journal : (folder : Folder) (s : Contents) (size : ℕ) (waits : Bool) → (held : IsHeld folder s size waits) → (flushed : Contents) (since : List Command) → HasFlushed folder flushed since s
+pub held-journal : (folder : Folder) (s : Contents) (size : ℕ) (waits : Bool) → (held : IsHeld folder s size waits)
+    → (flushed : Contents) (since : List Command) → HasFlushed folder flushed since s
     → IsJournal held.file flushed since s
 held-journal folder s size waits held flushed since has =
     let same : Some has.file ≡ Some held.file = sym has.is ∙ held.holds.is in
@@ -39,17 +43,21 @@ held-journal folder s size waits held flushed since has =
     subst (λ f. IsJournal f flushed since s) file has.journal
 
 -- and what is flushed can be found
-pub held-flushed : (folder : Folder) (s : Contents) (size : ℕ) (waits : Bool) → (held : IsHeld folder s size waits) → HasFlushed folder held.flushed held.since s
+pub held-flushed : (folder : Folder) (s : Contents) (size : ℕ) (waits : Bool) → (held : IsHeld folder s size waits)
+    → HasFlushed folder held.flushed held.since s
 held-flushed folder s size waits held = record { file = held.file; is = held.holds.is; journal = held.journal }
 
 -- a crash leaves the state after a prefix of what was submitted
-pub held-images : HeldIsLeft → RecordsTear → (folder : Folder) (s : Contents) (size : ℕ) (waits : Bool) → IsHeld folder s size waits → (flushed : Contents) (since : List Command)
+pub held-images : HeldIsLeft → RecordsTear → (folder : Folder) (s : Contents) (size : ℕ) (waits : Bool)
+    → IsHeld folder s size waits → (flushed : Contents) (since : List Command)
     → HasFlushed folder flushed since s → AllImagesAfterPrefix folder flushed since
 held-images left tear folder s size waits held flushed since has image is =
-    journal-images tear held.file flushed s since (held-journal folder s size waits held flushed since has) image.store (left folder (Some held.file) held.holds image is)
+    journal-images tear held.file flushed s since
+    (held-journal folder s size waits held flushed since has) image.store (left folder (Some held.file) held.holds image is)
 
 -- the same of a store that some image has
-pub held-stores : HeldIsLeft → RecordsTear → (folder : Folder) (s : Contents) (size : ℕ) (waits : Bool) → IsHeld folder s size waits → (flushed : Contents) (since : List Command)
+pub held-stores : HeldIsLeft → RecordsTear → (folder : Folder) (s : Contents) (size : ℕ) (waits : Bool)
+    → IsHeld folder s size waits → (flushed : Contents) (since : List Command)
     → HasFlushed folder flushed since s → (store : Option (List ℕ)) → IsStoreOf folder store → AfterPrefix flushed since store
 held-stores left tear folder s size waits held flushed since has store is =
     subst (AfterPrefix flushed since) is.same (held-images left tear folder s size waits held flushed since has is.image is.is)
@@ -70,7 +78,8 @@ pub means-prefix : (s : Contents) (commands : List Command) (store : Option (Lis
 means-prefix s commands store means = record { count = 0; state = s; leads = refl; means = means }
 
 -- whatever a crash leaves means the state
-pub held-means : HeldIsLeft → RecordsTear → (folder : Folder) (s : Contents) (size : ℕ) (waits : Bool) → IsHeld folder s size waits → waits ≡ false → AllImagesMean folder s
+pub held-means : HeldIsLeft → RecordsTear → (folder : Folder) (s : Contents) (size : ℕ) (waits : Bool)
+    → IsHeld folder s size waits → waits ≡ false → AllImagesMean folder s
 held-means left tear folder s size waits held quiet image is =
     let none = held.none quiet in
     let leads : after held.flushed [] ≡ Ok s = ap (after held.flushed) (sym none) ∙ held.journal.leads in
@@ -81,7 +90,8 @@ held-means left tear folder s size waits held quiet image is =
     (journal-images tear held.file held.flushed s held.since held.journal image.store (left folder (Some held.file) held.holds image is))))
 
 -- a journal without pending records
-pub journal-synced : (bytes : List ℕ) (s : Contents) → IsWholeStore bytes s → length bytes ≤ store_limit → IsJournal (synced_file bytes) s [] s
+pub journal-synced : (bytes : List ℕ) (s : Contents) → IsWholeStore bytes s → length bytes ≤ store_limit
+    → IsJournal (synced_file bytes) s [] s
 journal-synced bytes s whole short = record { whole = whole; pending = refl; are_records = tt; leads = refl; short = omega (arith, short) }
 
 -- a durable store has nothing that waits
@@ -98,13 +108,17 @@ durable-held folder s size waits durable = record {
 
 -- ---- one command more
 
-record-pieces-more : (count : ℕ) (commands : List Command) (command : Command) → record_pieces count (commands ++ command ∷ []) ≡ record_pieces count commands ++ record_bytes command (count + length commands + 1) ∷ []
+record-pieces-more : (count : ℕ) (commands : List Command) (command : Command)
+    → record_pieces count (commands ++ command ∷ [])
+    ≡ record_pieces count commands ++ record_bytes command (count + length commands + 1) ∷ []
 record-pieces-more count [] command = ap (λ n. record_bytes command n ∷ []) (omega arith)
 record-pieces-more count (c ∷ cs) command =
     ap (λ l. record_bytes c (count + 1) ∷ l)
     (record-pieces-more (count + 1) cs command ∙ ap (λ n. record_pieces (count + 1) cs ++ record_bytes command n ∷ []) (omega arith))
 
-records-bytes-more : (count : ℕ) (commands : List Command) (command : Command) → records_bytes count (commands ++ command ∷ []) ≡ records_bytes count commands ++ record_bytes command (count + length commands + 1)
+records-bytes-more : (count : ℕ) (commands : List Command) (command : Command)
+    → records_bytes count (commands ++ command ∷ [])
+    ≡ records_bytes count commands ++ record_bytes command (count + length commands + 1)
 records-bytes-more count [] command = append-nil (record_bytes command (count + 1)) ∙ ap (record_bytes command) (omega arith)
 records-bytes-more count (c ∷ cs) command =
     ap (λ l. record_bytes c (count + 1) ++ l)
@@ -112,8 +126,10 @@ records-bytes-more count (c ∷ cs) command =
     ∙ sym (append_assoc (record_bytes c (count + 1)) (records_bytes (count + 1) cs) (record_bytes command (count + length (c ∷ cs) + 1)))
 
 -- a journal with the record of the next command
-pub journal-more : (file : File) (flushed s end : Contents) (since : List Command) (command : Command) (more : List ℕ) → IsJournal file flushed since s → more ≡ record_bytes command (s.count + 1)
-    → IsRecord more command (s.count + 1) → step s command Enough ≡ Ok end → length file.synced + length file.pending + length more ≤ store_limit
+pub journal-more : (file : File) (flushed s end : Contents) (since : List Command) (command : Command) (more : List ℕ)
+    → IsJournal file flushed since s → more ≡ record_bytes command (s.count + 1)
+    → IsRecord more command (s.count + 1) → step s command Enough ≡ Ok end
+    → length file.synced + length file.pending + length more ≤ store_limit
     → IsJournal (with_pending more file) flushed (since ++ command ∷ []) end
 journal-more file flushed s end since command more journal is reads done short =
     let count : s.count ≡ flushed.count + length since = after-count flushed s since journal.leads in
@@ -126,36 +142,43 @@ journal-more file flushed s end since command more journal is reads done short =
           ∙ sym (records-bytes-more flushed.count since command);
       are_records =
           subst (λ ps. AreRecords flushed.count ps (since ++ command ∷ [])) (sym (record-pieces-more flushed.count since command))
-          (records-joined flushed.count (record_pieces flushed.count since) (record_bytes command (flushed.count + length since + 1) ∷ []) since (command ∷ []) journal.are_records
+          (records-joined flushed.count (record_pieces flushed.count since)
+          (record_bytes command (flushed.count + length since + 1) ∷ []) since (command ∷ []) journal.are_records
           (subst (λ b. IsRecord b command (flushed.count + length since + 1)) here (subst (IsRecord more command) number reads), tt));
       leads = after-joined flushed s end since (command ∷ []) journal.leads (after-done s end command done);
       short = omega (arith, short, length-append file.pending more);
     }
 
 -- the state after a prefix of one command more: after a prefix of the others, or after all
-pub prefix-last : (flushed end : Contents) (since : List Command) (command : Command) (store : Option (List ℕ)) → after flushed (since ++ command ∷ []) ≡ Ok end
+pub prefix-last : (flushed end : Contents) (since : List Command) (command : Command) (store : Option (List ℕ))
+    → after flushed (since ++ command ∷ []) ≡ Ok end
     → AfterPrefix flushed (since ++ command ∷ []) store → AfterPrefix flushed since store ⊎ FileMeans store end
 prefix-last flushed end since command store leads some = elim (cases_lt (length since) some.count) [
   | inl all ↦
-      let whole : take some.count (since ++ command ∷ []) ≡ since ++ command ∷ [] = take_all some.count (since ++ command ∷ []) (omega (arith, all, length-append since (command ∷ []))) in
+      let whole : take some.count (since ++ command ∷ []) ≡ since ++ command ∷ [] =
+      take_all some.count (since ++ command ∷ []) (omega (arith, all, length-append since (command ∷ []))) in
       let here : after flushed (since ++ command ∷ []) ≡ Ok some.state = ap (after flushed) (sym whole) ∙ some.leads in
       inr (subst (FileMeans store) (ok-same some.state end (after flushed (since ++ command ∷ [])) here leads) some.means)
   | inr few ↦
-      let fewer : take some.count (since ++ command ∷ []) ≡ take some.count since = take-append-le some.count since (command ∷ []) (omega (arith, few)) in
+      let fewer : take some.count (since ++ command ∷ []) ≡ take some.count since =
+      take-append-le some.count since (command ∷ []) (omega (arith, few)) in
       inl (record { count = some.count; state = some.state; leads = ap (after flushed) (sym fewer) ∙ some.leads; means = some.means })
 ]
 
-pub prefix-more : (flushed s end : Contents) (since : List Command) (command : Command) (store : Option (List ℕ)) → after flushed since ≡ Ok s → step s command Enough ≡ Ok end
+pub prefix-more : (flushed s end : Contents) (since : List Command) (command : Command) (store : Option (List ℕ))
+    → after flushed since ≡ Ok s → step s command Enough ≡ Ok end
     → AfterPrefix flushed (since ++ command ∷ []) store → AfterPrefix flushed since store ⊎ FileMeans store end
 prefix-more flushed s end since command store leads done =
     prefix-last flushed end since command store (after-joined flushed s end since (command ∷ []) leads (after-done s end command done))
 
 -- the same the other way round
-pub prefix-longer : (flushed : Contents) (since more : List Command) (store : Option (List ℕ)) → AfterPrefix flushed since store → AfterPrefix flushed (since ++ more) store
+pub prefix-longer : (flushed : Contents) (since more : List Command) (store : Option (List ℕ))
+    → AfterPrefix flushed since store → AfterPrefix flushed (since ++ more) store
 prefix-longer flushed since more store some = elim (cases_lt (length since) some.count) [
   | inl all ↦
       let whole : take some.count since ≡ since = take_all some.count since (omega (arith, all)) in
-      let upto : take (length since) (since ++ more) ≡ since = take-append-le (length since) since more (omega arith) ∙ take_all (length since) since (omega arith) in
+      let upto : take (length since) (since ++ more) ≡ since = take-append-le (length since) since more (omega arith)
+      ∙ take_all (length since) since (omega arith) in
       record { count = length since; state = some.state; leads = ap (after flushed) (upto ∙ sym whole) ∙ some.leads; means = some.means }
   | inr few ↦
       let fewer : take some.count (since ++ more) ≡ take some.count since = take-append-le some.count since more (omega (arith, few)) in
@@ -163,12 +186,15 @@ prefix-longer flushed since more store some = elim (cases_lt (length since) some
 ]
 
 -- what a crash leaves while a record is appended
-pub appended-left : RecordsTear → (file : File) (flushed s end : Contents) (since : List Command) (command : Command) (more : List ℕ) → IsJournal file flushed since s → more ≡ record_bytes command (s.count + 1)
-    → IsRecord more command (s.count + 1) → step s command Enough ≡ Ok end → length file.synced + length file.pending + length more ≤ store_limit
+pub appended-left : RecordsTear → (file : File) (flushed s end : Contents) (since : List Command) (command : Command)
+    (more : List ℕ) → IsJournal file flushed since s → more ≡ record_bytes command (s.count + 1)
+    → IsRecord more command (s.count + 1) → step s command Enough ≡ Ok end
+    → length file.synced + length file.pending + length more ≤ store_limit
     → (store : Option (List ℕ)) → IsLeftOf (Some (with_pending more file)) store → AfterPrefix flushed since store ⊎ FileMeans store end
 appended-left tear file flushed s end since command more journal is reads done short store left =
     prefix-more flushed s end since command store journal.leads done
-    (journal-images tear (with_pending more file) flushed end (since ++ command ∷ []) (journal-more file flushed s end since command more journal is reads done short) store left)
+    (journal-images tear (with_pending more file) flushed end (since ++ command ∷ [])
+    (journal-more file flushed s end since command more journal is reads done short) store left)
 
 -- ---- all is flushed
 
@@ -176,21 +202,26 @@ appended-left tear file flushed s end since command more journal is reads done s
 records-cut : RecordsClose → (count : ℕ) (commands : List Command) → Pieces (records_bytes count commands) (record_pieces count commands) []
 records-cut close count [] = record { joined = refl; closed = All-nil ClosesOnce; unclosed = no_closing }
 records-cut close count (c ∷ cs) =
-    pieces-joined (record_bytes c (count + 1)) (records_bytes (count + 1) cs) (record_bytes c (count + 1) ∷ []) (record_pieces (count + 1) cs) []
+    pieces-joined (record_bytes c (count + 1)) (records_bytes (count + 1) cs) (record_bytes c (count + 1) ∷ [])
+    (record_pieces (count + 1) cs) []
     (pieces-one (record_bytes c (count + 1)) (close c (count + 1))) (records-cut close (count + 1) cs)
 
 -- all bytes of a journal mean its state
-pub journal-whole : RecordsClose → (file : File) (flushed s : Contents) (since : List Command) → IsJournal file flushed since s → IsWholeStore (file.synced ++ file.pending) s
+pub journal-whole : RecordsClose → (file : File) (flushed s : Contents) (since : List Command)
+    → IsJournal file flushed since s → IsWholeStore (file.synced ++ file.pending) s
 journal-whole close file flushed s since journal = record {
   pieces = journal.whole.pieces ++ record_pieces flushed.count since;
   cut =
       subst (λ b. Pieces (file.synced ++ b) (journal.whole.pieces ++ record_pieces flushed.count since) []) (sym journal.pending)
-      (pieces-joined file.synced (records_bytes flushed.count since) journal.whole.pieces (record_pieces flushed.count since) [] journal.whole.cut (records-cut close flushed.count since));
-  mean = pieces-mean-more journal.whole.pieces (record_pieces flushed.count since) flushed s since journal.whole.mean journal.are_records journal.leads;
+      (pieces-joined file.synced (records_bytes flushed.count since) journal.whole.pieces
+      (record_pieces flushed.count since) [] journal.whole.cut (records-cut close flushed.count since));
+  mean = pieces-mean-more journal.whole.pieces
+      (record_pieces flushed.count since) flushed s since journal.whole.mean journal.are_records journal.leads;
 }
 
 -- after its sync it is durable
-pub flushed-durable : RecordsClose → (old new : Folder) (s : Contents) (size : ℕ) (waits : Bool) → (held : IsHeld old s size waits) → HoldsStore new (option_map synced_whole (Some held.file)) → IsDurable new s size
+pub flushed-durable : RecordsClose → (old new : Folder) (s : Contents) (size : ℕ) (waits : Bool)
+    → (held : IsHeld old s size waits) → HoldsStore new (option_map synced_whole (Some held.file)) → IsDurable new s size
 flushed-durable close old new s size waits held holds =
     let file = held.file in
     let long : length (file.synced ++ file.pending) ≡ size = length-append file.synced file.pending ∙ held.long in
@@ -211,10 +242,12 @@ flushed-one one_pieces one_base one_record close folder f g us vs s t first seco
     let journal = subst (λ x. IsJournal x f us s) file first.journal in
     let other = second.journal in
     let pieces = (one_pieces second.file.synced journal.whole.pieces other.whole.pieces [] [] journal.whole.cut other.whole.cut).0 in
-    let flushed : f ≡ g = pieces-mean-one one_base one_record other.whole.pieces f g (subst (λ ps. PiecesMean ps f) pieces journal.whole.mean) other.whole.mean in
+    let flushed : f ≡ g = pieces-mean-one one_base one_record other.whole.pieces f g
+    (subst (λ ps. PiecesMean ps f) pieces journal.whole.mean) other.whole.mean in
     let here = subst (λ x. IsJournal second.file x us s) flushed journal in
     let cut_us = subst (λ b. Pieces b (record_pieces g.count us) []) (sym here.pending) (records-cut close g.count us) in
     let cut_vs = subst (λ b. Pieces b (record_pieces g.count vs) []) (sym other.pending) (records-cut close g.count vs) in
     let records = (one_pieces second.file.pending (record_pieces g.count us) (record_pieces g.count vs) [] [] cut_us cut_vs).0 in
-    let commands : us ≡ vs = one-list g.count one_record (record_pieces g.count vs) us vs (subst (λ ps. AreRecords g.count ps us) records here.are_records) other.are_records in
+    let commands : us ≡ vs = one-list g.count one_record (record_pieces g.count vs) us vs
+    (subst (λ ps. AreRecords g.count ps us) records here.are_records) other.are_records in
     (flushed, commands, ok-same s t (after g vs) (subst (λ cs. after g cs ≡ Ok s) commands here.leads) other.leads)

@@ -11,7 +11,9 @@ use Rattle.conf_state.specs.Names.{good_name}
 use Rattle.conf_state.specs.States.{Entry, Contents, put_config, base_limit, count_limit}
 use Rattle.conf_state.specs.Steps.{and_then, step, with_checked_config, with_room, next_state}
 use Rattle.conf_state.specs.declared.fault.StoreFault.{StoreFault}
-use Rattle.conf_state.specs.declared.fault.StoreFault.TheVariants.{EmptyBatch, BadName, NoConfig, Path, Read, TooDeep, ConfigLarge, StoreFull, RecordLong, JournalLong, CountFull, Reopen, Device, OutOfMemory}
+use Rattle.conf_state.specs.declared.fault.StoreFault.TheVariants.{EmptyBatch, BadName, NoConfig, Path, Read, TooDeep}
+use Rattle.conf_state.specs.declared.fault.StoreFault.TheVariants.{ConfigLarge, StoreFull, RecordLong, JournalLong}
+use Rattle.conf_state.specs.declared.fault.StoreFault.TheVariants.{CountFull, Reopen, Device, OutOfMemory}
 use Rattle.conf_state.specs.declared.room.Room.{Room}
 use Rattle.conf_state.specs.declared.room.Room.TheVariants.{Enough, LongRecord, Missing}
 use Rattle.conf_store.specs.View.{StoreView}
@@ -30,29 +32,35 @@ unfolding OfTree
 next_state-of_tree s room configs =
     by (nat_lt base_limit (base_length (record { configs = configs; count = s.count + 1 }))) room (nat_le count_limit s.count)
   where
-    by : (full : Bool) (room : Room) (last : Bool) → OfTree {A = Contents} (if full then Err StoreFull else with_room room (if last then Err CountFull else Ok (record { configs = configs; count = s.count + 1 })))
+    by : (full : Bool) (room : Room) (last : Bool)
+        → OfTree {A = Contents} (if full then Err StoreFull
+        else with_room room (if last then Err CountFull else Ok (record { configs = configs; count = s.count + 1 })))
     by true room last = tt
     by false LongRecord last = tt
     by false Missing last = tt
     by false Enough true = tt
     by false Enough false = tt
 
-import-of_tree : (s : Contents) (name : List ℕ) (t : Tree) (room : Room) → OfTree (and_then (with_checked_config s.configs name t) (next_state s room))
+import-of_tree : (s : Contents) (name : List ℕ) (t : Tree) (room : Room)
+    → OfTree (and_then (with_checked_config s.configs name t) (next_state s room))
 unfolding OfTree
 import-of_tree s name t room =
     by (nat_lt config_limits.depth (depth t)) refl (nat_lt config_limits.style (byte_len (style_text t))) refl
   where
-    by : (deep : Bool) → nat_lt config_limits.depth (depth t) ≡ deep → (large : Bool) → nat_lt config_limits.style (byte_len (style_text t)) ≡ large
+    by : (deep : Bool) → nat_lt config_limits.depth (depth t) ≡ deep → (large : Bool)
+        → nat_lt config_limits.style (byte_len (style_text t)) ≡ large
         → OfTree (and_then (with_checked_config s.configs name t) (next_state s room))
     by true e large f = rw e tt
     by false e true f = rw (e, f) tt
     by false e false f = rw (e, f) (next_state-of_tree s room (put_config s.configs name t))
 
-step-of_tree : (s : Contents) (name : List ℕ) (t : Tree) (room : Room) → good_name name ≡ true → OfTree (step s (single (import_as name t)) room)
+step-of_tree : (s : Contents) (name : List ℕ) (t : Tree) (room : Room) → good_name name ≡ true
+    → OfTree (step s (single (import_as name t)) room)
 step-of_tree s name t room good = rw good (import-of_tree s name t room)
 
 -- the import of a tree under a good name is refused for the tree
-pub import-refused : {D : Type 0} (old new : StoreView D) (name source : List ℕ) (t : Tree) (fault : StoreFault) → good_name name ≡ true → IsRead source config_limits t
+pub import-refused : {D : Type 0} (old new : StoreView D) (name source : List ℕ) (t : Tree) (fault : StoreFault)
+    → good_name name ≡ true → IsRead source config_limits t
     → RefusesCommand old (single (import_as name t)) new fault → RefusesImport old name source new fault
 unfolding OfTree
 import-refused old new name source t Reopen good reads is = tt
@@ -73,7 +81,8 @@ import-refused old new name source t CountFull good reads is = record { tree = t
 import-refused old new name source t Device good reads is = record { tree = t; reads = reads; refuses = is }
 
 -- an import without a command is refused for the same reason
-pub unread-refused : {D : Type 0} (old new : StoreView D) (name source : List ℕ) (fault : StoreFault) → RefusesText name source fault → RefusesImport old name source new fault
+pub unread-refused : {D : Type 0} (old new : StoreView D) (name source : List ℕ) (fault : StoreFault)
+    → RefusesText name source fault → RefusesImport old name source new fault
 unread-refused old new name source OutOfMemory is = tt
 unread-refused old new name source BadName is = is
 unread-refused old new name source (Read fault) is = is

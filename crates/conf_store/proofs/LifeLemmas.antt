@@ -7,9 +7,15 @@ use Rattle.conf_state.specs.States.{Contents}
 use Rattle.conf_state.specs.Steps.{after, and_then}
 use Rattle.conf_state.proofs.RunLaws.{after-append}
 use Rattle.conf_state.specs.declared.fault.StoreFault.{StoreFault}
-use Rattle.conf_store.specs.Lives.{Call, submitting, performing, flushing, beginning, slicing, checkpointing, Answer, ok, more, refused, device, reopen, crashed, Event, World, opened, world_state, with_submitted, all_flushed, MayRemain, Flushes, Succeeds, Continues, MayRemainDuring, MayEndBy, MayEnd, state_or, after_call, flushes_all, acknowledges, flushed_by, accepted_one, accepted_in, accepted_by, accepted_commands, Keeps, all_commands, LivesHold}
+use Rattle.conf_store.specs.Lives.{Call, submitting, performing, flushing, beginning, slicing, checkpointing, Answer}
+use Rattle.conf_store.specs.Lives.{ok, more, refused, device, reopen, crashed, Event, World, opened, world_state}
+use Rattle.conf_store.specs.Lives.{with_submitted, all_flushed, MayRemain, Flushes, Succeeds, Continues}
+use Rattle.conf_store.specs.Lives.{MayRemainDuring, MayEndBy, MayEnd, state_or, after_call, flushes_all, acknowledges}
+use Rattle.conf_store.specs.Lives.{flushed_by, accepted_one, accepted_in, accepted_by, accepted_commands, Keeps}
+use Rattle.conf_store.specs.Lives.{all_commands, LivesHold}
 
-after-joined : (s mid end : Contents) (first second : List Command) → after s first ≡ Ok mid → after mid second ≡ Ok end → after s (first ++ second) ≡ Ok end
+after-joined : (s mid end : Contents) (first second : List Command) → after s first ≡ Ok mid
+    → after mid second ≡ Ok end → after s (first ++ second) ≡ Ok end
 after-joined s mid end first second one two =
     after-append s first second ∙ ap (λ r. and_then r (λ between. after between second)) one ∙ two
 
@@ -27,7 +33,8 @@ record Kept (w : World) (end : Contents) (given : List (Command × Bool)) : Type
   keeps : Keeps given kept
   leads : after w.flushed kept ≡ Ok end
 
-waiting-unacknowledged : (cs : List Command) (further : List (Command × Bool)) → NoneAcknowledged further → NoneAcknowledged (waiting cs false ++ further)
+waiting-unacknowledged : (cs : List Command) (further : List (Command × Bool)) → NoneAcknowledged further
+    → NoneAcknowledged (waiting cs false ++ further)
 waiting-unacknowledged [] further none = none
 waiting-unacknowledged (c ∷ cs) further none = (refl, waiting-unacknowledged cs further none)
 
@@ -38,7 +45,8 @@ waiting-more [] c acknowledged further = refl
 waiting-more (first ∷ cs) c acknowledged further = ap (λ l. (first, acknowledged) ∷ l) (waiting-more cs c acknowledged further)
 
 -- some first ones of those that wait are kept, where none is acknowledged
-keeps-some : (k : ℕ) (cs : List Command) (further : List (Command × Bool)) → NoneAcknowledged further → Keeps (waiting cs false ++ further) (take k cs)
+keeps-some : (k : ℕ) (cs : List Command) (further : List (Command × Bool)) → NoneAcknowledged further
+    → Keeps (waiting cs false ++ further) (take k cs)
 keeps-some zero cs further none = record { count = 0; are = refl; no_more = waiting-unacknowledged cs further none }
 keeps-some (suc k) [] further none = record { count = 0; are = refl; no_more = none }
 keeps-some (suc k) (c ∷ cs) further none =
@@ -46,7 +54,8 @@ keeps-some (suc k) (c ∷ cs) further none =
     record { count = suc rest.count; are = ap (λ l. c ∷ l) rest.are; no_more = rest.no_more }
 
 -- all that wait are kept, and then others
-keeps-all : (cs : List Command) (acknowledged : Bool) (given : List (Command × Bool)) (kept : List Command) → Keeps given kept → Keeps (waiting cs acknowledged ++ given) (cs ++ kept)
+keeps-all : (cs : List Command) (acknowledged : Bool) (given : List (Command × Bool)) (kept : List Command)
+    → Keeps given kept → Keeps (waiting cs acknowledged ++ given) (cs ++ kept)
 keeps-all [] acknowledged given kept keeps = keeps
 keeps-all (c ∷ cs) acknowledged given kept keeps =
     let rest = keeps-all cs acknowledged given kept keeps in
@@ -55,7 +64,8 @@ keeps-all (c ∷ cs) acknowledged given kept keeps =
 -- ---- one call
 
 -- a command that is submitted with this outcome is accepted
-accepted-one : (w : World) (command : Command) (acknowledged : Bool) (s : Contents) → world_state (with_submitted w command) ≡ Ok s → accepted_one w command acknowledged ≡ (command, acknowledged) ∷ []
+accepted-one : (w : World) (command : Command) (acknowledged : Bool) (s : Contents)
+    → world_state (with_submitted w command) ≡ Ok s → accepted_one w command acknowledged ≡ (command, acknowledged) ∷ []
 accepted-one w command acknowledged s e = ap (λ (r : Result Contents StoreFault). if is_ok r then (command, acknowledged) ∷ [] else []) e
 
 none-in : (w : World) (call : Call) → NoneAcknowledged (accepted_in w call false)
@@ -75,7 +85,8 @@ none-in w slicing = tt
 none-in w checkpointing = tt
 
 -- between two calls
-remains : (w : World) (end : Contents) (further : List (Command × Bool)) → NoneAcknowledged further → MayRemain w end → Kept w end (waiting w.since false ++ further)
+remains : (w : World) (end : Contents) (further : List (Command × Bool)) → NoneAcknowledged further → MayRemain w end
+    → Kept w end (waiting w.since false ++ further)
 remains w end further none may = record { kept = take may.0 w.since; keeps = keeps-some may.0 w.since further none; leads = may.1 }
 
 take-none : (k : ℕ) → let none : List Command = [] in take k none ≡ none
@@ -83,7 +94,8 @@ take-none zero = refl
 take-none (suc k) = refl
 
 -- where all is flushed, nothing else remains
-flushed-end : (s end : Contents) (running : Bool) → MayRemain (all_flushed s running) end → (let r : Result Contents StoreFault = Ok s in r ≡ Ok end)
+flushed-end : (s end : Contents) (running : Bool) → MayRemain (all_flushed s running) end
+    → (let r : Result Contents StoreFault = Ok s in r ≡ Ok end)
 flushed-end s end running may = ap (after s) (sym (take-none may.0)) ∙ may.1
 
 nothing-more : (given : List (Command × Bool)) → NoneAcknowledged given → Keeps given []
@@ -94,7 +106,8 @@ append-none [] = refl
 append-none (c ∷ cs) = ap (λ l. c ∷ l) (append-none cs)
 
 -- all that waits remains
-remains-all : (w : World) (end : Contents) (further : List (Command × Bool)) → NoneAcknowledged further → world_state w ≡ Ok end → Kept w end (waiting w.since false ++ further)
+remains-all : (w : World) (end : Contents) (further : List (Command × Bool)) → NoneAcknowledged further
+    → world_state w ≡ Ok end → Kept w end (waiting w.since false ++ further)
 remains-all w end further none leads = record {
   kept = w.since ++ [];
   keeps = keeps-all w.since false further [] (nothing-more further none);
@@ -102,10 +115,13 @@ remains-all w end further none leads = record {
 }
 
 -- what waits, and a command that is accepted
-with-accepted : (w : World) (end : Contents) (command : Command) (acknowledged : Bool) (s : Contents) (further : List (Command × Bool)) → world_state (with_submitted w command) ≡ Ok s
-    → Kept w end (waiting (w.since ++ command ∷ []) acknowledged ++ further) → Kept w end (waiting w.since acknowledged ++ (accepted_one w command acknowledged ++ further))
+with-accepted : (w : World) (end : Contents) (command : Command) (acknowledged : Bool) (s : Contents)
+    (further : List (Command × Bool)) → world_state (with_submitted w command) ≡ Ok s
+    → Kept w end (waiting (w.since ++ command ∷ []) acknowledged ++ further)
+    → Kept w end (waiting w.since acknowledged ++ (accepted_one w command acknowledged ++ further))
 with-accepted w end command acknowledged s further e kept =
-    let given : waiting w.since acknowledged ++ (accepted_one w command acknowledged ++ further) ≡ waiting w.since acknowledged ++ ((command, acknowledged) ∷ further) =
+    let given : waiting w.since acknowledged ++ (accepted_one w command acknowledged ++ further)
+    ≡ waiting w.since acknowledged ++ ((command, acknowledged) ∷ further) =
     ap (λ (l : List (Command × Bool)). waiting w.since acknowledged ++ (l ++ further)) (accepted-one w command acknowledged s e) in
     subst (Kept w end) (waiting-more w.since command acknowledged further ∙ sym given) kept
 
@@ -114,38 +130,47 @@ list-none [] = refl
 list-none (g ∷ gs) = ap (λ l. g ∷ l) (list-none gs)
 
 -- a command that was submitted, and what is left of all that waits then
-one-submitted : (w next : World) (end : Contents) (command : Command) (s : Contents) → world_state (with_submitted w command) ≡ Ok s → Kept w end (waiting (w.since ++ command ∷ []) false ++ [])
+one-submitted : (w next : World) (end : Contents) (command : Command) (s : Contents)
+    → world_state (with_submitted w command) ≡ Ok s → Kept w end (waiting (w.since ++ command ∷ []) false ++ [])
     → Kept w end (waiting w.since false ++ accepted_one w command false)
 one-submitted w next end command s e kept =
-    subst (λ (l : List (Command × Bool)). Kept w end (waiting w.since false ++ l)) (list-none (accepted_one w command false)) (with-accepted w end command false s [] e kept)
+    subst (λ (l : List (Command × Bool)). Kept w end (waiting w.since false ++ l))
+    (list-none (accepted_one w command false)) (with-accepted w end command false s [] e kept)
 
 -- the state after a flush
 flushed-leads : (w next : World) (end : Contents) (running : Bool) → Flushes w running next → MayRemain next end → world_state w ≡ Ok end
 flushed-leads w next end running flushes may = flushes.1 ∙ flushed-end flushes.0 end running (subst (λ n. MayRemain n end) flushes.2 may)
 
 -- a call that did not return Ok: what it submits is kept, or it isn't
-remains-in : (w : World) (end : Contents) (call : Call) → MayRemainDuring w call end → Kept w end (waiting w.since false ++ accepted_in w call false)
+remains-in : (w : World) (end : Contents) (call : Call) → MayRemainDuring w call end
+    → Kept w end (waiting w.since false ++ accepted_in w call false)
 remains-in w end call (inl may) = remains w end (accepted_in w call false) (none-in w call) may
 remains-in w end (submitting command) (inr next) =
     let done = next.1 in
     one-submitted w next.0 end command done.0 done.1
-    (let kept = remains (with_submitted w command) end [] tt (subst (λ n. MayRemain n end) done.2 next.2) in record { kept = kept.kept; keeps = kept.keeps; leads = kept.leads })
+    (let kept = remains (with_submitted w command) end [] tt (subst (λ n. MayRemain n end) done.2 next.2) in
+    record { kept = kept.kept; keeps = kept.keeps; leads = kept.leads })
 remains-in w end (performing command) (inr next) =
     let flushes = next.1 in
     one-submitted w next.0 end command flushes.0 flushes.1
-    (let kept = remains-all (with_submitted w command) end [] tt (flushed-leads (with_submitted w command) next.0 end w.running flushes next.2) in record { kept = kept.kept; keeps = kept.keeps; leads = kept.leads })
+    (let kept = remains-all (with_submitted w command) end [] tt
+    (flushed-leads (with_submitted w command) next.0 end w.running flushes next.2) in
+    record { kept = kept.kept; keeps = kept.keeps; leads = kept.leads })
 remains-in w end flushing (inr next) = remains-all w end [] tt (flushed-leads w next.0 end w.running next.1 next.2)
 remains-in w end checkpointing (inr next) = remains-all w end [] tt (flushed-leads w next.0 end false next.1 next.2)
 remains-in w end slicing (inr next) = remains-all w end [] tt (flushed-leads w next.0 end false next.1.1 next.2)
 remains-in w end beginning (inr next) =
-    let kept = remains (record { flushed = w.flushed; since = w.since; running = true }) end [] tt (subst (λ n. MayRemain n end) next.1.1 next.2) in
+    let kept = remains (record { flushed = w.flushed; since = w.since; running = true }) end [] tt
+    (subst (λ n. MayRemain n end) next.1.1 next.2) in
     record { kept = kept.kept; keeps = kept.keeps; leads = kept.leads }
 
 -- ---- a call that returned Ok
 
 -- all that waited is flushed, and others are kept
-flushed-first : (w : World) (end : Contents) (running acknowledged : Bool) (s : Contents) (later : World → List (Command × Bool)) → world_state w ≡ Ok s
-    → Kept (all_flushed s running) end (later (all_flushed s running)) → Kept w end (waiting w.since acknowledged ++ later (all_flushed s running))
+flushed-first : (w : World) (end : Contents) (running acknowledged : Bool) (s : Contents)
+    (later : World → List (Command × Bool)) → world_state w ≡ Ok s
+    → Kept (all_flushed s running) end (later (all_flushed s running))
+    → Kept w end (waiting w.since acknowledged ++ later (all_flushed s running))
 flushed-first w end running acknowledged s later leads kept = record {
   kept = w.since ++ kept.kept;
   keeps = keeps-all w.since acknowledged (later (all_flushed s running)) kept.kept kept.keeps;
@@ -153,34 +178,48 @@ flushed-first w end running acknowledged s later leads kept = record {
 }
 
 -- the same of a call that flushes
-after-flush : (w next : World) (end : Contents) (running acknowledged flag : Bool) (later : World → List (Command × Bool)) → Flushes w running next → Kept next end (waiting next.since flag ++ later next)
+after-flush : (w next : World) (end : Contents) (running acknowledged flag : Bool)
+    (later : World → List (Command × Bool)) → Flushes w running next → Kept next end (waiting next.since flag ++ later next)
     → Kept w end (waiting w.since acknowledged ++ later (all_flushed (state_or (world_state w) w.flushed) running))
 after-flush w next end running acknowledged flag later flushes kept =
-    let goes : all_flushed flushes.0 running ≡ all_flushed (state_or (world_state w) w.flushed) running = ap (λ (r : Result Contents StoreFault). all_flushed (state_or r w.flushed) running) (sym flushes.1) in
+    let goes : all_flushed flushes.0 running ≡ all_flushed (state_or (world_state w) w.flushed) running =
+    ap (λ (r : Result Contents StoreFault). all_flushed (state_or r w.flushed) running) (sym flushes.1) in
     subst (λ n. Kept w end (waiting w.since acknowledged ++ later n)) goes
-    (flushed-first w end running acknowledged flushes.0 later flushes.1 (subst (λ (n : World). Kept n end (waiting n.since flag ++ later n)) flushes.2 kept))
+    (flushed-first w end running acknowledged flushes.0 later flushes.1
+    (subst (λ (n : World). Kept n end (waiting n.since flag ++ later n)) flushes.2 kept))
 
 -- what is kept of a world is kept of each that has the same flushed state
-same-flushed : (w next : World) (end : Contents) (given : List (Command × Bool)) → next.flushed ≡ w.flushed → Kept next end given → Kept w end given
-same-flushed w next end given same kept = record { kept = kept.kept; keeps = kept.keeps; leads = subst (λ (s : Contents). after s kept.kept ≡ Ok end) same kept.leads }
+same-flushed : (w next : World) (end : Contents) (given : List (Command × Bool)) → next.flushed ≡ w.flushed
+    → Kept next end given → Kept w end given
+same-flushed w next end given same kept = record {
+  kept = kept.kept;
+  keeps = kept.keeps;
+  leads = subst (λ (s : Contents). after s kept.kept ≡ Ok end) same kept.leads;
+}
 
 -- what is kept after a call that returned Ok, where `flag` says whether a later one flushes
-after-ok : (w next : World) (end : Contents) (call : Call) (flag : Bool) (later : World → List (Command × Bool)) → Succeeds w call next → Kept next end (waiting next.since flag ++ later next)
-    → Kept w end (waiting w.since (flushes_all call || flag) ++ (accepted_in w call (flushes_all call || flag) ++ later (after_call w call)))
+after-ok : (w next : World) (end : Contents) (call : Call) (flag : Bool) (later : World → List (Command × Bool))
+    → Succeeds w call next → Kept next end (waiting next.since flag ++ later next)
+    → Kept w end (waiting w.since (flushes_all call || flag)
+    ++ (accepted_in w call (flushes_all call || flag) ++ later (after_call w call)))
 after-ok w next end (submitting command) flag later done kept =
     let here = subst (λ (n : World). Kept n end (waiting n.since flag ++ later n)) done.2 kept in
-    with-accepted w end command flag done.0 (later (with_submitted w command)) done.1 (same-flushed w (with_submitted w command) end _ refl here)
+    with-accepted w end command flag done.0 (later (with_submitted w command)) done.1
+    (same-flushed w (with_submitted w command) end _ refl here)
 after-ok w next end (performing command) flag later done kept =
     with-accepted w end command true done.0 _ done.1
-    (same-flushed w (with_submitted w command) end _ refl (after-flush (with_submitted w command) next end w.running true flag later done kept))
+    (same-flushed w (with_submitted w command) end _ refl
+    (after-flush (with_submitted w command) next end w.running true flag later done kept))
 after-ok w next end flushing flag later done kept = after-flush w next end w.running true flag later done kept
 after-ok w next end slicing flag later done kept = after-flush w next end false true flag later done.1 kept
 after-ok w next end checkpointing flag later done kept = after-flush w next end false true flag later done kept
 after-ok w next end beginning flag later done kept =
-    same-flushed w (record { flushed = w.flushed; since = w.since; running = true }) end _ refl (subst (λ (n : World). Kept n end (waiting n.since flag ++ later n)) done.1 kept)
+    same-flushed w (record { flushed = w.flushed; since = w.since; running = true }) end _ refl
+    (subst (λ (n : World). Kept n end (waiting n.since flag ++ later n)) done.1 kept)
 
 -- a slice that isn't done
-after-more : (w next : World) (end : Contents) (call : Call) (flag : Bool) (later : World → List (Command × Bool)) → Continues w call next → Kept next end (waiting next.since flag ++ later next)
+after-more : (w next : World) (end : Contents) (call : Call) (flag : Bool) (later : World → List (Command × Bool))
+    → Continues w call next → Kept next end (waiting next.since flag ++ later next)
     → Kept w end (waiting w.since flag ++ later w)
 after-more w next end slicing flag later goes kept = subst (λ (n : World). Kept n end (waiting n.since flag ++ later n)) goes.1 kept
 after-more w next end (submitting command) flag later goes kept = absurd goes
@@ -198,17 +237,23 @@ reopen-flushes (event ∷ events) all =
 by-answer : (answer : Answer) (w : World) (end : Contents) (call : Call) (events : List Event)
     → ((next : World) → MayEnd events next end → Kept next end (waiting next.since (flushed_by events) ++ accepted_commands events next))
     → MayEndBy answer w call events (λ next. MayEnd events next end) end
-    → Kept w end (waiting w.since (acknowledges answer call || flushed_by events) ++ accepted_by answer w call (acknowledges answer call || flushed_by events) (accepted_commands events))
-by-answer ok w end call events keeps may = after-ok w may.0 end call (flushed_by events) (accepted_commands events) may.1 (keeps may.0 may.2)
-by-answer more w end call events keeps may = after-more w may.0 end call (flushed_by events) (accepted_commands events) may.1 (keeps may.0 may.2)
+    → Kept w end (waiting w.since (acknowledges answer call || flushed_by events)
+    ++ accepted_by answer w call (acknowledges answer call || flushed_by events) (accepted_commands events))
+by-answer ok w end call events keeps may = after-ok w may.0 end call (flushed_by events)
+    (accepted_commands events) may.1 (keeps may.0 may.2)
+by-answer more w end call events keeps may =
+    after-more w may.0 end call (flushed_by events) (accepted_commands events) may.1 (keeps may.0 may.2)
 by-answer refused w end call events keeps may = keeps w may
 by-answer device w end call events keeps may =
-    subst (λ flag. Kept w end (waiting w.since flag ++ accepted_in w call false)) (sym (reopen-flushes events may.1)) (remains-in w end call may.0)
+    subst (λ flag. Kept w end (waiting w.since flag ++ accepted_in w call false)) (sym (reopen-flushes events may.1))
+    (remains-in w end call may.0)
 by-answer reopen w end call events keeps may = absurd may
 by-answer crashed w end call events keeps may =
-    subst (λ (es : List Event). Kept w end (waiting w.since (flushed_by es) ++ accepted_in w call false)) (sym may.1) (remains-in w end call may.0)
+    subst (λ (es : List Event). Kept w end (waiting w.since (flushed_by es) ++ accepted_in w call false)) (sym may.1)
+    (remains-in w end call may.0)
 
-life-keeps : (events : List Event) (w : World) (end : Contents) → MayEnd events w end → Kept w end (waiting w.since (flushed_by events) ++ accepted_commands events w)
+life-keeps : (events : List Event) (w : World) (end : Contents) → MayEnd events w end
+    → Kept w end (waiting w.since (flushed_by events) ++ accepted_commands events w)
 life-keeps [] w end may = remains w end [] tt may
 life-keeps (event ∷ events) w end may = by-answer event.answer w end event.call events (λ next later. life-keeps events next end later) may
 

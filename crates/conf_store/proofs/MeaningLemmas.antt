@@ -20,13 +20,15 @@ use Rattle.conf_store.proofs.PieceLemmas.{pieces-joined, pieces-one}
 
 -- ---- lists of records
 
-records-count : (count : ℕ) (pieces : List (List ℕ)) (commands : List Command) → AreRecords count pieces commands → length pieces ≡ length commands
+records-count : (count : ℕ) (pieces : List (List ℕ)) (commands : List Command) → AreRecords count pieces commands
+    → length pieces ≡ length commands
 records-count count [] [] are = refl
 records-count count [] (command ∷ commands) are = absurd are
 records-count count (piece ∷ pieces) [] are = absurd are
 records-count count (piece ∷ pieces) (command ∷ commands) are = ap suc (records-count (count + 1) pieces commands are.1)
 
-pub records-joined : (count : ℕ) (ps qs : List (List ℕ)) (cs ds : List Command) → AreRecords count ps cs → AreRecords (count + length cs) qs ds → AreRecords count (ps ++ qs) (cs ++ ds)
+pub records-joined : (count : ℕ) (ps qs : List (List ℕ)) (cs ds : List Command) → AreRecords count ps cs
+    → AreRecords (count + length cs) qs ds → AreRecords count (ps ++ qs) (cs ++ ds)
 records-joined count [] qs [] ds first second = subst (λ n. AreRecords n qs ds) (omega arith) second
 records-joined count [] qs (c ∷ cs) ds first second = absurd first
 records-joined count (p ∷ ps) qs [] ds first second = absurd first
@@ -42,7 +44,8 @@ records-prefix count (suc k) (c ∷ cs) are = (are.0, records-prefix (count + 1)
 -- ---- lists of commands
 
 -- a prefix of accepted commands is accepted
-pub after-prefix : (s end : Contents) (commands : List Command) (k : ℕ) → after s commands ≡ Ok end → (mid : Contents) × (after s (take k commands) ≡ Ok mid)
+pub after-prefix : (s end : Contents) (commands : List Command) (k : ℕ) → after s commands ≡ Ok end
+    → (mid : Contents) × (after s (take k commands) ≡ Ok mid)
 after-prefix s end commands zero leads = (s, refl)
 after-prefix s end [] (suc k) leads = (s, refl)
 after-prefix s end (c ∷ cs) (suc k) leads =
@@ -51,7 +54,8 @@ after-prefix s end (c ∷ cs) (suc k) leads =
     (more.0, ap (λ r. and_then r (λ t. after t (take k cs))) first.1 ∙ more.1)
 
 -- commands that lead on from where others lead to are one list of commands
-pub after-joined : (s mid end : Contents) (first second : List Command) → after s first ≡ Ok mid → after mid second ≡ Ok end → after s (first ++ second) ≡ Ok end
+pub after-joined : (s mid end : Contents) (first second : List Command) → after s first ≡ Ok mid
+    → after mid second ≡ Ok end → after s (first ++ second) ≡ Ok end
 after-joined s mid end first second one two =
     after-append s first second ∙ ap (λ r. and_then r (λ between. after between second)) one ∙ two
 
@@ -69,13 +73,23 @@ pieces-mean-more pieces more s end commands mean are_records leads =
       start = mean.start;
       is_base = mean.is_base;
       commands = mean.commands ++ commands;
-      are_records = records-joined mean.start.count mean.records more mean.commands commands mean.are_records (subst (λ n. AreRecords n more commands) count are_records);
+      are_records = records-joined mean.start.count mean.records more mean.commands commands mean.are_records
+          (subst (λ n. AreRecords n more commands) count are_records);
       leads = after-joined mean.start s end mean.commands commands mean.leads leads;
     }
 
 -- a base alone means its state
 pub base-means : (base : List ℕ) (s : Contents) → IsBase base s → PiecesMean (base ∷ []) s
-base-means base s is = record { base = base; records = []; are = refl; start = s; is_base = is; commands = []; are_records = tt; leads = refl }
+base-means base s is = record {
+  base = base;
+  records = [];
+  are = refl;
+  start = s;
+  is_base = is;
+  commands = [];
+  are_records = tt;
+  leads = refl;
+}
 
 -- pieces with one more record
 pub record-means : (pieces : List (List ℕ)) (piece : List ℕ) (s end : Contents) (command : Command) → PiecesMean pieces s
@@ -83,7 +97,8 @@ pub record-means : (pieces : List (List ℕ)) (piece : List ℕ) (s end : Conten
 record-means pieces piece s end command mean is done =
     pieces-mean-more pieces (piece ∷ []) s end (command ∷ []) mean (is, tt) (ap (λ r. and_then r (λ t. after t [])) done)
 
-pub one-list : (count : ℕ) → OneRecord → (pieces : List (List ℕ)) (cs ds : List Command) → AreRecords count pieces cs → AreRecords count pieces ds → cs ≡ ds
+pub one-list : (count : ℕ) → OneRecord → (pieces : List (List ℕ)) (cs ds : List Command) → AreRecords count pieces cs
+    → AreRecords count pieces ds → cs ≡ ds
 one-list count one [] [] [] first second = refl
 one-list count one [] (c ∷ cs) ds first second = absurd first
 one-list count one [] [] (d ∷ ds) first second = absurd second
@@ -99,15 +114,19 @@ pub ok-same : (s end : Contents) (r : Result Contents StoreFault) → r ≡ Ok s
 ok-same s end r first second = cc
 
 -- pieces mean one state at most
-pub pieces-mean-one : OneBase → OneRecord → (pieces : List (List ℕ)) (s end : Contents) → PiecesMean pieces s → PiecesMean pieces end → s ≡ end
+pub pieces-mean-one : OneBase → OneRecord → (pieces : List (List ℕ)) (s end : Contents) → PiecesMean pieces s
+    → PiecesMean pieces end → s ≡ end
 pieces-mean-one one_base one_record pieces s end first second =
     let same : first.base ∷ first.records ≡ second.base ∷ second.records = sym first.are ∙ second.are in
     let bases : first.base ≡ second.base = cc in
     let records : first.records ≡ second.records = cc in
-    let starts : first.start ≡ second.start = one_base second.base second.start first.start second.is_base (subst (λ b. IsBase b first.start) bases first.is_base) in
+    let starts : first.start ≡ second.start = one_base second.base second.start first.start second.is_base
+    (subst (λ b. IsBase b first.start) bases first.is_base) in
     let are_records : AreRecords second.start.count second.records first.commands =
-    subst (λ n. AreRecords n second.records first.commands) (ap (λ t. t.count) starts) (subst (λ ps. AreRecords first.start.count ps first.commands) records first.are_records) in
-    let commands : first.commands ≡ second.commands = one-list second.start.count one_record second.records first.commands second.commands are_records second.are_records in
+    subst (λ n. AreRecords n second.records first.commands) (ap (λ t. t.count) starts)
+    (subst (λ ps. AreRecords first.start.count ps first.commands) records first.are_records) in
+    let commands : first.commands ≡ second.commands =
+    one-list second.start.count one_record second.records first.commands second.commands are_records second.are_records in
     ok-same s end (after second.start second.commands) ((λ i. after (sym starts i) (sym commands i)) ∙ first.leads) second.leads
 
 -- bytes mean at most one state
@@ -127,7 +146,8 @@ pub base-whole : (base : List ℕ) (s : Contents) → ClosesOnce base → IsBase
 base-whole base s closes is = record { pieces = base ∷ []; cut = pieces-one base closes; mean = base-means base s is }
 
 -- a whole store and the record of the next command are a whole store
-pub record-whole : (bytes piece : List ℕ) (s end : Contents) (command : Command) → IsWholeStore bytes s → ClosesOnce piece → IsRecord piece command (s.count + 1)
+pub record-whole : (bytes piece : List ℕ) (s end : Contents) (command : Command) → IsWholeStore bytes s
+    → ClosesOnce piece → IsRecord piece command (s.count + 1)
     → step s command Enough ≡ Ok end → IsWholeStore (bytes ++ piece) end
 record-whole bytes piece s end command whole closes is done = record {
   pieces = whole.pieces ++ piece ∷ [];
@@ -151,7 +171,8 @@ torn-length file bytes torn =
     )
 
 -- a journal that a crash has cut means the state after a prefix of its commands
-pub journal-left : RecordsTear → (file : File) (flushed end : Contents) (since : List Command) (bytes : List ℕ) → IsJournal file flushed since end → IsTorn file bytes
+pub journal-left : RecordsTear → (file : File) (flushed end : Contents) (since : List Command) (bytes : List ℕ)
+    → IsJournal file flushed since end → IsTorn file bytes
     → AfterPrefix flushed since (Some bytes)
 journal-left tear file flushed end since bytes journal torn =
     let pending = records_bytes flushed.count since in
@@ -160,7 +181,8 @@ journal-left tear file flushed end since bytes journal torn =
     let mid = after-prefix flushed end since t.whole journal.leads in
     let zeros : List ℕ = replicate torn.zeros 0 in
     let is : bytes ≡ file.synced ++ tail =
-    torn.is ∙ append_assoc file.synced (take torn.keep file.pending) zeros ∙ ap (λ l. file.synced ++ (take torn.keep l ++ zeros)) journal.pending in
+    torn.is ∙ append_assoc file.synced (take torn.keep file.pending) zeros
+    ∙ ap (λ l. file.synced ++ (take torn.keep l ++ zeros)) journal.pending in
     record {
       count = t.whole;
       state = mid.0;
@@ -170,7 +192,8 @@ journal-left tear file flushed end since bytes journal torn =
         pieces = journal.whole.pieces ++ record_pieces flushed.count (take t.whole since);
         rest = t.rest;
         cut = subst (λ b. Pieces b (journal.whole.pieces ++ record_pieces flushed.count (take t.whole since)) t.rest) (sym is)
-            (pieces-joined file.synced tail journal.whole.pieces (record_pieces flushed.count (take t.whole since)) t.rest journal.whole.cut t.pieces);
+            (pieces-joined file.synced tail journal.whole.pieces
+            (record_pieces flushed.count (take t.whole since)) t.rest journal.whole.cut t.pieces);
         mean = pieces-mean-more journal.whole.pieces (record_pieces flushed.count (take t.whole since)) flushed mid.0 (take t.whole since)
             journal.whole.mean (records-prefix flushed.count t.whole since journal.are_records) mid.1;
       };
@@ -185,7 +208,8 @@ pub after-done : (s end : Contents) (command : Command) → step s command Enoug
 after-done s end command done = ap (λ r. and_then r (λ t. after t [])) done
 
 -- of one pending record: the state before its command or after it
-pub after-one : (s end : Contents) (command : Command) (store : Option (List ℕ)) → step s command Enough ≡ Ok end → AfterPrefix s (command ∷ []) store
+pub after-one : (s end : Contents) (command : Command) (store : Option (List ℕ)) → step s command Enough ≡ Ok end
+    → AfterPrefix s (command ∷ []) store
     → FileMeans store s ⊎ FileMeans store end
 after-one s end command store done some = by some.count some.leads
   where

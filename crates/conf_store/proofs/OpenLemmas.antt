@@ -21,7 +21,8 @@ use Rattle.conf_store.specs.Faults.{open_fault}
 use Rattle.conf_store.specs.Calls.{HasFailed}
 use Rattle.conf_store.specs.Meaning.{FileMeans, MeanTheSame, empty_state}
 use Rattle.conf_store.specs.Durable.{IsDurable}
-use Rattle.conf_store.specs.Opens.{RecoversTo, FileRecoversTo, HasNoBase, RefusesBytes, IsFound, RefusesOpening, RefusalMeans, RefusedMeansNothing, ReadsAfterOpening, MeantAtEntry}
+use Rattle.conf_store.specs.Opens.{RecoversTo, FileRecoversTo, HasNoBase, RefusesBytes, IsFound, RefusesOpening}
+use Rattle.conf_store.specs.Opens.{RefusalMeans, RefusedMeansNothing, ReadsAfterOpening, MeantAtEntry}
 use Rattle.conf_store.specs.declared.fault.OpenFault.{OpenFault}
 use Rattle.conf_store.specs.declared.fault.OpenFault.TheVariants.{NotAStore, Damaged, Device, OutOfMemory}
 use Rattle.conf_store.proofs.MeaningLemmas.{means-one}
@@ -35,7 +36,8 @@ too-long None tells = absurd tells
 too-long (Some bytes) tells = inl tells
 
 -- a store whose bytes are refused is refused
-pub not-read : (store : Option (List ℕ)) (read : Vec ℕ Global) (fault : OpenFault) → Tells store store_limit (Bytes read) → RefusesBytes read.items fault → RefusesOpening fault store
+pub not-read : (store : Option (List ℕ)) (read : Vec ℕ Global) (fault : OpenFault)
+    → Tells store store_limit (Bytes read) → RefusesBytes read.items fault → RefusesOpening fault store
 not-read None read fault tells unread = absurd tells
 not-read (Some bytes) read NotAStore tells unread = inr (subst HasNoBase tells.0 unread)
 not-read (Some bytes) read (Damaged number) tells unread = (tells.1, subst (λ b. RefusesBytes b (Damaged number)) tells.0 unread)
@@ -53,8 +55,10 @@ found-missing None tells = record {
 }
 
 -- where a store's bytes give a state, that state is found
-pub found-bytes : (store : Option (List ℕ)) (read : Vec ℕ Global) (s : Contents) (records dropped : ℕ) (size : Option ℕ) → Tells store store_limit (Bytes read) → RecoversTo read.items s records dropped
-    → ((n : ℕ) → size ≡ Some n → (dropped ≡ 0) × (length read.items ≡ n)) → (size ≡ None → dropped ≢ 0) → IsFound store s records dropped size
+pub found-bytes : (store : Option (List ℕ)) (read : Vec ℕ Global) (s : Contents) (records dropped : ℕ)
+    (size : Option ℕ) → Tells store store_limit (Bytes read) → RecoversTo read.items s records dropped
+    → ((n : ℕ) → size ≡ Some n → (dropped ≡ 0) × (length read.items ≡ n)) → (size ≡ None → dropped ≢ 0)
+    → IsFound store s records dropped size
 found-bytes None read s records dropped size tells recovers stays staged = absurd tells
 found-bytes (Some bytes) read s records dropped size tells recovers stays staged = record {
   recovers = subst (λ b. RecoversTo b s records dropped) tells.0 recovers;
@@ -64,12 +68,14 @@ found-bytes (Some bytes) read s records dropped size tells recovers stays staged
 }
 
 -- the state that is found is the one that the file means
-pub found-means : (store : Option (List ℕ)) (s : Contents) (records dropped : ℕ) (size : Option ℕ) → IsFound store s records dropped size → FileMeans store s
+pub found-means : (store : Option (List ℕ)) (s : Contents) (records dropped : ℕ) (size : Option ℕ)
+    → IsFound store s records dropped size → FileMeans store s
 found-means None s records dropped size found = found.recovers.0
 found-means (Some bytes) s records dropped size found = recovers-means bytes s records dropped found.recovers (found.short bytes refl)
 
 -- a file that stays as it is is durable
-pub found-durable : (folder : Folder) (store : Option (List ℕ)) (s : Contents) (records dropped n : ℕ) (size : Option ℕ) → IsFound store s records dropped size → size ≡ Some n
+pub found-durable : (folder : Folder) (store : Option (List ℕ)) (s : Contents) (records dropped n : ℕ)
+    (size : Option ℕ) → IsFound store s records dropped size → size ≡ Some n
     → HoldsStore folder (option_map synced_file store) → IsDurable folder s n
 found-durable folder store s records dropped n size found is holds =
     let stays = found.stays n is in
@@ -84,12 +90,14 @@ found-durable folder store s records dropped n size found is holds =
 
 -- ---- no meaning is changed
 
-store-one : OnePieces → OneBase → OneRecord → (store : Option (List ℕ)) (s end : Contents) → FileMeans store s → FileMeans store end → s ≡ end
+store-one : OnePieces → OneBase → OneRecord → (store : Option (List ℕ)) (s end : Contents) → FileMeans store s
+    → FileMeans store end → s ≡ end
 store-one one_pieces one_base one_record None s end first second = first ∙ sym second
 store-one one_pieces one_base one_record (Some bytes) s end first second = means-one one_pieces one_base one_record bytes s end first second
 
 -- two files that mean one state mean the same
-pub both-mean : OnePieces → OneBase → OneRecord → (store other : Option (List ℕ)) (s : Contents) → FileMeans store s → FileMeans other s → MeanTheSame store other
+pub both-mean : OnePieces → OneBase → OneRecord → (store other : Option (List ℕ)) (s : Contents) → FileMeans store s
+    → FileMeans other s → MeanTheSame store other
 both-mean one_pieces one_base one_record store other s first second end = (
   λ is. subst (FileMeans other) (store-one one_pieces one_base one_record store s end first is) second,
   λ is. subst (FileMeans store) (store-one one_pieces one_base one_record other s end second is) first,
@@ -103,25 +111,30 @@ pub image-meant : (folder : Folder) (image : Image) → IsImage folder image →
 image-meant folder image is = record { entry = image; is = is; alike = same-alike image.store image.store refl }
 
 -- the file that is read at entry is one of the images then
-pub read-meant : ReadingIsAnImage → (folder : Folder) (store : Option (List ℕ)) → MeanTheSame store (bytes_under folder Store) → MeantAtEntry folder store
+pub read-meant : ReadingIsAnImage → (folder : Folder) (store : Option (List ℕ))
+    → MeanTheSame store (bytes_under folder Store) → MeantAtEntry folder store
 read-meant reading folder store alike = record { entry = image_now folder; is = reading folder; alike = alike }
 
 -- every image of a loaded folder has the file that was read
-pub loaded-meant : ReadingIsAnImage → OnlyHeldIsLeft → (entry now : Folder) → HoldsStore now (option_map synced_file (bytes_under entry Store))
+pub loaded-meant : ReadingIsAnImage → OnlyHeldIsLeft → (entry now : Folder)
+    → HoldsStore now (option_map synced_file (bytes_under entry Store))
     → (store : Option (List ℕ)) → IsStoreOf now store → MeantAtEntry entry store
 loaded-meant reading only entry now holds store is =
     read-meant reading entry store (same-alike store (bytes_under entry Store) (only now (bytes_under entry Store) store holds is))
 
 -- a file with the state that was found
-pub state-meant : OnePieces → OneBase → OneRecord → ReadingIsAnImage → (entry : Folder) (s : Contents) (records dropped : ℕ) (size : Option ℕ)
+pub state-meant : OnePieces → OneBase → OneRecord → ReadingIsAnImage
+    → (entry : Folder) (s : Contents) (records dropped : ℕ) (size : Option ℕ)
     → IsFound (bytes_under entry Store) s records dropped size → (store : Option (List ℕ)) → FileMeans store s → MeantAtEntry entry store
 state-meant one_pieces one_base one_record reading entry s records dropped size found store own =
-    read-meant reading entry store (both-mean one_pieces one_base one_record store (bytes_under entry Store) s own (found-means (bytes_under entry Store) s records dropped size found))
+    read-meant reading entry store (both-mean one_pieces one_base one_record store (bytes_under entry Store) s own
+    (found-means (bytes_under entry Store) s records dropped size found))
 
 -- ---- a file that is refused
 
 -- a store that is refused means nothing, by the law on its bytes
-pub refused-nothing : RefusedMeansNothing → (fault : OpenFault) (store : Option (List ℕ)) → RefusesOpening fault store → RefusalMeans fault store
+pub refused-nothing : RefusedMeansNothing → (fault : OpenFault) (store : Option (List ℕ)) → RefusesOpening fault store
+    → RefusalMeans fault store
 refused-nothing nothing Device store refused = tt
 refused-nothing nothing OutOfMemory store refused = tt
 refused-nothing nothing NotAStore None refused = absurd refused
@@ -143,13 +156,16 @@ failed-later old mid new first second (inr stood) = elim (cases_lt old mid) [
 -- ---- what `store.yaml` holds after opening
 
 -- a store that is kept reads as it did
-pub reads-stays : (store now : Option (List ℕ)) (s : Contents) (records dropped n : ℕ) (size : Option ℕ) → IsFound store s records dropped size → size ≡ Some n → now ≡ store → ReadsAfterOpening store s dropped now
+pub reads-stays : (store now : Option (List ℕ)) (s : Contents) (records dropped n : ℕ) (size : Option ℕ)
+    → IsFound store s records dropped size → size ≡ Some n → now ≡ store → ReadsAfterOpening store s dropped now
 reads-stays None now s records dropped n size found is same = (let stays = found.stays n is in absurd (cc stays.2))
 reads-stays (Some bytes) now s records zero n size found is same = same
-reads-stays (Some bytes) now s records (suc dropped) n size found is same = (let none : suc dropped ≡ 0 = (found.stays n is).0 in absurd (omega (arith, none)))
+reads-stays (Some bytes) now s records (suc dropped) n size found is same =
+    (let none : suc dropped ≡ 0 = (found.stays n is).0 in absurd (omega (arith, none)))
 
 -- a store that is put in place of the old one reads as the base of the state that was found
-pub reads-staged : (store now : Option (List ℕ)) (s : Contents) (records dropped : ℕ) (size : Option ℕ) → IsFound store s records dropped size → size ≡ None → now ≡ Some (base_bytes s) → ReadsAfterOpening store s dropped now
+pub reads-staged : (store now : Option (List ℕ)) (s : Contents) (records dropped : ℕ) (size : Option ℕ)
+    → IsFound store s records dropped size → size ≡ None → now ≡ Some (base_bytes s) → ReadsAfterOpening store s dropped now
 reads-staged None now s records dropped size found is same = same
 reads-staged (Some bytes) now s records (suc dropped) size found is same = same
 reads-staged (Some bytes) now s records zero size found is same = absurd (⊎_elim (λ e. cc e) (λ some. some refl) (found.staged is))
@@ -157,12 +173,14 @@ reads-staged (Some bytes) now s records zero size found is same = absurd (⊎_el
 -- ---- faults of the disk
 
 -- a fault of the disk is a reason to refuse the opening
-pub disk-refused : (fault : DiskFault) (reason : OpenFault) (file : Option (List ℕ)) → reason ≡ open_fault fault → RefusesOpening reason file
+pub disk-refused : (fault : DiskFault) (reason : OpenFault) (file : Option (List ℕ)) → reason ≡ open_fault fault
+    → RefusesOpening reason file
 disk-refused disk.Device reason file is = subst (λ f. RefusesOpening f file) (sym is) tt
 disk-refused disk.OutOfMemory reason file is = subst (λ f. RefusesOpening f file) (sym is) tt
 
 -- a fault of the disk says nothing of what the file means
-pub disk-no-meaning : (fault : DiskFault) (reason : OpenFault) (file : Option (List ℕ)) → reason ≡ open_fault fault → RefusalMeans reason file
+pub disk-no-meaning : (fault : DiskFault) (reason : OpenFault) (file : Option (List ℕ)) → reason ≡ open_fault fault
+    → RefusalMeans reason file
 disk-no-meaning disk.Device reason file is = subst (λ f. RefusalMeans f file) (sym is) tt
 disk-no-meaning disk.OutOfMemory reason file is = subst (λ f. RefusalMeans f file) (sym is) tt
 

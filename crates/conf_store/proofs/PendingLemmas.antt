@@ -1,5 +1,9 @@
 -- Parts of a base that wait, and the texts that are made early.
-use Rattle.std.proofs.Common.{◌≡◌, ◌≤◌, ◌<◌, ◌==◌, ◌⊎◌, inl, inr, suc, ℕ, ◌+◌, max, Bool, true, false, cond, List, [], ◌∷◌, ◌++◌, length, map, take, get_or, Option, Some, None, Result, Ok, Err, OnOk, OnErr, not, ◌&&◌, ◌||◌, option_map, unwrap_or, IsSome, is_some, bytes_eq, string_bytes, String, Global, IsUtf8, encode_utf8_all, refl, sym, ap, ◌∙◌, subst, append_assoc, append-nil, arith}
+use Rattle.std.proofs.Common.{◌≡◌, ◌≤◌, ◌<◌, ◌==◌, ◌⊎◌, inl, inr, suc, ℕ, ◌+◌, max, Bool, true, false, cond, List, []}
+use Rattle.std.proofs.Common.{◌∷◌, ◌++◌, length, map, take, get_or, Option, Some, None, Result, Ok, Err, OnOk, OnErr}
+use Rattle.std.proofs.Common.{not, ◌&&◌, ◌||◌, option_map, unwrap_or, IsSome, is_some, bytes_eq, string_bytes, String}
+use Rattle.std.proofs.Common.{Global, IsUtf8, encode_utf8_all, refl, sym, ap, ◌∙◌, subst, append_assoc, append-nil}
+use Rattle.std.proofs.Common.{arith}
 use Rattle.std.proofs.lemmas.Bool.{false≢true, eqb-true}
 use Rattle.std.proofs.lemmas.Slice.Eq.{bytes_eq-Decides}
 use Rattle.std.proofs.lemmas.Str.{IsUtf8-string_bytes}
@@ -25,10 +29,12 @@ use Rattle.conf_store.specs.Parts.{Part, parts_named, part_bytes, texts, joined,
 
 -- ---- names that differ, of a state
 
-pub no-name : (name n : List ℕ) (ns : List (List ℕ)) → has_name name (n ∷ ns) ≡ false → (same_text name n ≡ false) × (has_name name ns ≡ false)
+pub no-name : (name n : List ℕ) (ns : List (List ℕ)) → has_name name (n ∷ ns) ≡ false
+    → (same_text name n ≡ false) × (has_name name ns ≡ false)
 no-name name n ns e = by (same_text name n) (has_name name ns) refl refl e
   where
-    by : (b c : Bool) → same_text name n ≡ b → has_name name ns ≡ c → (b || c) ≡ false → (same_text name n ≡ false) × (has_name name ns ≡ false)
+    by : (b c : Bool) → same_text name n ≡ b → has_name name ns ≡ c → (b || c) ≡ false
+        → (same_text name n ≡ false) × (has_name name ns ≡ false)
     by true c here rest is = absurd (false≢true (sym is))
     by false c here rest is = (here, rest ∙ is)
 
@@ -45,7 +51,8 @@ abbrev pub texts_of : List (String Global) → List (List ℕ)
 texts_of [] = []
 texts_of (name ∷ names) = text_of name ∷ texts_of names
 
-pub texts_of-more : (names : List (String Global)) (name : String Global) → texts_of (names ++ name ∷ []) ≡ texts_of names ++ text_of name ∷ []
+pub texts_of-more : (names : List (String Global)) (name : String Global)
+    → texts_of (names ++ name ∷ []) ≡ texts_of names ++ text_of name ∷ []
 texts_of-more [] name = refl
 texts_of-more (n ∷ ns) name = ap (λ ts. text_of n ∷ ts) (texts_of-more ns name)
 
@@ -61,39 +68,48 @@ pub names-all : (names : List (String Global)) (rest all : List (List ℕ)) → 
 names-all names rest all none is = sym (append-nil (texts_of names)) ∙ ap (λ ts. texts_of names ++ ts) (sym none) ∙ is
 
 -- where nothing is made early
-pub parts-named : (early : Texts) → early.entries ≡ [] → (names : List (String Global)) → parts_of early names ≡ parts_named (texts_of names)
+pub parts-named : (early : Texts) → early.entries ≡ [] → (names : List (String Global))
+    → parts_of early names ≡ parts_named (texts_of names)
 parts-named early none [] = refl
 parts-named early none (name ∷ names) =
-    ap (λ es. (text_of name, option_map string_bytes (lookup (λ k. bytes_eq (string_bytes name) (string_bytes k)) es)) ∷ parts_of early names) none
+    ap (λ es. (text_of name, option_map string_bytes (lookup (λ k. bytes_eq (string_bytes name) (string_bytes k)) es))
+    ∷ parts_of early names) none
     ∙ ap (λ ps. (text_of name, None) ∷ ps) (parts-named early none names)
 
 -- ---- the longest
 
 pub AreWithin-more : (room more : ℕ) → room ≤ more → (ts : List (List ℕ)) → AreWithin room ts → AreWithin more ts
 AreWithin-more room more wider [] within = tt
-AreWithin-more room more wider (t ∷ ts) within = (let one = within.0 in omega (arith, one, wider), AreWithin-more room more wider ts within.1)
+AreWithin-more room more wider (t ∷ ts) within =
+    (let one = within.0 in omega (arith, one, wider), AreWithin-more room more wider ts within.1)
 
-longer : (configs : List Entry) (room more : ℕ) (names : List (List ℕ)) (name : List ℕ) → room ≤ more → byte_len (entry_named configs name) ≤ more
+longer : (configs : List Entry) (room more : ℕ) (names : List (List ℕ)) (name : List ℕ) → room ≤ more
+    → byte_len (entry_named configs name) ≤ more
     → AreWithin room (texts configs (parts_named names)) → AreWithin more (texts configs (parts_named (names ++ name ∷ [])))
-longer configs room more [] name wider fits within = (let same = byte_len-encoded (entry_named configs name) in omega (arith, fits, same), tt)
-longer configs room more (n ∷ ns) name wider fits within = (let one = within.0 in omega (arith, one, wider), longer configs room more ns name wider fits within.1)
+longer configs room more [] name wider fits within =
+    (let same = byte_len-encoded (entry_named configs name) in omega (arith, fits, same), tt)
+longer configs room more (n ∷ ns) name wider fits within =
+    (let one = within.0 in omega (arith, one, wider), longer configs room more ns name wider fits within.1)
 
 -- with one more name
 pub within-more : (configs : List Entry) (room more : ℕ) (names new : List (String Global)) (name : String Global) (text : List ℕ) (n : ℕ)
     → new ≡ names ++ name ∷ [] → text_of name ≡ text → n ≡ byte_len (entry_named configs text) → more ≡ max n room
     → AreWithin room (texts configs (parts_named (texts_of names))) → AreWithin more (texts configs (parts_named (texts_of new)))
 within-more configs room more names new name text n pushed is long most within =
-    let named : texts_of new ≡ texts_of names ++ text ∷ [] = ap texts_of pushed ∙ texts_of-more names name ∙ ap (λ t. texts_of names ++ t ∷ []) is in
+    let named : texts_of new ≡ texts_of names ++ text ∷ [] = ap texts_of pushed ∙ texts_of-more names name
+    ∙ ap (λ t. texts_of names ++ t ∷ []) is in
     subst (λ ns. AreWithin more (texts configs (parts_named ns))) (sym named)
     (longer configs room more (texts_of names) text (omega (arith, most)) (omega (arith, most, long)) within)
 
 -- ---- a text that is made early
 
 -- the map has the same entries
-pub parts-unchanged : (early new : Texts) → new.entries ≡ early.entries → (names : List (String Global)) → parts_of new names ≡ parts_of early names
+pub parts-unchanged : (early new : Texts) → new.entries ≡ early.entries → (names : List (String Global))
+    → parts_of new names ≡ parts_of early names
 parts-unchanged early new same [] = refl
 parts-unchanged early new same (name ∷ names) =
-    ap (λ es. (text_of name, option_map string_bytes (lookup (λ k. bytes_eq (string_bytes name) (string_bytes k)) es)) ∷ parts_of new names) same
+    ap (λ es. (text_of name, option_map string_bytes (lookup (λ k. bytes_eq (string_bytes name) (string_bytes k)) es))
+    ∷ parts_of new names) same
     ∙ ap (λ ps. part_of early name ∷ ps) (parts-unchanged early new same names)
 
 -- where the texts have the same bytes
@@ -101,16 +117,20 @@ same-bytes : (q k : List ℕ) → bytes_eq q k ≡ true → q ≡ k
 same-bytes q k e = (bytes_eq-Decides q k).0 e
 
 module _ (early new : Texts) (key t : String Global)
-    (updates : (q : String Global) → get_by_text new (string_bytes q) ≡ cond (bytes_eq (string_bytes key) (string_bytes q)) (Some t) (get_by_text early (string_bytes q))) where
+    (updates : (q : String Global) → get_by_text new (string_bytes q)
+    ≡ cond (bytes_eq (string_bytes key) (string_bytes q)) (Some t) (get_by_text early (string_bytes q))) where
   -- what has the key's bytes has the text
   updated : (q : String Global) → bytes_eq (string_bytes key) (string_bytes q) ≡ true → get_by_text new (string_bytes q) ≡ Some t
   updated q e = updates q ∙ ap (λ b. cond b (Some t) (get_by_text early (string_bytes q))) e
 
-  other : (q : String Global) → bytes_eq (string_bytes key) (string_bytes q) ≡ false → get_by_text new (string_bytes q) ≡ get_by_text early (string_bytes q)
+  other : (q : String Global) → bytes_eq (string_bytes key) (string_bytes q) ≡ false
+      → get_by_text new (string_bytes q) ≡ get_by_text early (string_bytes q)
   other q e = updates q ∙ ap (λ b. cond b (Some t) (get_by_text early (string_bytes q))) e
 
-  module _ (configs : List Entry) (absent : get_by_text early (string_bytes key) ≡ None) (made : string_bytes t ≡ encode_utf8_all (entry_named configs (text_of key))) where
-    part-same : (q : String Global) (b : Bool) → bytes_eq (string_bytes key) (string_bytes q) ≡ b → part_bytes configs (part_of new q) ≡ part_bytes configs (part_of early q)
+  module _ (configs : List Entry) (absent : get_by_text early (string_bytes key) ≡ None)
+      (made : string_bytes t ≡ encode_utf8_all (entry_named configs (text_of key))) where
+    part-same : (q : String Global) (b : Bool) → bytes_eq (string_bytes key) (string_bytes q) ≡ b
+        → part_bytes configs (part_of new q) ≡ part_bytes configs (part_of early q)
     part-same q true e =
         let same = same-bytes (string_bytes key) (string_bytes q) e in
         let none : get_by_text early (string_bytes q) ≡ None = ap (get_by_text early) (sym same) ∙ absent in
@@ -127,7 +147,8 @@ module _ (early new : Texts) (key t : String Global)
         ap (λ t. t ∷ texts configs (parts_of new qs)) (part-same q (bytes_eq (string_bytes key) (string_bytes q)) refl)
         ∙ ap (λ ts. part_bytes configs (part_of early q) ∷ ts) (early-same qs)
 
-  stays-there : (q : String Global) (b : Bool) → bytes_eq (string_bytes key) (string_bytes q) ≡ b → IsSome (option_map string_bytes (get_by_text early (string_bytes q)))
+  stays-there : (q : String Global) (b : Bool) → bytes_eq (string_bytes key) (string_bytes q) ≡ b
+      → IsSome (option_map string_bytes (get_by_text early (string_bytes q)))
       → IsSome (option_map string_bytes (get_by_text new (string_bytes q)))
   stays-there q true e there = ap (λ o. is_some (option_map string_bytes o)) (updated q e)
   stays-there q false e there = ap (λ o. is_some (option_map string_bytes o)) (other q e) ∙ there
@@ -135,7 +156,11 @@ module _ (early new : Texts) (key t : String Global)
   -- what was made is made still
   pub early-stays : (name : List ℕ) (names : List (String Global)) → IsMade name (parts_of early names) → IsMade name (parts_of new names)
   early-stays name [] made = tt
-  early-stays name (q ∷ qs) made = (λ same. stays-there q (bytes_eq (string_bytes key) (string_bytes q)) refl (made.0 same), early-stays name qs made.1)
+  early-stays name (q ∷ qs) made = (
+    λ same. stays-there q (bytes_eq (string_bytes key) (string_bytes q)) refl
+        (made.0 same),
+    early-stays name qs made.1,
+  )
 
 -- where the map has a text of this name
 pub there-made : (early : Texts) (name : List ℕ) → IsUtf8 name → is_some (get_by_text early name) ≡ true
@@ -155,11 +180,13 @@ there-made early name utf8 there (q ∷ qs) = (
 
 -- ---- names that are made, one after the other
 
-pub AreMade-more : (names : List (List ℕ)) (name : List ℕ) (ps : List Part) → AreMade names ps → IsMade name ps → AreMade (names ++ name ∷ []) ps
+pub AreMade-more : (names : List (List ℕ)) (name : List ℕ) (ps : List Part) → AreMade names ps → IsMade name ps
+    → AreMade (names ++ name ∷ []) ps
 AreMade-more [] name ps all one = (one, tt)
 AreMade-more (n ∷ ns) name ps all one = (all.0, AreMade-more ns name ps all.1 one)
 
-pub AreMade-stays : (names : List (List ℕ)) (old new : List Part) → ((name : List ℕ) → IsMade name old → IsMade name new) → AreMade names old → AreMade names new
+pub AreMade-stays : (names : List (List ℕ)) (old new : List Part)
+    → ((name : List ℕ) → IsMade name old → IsMade name new) → AreMade names old → AreMade names new
 AreMade-stays [] old new stays all = tt
 AreMade-stays (n ∷ ns) old new stays all = (stays n all.0, AreMade-stays ns old new stays all.1)
 
@@ -183,11 +210,13 @@ tails (n ∷ ns) p ps made = (made.0.1, tails ns p ps made.1)
 pub texts-step : (s new : Contents) (command : Command) (room : Room) → step s command room ≡ Ok new
     → (ps : List Part) → AreMade (touched command) ps → texts new.configs ps ≡ texts s.configs ps
 texts-step s new command room ok [] made = refl
-texts-step s new command room ok ((n, Some t) ∷ ps) made = ap (λ ts. t ∷ ts) (texts-step s new command room ok ps (tails (touched command) (n, Some t) ps made))
+texts-step s new command room ok ((n, Some t) ∷ ps) made =
+    ap (λ ts. t ∷ ts) (texts-step s new command room ok ps (tails (touched command) (n, Some t) ps made))
 texts-step s new command room ok ((n, None) ∷ ps) made =
     let same = step-other n s new command room (none-of (touched command) n ps made) ok in
     ap (λ found. encode_utf8_all (lines_if_there n found) ∷ texts new.configs ps) same
-    ∙ ap (λ ts. encode_utf8_all (entry_named s.configs n) ∷ ts) (texts-step s new command room ok ps (tails (touched command) (n, None) ps made))
+    ∙ ap (λ ts. encode_utf8_all (entry_named s.configs n) ∷ ts)
+    (texts-step s new command room ok ps (tails (touched command) (n, None) ps made))
 
 -- ---- one text
 
@@ -196,18 +225,22 @@ absent-from None e = refl
 absent-from (Some t) e = absurd (false≢true (sym e))
 
 -- a name that has no text yet
-pub absent-name : (early : Texts) (key : String Global) (name : List ℕ) → string_bytes key ≡ name → is_some (get_by_text early name) ≡ false → get_by_text early (string_bytes key) ≡ None
+pub absent-name : (early : Texts) (key : String Global) (name : List ℕ) → string_bytes key ≡ name
+    → is_some (get_by_text early name) ≡ false → get_by_text early (string_bytes key) ≡ None
 absent-name early key name is none = ap (get_by_text early) is ∙ absent-from (get_by_text early name) none
 
 -- the text of a configuration as it is written
-pub text-made : (configs : List Entry) (key t : String Global) (name before : List ℕ) → string_bytes key ≡ name → before ≡ [] → string_bytes t ≡ before ++ encode_utf8_all (entry_named configs (chars name))
+pub text-made : (configs : List Entry) (key t : String Global) (name before : List ℕ) → string_bytes key ≡ name
+    → before ≡ [] → string_bytes t ≡ before ++ encode_utf8_all (entry_named configs (chars name))
     → string_bytes t ≡ encode_utf8_all (entry_named configs (text_of key))
 text-made configs key t name before is none written =
-    written ∙ ap (λ bs. bs ++ encode_utf8_all (entry_named configs (chars name))) none ∙ ap (λ bs. encode_utf8_all (entry_named configs (chars bs))) (sym is)
+    written ∙ ap (λ bs. bs ++ encode_utf8_all (entry_named configs (chars name))) none
+    ∙ ap (λ bs. encode_utf8_all (entry_named configs (chars bs))) (sym is)
 
 -- what was just put in is there
 pub key-there : (new : Texts) (key t : String Global) (old : Option (String Global)) (name : List ℕ) → string_bytes key ≡ name
-    → get_by_text new (string_bytes key) ≡ cond (bytes_eq (string_bytes key) (string_bytes key)) (Some t) old → is_some (get_by_text new name) ≡ true
+    → get_by_text new (string_bytes key) ≡ cond (bytes_eq (string_bytes key) (string_bytes key)) (Some t) old
+    → is_some (get_by_text new name) ≡ true
 key-there new key t old name is updates =
     ap (λ bs. is_some (get_by_text new bs)) (sym is)
     ∙ ap is_some (updates ∙ ap (λ b. cond b (Some t) old) ((bytes_eq-Decides (string_bytes key) (string_bytes key)).1 refl))
@@ -223,14 +256,16 @@ module _ (configs : List Entry) (p : Part) (old new : List Part) (first : old �
   first-within room within = (subst (λ ps. AreWithin room (texts configs ps)) first within).0
 
   pub others-within : (room more : ℕ) → room ≤ more → AreWithin room (texts configs old) → AreWithin more (texts configs new)
-  others-within room more wider within = AreWithin-more room more wider (texts configs new) (subst (λ ps. AreWithin room (texts configs ps)) first within).1
+  others-within room more wider within = AreWithin-more room more wider (texts configs new)
+      (subst (λ ps. AreWithin room (texts configs ps)) first within).1
 
   pub first-joined : (rest : List ℕ) → rest ≡ part_bytes configs p → rest ++ joined (texts configs new) ≡ joined (texts configs old)
   first-joined rest is = ap (λ bs. bs ++ joined (texts configs new)) is ∙ sym (ap (λ ps. joined (texts configs ps)) first)
 
 -- ---- parts that are cut
 
-pub loop-same : (slice rest mid_slice mid new_slice new_rest after before : List ℕ) → rest ≡ [] → mid_slice ≡ slice → mid ++ after ≡ before → new_slice ++ new_rest ≡ mid_slice ++ mid
+pub loop-same : (slice rest mid_slice mid new_slice new_rest after before : List ℕ) → rest ≡ [] → mid_slice ≡ slice
+    → mid ++ after ≡ before → new_slice ++ new_rest ≡ mid_slice ++ mid
     → new_slice ++ new_rest ++ after ≡ slice ++ rest ++ before
 loop-same slice rest mid_slice mid new_slice new_rest after before none same loaded cut =
     ap (λ bs. bs ++ after) (cut ∙ ap (λ bs. bs ++ mid) same) ∙ append_assoc slice mid after ∙ ap (λ bs. slice ++ bs) loaded
@@ -251,7 +286,8 @@ names-taken edits i edit within is =
 
 -- ---- how many wait
 
-pub some-parts : (early : Texts) (names : List (String Global)) (n : ℕ) → n ≡ length names → (n == 0) ≡ false → 0 < length (parts_of early names)
+pub some-parts : (early : Texts) (names : List (String Global)) (n : ℕ) → n ≡ length names → (n == 0) ≡ false
+    → 0 < length (parts_of early names)
 some-parts early names n is other =
     let size = length-parts early names in
     let more : 0 < n = grind (arith, nat_tests, other) in
@@ -285,7 +321,8 @@ apart-names names all is differ = apart names (ap names_differ is ∙ differ)
 
 -- what is put in under another name changes none of these
 apart-same : (early new : Texts) (key t : String Global)
-    → ((q : String Global) → get_by_text new (string_bytes q) ≡ cond (bytes_eq (string_bytes key) (string_bytes q)) (Some t) (get_by_text early (string_bytes q)))
+    → ((q : String Global) → get_by_text new (string_bytes q)
+    ≡ cond (bytes_eq (string_bytes key) (string_bytes q)) (Some t) (get_by_text early (string_bytes q)))
     → (names : List (String Global)) → IsApart key names → parts_of new names ≡ parts_of early names
 apart-same early new key t updates [] apart = refl
 apart-same early new key t updates (q ∷ qs) apart =
@@ -293,7 +330,8 @@ apart-same early new key t updates (q ∷ qs) apart =
     ∙ ap (λ ps. part_of early q ∷ ps) (apart-same early new key t updates qs apart.1)
 
 pub marked-parts : {A E : Type 0} (early new : Texts) (key t : String Global) (r : Result A E)
-    → OnOk r ((q : String Global) → get_by_text new (string_bytes q) ≡ cond (bytes_eq (string_bytes key) (string_bytes q)) (Some t) (get_by_text early (string_bytes q)))
+    → OnOk r ((q : String Global) → get_by_text new (string_bytes q)
+    ≡ cond (bytes_eq (string_bytes key) (string_bytes q)) (Some t) (get_by_text early (string_bytes q)))
     → OnErr r (new.entries ≡ early.entries) → (names : List (String Global)) → IsApart key names → parts_of new names ≡ parts_of early names
 marked-parts early new key t (Err e) updates same names apart = parts-unchanged early new same names
 marked-parts early new key t (Ok x) updates same names apart = apart-same early new key t updates names apart

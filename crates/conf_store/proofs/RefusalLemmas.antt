@@ -5,7 +5,9 @@ use Rattle.conf_state.specs.Commands.{Command}
 use Rattle.conf_state.specs.States.{Contents}
 use Rattle.conf_state.specs.Steps.{step, IsRefusal}
 use Rattle.conf_state.specs.declared.fault.StoreFault.{StoreFault}
-use Rattle.conf_state.specs.declared.fault.StoreFault.TheVariants.{EmptyBatch, BadName, NoConfig, Path, Read, TooDeep, ConfigLarge, StoreFull, RecordLong, JournalLong, CountFull, Reopen, Device, OutOfMemory}
+use Rattle.conf_state.specs.declared.fault.StoreFault.TheVariants.{EmptyBatch, BadName, NoConfig, Path, Read, TooDeep}
+use Rattle.conf_state.specs.declared.fault.StoreFault.TheVariants.{ConfigLarge, StoreFull, RecordLong, JournalLong}
+use Rattle.conf_state.specs.declared.fault.StoreFault.TheVariants.{CountFull, Reopen, Device, OutOfMemory}
 use Rattle.conf_state.specs.declared.room.Room.{Room}
 use Rattle.conf_store.specs.View.{StoreView}
 use Rattle.conf_store.specs.Accepting.{IsOfState}
@@ -16,12 +18,15 @@ abbrev pub StepsRefuse : Type 0
 StepsRefuse = (s : Contents) (command : Command) (room : Room) (fault : StoreFault) → step s command room ≡ Err fault → IsRefusal fault
 
 -- a fault with which a step refuses is one of the state
-pub of-state : StepsRefuse → (s : Contents) (command : Command) (room : Room) (fault : StoreFault) → (fault ≡ OutOfMemory) ⊎ (step s command room ≡ Err fault) → IsOfState fault
+pub of-state : StepsRefuse → (s : Contents) (command : Command) (room : Room) (fault : StoreFault)
+    → (fault ≡ OutOfMemory) ⊎ (step s command room ≡ Err fault) → IsOfState fault
 of-state refuse s command room fault (inl memory) = (λ same. cc (memory, same), λ same. cc (memory, same))
-of-state refuse s command room fault (inr e) = (λ same. subst IsRefusal same (refuse s command room fault e), λ same. subst IsRefusal same (refuse s command room fault e))
+of-state refuse s command room fault (inr e) =
+    (λ same. subst IsRefusal same (refuse s command room fault e), λ same. subst IsRefusal same (refuse s command room fault e))
 
 -- and a store returns that fault
-pub refusal-returned : {D : Type 0} (old new : StoreView D) (command : Command) (fault : StoreFault) → IsOfState fault → (fault ≡ OutOfMemory) ⊎ (outcome (journal_length old) old.state command ≡ Err fault)
+pub refusal-returned : {D : Type 0} (old new : StoreView D) (command : Command) (fault : StoreFault) → IsOfState fault
+    → (fault ≡ OutOfMemory) ⊎ (outcome (journal_length old) old.state command ≡ Err fault)
     → RefusesCommand old command new fault
 refusal-returned old new command Reopen own is = tt
 refusal-returned old new command Device own is = absurd (own.1 refl)

@@ -1,10 +1,12 @@
 -- What a string does that has room.
-use Rattle.std.proofs.Common.{◌≡◌, ◌≤◌, ℕ, ◌+◌, false, if◌then◌else◌, List, ◌++◌, length, String, Global, Result, string_bytes, sym, ap, ◌∙◌}
+use Rattle.std.proofs.Common.{◌≡◌, ◌≤◌, ℕ, ◌+◌, false, if◌then◌else◌, List, ◌++◌, length, String, Global, Result}
+use Rattle.std.proofs.Common.{string_bytes, sym, ap, ◌∙◌}
 use Rattle.std.proofs.lemmas.Bool.{false≢true}
 use Rattle.std.specs.Prelude.{string_capacity, string_len, is_ok, is_err, IsOk, OnOk, Ok, Err}
 use Rattle.conf_store.specs.Room.{AppendsWithin}
 
-pub appended : {E : Type 0} (old new : String Global) (more : List ℕ) (result : Result (Unit {0}) E) → string_capacity old ≤ string_capacity new
+pub appended : {E : Type 0} (old new : String Global) (more : List ℕ) (result : Result (Unit {0}) E)
+    → string_capacity old ≤ string_capacity new
     → string_len new ≡ (if is_ok result then string_len old + length more else string_len old)
     → string_bytes new ≡ (if is_ok result then string_bytes old ++ more else string_bytes old)
     → (string_len old + length more ≤ string_capacity old → IsOk result) → AppendsWithin old more new

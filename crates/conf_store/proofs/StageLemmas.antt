@@ -1,5 +1,7 @@
 -- What is left of a checkpoint that is made part by part.
-use Rattle.std.proofs.Common.{◌≡◌, ◌≤◌, ◌⊎◌, inl, inr, ℕ, ◌+◌, ◌-◌, min, Bool, true, false, List, [], ◌∷◌, ◌++◌, length, take, drop, Some, None, Ok, IsSome, is_some, codes, decimal, encode_utf8_all, refl, sym, ap, ◌∙◌, subst, append_assoc, append-nil, length-append, arith}
+use Rattle.std.proofs.Common.{◌≡◌, ◌≤◌, ◌⊎◌, inl, inr, ℕ, ◌+◌, ◌-◌, min, Bool, true, false, List, [], ◌∷◌, ◌++◌}
+use Rattle.std.proofs.Common.{length, take, drop, Some, None, Ok, IsSome, is_some, codes, decimal, encode_utf8_all}
+use Rattle.std.proofs.Common.{refl, sym, ap, ◌∙◌, subst, append_assoc, append-nil, length-append, arith}
 use Rattle.std.proofs.lemmas.Bool.{false≢true}
 use Rattle.std.proofs.lemmas.List.{length-take-le, take-append-le}
 use Rattle.std.proofs.lemmas.Str.{encodes-append}
@@ -54,7 +56,8 @@ all-named (e ∷ es) d =
       named-later e es es parts.0 (all-named es parts.1),
     )
 
-entries-joined : (configs es : List Entry) → AreNamed configs es → joined (texts configs (parts_named (names_of es))) ≡ encode_utf8_all (members_after (members es) 2)
+entries-joined : (configs es : List Entry) → AreNamed configs es
+    → joined (texts configs (parts_named (names_of es))) ≡ encode_utf8_all (members_after (members es) 2)
 entries-joined configs [] named = refl
 entries-joined configs (e ∷ es) named =
     ap (λ found. encode_utf8_all (lines_if_there e.0 found) ++ joined (texts configs (parts_named (names_of es)))) named.0
@@ -70,11 +73,13 @@ unfolding base_text
 text-split s =
     let number = line (codes "at") (text (decimal s.count)) in
     let before = codes "---\n" ++ codes "store: confstore-2\n" ++ number ++ codes "configs:" in
-    ap (λ cs. cs ++ codes "...\n") (append_assoc before (configs_start s.configs) (members_after (members s.configs) 2) ∙ ap (λ cs. before ++ cs) (configs-split s.configs))
+    ap (λ cs. cs ++ codes "...\n") (append_assoc before (configs_start s.configs)
+    (members_after (members s.configs) 2) ∙ ap (λ cs. before ++ cs) (configs-split s.configs))
     ∙ base_lines number (value_at (mapping (members s.configs)) 0)
 
 -- what is left of a checkpoint that begins
-pub left-begins : (s : Contents) → names_differ (names_of s.configs) ≡ true → (start since : List ℕ) (ps : List Part) → start ≡ encode_utf8_all (base_start s)
+pub left-begins : (s : Contents) → names_differ (names_of s.configs) ≡ true → (start since : List ℕ) (ps : List Part)
+    → start ≡ encode_utf8_all (base_start s)
     → ps ≡ parts_named (names_of s.configs) → since ≡ codes "...\n" → start ++ joined (texts s.configs ps) ++ since ≡ base_bytes s
 unfolding base_bytes lib.Utf8.encode
 left-begins s d start since ps is_start are is_since =
@@ -83,32 +88,40 @@ left-begins s d start since ps is_start are is_since =
     ∙ ap (λ qs. encode_utf8_all (base_start s) ++ joined (texts s.configs qs) ++ since) are
     ∙ ap (λ bs. encode_utf8_all (base_start s) ++ bs ++ since) (entries-joined s.configs s.configs (all-named s.configs d))
     ∙ ap (λ bs. encode_utf8_all (base_start s) ++ encode_utf8_all entries ++ bs) is_since
-    ∙ sym (encodes-append (base_start s ++ entries) (codes "...\n") ∙ ap (λ bs. bs ++ codes "...\n") (encodes-append (base_start s) entries))
+    ∙ sym (encodes-append (base_start s ++ entries) (codes "...\n")
+    ∙ ap (λ bs. bs ++ codes "...\n") (encodes-append (base_start s) entries))
     ∙ ap encode_utf8_all (text-split s)
 
-pub begin-left : (s : Contents) → IsState s → (cut : Cut) (ps : List Part) (since : List ℕ) → cut.slice ≡ [] → cut.rest ≡ encode_utf8_all (base_start s)
+pub begin-left : (s : Contents) → IsState s → (cut : Cut) (ps : List Part) (since : List ℕ) → cut.slice ≡ []
+    → cut.rest ≡ encode_utf8_all (base_start s)
     → ps ≡ parts_named (names_of s.configs) → since ≡ codes "...\n" → left_of s.configs cut ps since ≡ base_bytes s
 begin-left s kept cut ps since none is_start are is_since =
-    ap (λ bs. bs ++ cut.rest ++ joined (texts s.configs ps) ++ since) none ∙ left-begins s kept.distinct cut.rest since ps is_start are is_since
+    ap (λ bs. bs ++ cut.rest ++ joined (texts s.configs ps) ++ since) none
+    ∙ left-begins s kept.distinct cut.rest since ps is_start are is_since
 
 -- its length
 pub base-size : (s : Contents) → base_length s ≡ length (base_bytes s)
 unfolding base_length base_bytes
 base-size s = byte_len-encoded (base_text s)
 
-pub ready-begins : (s : Contents) → IsState s → (cut : Cut) (ps : List Part) (since : List ℕ) (total longest : ℕ) → cut.slice ≡ [] → cut.rest ≡ encode_utf8_all (base_start s)
-    → ps ≡ parts_named (names_of s.configs) → since ≡ codes "...\n" → total ≡ base_length s → slice_limit ≤ cut.slice_room → longest ≤ cut.part_room
+pub ready-begins : (s : Contents) → IsState s → (cut : Cut) (ps : List Part) (since : List ℕ) (total longest : ℕ)
+    → cut.slice ≡ [] → cut.rest ≡ encode_utf8_all (base_start s)
+    → ps ≡ parts_named (names_of s.configs) → since ≡ codes "...\n" → total ≡ base_length s
+    → slice_limit ≤ cut.slice_room → longest ≤ cut.part_room
     → AreWithin longest (texts s.configs (parts_named (names_of s.configs))) → HasRoom s.configs 0 total cut ps since
 ready-begins s kept cut ps since total longest none is_start are is_since is room wider within = record {
-  whole = (let size = base-size s in let left = ap length (begin-left s kept cut ps since none is_start are is_since) in omega (arith, size, left, is));
+  whole = (let size = base-size s in let left =
+      ap length (begin-left s kept cut ps since none is_start are is_since) in omega (arith, size, left, is));
   room = room;
-  within = subst (λ qs. AreWithin cut.part_room (texts s.configs qs)) (sym are) (AreWithin-more longest cut.part_room wider (texts s.configs (parts_named (names_of s.configs))) within);
+  within = subst (λ qs. AreWithin cut.part_room (texts s.configs qs)) (sym are)
+      (AreWithin-more longest cut.part_room wider (texts s.configs (parts_named (names_of s.configs))) within);
 }
 
 -- ---- a command
 
 module _ (s new : Contents) (command : Command) (room : Room) (ok : step s command room ≡ Ok new)
-    (cut : Cut) (old ps : List Part) (same : texts s.configs ps ≡ texts s.configs old) (made : AreMade (touched command) ps) (before since record_of : List ℕ) (more : since ≡ before ++ record_of) where
+    (cut : Cut) (old ps : List Part) (same : texts s.configs ps ≡ texts s.configs old)
+    (made : AreMade (touched command) ps) (before since record_of : List ℕ) (more : since ≡ before ++ record_of) where
   kept-texts : texts new.configs ps ≡ texts s.configs old
   kept-texts = texts-step s new command room ok ps made ∙ same
 
@@ -131,12 +144,14 @@ module _ (s new : Contents) (command : Command) (room : Room) (ok : step s comma
       }
 
 -- texts that are made early change nothing else
-pub left-kept : (configs : List Entry) (cut : Cut) (old ps : List Part) (before since : List ℕ) → texts configs ps ≡ texts configs old → since ≡ before
+pub left-kept : (configs : List Entry) (cut : Cut) (old ps : List Part) (before since : List ℕ)
+    → texts configs ps ≡ texts configs old → since ≡ before
     → left_of configs cut ps since ≡ left_of configs cut old before
 left-kept configs cut old ps before since same is =
     ap (λ ts. cut.slice ++ cut.rest ++ joined ts ++ since) same ∙ ap (λ bs. cut.slice ++ cut.rest ++ joined (texts configs old) ++ bs) is
 
-pub ready-kept : (configs : List Entry) (written total : ℕ) (cut : Cut) (old ps : List Part) (before since : List ℕ) → texts configs ps ≡ texts configs old → since ≡ before
+pub ready-kept : (configs : List Entry) (written total : ℕ) (cut : Cut) (old ps : List Part) (before since : List ℕ)
+    → texts configs ps ≡ texts configs old → since ≡ before
     → HasRoom configs written total cut old before → HasRoom configs written total cut ps since
 ready-kept configs written total cut old ps before since same is ready =
     let whole = ready.whole in
@@ -165,24 +180,29 @@ view-running false written left some = absurd (false≢true some)
 pub view-some : (running : Bool) (written : ℕ) (left : List ℕ) (staged : Staged) → staged_view running written left ≡ Some staged
     → (running ≡ true) × (staged ≡ record { written = written; left = left })
 view-some false written left staged e = absurd (let none : None ≡ Some staged = e in cc none)
-view-some true written left staged e = (let some : Some (record { written = written; left = left }) ≡ Some staged = e in (refl, sym (cc some)))
+view-some true written left staged e = (let some : Some (record { written = written; left = left }) ≡ Some staged =
+    e in (refl, sym (cc some)))
 
-pub view-length : (running : Bool) (written total : ℕ) (left : List ℕ) → running ≡ true → total ≡ written + length left → total ≡ staged_length (staged_view running written left)
+pub view-length : (running : Bool) (written total : ℕ) (left : List ℕ) → running ≡ true
+    → total ≡ written + length left → total ≡ staged_length (staged_view running written left)
 view-length true written total left on whole = whole
 view-length false written total left on whole = absurd (false≢true on)
 
-pub view-more : (running : Bool) (written : ℕ) (left more after : List ℕ) → after ≡ left ++ more → staged_view running written after ≡ with_more more (staged_view running written left)
+pub view-more : (running : Bool) (written : ℕ) (left more after : List ℕ) → after ≡ left ++ more
+    → staged_view running written after ≡ with_more more (staged_view running written left)
 view-more false written left more after is = refl
 view-more true written left more after is = ap (λ bs. Some (record { written = written; left = bs })) is
 
 -- ---- slices
 
 -- a slice that is full, or is all that is left, is the next one
-pub slice-next : (slice others left : List ℕ) → slice ++ others ≡ left → length slice ≤ slice_limit → (length slice ≡ slice_limit) ⊎ (others ≡ []) → slice ≡ take (min slice_limit (length left)) left
+pub slice-next : (slice others left : List ℕ) → slice ++ others ≡ left → length slice ≤ slice_limit
+    → (length slice ≡ slice_limit) ⊎ (others ≡ []) → slice ≡ take (min slice_limit (length left)) left
 slice-next slice others left is short (inl full) =
     let size = ap length (sym is) ∙ length-append slice others in
     let n : min slice_limit (length left) ≡ length slice = omega (arith, size, full) in
-    sym (ap (λ m. take m left) n ∙ ap (take (length slice)) (sym is) ∙ take-append-le (length slice) slice others (omega arith) ∙ whole slice)
+    sym (ap (λ m. take m left) n ∙ ap (take (length slice)) (sym is)
+    ∙ take-append-le (length slice) slice others (omega arith) ∙ whole slice)
   where
     whole : (xs : List ℕ) → take (length xs) xs ≡ xs
     whole [] = refl
@@ -201,7 +221,8 @@ rest-after [] others n e = ap (λ m. drop m others) e
 rest-after (x ∷ xs) others n e = ap (λ m. drop m (x ∷ xs ++ others)) e ∙ rest-after xs others (length xs) refl
 
 -- what is left after the slice that is made
-pub slice-passed : (slice others : List ℕ) (written : ℕ) (staged : Staged) → staged ≡ record { written = written; left = slice ++ others } → slice ≡ next_slice staged
+pub slice-passed : (slice others : List ℕ) (written : ℕ) (staged : Staged)
+    → staged ≡ record { written = written; left = slice ++ others } → slice ≡ next_slice staged
     → after_slice staged ≡ record { written = written + length slice; left = others }
 slice-passed slice others written staged is made =
     let left = slice ++ others in
@@ -221,18 +242,21 @@ no-part (x ∷ xs) ys e = cc
 abbrev pub others_of : List Entry → Cut → List Part → List ℕ → List ℕ
 others_of configs cut ps since = cut.rest ++ joined (texts configs ps) ++ since
 
-pub left-split : (configs : List Entry) (cut : Cut) (ps : List Part) (since : List ℕ) → left_of configs cut ps since ≡ cut.slice ++ others_of configs cut ps since
+pub left-split : (configs : List Entry) (cut : Cut) (ps : List Part) (since : List ℕ)
+    → left_of configs cut ps since ≡ cut.slice ++ others_of configs cut ps since
 left-split configs cut ps since =
     ap (λ bs. bs ++ since) (append_assoc cut.slice cut.rest (joined (texts configs ps)))
     ∙ append_assoc cut.slice (cut.rest ++ joined (texts configs ps)) since
 
-pub left-least : (configs : List Entry) (cut : Cut) (ps : List Part) (since : List ℕ) → length cut.slice ≤ length (left_of configs cut ps since)
+pub left-least : (configs : List Entry) (cut : Cut) (ps : List Part) (since : List ℕ)
+    → length cut.slice ≤ length (left_of configs cut ps since)
 left-least configs cut ps since =
     let split = ap length (left-split configs cut ps since) in
     let both = length-append cut.slice (others_of configs cut ps since) in
     omega (arith, split, both)
 
-pub slice-made : (configs : List Entry) (cut : Cut) (ps : List Part) (since : List ℕ) (running : Bool) (written : ℕ) → length cut.slice ≤ slice_limit
+pub slice-made : (configs : List Entry) (cut : Cut) (ps : List Part) (since : List ℕ) (running : Bool) (written : ℕ)
+    → length cut.slice ≤ slice_limit
     → (length cut.slice ≡ slice_limit) ⊎ (others_of configs cut ps since ≡ [])
     → (staged : Staged) → staged_view running written (left_of configs cut ps since) ≡ Some staged → cut.slice ≡ next_slice staged
 slice-made configs cut ps since running written short far staged e =
@@ -242,11 +266,13 @@ slice-made configs cut ps since running written short far staged e =
 
 -- parts that were cut
 pub cut-left : (configs : List Entry) (old new : Cut) (before ps : List Part) (since : List ℕ)
-    → new.slice ++ new.rest ++ joined (texts configs ps) ≡ old.slice ++ old.rest ++ joined (texts configs before) → left_of configs new ps since ≡ left_of configs old before since
+    → new.slice ++ new.rest ++ joined (texts configs ps) ≡ old.slice ++ old.rest ++ joined (texts configs before)
+    → left_of configs new ps since ≡ left_of configs old before since
 cut-left configs old new before ps since same = ap (λ bs. bs ++ since) same
 
 -- what follows the configurations is taken over
-module _ (configs : List Entry) (old mid new : Cut) (ps : List Part) (since after : List ℕ) (part : old.rest ≡ []) (none : ps ≡ []) (taken : mid.rest ≡ since) (kept : mid.slice ≡ old.slice)
+module _ (configs : List Entry) (old mid new : Cut) (ps : List Part) (since after : List ℕ) (part : old.rest ≡ [])
+    (none : ps ≡ []) (taken : mid.rest ≡ since) (kept : mid.slice ≡ old.slice)
     (left : after ≡ []) (cut : new.slice ++ new.rest ≡ mid.slice ++ mid.rest) where
   pub over-left : left_of configs new ps after ≡ left_of configs old ps since
   over-left =
@@ -265,8 +291,10 @@ module _ (configs : List Entry) (old mid new : Cut) (ps : List Part) (since afte
   pub over-within : AreWithin new.part_room (texts configs ps)
   over-within = subst (λ qs. AreWithin new.part_room (texts configs qs)) (sym none) tt
 
-pub room-same : (configs : List Entry) (written total : ℕ) (old new : Cut) (before ps : List Part) (since after : List ℕ) → left_of configs new ps after ≡ left_of configs old before since
-    → slice_limit ≤ new.slice_room → AreWithin new.part_room (texts configs ps) → HasRoom configs written total old before since → HasRoom configs written total new ps after
+pub room-same : (configs : List Entry) (written total : ℕ) (old new : Cut) (before ps : List Part)
+    (since after : List ℕ) → left_of configs new ps after ≡ left_of configs old before since
+    → slice_limit ≤ new.slice_room → AreWithin new.part_room (texts configs ps)
+    → HasRoom configs written total old before since → HasRoom configs written total new ps after
 room-same configs written total old new before ps since after same room within has = record {
   whole = (let whole = has.whole in let long = ap length same in omega (arith, whole, long));
   room = room;
@@ -275,12 +303,14 @@ room-same configs written total old new before ps since after same room within h
 
 -- ---- slices that are passed
 
-module _ (configs : List Entry) (old new : Cut) (ps : List Part) (since : List ℕ) (passed : new.slice ≡ []) (same : new.rest ≡ old.rest) where
+module _ (configs : List Entry) (old new : Cut) (ps : List Part) (since : List ℕ) (passed : new.slice ≡ [])
+    (same : new.rest ≡ old.rest) where
   pass-left : left_of configs new ps since ≡ others_of configs old ps since
   pass-left =
       ap (λ bs. bs ++ new.rest ++ joined (texts configs ps) ++ since) passed ∙ ap (λ bs. bs ++ joined (texts configs ps) ++ since) same
 
-  pub pass-staged : (running : Bool) (written after : ℕ) (staged : Staged) → after ≡ written + length old.slice → staged_view running written (left_of configs old ps since) ≡ Some staged
+  pub pass-staged : (running : Bool) (written after : ℕ) (staged : Staged) → after ≡ written + length old.slice
+      → staged_view running written (left_of configs old ps since) ≡ Some staged
       → old.slice ≡ next_slice staged → staged_view running after (left_of configs new ps since) ≡ Some (after_slice staged)
   pass-staged running written after staged is e made =
       let some = view-some running written (left_of configs old ps since) staged e in
@@ -290,8 +320,10 @@ module _ (configs : List Entry) (old new : Cut) (ps : List Part) (since : List �
       ∙ ap (λ bs. Some (record { written = written + length old.slice; left = bs })) pass-left
       ∙ ap (λ (s : Staged). Some s) (sym (slice-passed old.slice (others_of configs old ps since) written staged own made))
 
-  pub pass-size : (written total result after : ℕ) (staged : Staged) (running : Bool) → after ≡ written + length old.slice → result ≡ total - after → HasRoom configs written total old ps since
-      → staged_view running written (left_of configs old ps since) ≡ Some staged → old.slice ≡ next_slice staged → result ≡ length (after_slice staged).left
+  pub pass-size : (written total result after : ℕ) (staged : Staged) (running : Bool)
+      → after ≡ written + length old.slice → result ≡ total - after → HasRoom configs written total old ps since
+      → staged_view running written (left_of configs old ps since) ≡ Some staged → old.slice ≡ next_slice staged
+      → result ≡ length (after_slice staged).left
   pass-size written total result after staged running is sub has e made =
       let some = view-some running written (left_of configs old ps since) staged e in
       let own = some.1 ∙ ap (λ bs. record { written = written; left = bs }) (left-split configs old ps since) in
@@ -301,7 +333,8 @@ module _ (configs : List Entry) (old new : Cut) (ps : List Part) (since : List �
       let both = length-append old.slice (others_of configs old ps since) in
       omega (arith, left, whole, split, both, is, sub)
 
-  pub pass-room : (written total after : ℕ) → after ≡ written + length old.slice → new.slice_room ≡ old.slice_room → new.part_room ≡ old.part_room
+  pub pass-room : (written total after : ℕ) → after ≡ written + length old.slice → new.slice_room ≡ old.slice_room
+      → new.part_room ≡ old.part_room
       → HasRoom configs written total old ps since → HasRoom configs after total new ps since
   pass-room written total after is room part has = record {
     whole = (let whole = has.whole in
@@ -317,14 +350,17 @@ pub view-zero : (running : Bool) (written : ℕ) (left : List ℕ) → running �
 view-zero false written left off = refl
 view-zero true written left off = absurd (false≢true (sym off))
 
-pub view-due : (running : Bool) (written : ℕ) (left : List ℕ) (staged : Staged) → staged_view running written left ≡ Some staged → staged.written ≡ written
+pub view-due : (running : Bool) (written : ℕ) (left : List ℕ) (staged : Staged)
+    → staged_view running written left ≡ Some staged → staged.written ≡ written
 view-due running written left staged e = ap (λ (s : Staged). s.written) (view-some running written left staged e).1
 
 -- where no checkpoint runs, nothing is seen of it after a command
-pub none-more : (running : Bool) (written other : ℕ) (left after more : List ℕ) → running ≡ false → staged_view running written after ≡ with_more more (staged_view running other left)
+pub none-more : (running : Bool) (written other : ℕ) (left after more : List ℕ) → running ≡ false
+    → staged_view running written after ≡ with_more more (staged_view running other left)
 none-more false written other left after more off = refl
 none-more true written other left after more off = absurd (false≢true (sym off))
 
-pub none-same : (running : Bool) (written : ℕ) (left after : List ℕ) → running ≡ false → staged_view running written after ≡ staged_view running written left
+pub none-same : (running : Bool) (written : ℕ) (left after : List ℕ) → running ≡ false
+    → staged_view running written after ≡ staged_view running written left
 none-same false written left after off = refl
 none-same true written left after off = absurd (false≢true (sym off))

@@ -1,6 +1,7 @@
 -- What an open store keeps on its disk, and what a crash during its calls leaves.
 use Rattle.std.proofs.Common.{◌≡◌, ◌⊎◌, inl, ⊎_elim, refl, sym, ◌∙◌, ap, subst, arith, ◌≤◌, length-append}
-use Rattle.std.specs.Prelude.{ℕ, true, false, ◌+◌, ◌&&◌, min, Bool, nat_le, nat_lt, if◌then◌else◌, List, [], ◌∷◌, ◌++◌, length, Option, Some, option_map, Ok, Err}
+use Rattle.std.specs.Prelude.{ℕ, true, false, ◌+◌, ◌&&◌, min, Bool, nat_le, nat_lt, if◌then◌else◌, List, [], ◌∷◌}
+use Rattle.std.specs.Prelude.{◌++◌, length, Option, Some, option_map, Ok, Err}
 use Rattle.std.proofs.lemmas.Bool.{false≢true}
 use Rattle.yaml_grammar.specs.Closings.{ClosesOnce}
 use Rattle.yaml_grammar.specs.Texts.{byte_len}
@@ -42,8 +43,10 @@ durable-means left folder s size durable image is =
     (whole-means durable.bytes s durable.whole (omega (arith, durable.long, durable.short)))
 
 -- each store that a crash may leave of a durable one means its state
-pub store-means : SyncedIsLeft → (folder : Folder) (s : Contents) (size : ℕ) → IsDurable folder s size → (store : Option (List ℕ)) → IsStoreOf folder store → FileMeans store s
-store-means left folder s size durable store is = subst (λ b. FileMeans b s) is.same (durable-means left folder s size durable is.image is.is)
+pub store-means : SyncedIsLeft → (folder : Folder) (s : Contents) (size : ℕ) → IsDurable folder s size
+    → (store : Option (List ℕ)) → IsStoreOf folder store → FileMeans store s
+store-means left folder s size durable store is =
+    subst (λ b. FileMeans b s) is.same (durable-means left folder s size durable is.image is.is)
 
 -- ---- a base as the new file
 
@@ -59,7 +62,8 @@ base-of are_read close fit s bytes kept is =
     }
 
 -- a folder that holds just a state's base holds that state durably
-pub base-durable : (folder : Folder) (s : Contents) (bytes : List ℕ) → IsBaseOf s bytes → HoldsStore folder (Some (synced_file bytes)) → IsDurable folder s (length bytes)
+pub base-durable : (folder : Folder) (s : Contents) (bytes : List ℕ) → IsBaseOf s bytes
+    → HoldsStore folder (Some (synced_file bytes)) → IsDurable folder s (length bytes)
 base-durable folder s bytes base holds =
     record { bytes = bytes; holds = holds; whole = base-whole bytes s base.closes base.reads; long = refl; short = base.short }
 
@@ -71,17 +75,21 @@ base-file-means s bytes base file same =
 -- ---- before any call of the disk
 
 pub start-prefix : {D : Type 0} (model : DiskModel D) (disk : D) (s : Contents) (size : ℕ) (waits : Bool) → HeldIsLeft → RecordsTear
-    → ((image : Image) → model.left disk (model.moment disk) image → IsImage (model.folder disk) image) → IsHeld (model.folder disk) s size waits → (flushed : Contents) (since : List Command) → HasFlushed (model.folder disk) flushed since s
+    → ((image : Image) → model.left disk (model.moment disk) image → IsImage (model.folder disk) image)
+    → IsHeld (model.folder disk) s size waits → (flushed : Contents) (since : List Command)
+    → HasFlushed (model.folder disk) flushed since s
     → LeavesOnly model disk disk (λ image. AfterPrefix flushed since image.store)
 start-prefix model disk s size waits held_left tear only held flushed since has =
     LeavesOnly-start model disk (λ image. AfterPrefix flushed since image.store)
     (λ image is. held-images held_left tear (model.folder disk) s size waits held flushed since has image (only image is))
 
 -- what may also mean another state
-pub or-means : {D : Type 0} (model : DiskModel D) (old new : D) (flushed end : Contents) (since : List Command) → LeavesOnly model old new (λ image. AfterPrefix flushed since image.store)
+pub or-means : {D : Type 0} (model : DiskModel D) (old new : D) (flushed end : Contents) (since : List Command)
+    → LeavesOnly model old new (λ image. AfterPrefix flushed since image.store)
     → LeavesOnly model old new (λ image. AfterPrefix flushed since image.store ⊎ FileMeans image.store end)
 or-means model old new flushed end since leaves =
-    LeavesOnly-weaker model old new (λ image. AfterPrefix flushed since image.store) (λ image. AfterPrefix flushed since image.store ⊎ FileMeans image.store end) leaves (λ image is. inl is)
+    LeavesOnly-weaker model old new (λ image. AfterPrefix flushed since image.store)
+    (λ image. AfterPrefix flushed since image.store ⊎ FileMeans image.store end) leaves (λ image is. inl is)
 
 -- ---- a command that is accepted
 
@@ -104,7 +112,8 @@ room-cut is bytes size =
     file-cut = grind (arith, nat_tests)
 
 -- the room for a record whose length was measured
-pub room-measured : (size : ℕ) (s : Contents) (command : Command) (room : Room) (bytes longest : ℕ) → room ≡ room_of (is_batch command) bytes longest store_limit → longest ≡ size
+pub room-measured : (size : ℕ) (s : Contents) (command : Command) (room : Room) (bytes longest : ℕ)
+    → room ≡ room_of (is_batch command) bytes longest store_limit → longest ≡ size
     → bytes ≡ min (byte_len (record_text command (next_number s))) greatest → room ≡ room_for size s command
 unfolding record_bytes
 room-measured size s command room bytes longest is same measured =
@@ -115,11 +124,13 @@ room-measured size s command room bytes longest is same measured =
     ∙ ap (λ n. room_of (is_batch command) n size store_limit) (byte_len-encoded (record_text command (next_number s)))
 
 -- where there is room, the file with the record is within its limit, and so is the record of a batch
-room-fits : (is : Bool) (bytes size : ℕ) → room_of is bytes size store_limit ≡ Enough → (size + bytes ≤ store_limit) × (is ≡ true → bytes ≤ record_limit)
+room-fits : (is : Bool) (bytes size : ℕ) → room_of is bytes size store_limit ≡ Enough
+    → (size + bytes ≤ store_limit) × (is ≡ true → bytes ≤ record_limit)
 room-fits is bytes size e = by is (nat_lt record_limit bytes) refl (nat_le (size + bytes) store_limit) refl e
   where
     by : (is long : Bool) → nat_lt record_limit bytes ≡ long → (short : Bool) → nat_le (size + bytes) store_limit ≡ short
-        → (if is && long then LongRecord else if short then Enough else Missing) ≡ Enough → (size + bytes ≤ store_limit) × (is ≡ true → bytes ≤ record_limit)
+        → (if is && long then LongRecord else if short then Enough else Missing) ≡ Enough
+        → (size + bytes ≤ store_limit) × (is ≡ true → bytes ≤ record_limit)
     by true true l short h e = absurd (cc e)
     by true false l false h e = absurd (cc e)
     by false long l false h e = absurd (cc e)
@@ -127,7 +138,8 @@ room-fits is bytes size e = by is (nat_lt record_limit bytes) refl (nat_le (size
     by false long l true h e = (within (size + bytes) h, λ is. absurd (false≢true is))
 
 -- the record of a batch that has room is read again
-fits-record : (command : Command) (number : ℕ) → (is_batch command ≡ true → length (record_bytes command number) ≤ record_limit) → FitsRecord command number
+fits-record : (command : Command) (number : ℕ)
+    → (is_batch command ≡ true → length (record_bytes command number) ≤ record_limit) → FitsRecord command number
 unfolding record_bytes
 fits-record (single edit) number short = tt
 fits-record (batch edits) number short =
@@ -141,8 +153,10 @@ pub refused-outcome : (size : ℕ) (s : Contents) (command : Command) (room : Ro
 refused-outcome size s command room fault is refused = ap (step s command) (sym is) ∙ refused
 
 -- a command whose step succeeds is accepted, and its record is as the definitions say
-pub accepted : StepsNeedRoom → StepsCount → RecordsAreRead → RecordsClose → (s new : Contents) (command : Command) (room : Room) (bytes : List ℕ) (size : ℕ) → IsState s → IsState new
-    → (room ≡ Enough → IsCommand command × (bytes ≡ next_record s command)) → step s command room ≡ Ok new → room ≡ room_for size s command → IsAccepted s command new size bytes
+pub accepted : StepsNeedRoom → StepsCount → RecordsAreRead → RecordsClose
+    → (s new : Contents) (command : Command) (room : Room) (bytes : List ℕ) (size : ℕ) → IsState s → IsState new
+    → (room ≡ Enough → IsCommand command × (bytes ≡ next_record s command)) → step s command room ≡ Ok new
+    → room ≡ room_for size s command → IsAccepted s command new size bytes
 accepted need_room counts are_read close s new command room bytes size kept kept_new made done is_room =
     let enough = need_room s new command room done in
     let is = (made enough).1 in
@@ -163,15 +177,19 @@ accepted need_room counts are_read close s new command room bytes size kept kept
     }
 
 -- its record, as the definitions number it
-accepted-record : (s end : Contents) (command : Command) (longest : ℕ) (more : List ℕ) → (ok : IsAccepted s command end longest more) → more ≡ record_bytes command (s.count + 1)
+accepted-record : (s end : Contents) (command : Command) (longest : ℕ) (more : List ℕ)
+    → (ok : IsAccepted s command end longest more) → more ≡ record_bytes command (s.count + 1)
 accepted-record s end command longest more ok = ok.is ∙ ap (record_bytes command) ok.number
 
-accepted-short : (folder : Folder) (s end : Contents) (command : Command) (size longest : ℕ) (waits : Bool) (more : List ℕ) → (held : IsHeld folder s size waits) → size ≤ longest → IsAccepted s command end longest more
+accepted-short : (folder : Folder) (s end : Contents) (command : Command) (size longest : ℕ) (waits : Bool)
+    (more : List ℕ) → (held : IsHeld folder s size waits) → size ≤ longest → IsAccepted s command end longest more
     → length held.file.synced + length held.file.pending + length more ≤ store_limit
-accepted-short folder s end command size longest waits more held within ok = (let short = ok.short in omega (arith, held.long, within, short))
+accepted-short folder s end command size longest waits more held within ok =
+    (let short = ok.short in omega (arith, held.long, within, short))
 
 -- after its record is appended, every stage has the file with it
-pub append-held : (old new : Folder) (s end : Contents) (command : Command) (size longest : ℕ) (waits : Bool) (more : List ℕ) → (held : IsHeld old s size waits) → size ≤ longest → IsAccepted s command end longest more
+pub append-held : (old new : Folder) (s end : Contents) (command : Command) (size longest : ℕ) (waits : Bool)
+    (more : List ℕ) → (held : IsHeld old s size waits) → size ≤ longest → IsAccepted s command end longest more
     → HoldsStore new (option_map (with_pending more) (Some held.file)) → IsHeld new end (size + length more) true
 append-held old new s end command size longest waits more held within ok holds = record {
   file = with_pending more held.file;
@@ -179,62 +197,85 @@ append-held old new s end command size longest waits more held within ok holds =
   flushed = held.flushed;
   since = held.since ++ command ∷ [];
   journal =
-      journal-more held.file held.flushed s end held.since command more held.journal (accepted-record s end command longest more ok) ok.reads ok.done
+      journal-more held.file held.flushed s end held.since command more held.journal
+      (accepted-record s end command longest more ok) ok.reads ok.done
       (accepted-short old s end command size longest waits more held within ok);
   long = omega (arith, held.long, length-append held.file.pending more);
   none = λ quiet. absurd (false≢true (sym quiet));
 }
 
 -- and it waits
-pub append-flushed : (old new : Folder) (s end : Contents) (command : Command) (size longest : ℕ) (waits : Bool) (more : List ℕ) → (held : IsHeld old s size waits) → size ≤ longest → IsAccepted s command end longest more
-    → HoldsStore new (option_map (with_pending more) (Some held.file)) → (flushed : Contents) (since : List Command) → HasFlushed old flushed since s → HasFlushed new flushed (since ++ command ∷ []) end
+pub append-flushed : (old new : Folder) (s end : Contents) (command : Command) (size longest : ℕ) (waits : Bool)
+    (more : List ℕ) → (held : IsHeld old s size waits) → size ≤ longest → IsAccepted s command end longest more
+    → HoldsStore new (option_map (with_pending more) (Some held.file)) → (flushed : Contents) (since : List Command)
+    → HasFlushed old flushed since s → HasFlushed new flushed (since ++ command ∷ []) end
 append-flushed old new s end command size longest waits more held within ok holds flushed since has = record {
   file = with_pending more held.file;
   is = holds.is;
   journal =
-      journal-more held.file flushed s end since command more (held-journal old s size waits held flushed since has) (accepted-record s end command longest more ok) ok.reads ok.done
+      journal-more held.file flushed s end since command more (held-journal old s size waits held flushed since has)
+      (accepted-record s end command longest more ok) ok.reads ok.done
       (accepted-short old s end command size longest waits more held within ok);
 }
 
 -- a crash while it is appended leaves the state after a prefix of what waits, or after it
-pub append-leaves : {D : Type 0} (model : DiskModel D) (old new : D) (folder : Folder) (s end : Contents) (command : Command) (size longest : ℕ) (waits : Bool) (more : List ℕ) → RecordsTear
-    → (held : IsHeld folder s size waits) → size ≤ longest → IsAccepted s command end longest more → (flushed : Contents) (since : List Command) → HasFlushed folder flushed since s
+pub append-leaves : {D : Type 0} (model : DiskModel D) (old new : D) (folder : Folder) (s end : Contents)
+    (command : Command) (size longest : ℕ) (waits : Bool) (more : List ℕ) → RecordsTear
+    → (held : IsHeld folder s size waits) → size ≤ longest → IsAccepted s command end longest more
+    → (flushed : Contents) (since : List Command) → HasFlushed folder flushed since s
     → LeavesOnly model old new (λ image. IsLeftOf (option_map (with_pending more) (Some held.file)) image.store)
     → LeavesOnly model old new (λ image. AfterPrefix flushed since image.store ⊎ FileMeans image.store end)
 append-leaves model old new folder s end command size longest waits more tear held within ok flushed since has run =
     LeavesOnly-weaker model old new (λ image. IsLeftOf (option_map (with_pending more) (Some held.file)) image.store)
     (λ image. AfterPrefix flushed since image.store ⊎ FileMeans image.store end) run
-    (λ image. appended-left tear held.file flushed s end since command more (held-journal folder s size waits held flushed since has) (accepted-record s end command longest more ok) ok.reads ok.done
+    (λ image. appended-left tear held.file flushed s end since command more
+    (held-journal folder s size waits held flushed since has) (accepted-record s end command longest more ok) ok.reads ok.done
     (accepted-short folder s end command size longest waits more held within ok) image.store)
 
 -- ---- calls that change no meaning
 
 -- a crash leaves an old store, so the state after a prefix of what waits
-pub old-prefix : {D : Type 0} (model : DiskModel D) (old new : D) (folder : Folder) (s : Contents) (size : ℕ) (waits : Bool) → HeldIsLeft → RecordsTear → IsHeld folder s size waits
-    → (flushed : Contents) (since : List Command) → HasFlushed folder flushed since s → LeavesOnly model old new (λ image. IsStoreOf folder image.store)
+pub old-prefix : {D : Type 0} (model : DiskModel D) (old new : D) (folder : Folder) (s : Contents) (size : ℕ)
+    (waits : Bool) → HeldIsLeft → RecordsTear → IsHeld folder s size waits
+    → (flushed : Contents) (since : List Command) → HasFlushed folder flushed since s
+    → LeavesOnly model old new (λ image. IsStoreOf folder image.store)
     → LeavesOnly model old new (λ image. AfterPrefix flushed since image.store)
 old-prefix model old new folder s size waits held_left tear held flushed since has run =
     LeavesOnly-weaker model old new (λ image. IsStoreOf folder image.store) (λ image. AfterPrefix flushed since image.store) run
     (λ image. held-stores held_left tear folder s size waits held flushed since has image.store)
 
 -- or another file that means the state
-pub other-prefix : {D : Type 0} (model : DiskModel D) (old new : D) (folder : Folder) (s : Contents) (size : ℕ) (waits : Bool) (P : Image → Type 0) → HeldIsLeft → RecordsTear → IsHeld folder s size waits
-    → (flushed : Contents) (since : List Command) → HasFlushed folder flushed since s → ((image : Image) → P image → FileMeans image.store s)
+pub other-prefix : {D : Type 0} (model : DiskModel D) (old new : D) (folder : Folder) (s : Contents) (size : ℕ)
+    (waits : Bool) (P : Image → Type 0) → HeldIsLeft → RecordsTear → IsHeld folder s size waits
+    → (flushed : Contents) (since : List Command) → HasFlushed folder flushed since s
+    → ((image : Image) → P image → FileMeans image.store s)
     → LeavesOnly model old new (λ image. IsStoreOf folder image.store ⊎ P image)
     → LeavesOnly model old new (λ image. AfterPrefix flushed since image.store)
 other-prefix model old new folder s size waits P held_left tear held flushed since has means run =
     LeavesOnly-weaker model old new (λ image. IsStoreOf folder image.store ⊎ P image) (λ image. AfterPrefix flushed since image.store) run
     (λ image. ⊎_elim (held-stores held_left tear folder s size waits held flushed since has image.store)
-    (λ other. means-waiting held.file flushed s since image.store (held-journal folder s size waits held flushed since has) (means image other)))
+    (λ other. means-waiting held.file flushed s since image.store
+    (held-journal folder s size waits held flushed since has) (means image other)))
 
 -- the same file in another folder
-pub held-along : (old new : Folder) (s : Contents) (size : ℕ) (waits : Bool) → (held : IsHeld old s size waits) → HoldsStore new (Some held.file) → IsHeld new s size waits
+pub held-along : (old new : Folder) (s : Contents) (size : ℕ) (waits : Bool) → (held : IsHeld old s size waits)
+    → HoldsStore new (Some held.file) → IsHeld new s size waits
 held-along old new s size waits held holds =
-    record { file = held.file; holds = holds; flushed = held.flushed; since = held.since; journal = held.journal; long = held.long; none = held.none }
+    record {
+      file = held.file;
+      holds = holds;
+      flushed = held.flushed;
+      since = held.since;
+      journal = held.journal;
+      long = held.long;
+      none = held.none;
+    }
 
-pub flushed-along : (old new : Folder) (s : Contents) (size : ℕ) (waits : Bool) → (held : IsHeld old s size waits) → HoldsStore new (Some held.file) → (flushed : Contents) (since : List Command) → HasFlushed old flushed since s
+pub flushed-along : (old new : Folder) (s : Contents) (size : ℕ) (waits : Bool) → (held : IsHeld old s size waits)
+    → HoldsStore new (Some held.file) → (flushed : Contents) (since : List Command) → HasFlushed old flushed since s
     → HasFlushed new flushed since s
-flushed-along old new s size waits held holds flushed since has = record { file = held.file; is = holds.is; journal = held-journal old s size waits held flushed since has }
+flushed-along old new s size waits held holds flushed since has =
+    record { file = held.file; is = holds.is; journal = held-journal old s size waits held flushed since has }
 
 -- a durable store has flushed its state, and none waits
 pub durable-flushed : (folder : Folder) (s : Contents) (size : ℕ) → IsDurable folder s size → HasFlushed folder s [] s
@@ -245,7 +286,8 @@ durable-flushed folder s size durable = record {
 }
 
 -- where none waits, the state is flushed
-pub quiet-flushed : (folder : Folder) (s : Contents) (size : ℕ) (waits : Bool) → (held : IsHeld folder s size waits) → waits ≡ false → HasFlushed folder s [] s
+pub quiet-flushed : (folder : Folder) (s : Contents) (size : ℕ) (waits : Bool) → (held : IsHeld folder s size waits)
+    → waits ≡ false → HasFlushed folder s [] s
 quiet-flushed folder s size waits held quiet =
     let none = held.none quiet in
     let leads : after held.flushed [] ≡ Ok s = ap (after held.flushed) (sym none) ∙ held.journal.leads in

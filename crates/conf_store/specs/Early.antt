@@ -23,7 +23,8 @@ parts_of early (name ∷ names) = part_of early name ∷ parts_of early names
 
 -- the bytes of a configuration, as they were made early, or as these configurations have them
 abbrev pub text_named : Texts → List Entry → List ℕ → List ℕ
-text_named early configs name = unwrap_or (option_map string_bytes (get_by_text early name)) (encode_utf8_all (entry_named configs (chars name)))
+text_named early configs name = unwrap_or (option_map string_bytes (get_by_text early name))
+    (encode_utf8_all (entry_named configs (chars name)))
 
 -- the name is none of these
 abbrev pub IsApart : String Global → List (String Global) → Type 0

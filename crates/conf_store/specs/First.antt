@@ -1,7 +1,8 @@
 -- What the bytes of a `store.yaml` of the format `confstore-1` mean. These definitions never change: they are those of
 -- the first format, where a command was one edit and the limits were smaller. The law `old_stores_read` says that
 -- today's give the same state wherever these give one. Nothing else uses them.
-use Rattle.std.specs.Prelude.{◌≡◌, ◌≤◌, ℕ, ◌+◌, Bool, true, ◌&&◌, nat_le, nat_lt, if◌then◌else◌, length, List, [], ◌∷◌, codes, decimal, Option, Some, None, option_map, is_ok, Result, Ok, Err}
+use Rattle.std.specs.Prelude.{◌≡◌, ◌≤◌, ℕ, ◌+◌, Bool, true, ◌&&◌, nat_le, nat_lt, if◌then◌else◌, length, List, []}
+use Rattle.std.specs.Prelude.{◌∷◌, codes, decimal, Option, Some, None, option_map, is_ok, Result, Ok, Err}
 use Rattle.std.specs.Str.{chars, IsUtf8}
 use Rattle.yaml_grammar.specs.Closings.{Pieces}
 use Rattle.yaml_grammar.specs.Reads.{Limits, Good, Gives}

@@ -1,5 +1,6 @@
 -- What calls of the program keep, one call after the other.
-use Rattle.std.proofs.Common.{◌≡◌, ◌≤◌, ℕ, Bool, true, false, if◌then◌else◌, List, [], ◌∷◌, ◌++◌, length, take, Option, None, Some, Result, Ok, Err, refl, sym, ap, ◌∙◌, subst, ⊎_elim, arith}
+use Rattle.std.proofs.Common.{◌≡◌, ◌≤◌, ℕ, Bool, true, false, if◌then◌else◌, List, [], ◌∷◌, ◌++◌, length, take}
+use Rattle.std.proofs.Common.{Option, None, Some, Result, Ok, Err, refl, sym, ap, ◌∙◌, subst, ⊎_elim, arith}
 use Rattle.conf_disk.specs.Folder.{bytes_under}
 use Rattle.conf_disk.specs.Image.{Image, IsImage, image_now}
 use Rattle.conf_disk.specs.Laws.{ReadingIsAnImage}
@@ -16,12 +17,16 @@ use Rattle.conf_store.specs.Meaning.{FileMeans}
 use Rattle.conf_store.specs.Opens.{MeantAtEntry, OneMeaning}
 use Rattle.conf_session.specs.declared.fault.SessionFault.{SessionFault}
 use Rattle.conf_session.specs.declared.session.Tally.{Tally}
-use Rattle.conf_tools.specs.ProgramCalls.{AreCalls, Call, CallHolds, CallsHold, EachKept, EachMeans, Ending, Event, KeptOf, MayLeave, MeantBy, accepted, answered, changing, cut_off, disk_before, disk_behind, exporting, returned, running}
+use Rattle.conf_tools.specs.ProgramCalls.{AreCalls, Call, CallHolds, CallsHold, EachKept, EachMeans, Ending, Event}
+use Rattle.conf_tools.specs.ProgramCalls.{KeptOf, MayLeave, MeantBy, accepted, answered, changing, cut_off}
+use Rattle.conf_tools.specs.ProgramCalls.{disk_before, disk_behind, exporting, returned, running}
 use Rattle.conf_tools.specs.Changes.{KeepsChange}
 use Rattle.conf_tools.specs.Stores.{KeepsAnswered}
 use Rattle.conf_tools.specs.declared.changes.Change.{Change}
 use Rattle.conf_tools.specs.declared.stores.Grouping.{Grouping}
-use Rattle.conf_tools.specs.declared.stores.StoreToolFault.TheVariants.{Folder as InFolder, Open, Session, Export, Condition as OnCondition, Refused, StoreExists}
+use Rattle.conf_tools.specs.declared.stores.StoreToolFault.TheVariants.{Folder as InFolder, Open, Session, Export}
+use Rattle.conf_tools.specs.declared.stores.StoreToolFault.TheVariants.{Condition as OnCondition, Refused}
+use Rattle.conf_tools.specs.declared.stores.StoreToolFault.TheVariants.{StoreExists}
 use Rattle.conf_session.specs.Streams.{Streams}
 
 -- a file means one state at most
@@ -30,8 +35,10 @@ file-one one None s t a b = a ∙ sym b
 file-one one (Some bytes) s t a b = one bytes s t a b
 
 -- the first commands lead to a state, and the others on from there
-led-on : (from between to : Contents) (first others : List Command) → after from first ≡ Ok between → after between others ≡ Ok to → after from (first ++ others) ≡ Ok to
-led-on from between to first others one two = after-append from first others ∙ ap (λ r. and_then r (λ (s : Contents). after s others)) one ∙ two
+led-on : (from between to : Contents) (first others : List Command) → after from first ≡ Ok between
+    → after between others ≡ Ok to → after from (first ++ others) ≡ Ok to
+led-on from between to first others one two = after-append from first others
+    ∙ ap (λ r. and_then r (λ (s : Contents). after s others)) one ∙ two
 
 -- What is kept of a call: it leads from a state of which P holds to the state that the file means.
 record Kept (P : Contents → Type 0) (ending : Ending) (accepted : List Command) (answered : ℕ) (file : Option (List ℕ)) : Type 0 where
@@ -47,8 +54,10 @@ record Kept (P : Contents → Type 0) (ending : Ending) (accepted : List Command
 none-owed : (answered count : ℕ) → cut_off ≡ returned → answered ≤ count
 none-owed answered count is = cc
 
-kept-prefix : (P : Contents → Type 0) (ending : Ending) (s : Contents) (accepted : List Command) (answered : ℕ) (file : Option (List ℕ)) → P s
-    → (after-prefix : AfterPrefix s accepted file) → (ending ≡ returned → answered ≤ after-prefix.count) → Kept P ending accepted answered file
+kept-prefix : (P : Contents → Type 0) (ending : Ending) (s : Contents) (accepted : List Command) (answered : ℕ)
+    (file : Option (List ℕ)) → P s
+    → (after-prefix : AfterPrefix s accepted file) → (ending ≡ returned → answered ≤ after-prefix.count)
+    → Kept P ending accepted answered file
 kept-prefix P ending s accepted answered file holds prefix enough = record {
   kept = take prefix.count accepted;
   of = record { count = prefix.count; are = refl; all_answered = enough };
@@ -60,7 +69,9 @@ kept-prefix P ending s accepted answered file holds prefix enough = record {
 }
 
 module _ {D : Type 0} (model : DiskModel D)
-    (one : OneMeaning) (reading : ReadingIsAnImage) (counts : (disk : D) (t : ℕ) (image : Image) → t ≤ model.moment disk → IsImage (model.folder disk) image → model.left disk t image) where
+    (one : OneMeaning) (reading : ReadingIsAnImage)
+    (counts : (disk : D) (t : ℕ) (image : Image) → t ≤ model.moment disk → IsImage (model.folder disk) image
+    → model.left disk t image) where
   -- whatever a crash leaves of the disk means a state of which P holds
   abbrev Stands : D → (Contents → Type 0) → Type 0
   Stands disk P = (image : Image) → IsImage (model.folder disk) image → (s : Contents) × P s × FileMeans image.store s
@@ -90,11 +101,14 @@ module _ {D : Type 0} (model : DiskModel D)
       → LeavesOnly model old new (λ image. MeantAtEntry (model.folder old) image.store) → MayLeave model ending old new image
       → Kept P ending [] 0 image.store
   kept-unchanged P old new returned image stands leaves is =
-      kept-entry P old returned [] 0 image stands (λ _. omega arith) (leaves.each image (counts new (model.moment old) image leaves.later is))
-  kept-unchanged P old new cut_off image stands leaves is = kept-entry P old cut_off [] 0 image stands (none-owed 0 0) (leaves.each image is)
+      kept-entry P old returned [] 0 image stands (λ _. omega arith)
+      (leaves.each image (counts new (model.moment old) image leaves.later is))
+  kept-unchanged P old new cut_off image stands leaves is =
+      kept-entry P old cut_off [] 0 image stands (none-owed 0 0) (leaves.each image is)
 
   -- a session
-  kept-session : (P : Contents → Type 0) (io : Streams) (grouping : Grouping) (old new : D) (result : Result Tally SessionFault) (ending : Ending) (image : Image) → Stands old P
+  kept-session : (P : Contents → Type 0) (io : Streams) (grouping : Grouping) (old new : D)
+      (result : Result Tally SessionFault) (ending : Ending) (image : Image) → Stands old P
       → (keeps : KeepsAnswered model io grouping old new result) → MayLeave model ending old new image
       → Kept P ending keeps.work.accepted keeps.work.answered image.store
   kept-session P io grouping old new result returned image stands keeps is =
@@ -105,8 +119,10 @@ module _ {D : Type 0} (model : DiskModel D)
   kept-session P io grouping old new result cut_off image stands keeps is =
       let s = keeps.start.state in
       ⊎_elim
-      (λ was. kept-entry P old cut_off keeps.work.accepted keeps.work.answered image stands (none-owed keeps.work.answered 0) (keeps.while_opening.each image was))
-      (λ now. kept-prefix P cut_off s keeps.work.accepted keeps.work.answered image.store (reads P old s stands keeps.opens.means) now (none-owed keeps.work.answered now.count))
+      (λ was. kept-entry P old cut_off keeps.work.accepted keeps.work.answered image stands
+      (none-owed keeps.work.answered 0) (keeps.while_opening.each image was))
+      (λ now. kept-prefix P cut_off s keeps.work.accepted keeps.work.answered image.store
+      (reads P old s stands keeps.opens.means) now (none-owed keeps.work.answered now.count))
       (keeps.once_open.before (model.moment old) image keeps.while_opening.later is)
 
   -- a change
@@ -115,13 +131,15 @@ module _ {D : Type 0} (model : DiskModel D)
       → Kept P ending keeps.accepted (if is_done then length keeps.accepted else 0) image.store
   kept-change P change old new is_done returned image stands keeps is =
       let least = keeps.returned image is in
-      kept-prefix P returned keeps.start keeps.accepted (if is_done then length keeps.accepted else 0) image.store (reads P old keeps.start stands keeps.means)
+      kept-prefix P returned keeps.start keeps.accepted (if is_done then length keeps.accepted else 0) image.store
+      (reads P old keeps.start stands keeps.means)
       (record { count = least.count; state = least.state; leads = least.leads; means = least.means }) (λ _. least.enough)
   kept-change P change old new is_done cut_off image stands keeps is =
       let owed = if is_done then length keeps.accepted else 0 in
       ⊎_elim
       (λ was. kept-entry P old cut_off keeps.accepted owed image stands (none-owed owed 0) (keeps.while_opening.each image was))
-      (λ now. kept-prefix P cut_off keeps.start keeps.accepted owed image.store (reads P old keeps.start stands keeps.means) now (none-owed owed now.count))
+      (λ now. kept-prefix P cut_off keeps.start keeps.accepted owed image.store
+      (reads P old keeps.start stands keeps.means) now (none-owed owed now.count))
       (keeps.once_open.before (model.moment old) image keeps.while_opening.later is)
 
   -- any call
@@ -132,20 +150,33 @@ module _ {D : Type 0} (model : DiskModel D)
       kept-session P io grouping old new (Ok tally) ending image stands keeps is
   kept-call P ending (running io grouping old (Err (new, Session fault)) keeps) image stands is =
       kept-session P io grouping old new (Err fault) ending image stands keeps is
-  kept-call P ending (running io grouping old (Err (new, InFolder fault)) leaves) image stands is = kept-unchanged P old new ending image stands leaves is
-  kept-call P ending (running io grouping old (Err (new, Open fault)) leaves) image stands is = kept-unchanged P old new ending image stands leaves is
-  kept-call P ending (running io grouping old (Err (new, OnCondition fault)) leaves) image stands is = kept-unchanged P old new ending image stands leaves is
-  kept-call P ending (running io grouping old (Err (new, Export fault)) leaves) image stands is = kept-unchanged P old new ending image stands leaves is
-  kept-call P ending (running io grouping old (Err (new, Refused fault)) leaves) image stands is = kept-unchanged P old new ending image stands leaves is
-  kept-call P ending (running io grouping old (Err (new, StoreExists)) leaves) image stands is = kept-unchanged P old new ending image stands leaves is
+  kept-call P ending (running io grouping old (Err (new, InFolder fault)) leaves) image stands is =
+      kept-unchanged P old new ending image stands leaves is
+  kept-call P ending (running io grouping old (Err (new, Open fault)) leaves) image stands is =
+      kept-unchanged P old new ending image stands leaves is
+  kept-call P ending (running io grouping old (Err (new, OnCondition fault)) leaves) image stands is =
+      kept-unchanged P old new ending image stands leaves is
+  kept-call P ending (running io grouping old (Err (new, Export fault)) leaves) image stands is =
+      kept-unchanged P old new ending image stands leaves is
+  kept-call P ending (running io grouping old (Err (new, Refused fault)) leaves) image stands is =
+      kept-unchanged P old new ending image stands leaves is
+  kept-call P ending (running io grouping old (Err (new, StoreExists)) leaves) image stands is =
+      kept-unchanged P old new ending image stands leaves is
   kept-call P ending (changing change old (Ok new) keeps) image stands is = kept-change P change old new true ending image stands keeps is
-  kept-call P ending (changing change old (Err (new, Refused fault)) keeps) image stands is = kept-change P change old new false ending image stands keeps is
-  kept-call P ending (changing change old (Err (new, InFolder fault)) leaves) image stands is = kept-unchanged P old new ending image stands leaves is
-  kept-call P ending (changing change old (Err (new, Open fault)) leaves) image stands is = kept-unchanged P old new ending image stands leaves is
-  kept-call P ending (changing change old (Err (new, OnCondition fault)) leaves) image stands is = kept-unchanged P old new ending image stands leaves is
-  kept-call P ending (changing change old (Err (new, Session fault)) leaves) image stands is = kept-unchanged P old new ending image stands leaves is
-  kept-call P ending (changing change old (Err (new, Export fault)) leaves) image stands is = kept-unchanged P old new ending image stands leaves is
-  kept-call P ending (changing change old (Err (new, StoreExists)) leaves) image stands is = kept-unchanged P old new ending image stands leaves is
+  kept-call P ending (changing change old (Err (new, Refused fault)) keeps) image stands is =
+      kept-change P change old new false ending image stands keeps is
+  kept-call P ending (changing change old (Err (new, InFolder fault)) leaves) image stands is =
+      kept-unchanged P old new ending image stands leaves is
+  kept-call P ending (changing change old (Err (new, Open fault)) leaves) image stands is =
+      kept-unchanged P old new ending image stands leaves is
+  kept-call P ending (changing change old (Err (new, OnCondition fault)) leaves) image stands is =
+      kept-unchanged P old new ending image stands leaves is
+  kept-call P ending (changing change old (Err (new, Session fault)) leaves) image stands is =
+      kept-unchanged P old new ending image stands leaves is
+  kept-call P ending (changing change old (Err (new, Export fault)) leaves) image stands is =
+      kept-unchanged P old new ending image stands leaves is
+  kept-call P ending (changing change old (Err (new, StoreExists)) leaves) image stands is =
+      kept-unchanged P old new ending image stands leaves is
   kept-call P ending (exporting old new leaves) image stands is = kept-unchanged P old new ending image stands leaves is
 
   -- whatever a crash leaves of the disk means a state that an image of it means
@@ -157,7 +188,15 @@ module _ {D : Type 0} (model : DiskModel D)
   call-holds event each image is =
       let old = disk_before model event.call in
       let kept = kept-call (MeantBy model old) event.ending event.call image (stands-meant old each) is in
-      record { start = kept.from; began = kept.holds; kept = kept.kept; of = kept.of; state = kept.to; leads = kept.leads; means = kept.means }
+      record {
+        start = kept.from;
+        began = kept.holds;
+        kept = kept.kept;
+        of = kept.of;
+        state = kept.to;
+        leads = kept.leads;
+        means = kept.means;
+      }
 
   -- What is kept of all calls, from a state of which P holds.
   record KeptOfAll (P : Contents → Type 0) (events : List (Event model)) (file : Option (List ℕ)) : Type 0 where
@@ -178,9 +217,11 @@ module _ {D : Type 0} (model : DiskModel D)
       let stood = subst (λ (disk : D). Stands disk P) (sym same) stands in
       let came = λ (image : Image) (is : IsImage (model.folder next) image). kept-call P event.ending event.call image stood
       (subst (λ (disk : D). MayLeave model event.ending disk (disk_behind model event.call) image) (sym same) (follows image is)) in
-      let Reached : Contents → Type 0 = λ to. (kept : List Command) × KeptOf event.ending (accepted model event.call) (answered model event.call) kept
+      let Reached : Contents → Type 0 = λ to. (kept : List Command)
+      × KeptOf event.ending (accepted model event.call) (answered model event.call) kept
       × (from : Contents) × P from × (after from kept ≡ Ok to) in
-      let rest = kept-calls events Reached next last (λ image is. let k = came image is in (k.to, (k.kept, k.of, k.from, k.holds, k.leads), k.means)) further image is in
+      let rest = kept-calls events Reached next last
+      (λ image is. let k = came image is in (k.to, (k.kept, k.of, k.from, k.holds, k.leads), k.means)) further image is in
       let here = rest.holds in record {
         kept = here.0 ∷ rest.kept;
         each = (here.1, rest.each);
@@ -195,4 +236,12 @@ module _ {D : Type 0} (model : DiskModel D)
   pub calls-hold : CallsHold model
   calls-hold first last events each are image is =
       let kept = kept-calls events (MeantBy model first) first last (stands-meant first each) are image is in
-      record { start = kept.from; began = kept.holds; kept = kept.kept; each = kept.each; state = kept.to; leads = kept.leads; means = kept.means }
+      record {
+        start = kept.from;
+        began = kept.holds;
+        kept = kept.kept;
+        each = kept.each;
+        state = kept.to;
+        leads = kept.leads;
+        means = kept.means;
+      }

@@ -1,5 +1,6 @@
 -- What a single change leaves of a store.
-use Rattle.std.proofs.Common.{◌≡◌, ◌≢◌, ◌⊎◌, ◌≤◌, ℕ, Bool, true, false, List, [], ◌∷◌, inl, inr, refl, sym, ◌∙◌, ap, subst, arith, length, ⊎_elim}
+use Rattle.std.proofs.Common.{◌≡◌, ◌≢◌, ◌⊎◌, ◌≤◌, ℕ, Bool, true, false, List, [], ◌∷◌, inl, inr, refl, sym, ◌∙◌, ap}
+use Rattle.std.proofs.Common.{subst, arith, length, ⊎_elim}
 use Rattle.std.specs.Prelude.{Option, Ok}
 use Rattle.std.proofs.Math.Seq.{take-length}
 use Rattle.std.proofs.lemmas.Bool.{false≢true}
@@ -12,7 +13,9 @@ use Rattle.conf_state.specs.Commands.{Command as GivenCommand, command_of, impor
 use Rattle.conf_state.specs.States.{Contents}
 use Rattle.conf_state.specs.Steps.{after}
 use Rattle.conf_state.specs.declared.fault.StoreFault.{StoreFault}
-use Rattle.conf_state.specs.declared.fault.StoreFault.TheVariants.{EmptyBatch, BadName, NoConfig, Path, Read, TooDeep, ConfigLarge, StoreFull, RecordLong, JournalLong, CountFull, Reopen, Device, OutOfMemory}
+use Rattle.conf_state.specs.declared.fault.StoreFault.TheVariants.{EmptyBatch, BadName, NoConfig, Path, Read, TooDeep}
+use Rattle.conf_state.specs.declared.fault.StoreFault.TheVariants.{ConfigLarge, StoreFull, RecordLong, JournalLong}
+use Rattle.conf_state.specs.declared.fault.StoreFault.TheVariants.{CountFull, Reopen, Device, OutOfMemory}
 use Rattle.conf_store.specs.Calls.{room_for, journal_length, outcome}
 use Rattle.conf_store.specs.Durable.{AfterPrefix, AllImagesMean, NothingWaits}
 use Rattle.conf_store.specs.Meaning.{FileMeans}
@@ -35,11 +38,13 @@ pub record Led (change : Change) (before end : Contents) : Type 0 where
   pub of : Performs before change commands
   pub leads : after before commands ≡ Ok end
 
-accepted-leads : StepsNeedRoom → (size : ℕ) (s end : Contents) (command : GivenCommand) → outcome size s command ≡ Ok end → after s (command ∷ []) ≡ Ok end
+accepted-leads : StepsNeedRoom → (size : ℕ) (s end : Contents) (command : GivenCommand)
+    → outcome size s command ≡ Ok end → after s (command ∷ []) ≡ Ok end
 accepted-leads room size s end command e = after-done s end command (accepted-anyway room s end command (room_for size s command) e)
 
 -- a change that was made
-pub made-led : StepsNeedRoom → {D : Type 0} (old new : StoreView D) (change : Change) → Makes old change new → Led change old.state new.state
+pub made-led : StepsNeedRoom → {D : Type 0} (old new : StoreView D) (change : Change) → Makes old change new
+    → Led change old.state new.state
 made-led room old new (Import name text) made = record {
   commands = single (import_as (text_of name) made.tree) ∷ [];
   of = (made.tree, made.reads, refl);
@@ -63,7 +68,8 @@ made-led room old new (Rename name to) made = record {
 made-led room old new Checkpoint made = record { commands = []; of = refl; leads = ap Ok (sym made.0) }
 
 -- a change in which the device failed
-device-led : StepsNeedRoom → {D : Type 0} (old new : StoreView D) (change : Change) → RefusesChange old change new Device → Led change old.state new.state
+device-led : StepsNeedRoom → {D : Type 0} (old new : StoreView D) (change : Change)
+    → RefusesChange old change new Device → Led change old.state new.state
 device-led room old new (Import name text) refuses = record {
   commands = single (import_as (text_of name) refuses.tree) ∷ [];
   of = (refuses.tree, refuses.reads, refl);
@@ -105,7 +111,8 @@ is-device OutOfMemory = inr (λ e. cc)
 -- ---- what a crash leaves
 
 -- the state before some commands, or after them, is the one after a prefix of them
-one-of-prefix : (before end : Contents) (commands : List GivenCommand) → after before commands ≡ Ok end → (file : Option (List ℕ)) → MeansOneOf before end file → AfterPrefix before commands file
+one-of-prefix : (before end : Contents) (commands : List GivenCommand) → after before commands ≡ Ok end
+    → (file : Option (List ℕ)) → MeansOneOf before end file → AfterPrefix before commands file
 one-of-prefix before end commands leads file (inl means) = record { count = 0; state = before; leads = refl; means = means }
 one-of-prefix before end commands leads file (inr means) = record {
   count = length commands;
@@ -119,7 +126,8 @@ pub command-leaves : NothingWaits → {D : Type 0} (model : DiskModel D) (old ne
     → LeavesOnly model old.disk new.disk (λ image. AfterPrefix old.state [] image.store ⊎ FileMeans image.store new.state)
     → LeavesOnly model old.disk new.disk (λ image. MeansOneOf old.state new.state image.store)
 command-leaves nothing model old new leaves =
-    LeavesOnly-weaker model old.disk new.disk (λ image. AfterPrefix old.state [] image.store ⊎ FileMeans image.store new.state) (λ image. MeansOneOf old.state new.state image.store)
+    LeavesOnly-weaker model old.disk new.disk (λ image. AfterPrefix old.state [] image.store
+    ⊎ FileMeans image.store new.state) (λ image. MeansOneOf old.state new.state image.store)
     leaves (λ image one. ⊎_elim (λ prefix. inl (nothing old.state image.store prefix)) (λ means. inr means) one)
 
 -- and of a checkpoint
@@ -127,7 +135,8 @@ pub checkpoint-leaves : NothingWaits → {D : Type 0} (model : DiskModel D) (old
     → LeavesOnly model old.disk new.disk (λ image. AfterPrefix old.state [] image.store)
     → LeavesOnly model old.disk new.disk (λ image. MeansOneOf old.state new.state image.store)
 checkpoint-leaves nothing model old new leaves =
-    LeavesOnly-weaker model old.disk new.disk (λ image. AfterPrefix old.state [] image.store) (λ image. MeansOneOf old.state new.state image.store)
+    LeavesOnly-weaker model old.disk new.disk (λ image. AfterPrefix old.state [] image.store)
+    (λ image. MeansOneOf old.state new.state image.store)
     leaves (λ image prefix. inl (nothing old.state image.store prefix))
 
 -- a store that needn't be opened again never says that it has to be
@@ -136,11 +145,14 @@ never-reopen before fault off reopen is = false≢true (sym off ∙ reopen is)
 
 -- what a crash leaves of a look at a file and an opening after it
 pub looked-leaves : {D : Type 0} (model : DiskModel D) (old mid new : D)
-    → ((t : ℕ) (image : Image) → t ≤ model.moment mid → IsImage (model.folder mid) image → model.left mid t image) → ((image : Image) → model.left old (model.moment old) image → IsImage (model.folder old) image)
-    → TimeGoesOn model old mid → model.folder mid ≡ model.folder old → LeavesOnly model mid new (λ image. MeantAtEntry (model.folder mid) image.store)
+    → ((t : ℕ) (image : Image) → t ≤ model.moment mid → IsImage (model.folder mid) image → model.left mid t image)
+    → ((image : Image) → model.left old (model.moment old) image → IsImage (model.folder old) image)
+    → TimeGoesOn model old mid → model.folder mid ≡ model.folder old
+    → LeavesOnly model mid new (λ image. MeantAtEntry (model.folder mid) image.store)
     → LeavesOnly model old new (λ image. MeantAtEntry (model.folder old) image.store)
 looked-leaves model old mid new counts only time same leaves =
-    LeavesOnly-joined model old mid new (IsImage (model.folder old)) (λ image. MeantAtEntry (model.folder mid) image.store) (λ image. MeantAtEntry (model.folder old) image.store)
+    LeavesOnly-joined model old mid new (IsImage (model.folder old))
+    (λ image. MeantAtEntry (model.folder mid) image.store) (λ image. MeantAtEntry (model.folder old) image.store)
     (read-stays model old mid counts only time same).any_moment leaves
     (λ image is. image-meant (model.folder old) image is)
     (λ image meant. subst (λ (f : Folder). MeantAtEntry f image.store) same meant)
@@ -151,7 +163,8 @@ module _ {D : Type 0} (model : DiskModel D)
   once-open : (commands : List GivenCommand) → after opened.state commands ≡ Ok closed.state
       → LeavesOnly model opened.disk closed.disk (λ image. AfterPrefix opened.state commands image.store)
   once-open commands leads =
-      LeavesOnly-weaker model opened.disk closed.disk (λ image. MeansOneOf opened.state closed.state image.store) (λ image. AfterPrefix opened.state commands image.store)
+      LeavesOnly-weaker model opened.disk closed.disk (λ image. MeansOneOf opened.state closed.state image.store)
+      (λ image. AfterPrefix opened.state commands image.store)
       leaves (λ image. one-of-prefix opened.state closed.state commands leads image.store)
 
   -- a change that was made is on the disk
@@ -176,8 +189,10 @@ module _ {D : Type 0} (model : DiskModel D)
         };
       }
 
-  keeps-some : ((t : ℕ) (image : Image) → t ≤ model.moment closed.disk → IsImage (model.folder closed.disk) image → model.left closed.disk t image) → model.honest
-      → (commands : List GivenCommand) → (commands ≡ []) ⊎ Performs opened.state change commands → after opened.state commands ≡ Ok closed.state
+  keeps-some : ((t : ℕ) (image : Image) → t ≤ model.moment closed.disk → IsImage (model.folder closed.disk) image
+      → model.left closed.disk t image) → model.honest
+      → (commands : List GivenCommand) → (commands ≡ []) ⊎ Performs opened.state change commands
+      → after opened.state commands ≡ Ok closed.state
       → KeepsChange model old change closed.disk false
   keeps-some counts h commands of leads = record {
     start = opened.state;
@@ -189,14 +204,19 @@ module _ {D : Type 0} (model : DiskModel D)
     while_opening = opens.at_any_moment h;
     once_open = once-open commands leads;
     returned = λ image is.
-        (let prefix = LeavesOnly-now model opened.disk closed.disk (λ image. AfterPrefix opened.state commands image.store) counts (once-open commands leads) image is in
+        (let prefix = LeavesOnly-now model opened.disk closed.disk
+        (λ image. AfterPrefix opened.state commands image.store) counts (once-open commands leads) image is in
         record { count = prefix.count; enough = omega arith; state = prefix.state; leads = prefix.leads; means = prefix.means });
   }
 
   -- a change that was refused keeps the state before it, or after it where the device failed
-  pub keeps-refused : StepsNeedRoom → ((t : ℕ) (image : Image) → t ≤ model.moment closed.disk → IsImage (model.folder closed.disk) image → model.left closed.disk t image) → model.honest
-      → (fault : StoreFault) → RefusesChange opened change closed fault → (fault ≢ Device → closed ≡ opened) → KeepsChange model old change closed.disk false
+  pub keeps-refused : StepsNeedRoom → ((t : ℕ) (image : Image) → t ≤ model.moment closed.disk
+      → IsImage (model.folder closed.disk) image → model.left closed.disk t image) → model.honest
+      → (fault : StoreFault) → RefusesChange opened change closed fault → (fault ≢ Device → closed ≡ opened)
+      → KeepsChange model old change closed.disk false
   keeps-refused room counts h fault refuses same = elim (is-device fault) [
-    | inl device ↦ (let led = device-led room opened closed change (subst (λ (f : StoreFault). RefusesChange opened change closed f) device refuses) in keeps-some counts h led.commands (inr led.of) led.leads)
+    | inl device ↦ (let led = device-led room opened closed change
+        (subst (λ (f : StoreFault). RefusesChange opened change closed f) device refuses) in
+        keeps-some counts h led.commands (inr led.of) led.leads)
     | inr other ↦ keeps-some counts h [] (inl refl) (ap (λ (s : StoreView D). Ok s.state) (sym (same other)))
   ]

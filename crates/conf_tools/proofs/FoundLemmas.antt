@@ -27,19 +27,24 @@ hidden-itself : (r : Result Presence StoreFault) → IfErr r (HidesPresence r)
 hidden-itself (Ok found) = tt
 hidden-itself (Err fault) = inr refl
 
-told : (found : Result Tree StoreFault) (fault : StoreFault) → Why fault found → IfOk (presence_of (Err fault)) (λ presence. presence_of found ≡ Ok presence)
+told : (found : Result Tree StoreFault) (fault : StoreFault) → Why fault found
+    → IfOk (presence_of (Err fault)) (λ presence. presence_of found ≡ Ok presence)
 told found fault (inl e) = subst (λ f. IfOk (presence_of (Err f)) (λ presence. presence_of found ≡ Ok presence)) (sym e) tt
-told found fault (inr e) = subst (λ r. IfOk (presence_of r) (λ presence. presence_of found ≡ Ok presence)) e (told-itself (presence_of found))
+told found fault (inr e) = subst (λ r. IfOk (presence_of r) (λ presence. presence_of found ≡ Ok presence)) e
+    (told-itself (presence_of found))
 
-hidden : (found : Result Tree StoreFault) (fault : StoreFault) → Why fault found → IfErr (presence_of (Err fault)) (HidesPresence (presence_of found))
+hidden : (found : Result Tree StoreFault) (fault : StoreFault) → Why fault found
+    → IfErr (presence_of (Err fault)) (HidesPresence (presence_of found))
 hidden found fault (inl e) = subst (λ f. IfErr (presence_of (Err f)) (HidesPresence (presence_of found))) (sym e) (inl refl)
 hidden found fault (inr e) = subst (λ r. IfErr (presence_of r) (HidesPresence (presence_of found))) e (hidden-itself (presence_of found))
 
-pub presence-told : (found : Result Tree StoreFault) (fault : StoreFault) (r : Result Presence StoreFault) → Why fault found → r ≡ presence_of (Err fault)
+pub presence-told : (found : Result Tree StoreFault) (fault : StoreFault) (r : Result Presence StoreFault)
+    → Why fault found → r ≡ presence_of (Err fault)
     → IfOk r (λ presence. presence_of found ≡ Ok presence)
 presence-told found fault r why is = subst (λ r. IfOk r (λ presence. presence_of found ≡ Ok presence)) (sym is) (told found fault why)
 
-pub presence-hidden : (found : Result Tree StoreFault) (fault : StoreFault) (r : Result Presence StoreFault) → Why fault found → r ≡ presence_of (Err fault)
+pub presence-hidden : (found : Result Tree StoreFault) (fault : StoreFault) (r : Result Presence StoreFault)
+    → Why fault found → r ≡ presence_of (Err fault)
     → IfErr r (HidesPresence (presence_of found))
 presence-hidden found fault r why is = subst (λ r. IfErr r (HidesPresence (presence_of found))) (sym is) (hidden found fault why)
 
@@ -59,13 +64,17 @@ no-text : (form : ValueForm) (bytes : List ℕ) → ShowsFound (Err OutOfMemory)
 no-text form bytes shows P = let bad = shows.is in absurd (cc bad)
 
 -- what is shown where nothing was found
-missing-shown : (missing : MissingValue) (found : Result Tree StoreFault) (fault : StoreFault) (form : ValueForm) (bytes : List ℕ) → Why fault found
+missing-shown : (missing : MissingValue) (found : Result Tree StoreFault) (fault : StoreFault) (form : ValueForm)
+    (bytes : List ℕ) → Why fault found
     → ShowsFound (found_or missing (Err fault)) form bytes → ShowsFound (found_or missing found) form bytes
 missing-shown missing found fault form bytes (inl e) shows =
-    no-text form bytes (subst (λ r. ShowsFound r form bytes) (ap (λ f. found_or missing (Err f)) e ∙ found_or-OutOfMemory missing) shows) (ShowsFound (found_or missing found) form bytes)
+    no-text form bytes (subst (λ r. ShowsFound r form bytes)
+    (ap (λ f. found_or missing (Err f)) e ∙ found_or-OutOfMemory missing) shows)
+    (ShowsFound (found_or missing found) form bytes)
 missing-shown missing found fault form bytes (inr e) shows = subst (λ r. ShowsFound (found_or missing r) form bytes) (sym e) shows
 
-lacks-memory : (found : Result Tree StoreFault) (form : ValueForm) (fault : ReadingFault) → LacksFound (Err OutOfMemory) form fault → LacksFound found form fault
+lacks-memory : (found : Result Tree StoreFault) (form : ValueForm) (fault : ReadingFault)
+    → LacksFound (Err OutOfMemory) form fault → LacksFound found form fault
 lacks-memory found form (reading.Value fault) (inl e) = inl e
 lacks-memory found form (reading.Value fault) (inr e) = inl (let same : fault ≡ OutOfMemory = cc e in same)
 lacks-memory found form reading.NotText (tree, is, by, none) = absurd (cc is)
@@ -76,10 +85,12 @@ lacks-memory found form (reading.Salvage fault) lacks = absurd lacks
 lacks-memory found form reading.Output lacks = absurd lacks
 
 -- why nothing is shown there
-missing-lacks : (missing : MissingValue) (found : Result Tree StoreFault) (fault : StoreFault) (form : ValueForm) (why_not : ReadingFault) → Why fault found
+missing-lacks : (missing : MissingValue) (found : Result Tree StoreFault) (fault : StoreFault) (form : ValueForm)
+    (why_not : ReadingFault) → Why fault found
     → LacksFound (found_or missing (Err fault)) form why_not → LacksFound (found_or missing found) form why_not
 missing-lacks missing found fault form why_not (inl e) lacks =
-    lacks-memory (found_or missing found) form why_not (subst (λ r. LacksFound r form why_not) (ap (λ f. found_or missing (Err f)) e ∙ found_or-OutOfMemory missing) lacks)
+    lacks-memory (found_or missing found) form why_not
+    (subst (λ r. LacksFound r form why_not) (ap (λ f. found_or missing (Err f)) e ∙ found_or-OutOfMemory missing) lacks)
 missing-lacks missing found fault form why_not (inr e) lacks = subst (λ r. LacksFound (found_or missing r) form why_not) (sym e) lacks
 
 module _ (missing : MissingValue) (found : Result Tree StoreFault) (tree : Tree) (is : found ≡ Ok tree) (form : ValueForm) where
@@ -106,12 +117,15 @@ module _ (missing : MissingValue) (found : Result Tree StoreFault) (tree : Tree)
   found-shown-all bytes (Ok x) shows = found-shown (bytes x) shows
   found-shown-all bytes (Err fault) shows = tt
 
-  pub found-lacks-all : {X : Type 0} (r : Result X ReadingFault) → IfErr r (CannotShow form tree) → IfErr r (LacksFound (found_or missing found) form)
+  pub found-lacks-all : {X : Type 0} (r : Result X ReadingFault) → IfErr r (CannotShow form tree)
+      → IfErr r (LacksFound (found_or missing found) form)
   found-lacks-all (Ok x) cannot = tt
   found-lacks-all (Err fault) cannot = found-lacks fault cannot
 
-module _ (missing : MissingValue) (found : Result Tree StoreFault) (fault : StoreFault) (form : ValueForm) (why : (fault ≡ OutOfMemory) ⊎ (found ≡ Err fault)) where
-  pub missing-shown-all : {X : Type 0} (bytes : X → List ℕ) (r : Result X ReadingFault) → IfOk r (λ x. ShowsFound (found_or missing (Err fault)) form (bytes x))
+module _ (missing : MissingValue) (found : Result Tree StoreFault) (fault : StoreFault) (form : ValueForm)
+    (why : (fault ≡ OutOfMemory) ⊎ (found ≡ Err fault)) where
+  pub missing-shown-all : {X : Type 0} (bytes : X → List ℕ) (r : Result X ReadingFault)
+      → IfOk r (λ x. ShowsFound (found_or missing (Err fault)) form (bytes x))
       → IfOk r (λ x. ShowsFound (found_or missing found) form (bytes x))
   missing-shown-all bytes (Ok x) shows = missing-shown missing found fault form (bytes x) why shows
   missing-shown-all bytes (Err other) shows = tt
@@ -125,7 +139,8 @@ module _ (missing : MissingValue) (found : Result Tree StoreFault) (fault : Stor
 
 module _ (fault : StoreFault) (word : Bor (List ℕ)) (form : ValueForm) where
   -- it stands for a place where nothing is
-  pub default-shown : {X : Type 0} (bytes : X → List ℕ) (r : Result X ReadingFault) → is_absent fault ≡ true → IfOk r (λ x. ShowsTree form (text (chars word.now)) (bytes x))
+  pub default-shown : {X : Type 0} (bytes : X → List ℕ) (r : Result X ReadingFault) → is_absent fault ≡ true
+      → IfOk r (λ x. ShowsTree form (text (chars word.now)) (bytes x))
       → IfOk r (λ x. ShowsFound (found_or (Default word) (Err fault)) form (bytes x))
   default-shown bytes (Ok x) absent shows = record {
     tree = text (chars word.now);
@@ -139,7 +154,8 @@ module _ (fault : StoreFault) (word : Bor (List ℕ)) (form : ValueForm) where
   default-refused there = inr (subst (λ b. (if b then Ok (text (chars word.now)) else Err fault) ≡ Err fault) (sym there) refl)
 
 -- memory ran out
-pub memory-lacks : {X : Type 0} (found : Result Tree StoreFault) (form : ValueForm) (r : Result X ReadingFault) → IfErr r (λ f. f ≡ reading.Value OutOfMemory)
+pub memory-lacks : {X : Type 0} (found : Result Tree StoreFault) (form : ValueForm) (r : Result X ReadingFault)
+    → IfErr r (λ f. f ≡ reading.Value OutOfMemory)
     → IfErr r (LacksFound found form)
 memory-lacks found form (Ok x) is = tt
 memory-lacks found form (Err f) is = subst (LacksFound found form) (sym is) (inl refl)

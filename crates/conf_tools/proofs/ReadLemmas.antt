@@ -21,7 +21,8 @@ use Rattle.conf_tools.specs.declared.reading_fault.ReadingFault.{ReadingFault}
 use Rattle.conf_tools.specs.declared.reading_fault.ReadingFault.TheVariants as reading
 
 -- bytes that were put behind others, where there was memory for them
-pub on_pushed : {A E Q : Type 0} (r : Result A E) (new more old : List ℕ) → new ≡ (if is_ok r then more else old) → (new ≡ more → Q) → OnOk r Q
+pub on_pushed : {A E Q : Type 0} (r : Result A E) (new more old : List ℕ) → new ≡ (if is_ok r then more else old)
+    → (new ≡ more → Q) → OnOk r Q
 on_pushed (Ok x) new more old is leads = leads is
 on_pushed (Err fault) new more old is leads = tt
 
@@ -29,10 +30,12 @@ on_pushed (Err fault) new more old is leads = tt
 pub name_pushed : (old one two name : List ℕ) → IsUtf8 name → one ≡ old ++ name → two ≡ one ++ codes "\n"
     → two ≡ old ++ (encode_utf8_all (chars name) ++ codes "\n")
 name_pushed old one two name utf8 first second =
-    second ∙ ap (λ x. x ++ codes "\n") first ∙ append_assoc old name (codes "\n") ∙ ap (λ b. old ++ (b ++ codes "\n")) (sym (encodes-chars name utf8))
+    second ∙ ap (λ x. x ++ codes "\n") first ∙ append_assoc old name (codes "\n")
+    ∙ ap (λ b. old ++ (b ++ codes "\n")) (sym (encodes-chars name utf8))
 
 -- the line of one more name, and then those of the rest
-pub one_name_more : (lines new all name : List ℕ) (rest more : List (List ℕ)) → rest ≡ name ∷ more → new ≡ lines ++ (encode_utf8_all name ++ codes "\n")
+pub one_name_more : (lines new all name : List ℕ) (rest more : List (List ℕ)) → rest ≡ name ∷ more
+    → new ≡ lines ++ (encode_utf8_all name ++ codes "\n")
     → lines ++ name_lines rest ≡ all → new ++ name_lines more ≡ all
 one_name_more lines new all name rest more split grows whole =
     ap (λ x. x ++ name_lines more) grows ∙ append_assoc lines (encode_utf8_all name ++ codes "\n") (name_lines more)
@@ -43,10 +46,12 @@ pub all_names : (lines all : List ℕ) (rest : List (List ℕ)) → rest ≡ [] 
 all_names lines all rest none whole = sym (append-nil lines) ∙ ap (λ ns. lines ++ name_lines ns) (sym none) ∙ whole
 
 -- five pieces that were written one after the other
-pub five_pieces : (old a b c d e one two three four five : List ℕ) → one ≡ old ++ a → two ≡ one ++ b → three ≡ two ++ c → four ≡ three ++ d → five ≡ four ++ e
+pub five_pieces : (old a b c d e one two three four five : List ℕ) → one ≡ old ++ a → two ≡ one ++ b
+    → three ≡ two ++ c → four ≡ three ++ d → five ≡ four ++ e
     → five ≡ old ++ (a ++ b ++ c ++ d ++ e)
 five_pieces old a b c d e one two three four five p q r s t =
-    t ∙ ap (λ x. x ++ e) (s ∙ ap (λ x. x ++ d) (r ∙ ap (λ x. x ++ c) (q ∙ ap (λ x. x ++ b) p ∙ append_assoc old a b) ∙ append_assoc old (a ++ b) c) ∙ append_assoc old (a ++ b ++ c) d)
+    t ∙ ap (λ x. x ++ e) (s ∙ ap (λ x. x ++ d) (r ∙ ap (λ x. x ++ c) (q ∙ ap (λ x. x ++ b) p ∙ append_assoc old a b)
+    ∙ append_assoc old (a ++ b) c) ∙ append_assoc old (a ++ b ++ c) d)
     ∙ append_assoc old (a ++ b ++ c ++ d) e
 
 -- ---- the value at a pointer

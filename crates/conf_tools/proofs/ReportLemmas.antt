@@ -17,4 +17,5 @@ all_lines lines all rest none whole = sym (append-nil lines) ∙ ap (λ fs. line
 pub four_pieces : (old a b c d one two three four : List ℕ) → one ≡ old ++ a → two ≡ one ++ b → three ≡ two ++ c → four ≡ three ++ d
     → four ≡ old ++ (a ++ b ++ c ++ d)
 four_pieces old a b c d one two three four e f g h =
-    h ∙ ap (λ x. x ++ d) (g ∙ ap (λ x. x ++ c) (f ∙ ap (λ x. x ++ b) e ∙ append_assoc old a b) ∙ append_assoc old (a ++ b) c) ∙ append_assoc old (a ++ b ++ c) d
+    h ∙ ap (λ x. x ++ d) (g ∙ ap (λ x. x ++ c) (f ∙ ap (λ x. x ++ b) e ∙ append_assoc old a b)
+    ∙ append_assoc old (a ++ b) c) ∙ append_assoc old (a ++ b ++ c) d

@@ -1,5 +1,6 @@
 -- What a session leaves of the disk of the store that was opened for it.
-use Rattle.std.proofs.Common.{◌≡◌, ◌≢◌, ◌≤◌, ◌⊎◌, ◌↔◌, ℕ, Bool, true, false, List, [], ◌∷◌, ◌++◌, ap, inl, inr, length, refl, sym, ◌∙◌, subst}
+use Rattle.std.proofs.Common.{◌≡◌, ◌≢◌, ◌≤◌, ◌⊎◌, ◌↔◌, ℕ, Bool, true, false, List, [], ◌∷◌, ◌++◌, ap, inl, inr}
+use Rattle.std.proofs.Common.{length, refl, sym, ◌∙◌, subst}
 use Rattle.std.proofs.lemmas.Bool.{false≢true}
 use Rattle.std.specs.Prelude.{Option, None, Result, Err, IsErrOf}
 use Rattle.conf_disk.specs.Folder.{bytes_under}
@@ -23,7 +24,8 @@ use Rattle.conf_tools.specs.declared.stores.Grouping.TheVariants.{Single, Groupe
 use Rattle.conf_session.specs.Streams.{Streams}
 
 -- a store that was in order needs to be opened again only after Device
-in-order : (before after : Bool) (result : Result Tally SessionFault) → before ≡ false → ((after ≡ true) ↔ ((before ≡ true) ⊎ IsErrOf result Device)) → result ≢ Err Device → after ≡ false
+in-order : (before after : Bool) (result : Result Tally SessionFault) → before ≡ false
+    → ((after ≡ true) ↔ ((before ≡ true) ⊎ IsErrOf result Device)) → result ≢ Err Device → after ≡ false
 in-order before false result off device other = refl
 in-order before true result off device other = absurd (neither (device.0 refl))
   where
@@ -54,7 +56,8 @@ module _ {D : Type 0} (model : DiskModel D) (io : Streams)
     never-reopened is = false≢true (sym opens.no_reopen ∙ says.reopen.0 is)
 
     failed-since : result ≡ Err Device → HasFailed (model.failure_count old) (model.failure_count new.disk)
-    failed-since is = failed-later (model.failure_count old) (model.failure_count store.disk) (model.failure_count new.disk) opens.risen says.risen (says.cause is)
+    failed-since is = failed-later (model.failure_count old) (model.failure_count store.disk)
+        (model.failure_count new.disk) opens.risen says.risen (says.cause is)
 
   -- ---- each command by itself
 
@@ -92,7 +95,8 @@ module _ {D : Type 0} (model : DiskModel D) (io : Streams)
       nothing_waits = opens.flushed h;
       while_opening = opens.at_any_moment h;
       once_open = runs.any_moment h opens.no_reopen store.state [] (opens.flushed h);
-      returned = λ image is. subst (λ n. AfterAtLeast store.state n each-work.accepted image.store) (all.accepted (stored_of store) runs.answered)
+      returned = λ image is. subst (λ n. AfterAtLeast store.state n each-work.accepted image.store)
+          (all.accepted (stored_of store) runs.answered)
           (runs.kept h opens.no_reopen store.state [] (opens.flushed h) image is);
     }
 
@@ -113,12 +117,19 @@ module _ {D : Type 0} (model : DiskModel D) (io : Streams)
     }
 
     abbrev groups-answers : Answers io (stored_of store) file (Grouped checkpoints) result groups-work
-    groups-answers = record { answered = runs.answered; unanswered = runs.unanswered; ends = runs.ends; only_asked = runs.only_asked; does = refl }
+    groups-answers = record {
+      answered = runs.answered;
+      unanswered = runs.unanswered;
+      ends = runs.ends;
+      only_asked = runs.only_asked;
+      does = refl;
+    }
 
     groups-due : (wanted : Checkpoints) → checkpoints ≡ wanted → model.honest → BeginsWhenDue wanted (stored_of store) file runs.answered
     groups-due Asked is h = tt
     groups-due (After bytes) is h =
-        subst (λ staged. AreDue bytes (record { store = file; staged = staged_text (model.folder store.disk) staged }) (stored_of store) runs.answered) opens.no_checkpoint (runs.due h bytes is)
+        subst (λ staged. AreDue bytes (record { store = file; staged = staged_text (model.folder store.disk) staged })
+        (stored_of store) runs.answered) opens.no_checkpoint (runs.due h bytes is)
 
     groups-on : SaysFaults → AnswersOn model io (Grouped checkpoints) old new.disk result
     groups-on says = record {
@@ -128,7 +139,8 @@ module _ {D : Type 0} (model : DiskModel D) (io : Streams)
       answers = groups-answers;
       due = λ h. groups-due checkpoints refl h;
       opens = opens.opens;
-      reads = λ h other. ap (λ files. files.store) (runs.files h (in-order store.reopen new.reopen result opens.no_reopen says.device other))
+      reads = λ h other. ap (λ files. files.store)
+          (runs.files h (in-order store.reopen new.reopen result opens.no_reopen says.device other))
           ∙ ap (λ staged. file-after (staged_text (model.folder store.disk) staged)) opens.no_checkpoint;
       not_reopen = never-reopened says;
       cause = failed-since says;
@@ -144,7 +156,8 @@ module _ {D : Type 0} (model : DiskModel D) (io : Streams)
       nothing_waits = opens.flushed h;
       while_opening = opens.at_any_moment h;
       once_open = runs.any_moment h opens.no_reopen store.state [] (opens.flushed h);
-      returned = λ image is. subst (λ n. AfterAtLeast store.state n groups-work.accepted image.store) (all-acknowledged (stored_of store) runs.answered)
+      returned = λ image is. subst (λ n. AfterAtLeast store.state n groups-work.accepted image.store)
+          (all-acknowledged (stored_of store) runs.answered)
           (runs.kept h opens.no_reopen store.state [] (opens.flushed h) image is);
     }
 

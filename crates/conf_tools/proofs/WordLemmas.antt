@@ -32,7 +32,9 @@ module _ {W D F P : Type 0} (world : WorldModel W D F P) (remaining : F → Opti
           next,
           result,
           reports,
-          subst (λ stops. IfSo stops ((new ≡ next) × (status ≡ Device)) (ReportsOnAll world remaining report rest (worst so_far (status_of_report result)) next new status)) (sym goes_on) others,
+          subst (λ stops. IfSo stops ((new ≡ next) × (status ≡ Device))
+              (ReportsOnAll world remaining report rest (worst so_far (status_of_report result)) next new status))
+              (sym goes_on) others,
         );
       }
 
@@ -43,7 +45,9 @@ module _ {W D F P : Type 0} (world : WorldModel W D F P) (remaining : F → Opti
         next,
         result,
         reports,
-        subst (λ stopped. IfSo stopped ((next ≡ next) × (Device ≡ Device)) (ReportsOnAll world remaining report rest (worst so_far (status_of_report result)) next next Device)) (sym stops) (refl, refl),
+        subst (λ stopped. IfSo stopped ((next ≡ next) × (Device ≡ Device))
+            (ReportsOnAll world remaining report rest (worst so_far (status_of_report result)) next next Device))
+            (sym stops) (refl, refl),
       )
 
   -- ---- files that are replaced

@@ -1,5 +1,6 @@
 -- What a tool has written for the text of a file that was named.
-use Rattle.std.specs.Prelude.{◌≡◌, ◌≢◌, ℕ, Bool, true, false, List, [], ◌∷◌, ◌++◌, Option, length, codes, decimal, encode_utf8_all, string_bytes}
+use Rattle.std.specs.Prelude.{◌≡◌, ◌≢◌, ℕ, Bool, true, false, List, [], ◌∷◌, ◌++◌, Option, length, codes, decimal}
+use Rattle.std.specs.Prelude.{encode_utf8_all, string_bytes}
 use Rattle.std.specs.Io.KnownBytes.{Appends, Keeps}
 use Rattle.yaml_grammar.specs.Style.{style_text}
 use Rattle.yaml_grammar.specs.Trees.{Tree}

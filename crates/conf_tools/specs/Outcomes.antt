@@ -1,7 +1,9 @@
 -- How a run of the program ends, and what is told of it.
 use Rattle.std.specs.Prelude.{◌≡◌, ◌⊎◌, ℕ, List, Result, Ok, Err, codes, string_bytes}
 use Rattle.conf_words.specs.declared.invocation.Invocation.{Invocation}
-use Rattle.conf_words.specs.declared.invocation.Invocation.TheVariants.{Init, Import, Set, Delete, Copy, Rename, Checkpoint, Run, Export, Names, Get, Exists, Log, Verify, Salvage, Backup, Format, Check}
+use Rattle.conf_words.specs.declared.invocation.Invocation.TheVariants.{Init, Import, Set, Delete, Copy, Rename}
+use Rattle.conf_words.specs.declared.invocation.Invocation.TheVariants.{Checkpoint, Run, Export, Names, Get, Exists}
+use Rattle.conf_words.specs.declared.invocation.Invocation.TheVariants.{Log, Verify, Salvage, Backup, Format, Check}
 use Rattle.conf_words.specs.declared.unparsed.Unparsed.{Unparsed}
 use Rattle.conf_words.specs.declared.unparsed.Unparsed.TheVariants.{Shown, Wrong, OutOfMemory as NoMemory}
 use Rattle.conf_tools.specs.Dropped.{TellsDropped}

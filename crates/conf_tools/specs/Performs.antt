@@ -13,7 +13,9 @@ use Rattle.conf_words.specs.declared.invocation.Formatting.TheVariants as format
 use Rattle.conf_words.specs.declared.invocation.Grouping.{Grouping as AskedGrouping}
 use Rattle.conf_words.specs.declared.invocation.Grouping.TheVariants as asked
 use Rattle.conf_words.specs.declared.invocation.Invocation.{Invocation}
-use Rattle.conf_words.specs.declared.invocation.Invocation.TheVariants.{Init, Import, Set, Delete, Copy, Rename, Checkpoint, Run, Export, Names, Get, Exists, Log, Verify, Salvage, Backup, Format, Check}
+use Rattle.conf_words.specs.declared.invocation.Invocation.TheVariants.{Init, Import, Set, Delete, Copy, Rename}
+use Rattle.conf_words.specs.declared.invocation.Invocation.TheVariants.{Checkpoint, Run, Export, Names, Get, Exists}
+use Rattle.conf_words.specs.declared.invocation.Invocation.TheVariants.{Log, Verify, Salvage, Backup, Format, Check}
 use Rattle.conf_words.specs.declared.invocation.LogForm.{LogForm}
 use Rattle.conf_words.specs.declared.invocation.LogForm.TheVariants.{Lines, Values, Records}
 use Rattle.conf_words.specs.declared.invocation.MissingStore.{MissingStore}
@@ -22,8 +24,10 @@ use Rattle.conf_words.specs.declared.invocation.Value.{Value}
 use Rattle.conf_words.specs.declared.invocation.Formatting.{Formatting}
 use Rattle.conf_tools.specs.Asking.{AskedConditions, AsksFor}
 use Rattle.conf_tools.specs.Backups.{BacksUpStore}
-use Rattle.conf_tools.specs.StoreWords.{ChangesInFolder, ExportsFromFolder, Inits, MakesChange, Reads, RunsOnFolder, Salvages, SaysLog, SaysNames, SaysPresence, SaysSurvey, SaysValue}
-use Rattle.conf_tools.specs.TextWords.{ChecksRead, FormatsFile, FormatsRead, IsCopy, IsDelete, IsImport, IsRename, IsSet, ReportsOnAll, RestylesAll, TakesText}
+use Rattle.conf_tools.specs.StoreWords.{ChangesInFolder, ExportsFromFolder, Inits, MakesChange, Reads, RunsOnFolder}
+use Rattle.conf_tools.specs.StoreWords.{Salvages, SaysLog, SaysNames, SaysPresence, SaysSurvey, SaysValue}
+use Rattle.conf_tools.specs.TextWords.{ChecksRead, FormatsFile, FormatsRead, IsCopy, IsDelete, IsImport, IsRename}
+use Rattle.conf_tools.specs.TextWords.{IsSet, ReportsOnAll, RestylesAll, TakesText}
 use Rattle.conf_tools.specs.Tools.{IsTaken, Taken}
 use Rattle.conf_tools.specs.Statuses.{status_of}
 use Rattle.conf_tools.specs.Worlds.{Around, LeavesStreams, WorldModel}

@@ -6,7 +6,8 @@ use Rattle.conf_history.specs.declared.fault.SalvageFault.TheVariants as Salvage
 use Rattle.conf_tools.specs.declared.program.Status.{Status}
 use Rattle.conf_tools.specs.declared.program.Status.TheVariants.{Refused, Device}
 use Rattle.conf_tools.specs.declared.reading_fault.ReadingFault.{ReadingFault}
-use Rattle.conf_tools.specs.declared.reading_fault.ReadingFault.TheVariants.{Folder, History, Value, NotText, NotCollection, Salvage, Output}
+use Rattle.conf_tools.specs.declared.reading_fault.ReadingFault.TheVariants.{Folder, History, Value, NotText}
+use Rattle.conf_tools.specs.declared.reading_fault.ReadingFault.TheVariants.{NotCollection, Salvage, Output}
 
 -- the status after a fault of a store's file
 abbrev pub status_of_history : HistoryFault → Status

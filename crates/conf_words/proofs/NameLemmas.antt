@@ -16,7 +16,8 @@ both_false false b none = (refl, none)
 both_false true b none = absurd (both_ways true none refl)
 
 -- a name that a search doesn't find is none of the names
-All-list_any_false : (name : List ℕ) (files : List (Bor (List ℕ))) → list_any (λ file. pointwise nat_eq file.now name) files ≡ false → All (λ file. file ≢ name) (map (λ file. file.now) files)
+All-list_any_false : (name : List ℕ) (files : List (Bor (List ℕ)))
+    → list_any (λ file. pointwise nat_eq file.now name) files ≡ false → All (λ file. file ≢ name) (map (λ file. file.now) files)
 All-list_any_false name [] none = All-nil (λ file. file ≢ name)
 All-list_any_false name (file ∷ files) none =
     let parts = both_false (pointwise nat_eq file.now name) (list_any (λ f. pointwise nat_eq f.now name) files) none in
@@ -30,6 +31,8 @@ some_named [] some = absurd (both_ways true (sym some) refl)
 some_named (file ∷ files) some = omega arith
 
 -- what is said of files among which standard input was sought
-pub fits_if_none : {X : Type 0} (comments : Comments) (found : Bool) (why : X) (files : List (Bor (List ℕ))) → found ≡ list_any (λ file. pointwise nat_eq file.now (codes "-")) files → false ≡ (length files == 0) → IfNone (then_some found why) (FilesFit (InPlace comments) (map (λ file. file.now) files))
+pub fits_if_none : {X : Type 0} (comments : Comments) (found : Bool) (why : X) (files : List (Bor (List ℕ)))
+    → found ≡ list_any (λ file. pointwise nat_eq file.now (codes "-")) files → false ≡ (length files == 0)
+    → IfNone (then_some found why) (FilesFit (InPlace comments) (map (λ file. file.now) files))
 fits_if_none comments true why files is some = tt
 fits_if_none comments false why files is some = (some_named files some, All-list_any_false (codes "-") files (sym is))

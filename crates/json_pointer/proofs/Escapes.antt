@@ -1,5 +1,6 @@
 -- Whether each `~` of a text is before `0` or `1`, character by character.
-use Rattle.std.proofs.Common.{◌≡◌, ◌==◌, ℕ, ◌+◌, Bool, true, false, ◌&&◌, ◌||◌, not, if◌then◌else◌, List, [], ◌∷◌, ◌++◌, length, Option, Some, None, option_map, refl, sym, ap, ◌∙◌, arith}
+use Rattle.std.proofs.Common.{◌≡◌, ◌==◌, ℕ, ◌+◌, Bool, true, false, ◌&&◌, ◌||◌, not, if◌then◌else◌, List, [], ◌∷◌}
+use Rattle.std.proofs.Common.{◌++◌, length, Option, Some, None, option_map, refl, sym, ap, ◌∙◌, arith}
 use Rattle.std.specs.Prelude.{is_none}
 use Rattle.std.specs.Char.{len_utf8}
 use Rattle.std.specs.Option.{MatchOption}
@@ -18,7 +19,8 @@ none-map f (Some n) = refl
 
 -- a character that is not stray changes nothing
 passed : (c : ℕ) (cs : List ℕ) → stray (c ∷ cs) ≡ false → is_none (first_stray (c ∷ cs)) ≡ is_none (first_stray cs)
-passed c cs is = ap (λ b. is_none (if b then Some 0 else option_map (λ n. len_utf8 c + n) (first_stray cs))) is ∙ none-map (λ n. len_utf8 c + n) (first_stray cs)
+passed c cs is = ap (λ b. is_none (if b then Some 0 else option_map (λ n. len_utf8 c + n) (first_stray cs))) is
+    ∙ none-map (λ n. len_utf8 c + n) (first_stray cs)
 
 no-tilde : (c : ℕ) (cs : List ℕ) → (c == 126) ≡ false → stray (c ∷ cs) ≡ false
 no-tilde c cs other = ap (λ b. b && not (first (λ d. (d == 48) || (d == 49)) cs)) other
@@ -53,17 +55,21 @@ escape-read-on old new left c k None A utf8 is tilde steps found = cc
 escape-read-on old new left c k (Some d) A utf8 is tilde steps found =
     let utf8_new = IsUtf8-past_char old new c utf8 is in
     let split : chars old ≡ 126 ∷ d ∷ chars left = chars_past_char old new c utf8 is ∙ ap (λ x. x ∷ chars new) tilde
-    ∙ ap (λ cs. 126 ∷ cs) (chars_past_char new left d utf8_new steps) in
-    (ap (λ cs. is_none (first_stray cs)) split ∙ escape-passed d (chars left) (digit-of d k (sym found)), IsUtf8-past_char new left d utf8_new steps)
+    ∙ ap (λ cs. 126 ∷ cs) (chars_past_char new left d utf8_new steps) in (
+      ap (λ cs. is_none (first_stray cs)) split ∙ escape-passed d (chars left) (digit-of d k (sym found)),
+      IsUtf8-past_char new left d utf8_new steps,
+    )
 
 -- a stray `~` is found
 pub stray-found : (old new left : List ℕ) (c : ℕ) (digit : Option ℕ) (A : Type 0) → IsUtf8 old → old ≡ encode c ++ new → c ≡ 126
-    → MatchOption digit ((length new ≡ 0) × A) (λ d. new ≡ encode d ++ left) → None ≡ escaped_by digit → false ≡ is_none (first_stray (chars old))
+    → MatchOption digit ((length new ≡ 0) × A) (λ d. new ≡ encode d ++ left) → None ≡ escaped_by digit
+    → false ≡ is_none (first_stray (chars old))
 stray-found old new left c digit A utf8 is tilde steps none =
     let utf8_new = IsUtf8-past_char old new c utf8 is in
     let split : chars old ≡ 126 ∷ chars new = chars_past_char old new c utf8 is ∙ ap (λ x. x ∷ chars new) tilde in
     let here = escape-stray new left digit A utf8_new steps none in
-    sym (ap (λ cs. is_none (first_stray cs)) split ∙ ap (λ b. is_none (if b then Some 0 else option_map (λ n. len_utf8 126 + n) (first_stray (chars new)))) here)
+    sym (ap (λ cs. is_none (first_stray cs)) split
+    ∙ ap (λ b. is_none (if b then Some 0 else option_map (λ n. len_utf8 126 + n) (first_stray (chars new)))) here)
 
 -- at the end nothing is stray
 pub end-passed : (old : List ℕ) → length old ≡ 0 → true ≡ is_none (first_stray (chars old))

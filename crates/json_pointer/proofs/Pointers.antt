@@ -1,5 +1,7 @@
 -- Pointers: a path's text reads back as the path, and where a text goes wrong no path has it.
-use Rattle.std.proofs.Common.{◌≡◌, ◌==◌, ℕ, ◌+◌, ◌<◌, Bool, true, false, cond, not, ◌||◌, List, [], ◌∷◌, ◌++◌, length, length-append, map, drop, slice_range, Global, Option, Some, None, option_map, Result, Ok, Err, refl, sym, ap, ap₂, subst, ◌∙◌, append_assoc, arith}
+use Rattle.std.proofs.Common.{◌≡◌, ◌==◌, ℕ, ◌+◌, ◌<◌, Bool, true, false, cond, not, ◌||◌, List, [], ◌∷◌, ◌++◌, length}
+use Rattle.std.proofs.Common.{length-append, map, drop, slice_range, Global, Option, Some, None, option_map, Result}
+use Rattle.std.proofs.Common.{Ok, Err, refl, sym, ap, ap₂, subst, ◌∙◌, append_assoc, arith}
 use Rattle.std.specs.Cow.{cow_str_bytes}
 use Rattle.std.specs.declared.borrow.CowStr.{CowStr}
 use Rattle.std.specs.Char.{len_utf8}
@@ -8,7 +10,8 @@ use Rattle.std.proofs.lemmas.Bool.{eqb-true, and_parts}
 use Rattle.std.proofs.lemmas.List.Sums.{list_all-from_AllPass}
 use Rattle.std.specs.List.{list_all}
 use Rattle.std.proofs.lemmas.Bool.Decides.{nat_tests}
-use Rattle.std.proofs.lemmas.Str.{length-encode, encodes-chars, encodes-append, chars-append, chars-nil, chars_past_char, IsUtf8-encode, IsUtf8-past_char, IsUtf8-drop, IsCharBoundary-start}
+use Rattle.std.proofs.lemmas.Str.{length-encode, encodes-chars, encodes-append, chars-append, chars-nil}
+use Rattle.std.proofs.lemmas.Str.{chars_past_char, IsUtf8-encode, IsUtf8-past_char, IsUtf8-drop, IsCharBoundary-start}
 use Rattle.std.specs.Char.{IsScalar}
 use Rattle.std.specs.Option.{MatchOption}
 use Rattle.std.specs.Result.{OnOk, is_ok}
@@ -18,7 +21,8 @@ use Rattle.yaml_grammar.specs.Texts.{byte_len}
 use Rattle.yaml_chars.specs.Places.{IsRun, between}
 use Rattle.yaml_chars.proofs.Places.{rest-between}
 use Rattle.yaml_chars.proofs.Runs.{IsBlind}
-use Rattle.json_pointer.specs.Pointers.{unescaped, char_text, token_text, pointer_text, stray, first_stray, bad_place, first_piece, pieces, token_from_text, path_of, tokens_or_place}
+use Rattle.json_pointer.specs.Pointers.{unescaped, char_text, token_text, pointer_text, stray, first_stray, bad_place}
+use Rattle.json_pointer.specs.Pointers.{first_piece, pieces, token_from_text, path_of, tokens_or_place}
 use Rattle.json_pointer.specs.declared.fault.PathFault.{PathFault}
 use Rattle.json_pointer.specs.declared.fault.PathFault.TheVariants.{BadPath}
 
@@ -76,7 +80,8 @@ first_piece-pointer (token ∷ tokens) = refl
 token_from_text-pieces : (tokens : List (List ℕ)) → map token_from_text (pieces (pointer_text tokens)) ≡ tokens
 token_from_text-pieces [] = refl
 token_from_text-pieces (token ∷ tokens) =
-    ap₂ ◌∷◌ (ap token_from_text (first_piece-token_text token (pointer_text tokens) (first_piece-pointer tokens)) ∙ token_from_text-escaped token)
+    ap₂ ◌∷◌ (ap token_from_text (first_piece-token_text token (pointer_text tokens) (first_piece-pointer tokens))
+    ∙ token_from_text-escaped token)
     (ap (map token_from_text) (pieces-token_text token (pointer_text tokens)) ∙ token_from_text-pieces tokens)
 
 -- ---- no `~` of a path's text is stray
@@ -89,17 +94,22 @@ option_map-sum : (a b : ℕ) (o : Option ℕ) → option_map (λ n. a + n) (opti
 option_map-sum a b None = refl
 option_map-sum a b (Some n) = ap Some (omega arith)
 
-option_map-two : (b : ℕ) (o : Option ℕ) → option_map (λ n. 1 + n) (option_map (λ n. 1 + n) (option_map (λ n. b + n) o)) ≡ option_map (λ n. 1 + (1 + b) + n) o
+option_map-two : (b : ℕ) (o : Option ℕ) → option_map (λ n. 1 + n)
+    (option_map (λ n. 1 + n) (option_map (λ n. b + n) o)) ≡ option_map (λ n. 1 + (1 + b) + n) o
 option_map-two b None = refl
 option_map-two b (Some n) = ap Some (omega arith)
 
-first_stray-token_text : (token more : List ℕ) → first_stray (token_text token ++ more) ≡ option_map (λ n. byte_len (token_text token) + n) (first_stray more)
+first_stray-token_text : (token more : List ℕ)
+    → first_stray (token_text token ++ more) ≡ option_map (λ n. byte_len (token_text token) + n) (first_stray more)
 first_stray-token_text [] more = option_map-zero (first_stray more)
 first_stray-token_text (c ∷ cs) more = elim (spelling c) [
-  | as_tilde is same ↦ rw is (ap (λ o. option_map (λ n. 1 + n) (option_map (λ n. 1 + n) o)) (first_stray-token_text cs more) ∙ option_map-two (byte_len (token_text cs)) (first_stray more))
-  | as_slash is same ↦ rw is (ap (λ o. option_map (λ n. 1 + n) (option_map (λ n. 1 + n) o)) (first_stray-token_text cs more) ∙ option_map-two (byte_len (token_text cs)) (first_stray more))
+  | as_tilde is same ↦ rw is (ap (λ o. option_map (λ n. 1 + n) (option_map (λ n. 1 + n) o))
+      (first_stray-token_text cs more) ∙ option_map-two (byte_len (token_text cs)) (first_stray more))
+  | as_slash is same ↦ rw is (ap (λ o. option_map (λ n. 1 + n) (option_map (λ n. 1 + n) o))
+      (first_stray-token_text cs more) ∙ option_map-two (byte_len (token_text cs)) (first_stray more))
   | as_itself is other no_slash ↦ rw (is, other)
-      (ap (option_map (λ n. len_utf8 c + n)) (first_stray-token_text cs more) ∙ option_map-sum (len_utf8 c) (byte_len (token_text cs)) (first_stray more))
+      (ap (option_map (λ n. len_utf8 c + n)) (first_stray-token_text cs more)
+      ∙ option_map-sum (len_utf8 c) (byte_len (token_text cs)) (first_stray more))
 ]
 
 byte_len-append : (xs ys : List ℕ) → byte_len (xs ++ ys) ≡ byte_len xs + byte_len ys
@@ -143,7 +153,8 @@ path_of-stray text [] (token ∷ tokens) at split some is place = cc
 path_of-stray text (c ∷ cs) (token ∷ tokens) at split some is place =
     let found : first_stray (c ∷ cs) ≡ Some 0 = rw is in
     let here : bad_place text ≡ Some at =
-    ap bad_place split ∙ first_stray-pointer (token ∷ tokens) (c ∷ cs) ∙ ap (option_map (λ n. byte_len (pointer_text (token ∷ tokens)) + n)) found
+    ap bad_place split ∙ first_stray-pointer (token ∷ tokens) (c ∷ cs)
+    ∙ ap (option_map (λ n. byte_len (pointer_text (token ∷ tokens)) + n)) found
     ∙ ap Some (omega arith) in
     ap (λ o. tokens_or_place o text) here
 
@@ -170,23 +181,28 @@ byte_len-encodes (c ∷ cs) =
     let e = byte_len-encodes cs in omega (arith, e, length-encode c, length-append (encode c) (encodes cs))
 
 -- how many bytes a text has, after a path's text
-pub length-read : (text rest read : List ℕ) → IsUtf8 text → IsUtf8 rest → chars text ≡ read ++ chars rest → length text ≡ byte_len read + length rest
+pub length-read : (text rest read : List ℕ) → IsUtf8 text → IsUtf8 rest → chars text ≡ read ++ chars rest
+    → length text ≡ byte_len read + length rest
 length-read text rest read utf8 rest_utf8 split =
     let e : text ≡ encodes read ++ rest =
-    sym (encodes-chars text utf8) ∙ ap encodes split ∙ encodes-append read (chars rest) ∙ ap (λ bs. encodes read ++ bs) (encodes-chars rest rest_utf8) in
+    sym (encodes-chars text utf8) ∙ ap encodes split ∙ encodes-append read (chars rest)
+    ∙ ap (λ bs. encodes read ++ bs) (encodes-chars rest rest_utf8) in
     omega (arith, ap length e, length-append (encodes read) rest, byte_len-encodes read)
 
 chars-push : (bs ds : List ℕ) (c : ℕ) → IsUtf8 bs → IsScalar c → ds ≡ bs ++ encode c → chars ds ≡ chars bs ++ c ∷ []
 chars-push bs ds c utf8 scalar is =
     ap chars is ∙ chars-append bs (encode c) utf8
-    ∙ ap (λ cs. chars bs ++ cs) (chars_past_char (encode c) [] c (IsUtf8-encode c scalar) (sym (append-none (encode c))) ∙ ap (λ cs. c ∷ cs) chars-nil)
+    ∙ ap (λ cs. chars bs ++ cs) (chars_past_char (encode c) [] c (IsUtf8-encode c scalar)
+    (sym (append-none (encode c))) ∙ ap (λ cs. c ∷ cs) chars-nil)
 
 token_text-append : (cs ds : List ℕ) → token_text (cs ++ ds) ≡ token_text cs ++ token_text ds
 token_text-append [] ds = refl
-token_text-append (c ∷ cs) ds = ap (λ es. char_text c ++ es) (token_text-append cs ds) ∙ sym (append_assoc (char_text c) (token_text cs) (token_text ds))
+token_text-append (c ∷ cs) ds = ap (λ es. char_text c ++ es) (token_text-append cs ds)
+    ∙ sym (append_assoc (char_text c) (token_text cs) (token_text ds))
 
 -- what is pushed, if the call succeeds
-pub pushed-OnOk : {E : Type 0} (r : Result (Unit {0}) E) (bytes old : List ℕ) (c : ℕ) → bytes ≡ cond (is_ok r) (old ++ encode c) old → OnOk r (bytes ≡ old ++ encode c)
+pub pushed-OnOk : {E : Type 0} (r : Result (Unit {0}) E) (bytes old : List ℕ) (c : ℕ)
+    → bytes ≡ cond (is_ok r) (old ++ encode c) old → OnOk r (bytes ≡ old ++ encode c)
 pushed-OnOk (Ok x) bytes old c is = is
 pushed-OnOk (Err e) bytes old c is = tt
 
@@ -210,11 +226,13 @@ run-token : (text : List ℕ) (end : ℕ) → IsRun unescaped text 0 end → tok
 run-token text end run = token_text-unescaped (between text 0 end) (list_all-from_AllPass unescaped (between text 0 end) run.passes)
 
 -- one more token
-pointer_text-push : (xs : List (CowStr Global)) (s : CowStr Global) → pointer_text (texts (xs ++ s ∷ [])) ≡ pointer_text (texts xs) ++ 47 ∷ token_text (chars (cow_str_bytes s))
+pointer_text-push : (xs : List (CowStr Global)) (s : CowStr Global)
+    → pointer_text (texts (xs ++ s ∷ [])) ≡ pointer_text (texts xs) ++ 47 ∷ token_text (chars (cow_str_bytes s))
 pointer_text-push [] s = ap (λ cs. 47 ∷ cs) (append-none (token_text (chars (cow_str_bytes s))))
 pointer_text-push (x ∷ xs) s =
     ap (λ t. 47 ∷ (token_text (chars (cow_str_bytes x)) ++ t)) (pointer_text-push xs s)
-    ∙ ap (λ t. 47 ∷ t) (sym (append_assoc (token_text (chars (cow_str_bytes x))) (pointer_text (texts xs)) (47 ∷ token_text (chars (cow_str_bytes s)))))
+    ∙ ap (λ t. 47 ∷ t) (sym (append_assoc (token_text (chars (cow_str_bytes x))) (pointer_text (texts xs))
+    (47 ∷ token_text (chars (cow_str_bytes s)))))
 
 -- the last token, with one more character
 pub pointer_text-lengthened : (before : List (CowStr Global)) (s longer : CowStr Global) (c : ℕ) → IsUtf8 (cow_str_bytes s) → IsScalar c
@@ -240,11 +258,14 @@ pub read_more : (text read cs ds : List ℕ) → text ≡ read ++ (cs ++ ds) →
 read_more text read cs ds is = is ∙ sym (append_assoc read cs ds)
 
 -- what `~` and the digit after it spell
-pub escaped_by-char_text : (digit : Option ℕ) (c : ℕ) → escaped_by digit ≡ Some c → (d : ℕ) × (digit ≡ Some d) × (char_text c ≡ 126 ∷ d ∷ [])
+pub escaped_by-char_text : (digit : Option ℕ) (c : ℕ) → escaped_by digit ≡ Some c
+    → (d : ℕ) × (digit ≡ Some d) × (char_text c ≡ 126 ∷ d ∷ [])
 escaped_by-char_text None c is = cc
 escaped_by-char_text (Some d) c is =
-    let P : Bool → Type 0 = λ b. (d == 48) ≡ b → cond b (Some 126) (cond (d == 49) (Some 47) None) ≡ Some c → (e : ℕ) × (Some d ≡ Some e) × (char_text c ≡ 126 ∷ e ∷ []) in
-    let Q : Bool → Type 0 = λ b. (d == 49) ≡ b → cond b (Some 47) None ≡ Some c → (e : ℕ) × (Some d ≡ Some e) × (char_text c ≡ 126 ∷ e ∷ []) in
+    let P : Bool → Type 0 = λ b. (d == 48) ≡ b → cond b (Some 126) (cond (d == 49) (Some 47) None) ≡ Some c
+    → (e : ℕ) × (Some d ≡ Some e) × (char_text c ≡ 126 ∷ e ∷ []) in
+    let Q : Bool → Type 0 = λ b. (d == 49) ≡ b → cond b (Some 47) None ≡ Some c
+    → (e : ℕ) × (Some d ≡ Some e) × (char_text c ≡ 126 ∷ e ∷ []) in
     (elim (d == 48) as P [
       | true ↦ λ z e. let same : 126 ≡ c = cc in (48, ap Some (eqb-true d 48 z), ap char_text (sym same))
       | false ↦ λ z e. (elim (d == 49) as Q [
@@ -259,7 +280,8 @@ some_none a is = cc
 -- `~` before another digit is stray
 pub stray-digit : (d : ℕ) (cs : List ℕ) → escaped_by (Some d) ≡ None → stray (126 ∷ d ∷ cs) ≡ true
 stray-digit d cs is =
-    let P : Bool → Type 0 = λ b. cond {A = Option ℕ} b (Some 126) (cond {A = Option ℕ} (d == 49) (Some 47) None) ≡ None → not (b || (d == 49)) ≡ true in
+    let P : Bool → Type 0 = λ b. cond {A = Option ℕ} b (Some 126) (cond {A = Option ℕ} (d == 49) (Some 47) None)
+    ≡ None → not (b || (d == 49)) ≡ true in
     let Q : Bool → Type 0 = λ b. cond {A = Option ℕ} b (Some 47) None ≡ None → not b ≡ true in
     (elim (d == 48) as P [
       | true ↦ λ e. absurd (some_none 126 e)
@@ -273,18 +295,23 @@ abbrev pub Read : List ℕ → List ℕ → List ℕ → Type 0
 Read text read left = (chars text ≡ read ++ chars left) × IsUtf8 left
 
 -- a `/` is read, and what comes after it up to the next sign
-pub token-read : (text old new left : List ℕ) (tokens longer : List (CowStr Global)) (s : CowStr Global) (c end : ℕ) → Read text (pointer_text (texts tokens)) old
-    → old ≡ encode c ++ new → c ≡ 47 → IsRun unescaped new 0 end → longer ≡ tokens ++ s ∷ [] → cow_str_bytes s ≡ slice_range new 0 end → left ≡ drop end new
+pub token-read : (text old new left : List ℕ) (tokens longer : List (CowStr Global)) (s : CowStr Global) (c end : ℕ)
+    → Read text (pointer_text (texts tokens)) old
+    → old ≡ encode c ++ new → c ≡ 47 → IsRun unescaped new 0 end → longer ≡ tokens ++ s ∷ []
+    → cow_str_bytes s ≡ slice_range new 0 end → left ≡ drop end new
     → Read text (pointer_text (texts longer)) left
 token-read text old new left tokens longer s c end read is same run pushed bytes after =
     let before = pointer_text (texts tokens) in
     let n = next_read text old new before c read.1 is read.0 in
     let more = subst (λ d. chars text ≡ before ++ d ∷ chars new) same n.0 in
     let start = IsCharBoundary-start new n.1 in
-    let split : chars new ≡ between new 0 end ++ chars left = rest-between new 0 end n.1 run.above start run.boundary ∙ ap (λ bs. between new 0 end ++ chars bs) (sym after) in
-    let token : token_text (chars (cow_str_bytes s)) ≡ between new 0 end = ap (λ bs. token_text (chars bs)) bytes ∙ run-token new end run in (
+    let split : chars new ≡ between new 0 end ++ chars left = rest-between new 0 end n.1 run.above start run.boundary
+    ∙ ap (λ bs. between new 0 end ++ chars bs) (sym after) in
+    let token : token_text (chars (cow_str_bytes s)) ≡ between new 0 end = ap (λ bs. token_text (chars bs)) bytes
+    ∙ run-token new end run in (
       read_more (chars text) before (47 ∷ between new 0 end) (chars left) (more ∙ ap (λ cs. before ++ 47 ∷ cs) split)
-          ∙ ap (λ p. p ++ chars left) (ap (λ cs. before ++ 47 ∷ cs) (sym token) ∙ sym (ap (λ xs. pointer_text (texts xs)) pushed ∙ pointer_text-push tokens s)),
+          ∙ ap (λ p. p ++ chars left) (ap (λ cs. before ++ 47 ∷ cs) (sym token)
+          ∙ sym (ap (λ xs. pointer_text (texts xs)) pushed ∙ pointer_text-push tokens s)),
       subst IsUtf8 (sym after) (IsUtf8-drop new end n.1 run.boundary),
     )
 
@@ -296,7 +323,8 @@ char_text-itself c no_slash no_tilde = elim (spelling c) [
 ]
 
 -- a character that means itself is read
-pub itself-read : (text old new before longer : List ℕ) (c : ℕ) → Read text before old → old ≡ encode c ++ new → (c ≡ 47 → ⊥) → (c ≡ 126 → ⊥)
+pub itself-read : (text old new before longer : List ℕ) (c : ℕ) → Read text before old → old ≡ encode c ++ new
+    → (c ≡ 47 → ⊥) → (c ≡ 126 → ⊥)
     → longer ≡ before ++ char_text c → Read text longer new
 itself-read text old new before longer c read is no_slash no_tilde pushed =
     let n = next_read text old new before c read.1 is read.0 in (
@@ -313,7 +341,8 @@ tilde-read text old new before c read is tilde =
     (subst (λ d. chars text ≡ before ++ d ∷ chars new) tilde n.0, n.1)
 
 -- an escape is read
-pub escape-read : (text new left before longer : List ℕ) (digit : Option ℕ) (k : ℕ) (A : Type 0) → chars text ≡ before ++ 126 ∷ chars new → IsUtf8 new
+pub escape-read : (text new left before longer : List ℕ) (digit : Option ℕ) (k : ℕ) (A : Type 0)
+    → chars text ≡ before ++ 126 ∷ chars new → IsUtf8 new
     → MatchOption digit A (λ d. new ≡ encode d ++ left) → Some k ≡ escaped_by digit → longer ≡ before ++ char_text k → Read text longer left
 escape-read text new left before longer digit k A split utf8 steps is pushed =
     let e = escaped_by-char_text digit k (sym is) in
@@ -325,7 +354,8 @@ escape-read text new left before longer digit k A split utf8 steps is pushed =
     )
 
 -- a stray `~` is found
-pub escape-stray : (new left : List ℕ) (digit : Option ℕ) (A : Type 0) → IsUtf8 new → MatchOption digit ((length new ≡ 0) × A) (λ d. new ≡ encode d ++ left)
+pub escape-stray : (new left : List ℕ) (digit : Option ℕ) (A : Type 0) → IsUtf8 new
+    → MatchOption digit ((length new ≡ 0) × A) (λ d. new ≡ encode d ++ left)
     → None ≡ escaped_by digit → stray (126 ∷ chars new) ≡ true
 escape-stray [] left None A utf8 steps is = ap (λ cs. stray (126 ∷ cs)) chars-nil
 escape-stray (b ∷ bs) left None A utf8 steps is = absurd (omega (arith, steps.0))
@@ -346,7 +376,8 @@ end-read text [] before read empty = read.0 ∙ ap (λ cs. before ++ cs) chars-n
 end-read text (b ∷ bs) before read empty = absurd (omega arith)
 
 -- nothing is read yet, and no `/` comes
-pub prefix-read : (text old new : List ℕ) (tokens : List (CowStr Global)) (c : ℕ) → Read text (pointer_text (texts tokens)) old → old ≡ encode c ++ new
+pub prefix-read : (text old new : List ℕ) (tokens : List (CowStr Global)) (c : ℕ)
+    → Read text (pointer_text (texts tokens)) old → old ≡ encode c ++ new
     → length tokens ≡ 0 → (c ≡ 47 → ⊥) → path_of (chars text) ≡ Err (BadPath 0)
 prefix-read text old new [] c read is empty other =
     let n = next_read text old new [] c read.1 is read.0 in

@@ -6,7 +6,8 @@ use Rattle.test_disks.specs.Replay.{file_of}
 use Rattle.test_disks.specs.declared.folder.FileData.{FileData}
 
 -- the data at a place is replaced, and the file there is changed so
-pub map-set-change : (xs : List FileData) (i : ℕ) (x y : FileData) (change : File → File) → i < length xs → x ≡ get_or xs i x → file_of y ≡ change (file_of x)
+pub map-set-change : (xs : List FileData) (i : ℕ) (x y : FileData) (change : File → File) → i < length xs
+    → x ≡ get_or xs i x → file_of y ≡ change (file_of x)
     → map file_of (set xs i y) ≡ set (map file_of xs) i (change (get_or (map file_of xs) i empty_file))
 map-set-change xs i x y change within at is =
     let old : get_or (map file_of xs) i empty_file ≡ file_of x = get_or-map file_of xs i x empty_file within ∙ ap file_of (sym at) in

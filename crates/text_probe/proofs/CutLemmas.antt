@@ -10,7 +10,8 @@ pub unclosed_none : Unclosed []
 unclosed_none place c = (let within = lies_within [] place c in omega (arith, within, c.ends))
 
 -- so do bytes that close nothing, with all further bytes after them
-pub unclosed_after : (old : Held) (more : List ℕ) (new : Held) (fed : Fed) → Feeds old more new fed → fed.closed ≡ false → Unclosed new.bytes
+pub unclosed_after : (old : Held) (more : List ℕ) (new : Held) (fed : Fed) → Feeds old more new fed
+    → fed.closed ≡ false → Unclosed new.bytes
 unclosed_after old more new fed feeds open_still =
     let Taken : _ → Type 0 = λ closed. Takes old.bytes more fed.taken closed in
     let takes = subst Taken open_still feeds.takes in

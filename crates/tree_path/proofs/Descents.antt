@@ -1,5 +1,6 @@
 -- Going down a tree along a path and back up: what a step adds to each, and what the definitions of paths say of them.
-use Rattle.std.proofs.Common.{◌≡◌, ℕ, suc, ◌+◌, ◌-◌, ◌≤◌, List, [], ◌∷◌, ◌++◌, length, Result, Ok, Err, Global, take, drop, get_or, ◌<◌, refl, sym, ap, subst, ◌∙◌, add-zero, arith}
+use Rattle.std.proofs.Common.{◌≡◌, ℕ, suc, ◌+◌, ◌-◌, ◌≤◌, List, [], ◌∷◌, ◌++◌, length, Result, Ok, Err, Global, take}
+use Rattle.std.proofs.Common.{drop, get_or, ◌<◌, refl, sym, ap, subst, ◌∙◌, add-zero, arith}
 use Rattle.std.specs.Cow.{cow_str_bytes}
 use Rattle.std.specs.declared.borrow.CowStr.{CowStr}
 use Rattle.std.specs.Result.{IfErr, IsOk}
@@ -107,7 +108,8 @@ edit_path edit step t (token ∷ tokens) = edit_from edit step t token tokens
 -- an edit one step further down
 pub edit_path-step : (edit : Tree → List ℕ → Result Tree Miss) (step : ℕ) (t : Tree) (token last : List ℕ) (tokens : List (List ℕ))
     → edit_path edit step t (token ∷ (tokens ++ last ∷ []))
-    ≡ at_step step (child t token) (λ u. and_then (edit_path edit (suc step) u (tokens ++ last ∷ [])) (λ v. at_step step (put t token v) Ok))
+    ≡ at_step step (child t token) (λ u. and_then (edit_path edit (suc step) u (tokens ++ last ∷ []))
+    (λ v. at_step step (put t token v) Ok))
 edit_path-step edit step t token last [] = refl
 edit_path-step edit step t token last (next ∷ tokens) = refl
 
@@ -122,7 +124,8 @@ edit_path-Rebuilt edit (token ∷ parents) last step t a u b v r low is built =
     ∙ rw (low.2, edit_path-Rebuilt edit parents last (suc step) low.0 low.1 u b v built.1 low.4 is inner, built.4)
 
 -- a refusal of the last step
-pub edit_path-missed : (edit : Tree → List ℕ → Result Tree Miss) (parents : List (List ℕ)) (last : List ℕ) (step : ℕ) (t a u b : Tree) (miss : Miss)
+pub edit_path-missed : (edit : Tree → List ℕ → Result Tree Miss) (parents : List (List ℕ)) (last : List ℕ) (step : ℕ)
+    (t a u b : Tree) (miss : Miss)
     → Lowered parents t a u b → edit u last ≡ Err miss
     → edit_path edit step t (parents ++ last ∷ []) ≡ Err (refusal miss (step + length parents))
 edit_path-missed edit [] last step t a u b miss low is =
@@ -132,12 +135,14 @@ edit_path-missed edit (token ∷ parents) last step t a u b miss low is =
     ∙ rw (low.2, edit_path-missed edit parents last (suc step) low.0 low.1 u b miss low.4 is) (ap (λ s. Err (refusal miss s)) (omega arith))
 
 -- a refusal of an earlier step
-pub edit_path-refused : (edit : Tree → List ℕ → Result Tree Miss) (parents : List (List ℕ)) (last : List ℕ) (step : ℕ) (t : Tree) (fault : PathFault)
+pub edit_path-refused : (edit : Tree → List ℕ → Result Tree Miss) (parents : List (List ℕ)) (last : List ℕ) (step : ℕ)
+    (t : Tree) (fault : PathFault)
     → at_from step t parents ≡ Err fault → edit_path edit step t (parents ++ last ∷ []) ≡ Err fault
 edit_path-refused edit [] last step t fault is = cc
 edit_path-refused edit (token ∷ parents) last step t fault is =
     let P : Result Tree Miss → Type 0 = λ r. at_step step r (λ u. at_from (suc step) u parents) ≡ Err fault
-    → at_step step r (λ u. and_then (edit_path edit (suc step) u (parents ++ last ∷ [])) (λ v. at_step step (put t token v) Ok)) ≡ Err fault in
+    → at_step step r (λ u. and_then (edit_path edit (suc step) u (parents ++ last ∷ []))
+    (λ v. at_step step (put t token v) Ok)) ≡ Err fault in
     edit_path-step edit step t token last parents
     ∙ (elim (child t token) as P [
       | Ok u ↦ λ e. rw (edit_path-refused edit parents last (suc step) u fault e)
@@ -179,7 +184,8 @@ texts-turn tokens n token within is =
     ∙ ap (λ x. texts (take n tokens) ++ chars (cow_str_bytes x) ∷ []) (sym is)
 
 -- the same from the end on
-pub texts-back : (tokens : List (CowStr Global)) (left : ℕ) (token : CowStr Global) → 0 < left → left ≤ length tokens → token ≡ get_or tokens (left - 1) token
+pub texts-back : (tokens : List (CowStr Global)) (left : ℕ) (token : CowStr Global) → 0 < left → left ≤ length tokens
+    → token ≡ get_or tokens (left - 1) token
     → texts (take left tokens) ≡ texts (take (left - 1) tokens) ++ chars (cow_str_bytes token) ∷ []
 texts-back tokens left token some within is =
     let next : left - 1 + 1 ≡ left = omega arith in
@@ -194,23 +200,32 @@ texts-split tokens n token within is =
     ∙ ap (λ x. texts (take n tokens) ++ chars (cow_str_bytes x) ∷ texts (drop (n + 1) tokens)) (sym is)
 
 -- the value one step further down
-pub at_from-turn : (tokens : List (CowStr Global)) (n : ℕ) (token : CowStr Global) (t u w : Tree) → n < length tokens → token ≡ get_or tokens n token
-    → at_from 1 t (texts (take n tokens)) ≡ Ok u → child u (chars (cow_str_bytes token)) ≡ Ok w → at_from 1 t (texts (take (n + 1) tokens)) ≡ Ok w
+pub at_from-turn : (tokens : List (CowStr Global)) (n : ℕ) (token : CowStr Global) (t u w : Tree) → n < length tokens
+    → token ≡ get_or tokens n token
+    → at_from 1 t (texts (take n tokens)) ≡ Ok u → child u (chars (cow_str_bytes token)) ≡ Ok w
+    → at_from 1 t (texts (take (n + 1) tokens)) ≡ Ok w
 at_from-turn tokens n token t u w within is before found =
     ap (at_from 1 t) (texts-turn tokens n token within is)
     ∙ at_from-append (texts (take n tokens)) (chars (cow_str_bytes token) ∷ []) 1 t
     ∙ rw (before, found)
 
 -- a step that leads to nothing ends the way
-pub at_from-missed : (tokens : List (CowStr Global)) (n : ℕ) (token : CowStr Global) (t u : Tree) (miss : Miss) → n < length tokens → token ≡ get_or tokens n token
-    → at_from 1 t (texts (take n tokens)) ≡ Ok u → child u (chars (cow_str_bytes token)) ≡ Err miss → at_from 1 t (texts tokens) ≡ Err (refusal miss (n + 1))
+pub at_from-missed : (tokens : List (CowStr Global)) (n : ℕ) (token : CowStr Global) (t u : Tree) (miss : Miss)
+    → n < length tokens → token ≡ get_or tokens n token
+    → at_from 1 t (texts (take n tokens)) ≡ Ok u → child u (chars (cow_str_bytes token)) ≡ Err miss
+    → at_from 1 t (texts tokens) ≡ Err (refusal miss (n + 1))
 at_from-missed tokens n token t u miss within is before missed =
     ap (at_from 1 t) (texts-split tokens n token within is)
     ∙ at_from-append (texts (take n tokens)) (chars (cow_str_bytes token) ∷ texts (drop (n + 1) tokens)) 1 t
     ∙ rw (before, missed)
-    (ap (λ s. Err (refusal miss s)) (omega (arith, length-map (take n tokens) (λ (x : CowStr Global). chars (cow_str_bytes x)), length-take-le n tokens (omega arith))))
+    (ap (λ s. Err (refusal miss s)) (omega (
+      arith,
+      length-map (take n tokens) (λ (x : CowStr Global). chars (cow_str_bytes x)),
+      length-take-le n tokens (omega arith),
+    )))
 
 -- a call that misses only where there is no child doesn't miss where there is one
-pub IsOk-there : (r : Result (Unit {0}) Miss) (found : Result Tree Miss) (d : Tree) → found ≡ Ok d → IfErr r (λ miss. found ≡ Err miss) → IsOk r
+pub IsOk-there : (r : Result (Unit {0}) Miss) (found : Result Tree Miss) (d : Tree) → found ≡ Ok d
+    → IfErr r (λ miss. found ≡ Err miss) → IsOk r
 IsOk-there (Ok x) found d is missed = refl
 IsOk-there (Err miss) found d is missed = cc

@@ -1,9 +1,13 @@
 -- Laws of edits. What is set is found again; and where no mapping holds a key twice, none does after an edit.
-use Rattle.std.proofs.Common.{◌≡◌, ℕ, zero, suc, Bool, true, false, cond, not, ◌&&◌, ◌||◌, ◌==◌, List, [], ◌∷◌, ◌++◌, Some, option_map, Result, Ok, Err, refl, sym, ap, ap₂, subst, ◌∙◌, arith}
+use Rattle.std.proofs.Common.{◌≡◌, ℕ, zero, suc, Bool, true, false, cond, not, ◌&&◌, ◌||◌, ◌==◌, List, [], ◌∷◌, ◌++◌}
+use Rattle.std.proofs.Common.{Some, option_map, Result, Ok, Err, refl, sym, ap, ap₂, subst, ◌∙◌, arith}
 use Rattle.std.proofs.lemmas.Bool.Decides.{nat_tests}
 use Rattle.yaml_grammar.specs.Texts.{same_text}
-use Rattle.yaml_grammar.specs.Trees.{Tree, text, sequence, mapping, Elements, no_element, element, Members, no_member, member, distinct, elements_distinct, members_distinct, has_key}
-use Rattle.tree_path.specs.Paths.{Index, number, after_last, no_index, index_of, at_index, present, element_at, put_element, cut_element, push_element, value_of, put_member, cut_member, child, put, cut, at_step, and_then, at_from, at, edit_from, set, delete}
+use Rattle.yaml_grammar.specs.Trees.{Tree, text, sequence, mapping, Elements, no_element, element, Members, no_member}
+use Rattle.yaml_grammar.specs.Trees.{member, distinct, elements_distinct, members_distinct, has_key}
+use Rattle.tree_path.specs.Paths.{Index, number, after_last, no_index, index_of, at_index, present, element_at}
+use Rattle.tree_path.specs.Paths.{put_element, cut_element, push_element, value_of, put_member, cut_member, child}
+use Rattle.tree_path.specs.Paths.{put, cut, at_step, and_then, at_from, at, edit_from, set, delete}
 use Rattle.json_pointer.specs.declared.fault.PathFault.{PathFault}
 use Rattle.tree_path.specs.declared.place.Miss.{Miss}
 use Rattle.tree_path.specs.declared.place.Miss.TheVariants.{Absent}
@@ -36,10 +40,12 @@ eq-swap c d = grind (arith, nat_tests)
 
 element_at-distinct : (ts : Elements) (n : ℕ) (u : Tree) → elements_distinct ts ≡ true → element_at ts n ≡ Some u → distinct u ≡ true
 element_at-distinct no_element n u d is = cc
-element_at-distinct (element t ts) zero u d is = let e : t ≡ u = cc in subst (λ x. distinct x ≡ true) e (both (distinct t) (elements_distinct ts) d).0
+element_at-distinct (element t ts) zero u d is = let e : t ≡ u = cc in
+    subst (λ x. distinct x ≡ true) e (both (distinct t) (elements_distinct ts) d).0
 element_at-distinct (element t ts) (suc n) u d is = element_at-distinct ts n u (both (distinct t) (elements_distinct ts) d).1 is
 
-put_element-distinct : (ts us : Elements) (n : ℕ) (v : Tree) → elements_distinct ts ≡ true → distinct v ≡ true → put_element ts n v ≡ Some us → elements_distinct us ≡ true
+put_element-distinct : (ts us : Elements) (n : ℕ) (v : Tree) → elements_distinct ts ≡ true → distinct v ≡ true
+    → put_element ts n v ≡ Some us → elements_distinct us ≡ true
 put_element-distinct no_element us n v d e is = cc
 put_element-distinct (element t ts) us zero v d e is =
     let s : element v ts ≡ us = cc in
@@ -58,10 +64,12 @@ cut_element-distinct (element t ts) us (suc n) d is =
     let b = both (distinct t) (elements_distinct ts) d in
     subst (λ x. elements_distinct x ≡ true) o.2 (and (distinct t) (elements_distinct o.0) b.0 (cut_element-distinct ts o.0 n b.1 o.1))
 
-push_element-distinct : (ts : Elements) (v : Tree) → elements_distinct ts ≡ true → distinct v ≡ true → elements_distinct (push_element ts v) ≡ true
+push_element-distinct : (ts : Elements) (v : Tree) → elements_distinct ts ≡ true → distinct v ≡ true
+    → elements_distinct (push_element ts v) ≡ true
 push_element-distinct no_element v d e = and (distinct v) true e refl
 push_element-distinct (element t ts) v d e =
-    let b = both (distinct t) (elements_distinct ts) d in and (distinct t) (elements_distinct (push_element ts v)) b.0 (push_element-distinct ts v b.1 e)
+    let b = both (distinct t) (elements_distinct ts) d in
+    and (distinct t) (elements_distinct (push_element ts v)) b.0 (push_element-distinct ts v b.1 e)
 
 -- ---- members
 
@@ -82,7 +90,8 @@ same_text-swap (c ∷ cs) [] = refl
 same_text-swap (c ∷ cs) (d ∷ ds) = ap₂ ◌&&◌ (eq-swap c d) (same_text-swap cs ds)
 
 -- an edit at one key leaves the other keys
-has_key-put_member : (ms : Members) (key other : List ℕ) (v : Tree) → same_text other key ≡ false → has_key other ms ≡ false → has_key other (put_member ms key v) ≡ false
+has_key-put_member : (ms : Members) (key other : List ℕ) (v : Tree) → same_text other key ≡ false
+    → has_key other ms ≡ false → has_key other (put_member ms key v) ≡ false
 has_key-put_member no_member key other v apart without = neither (same_text other key) false apart refl
 has_key-put_member (member k t ms) key other v apart without =
     let w = or_false (same_text other k) (has_key other ms) without in
@@ -92,12 +101,14 @@ has_key-put_member (member k t ms) key other v apart without =
       | false ↦ neither (same_text other k) (has_key other (put_member ms key v)) w.0 (has_key-put_member ms key other v apart w.1)
     ]
 
-members_distinct-put_member : (ms : Members) (key : List ℕ) (v : Tree) → members_distinct ms ≡ true → distinct v ≡ true → members_distinct (put_member ms key v) ≡ true
+members_distinct-put_member : (ms : Members) (key : List ℕ) (v : Tree) → members_distinct ms ≡ true
+    → distinct v ≡ true → members_distinct (put_member ms key v) ≡ true
 members_distinct-put_member no_member key v d e = and (distinct v) true e refl
 members_distinct-put_member (member k t ms) key v d e =
     let a = both (not (has_key k ms) && distinct t) (members_distinct ms) d in
     let b = both (not (has_key k ms)) (distinct t) a.0 in
-    let P : Bool → Type 0 = λ x. same_text key k ≡ x → members_distinct (cond x (member k v ms) (member k t (put_member ms key v))) ≡ true in
+    let P : Bool → Type 0 = λ x. same_text key k ≡ x
+    → members_distinct (cond x (member k v ms) (member k t (put_member ms key v))) ≡ true in
     (elim (same_text key k) as P [
       | true ↦ λ _. and (not (has_key k ms) && distinct v) (members_distinct ms) (and (not (has_key k ms)) (distinct v) b.0 e) a.1
       | false ↦ λ apart. and (not (has_key k (put_member ms key v)) && distinct t) (members_distinct (put_member ms key v))
@@ -106,7 +117,8 @@ members_distinct-put_member (member k t ms) key v d e =
           (members_distinct-put_member ms key v a.1 e)
     ]) refl
 
-has_key-cut_member : (ms ns : Members) (key other : List ℕ) → cut_member ms key ≡ Some ns → has_key other ms ≡ false → has_key other ns ≡ false
+has_key-cut_member : (ms ns : Members) (key other : List ℕ) → cut_member ms key ≡ Some ns → has_key other ms ≡ false
+    → has_key other ns ≡ false
 has_key-cut_member no_member ns key other is without = cc
 has_key-cut_member (member k t ms) ns key other is without =
     let w = or_false (same_text other k) (has_key other ms) without in
@@ -115,10 +127,12 @@ has_key-cut_member (member k t ms) ns key other is without =
       | true ↦ λ e. let same : ms ≡ ns = cc in subst (λ x. has_key other x ≡ false) same w.1
       | false ↦ λ e.
           let o = option_map-Some (member k t) (cut_member ms key) ns e in
-          subst (λ x. has_key other x ≡ false) o.2 (neither (same_text other k) (has_key other o.0) w.0 (has_key-cut_member ms o.0 key other o.1 w.1))
+          subst (λ x. has_key other x ≡ false) o.2 (neither (same_text other k) (has_key other o.0) w.0
+          (has_key-cut_member ms o.0 key other o.1 w.1))
     ]) is
 
-members_distinct-cut_member : (ms ns : Members) (key : List ℕ) → members_distinct ms ≡ true → cut_member ms key ≡ Some ns → members_distinct ns ≡ true
+members_distinct-cut_member : (ms ns : Members) (key : List ℕ) → members_distinct ms ≡ true
+    → cut_member ms key ≡ Some ns → members_distinct ns ≡ true
 members_distinct-cut_member no_member ns key d is = cc
 members_distinct-cut_member (member k t ms) ns key d is =
     let a = both (not (has_key k ms) && distinct t) (members_distinct ms) d in
@@ -202,8 +216,10 @@ done t = Ok t
 pub same_Ok : (a b : Tree) (r : Result Tree Miss) → r ≡ Ok a → done a ≡ done b → r ≡ Ok b
 same_Ok a b r is same = let e : a ≡ b = cc in is ∙ ap Ok e
 
-edit_from-distinct : (edit : Tree → List ℕ → Result Tree Miss) (keeps : (t u : Tree) (token : List ℕ) → distinct t ≡ true → edit t token ≡ Ok u → distinct u ≡ true)
-    (tokens : List (List ℕ)) (step : ℕ) (t u : Tree) (token : List ℕ) → distinct t ≡ true → edit_from edit step t token tokens ≡ Ok u → distinct u ≡ true
+edit_from-distinct : (edit : Tree → List ℕ → Result Tree Miss)
+    (keeps : (t u : Tree) (token : List ℕ) → distinct t ≡ true → edit t token ≡ Ok u → distinct u ≡ true)
+    (tokens : List (List ℕ)) (step : ℕ) (t u : Tree) (token : List ℕ) → distinct t ≡ true
+    → edit_from edit step t token tokens ≡ Ok u → distinct u ≡ true
 edit_from-distinct edit keeps [] step t u token d is =
     let a = at_step-Ok step (edit t token) Ok u is in keeps t u token d (same_Ok a.0 u (edit t token) a.1 a.2)
 edit_from-distinct edit keeps (next ∷ tokens) step t u token d is =
@@ -241,7 +257,8 @@ put-found (text value) u v token inside is = cc
 put-found (sequence ts) u v token inside is =
     let p = put_index-found (index_of token) ts v u inside is in subst (λ x. child x token ≡ Ok v) p.1 p.2
 put-found (mapping ms) u v token inside is =
-    let same : mapping (put_member ms token v) ≡ u = cc in subst (λ x. child x token ≡ Ok v) same (ap present (value_of-put_member ms token v))
+    let same : mapping (put_member ms token v) ≡ u = cc in
+    subst (λ x. child x token ≡ Ok v) same (ap present (value_of-put_member ms token v))
 
 set_path-found : (parents : List (List ℕ)) (last : List ℕ) (step : ℕ) (t u v : Tree) → (index_of last ≡ after_last → ⊥)
     → edit_path (λ x token. put x token v) step t (parents ++ last ∷ []) ≡ Ok u → at_from step u (parents ++ last ∷ []) ≡ Ok v
@@ -251,7 +268,8 @@ set_path-found [] last step t u v inside is =
 set_path-found (token ∷ parents) last step t u v inside is =
     let whole = sym (edit_path-step (λ x x'. put x x' v) step t token last parents) ∙ is in
     let a = at_step-Ok step (child t token) _ u whole in
-    let b = and_then-Ok (edit_path (λ x x'. put x x' v) (suc step) a.0 (parents ++ last ∷ [])) (λ w. at_step step (put t token w) Ok) u a.2 in
+    let b = and_then-Ok (edit_path (λ x x'. put x x' v) (suc step) a.0 (parents ++ last ∷ []))
+    (λ w. at_step step (put t token w) Ok) u a.2 in
     let c = at_step-Ok step (put t token b.0) Ok u b.2 in
     let found = child-put t u token a.0 b.0 a.1 (same_Ok c.0 u (put t token b.0) c.1 c.2) in
     rw found (set_path-found parents last (suc step) a.0 b.0 v inside b.1)

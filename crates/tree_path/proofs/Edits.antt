@@ -20,7 +20,8 @@ set-edit [] last t v = refl
 set-edit (token ∷ parents) last t v = refl
 
 -- a delete, from its parents and its last step
-pub delete-edit : (parents : List (List ℕ)) (last : List ℕ) (t : Tree) → delete t (parents ++ last ∷ []) ≡ edit_path cut 1 t (parents ++ last ∷ [])
+pub delete-edit : (parents : List (List ℕ)) (last : List ℕ) (t : Tree)
+    → delete t (parents ++ last ∷ []) ≡ edit_path cut 1 t (parents ++ last ∷ [])
 delete-edit [] last t = refl
 delete-edit (token ∷ parents) last t = refl
 
@@ -34,7 +35,8 @@ set-Rebuilt path parents last t a u b v w r split low is built =
     ∙ edit_path-Rebuilt (λ x token. put x token v) parents last 1 t a u b w r low is built
 
 -- a set whose last step fails
-pub set-missed : (path parents : List (List ℕ)) (last : List ℕ) (step : ℕ) (t a u b v : Tree) (fault : PathFault) → path ≡ parents ++ last ∷ []
+pub set-missed : (path parents : List (List ℕ)) (last : List ℕ) (step : ℕ) (t a u b v : Tree) (fault : PathFault)
+    → path ≡ parents ++ last ∷ []
     → step ≡ length parents + 1 → Lowered parents t a u b → at_step step (put u last v) Ok ≡ Err fault → set t path v ≡ Err fault
 set-missed path parents last step t a u b v fault split count low missed =
     let P : Result Tree Miss → Type 0 = λ x. put u last v ≡ x → at_step step x Ok ≡ Err fault → set t path v ≡ Err fault in

@@ -1,5 +1,7 @@
 -- What an edit does to the mapping of an index: at one of its keys, below one, or elsewhere.
-use Rattle.std.proofs.Common.{◌≡◌, ℕ, zero, suc, ◌+◌, ◌-◌, ◌<◌, Bool, true, false, cond, List, [], ◌∷◌, ◌++◌, length, get_or, take, drop, Bor, Global, Option, Some, None, is_some, option_map, IfSome, Result, Ok, refl, sym, ap, subst, ◌∙◌, arith, rules}
+use Rattle.std.proofs.Common.{◌≡◌, ℕ, zero, suc, ◌+◌, ◌-◌, ◌<◌, Bool, true, false, cond, List, [], ◌∷◌, ◌++◌, length}
+use Rattle.std.proofs.Common.{get_or, take, drop, Bor, Global, Option, Some, None, is_some, option_map, IfSome}
+use Rattle.std.proofs.Common.{Result, Ok, refl, sym, ap, subst, ◌∙◌, arith, rules}
 use Rattle.std.specs.List.{remove}
 use Rattle.std.specs.Str.{chars}
 use Rattle.std.specs.Cow.{cow_str_bytes}
@@ -15,7 +17,8 @@ use Rattle.yaml_data.specs.declared.text.Text.{Text}
 use Rattle.tree_path.specs.declared.key_index.KeyIndex.{KeyIndex}
 use Rattle.tree_path.specs.declared.key_table.KeyTable.{KeyTable}
 use Rattle.tree_path.specs.declared.place.Miss.{Miss}
-use Rattle.tree_path.specs.Paths.{present, value_of, put_member, cut_member, place_of, key_in, last_key, child, put, cut, at_step, and_then, at_from, at, edit_from, set, delete}
+use Rattle.tree_path.specs.Paths.{present, value_of, put_member, cut_member, place_of, key_in, last_key, child, put}
+use Rattle.tree_path.specs.Paths.{cut, at_step, and_then, at_from, at, edit_from, set, delete}
 use Rattle.json_pointer.specs.Tokens.{texts}
 use Rattle.tree_path.specs.declared.step_places.StepPlaces.{StepPlaces}
 use Rattle.tree_path.specs.Steps.{key_place, step_place, parents_of, ArePlaces, Leads}
@@ -31,7 +34,8 @@ same_key key other same = (compares_Decides same_text (search rules) key other).
 -- ---- keys of a mapping
 
 -- a new key is the last
-pub keys-put-new : (ms : Members) (key : List ℕ) (v : Tree) → place_of ms key ≡ None → keys_of (put_member ms key v) ≡ keys_of ms ++ key ∷ []
+pub keys-put-new : (ms : Members) (key : List ℕ) (v : Tree) → place_of ms key ≡ None
+    → keys_of (put_member ms key v) ≡ keys_of ms ++ key ∷ []
 keys-put-new no_member key v none = refl
 keys-put-new (member other t ms) key v none =
     let P : Bool → Type 0 = λ b. cond b (Some 0) (option_map suc (place_of ms key)) ≡ None
@@ -42,7 +46,8 @@ keys-put-new (member other t ms) key v none =
     ]) none
 
 -- one that is there stays
-pub keys-put-there : (ms : Members) (key : List ℕ) (v : Tree) (i : ℕ) → place_of ms key ≡ Some i → keys_of (put_member ms key v) ≡ keys_of ms
+pub keys-put-there : (ms : Members) (key : List ℕ) (v : Tree) (i : ℕ) → place_of ms key ≡ Some i
+    → keys_of (put_member ms key v) ≡ keys_of ms
 keys-put-there no_member key v i is = cc
 keys-put-there (member other t ms) key v i is =
     let P : Bool → Type 0 = λ b. cond b (Some 0) (option_map suc (place_of ms key)) ≡ Some i
@@ -55,7 +60,8 @@ keys-put-there (member other t ms) key v i is =
     ]) is
 
 -- one that is cut is at its place
-pub keys-cut : (ms ns : Members) (key : List ℕ) (i : ℕ) → place_of ms key ≡ Some i → cut_member ms key ≡ Some ns → keys_of ns ≡ remove (keys_of ms) i
+pub keys-cut : (ms ns : Members) (key : List ℕ) (i : ℕ) → place_of ms key ≡ Some i → cut_member ms key ≡ Some ns
+    → keys_of ns ≡ remove (keys_of ms) i
 keys-cut no_member ns key i is made = cc
 keys-cut (member other t ms) ns key i is made =
     let P : Bool → Type 0 = λ b. cond b (Some 0) (option_map suc (place_of ms key)) ≡ Some i
@@ -103,7 +109,8 @@ pub keys-long : (ps : List Pair) → length (keys_of (members_of ps)) ≡ length
 keys-long [] = refl
 keys-long (p ∷ ps) = ap suc (keys-long ps)
 
-pub keys-place : (key : List ℕ) (ps : List Pair) (i : ℕ) → key_place key ps ≡ Some i → (i < length ps) × (get_or (keys_of (members_of ps)) i [] ≡ key)
+pub keys-place : (key : List ℕ) (ps : List Pair) (i : ℕ) → key_place key ps ≡ Some i
+    → (i < length ps) × (get_or (keys_of (members_of ps)) i [] ≡ key)
 keys-place key [] i is = cc
 keys-place key (p ∷ ps) i is =
     let name = chars (text_bytes p.0) in
@@ -112,7 +119,8 @@ keys-place key (p ∷ ps) i is =
     (elim (same_text key name) as P [
       | true ↦ λ same e.
           let z : 0 ≡ i = cc in
-          subst (λ n. (n < suc (length ps)) × (get_or (name ∷ keys_of (members_of ps)) n [] ≡ key)) z (omega arith, sym (same_key key name same))
+          subst (λ n. (n < suc (length ps)) × (get_or (name ∷ keys_of (members_of ps)) n [] ≡ key)) z
+          (omega arith, sym (same_key key name same))
       | false ↦ λ _ e.
           let o = option_map-Some suc (key_place key ps) i e in
           let h = keys-place key ps o.0 o.1 in
@@ -132,17 +140,24 @@ keys-take ps n p within is =
     keys-append (y ∷ ys) x = ap (λ ks. chars (text_bytes y.0) ∷ ks) (keys-append ys x)
 
 -- the number of a key that is there is on its chain
-pub key-listed : (table : KeyTable) (ps : List Pair) (key : List ℕ) (i : ℕ) → Lists table (keys_of (members_of ps)) → key_place key ps ≡ Some i
-    → (n : ℕ) × (on_chain table.before.items (length table.before.items) (chain_of table.newest.items key) n ≡ true) × (place_at table.removed.items n ≡ i)
+pub key-listed : (table : KeyTable) (ps : List Pair) (key : List ℕ) (i : ℕ) → Lists table (keys_of (members_of ps))
+    → key_place key ps ≡ Some i
+    → (n : ℕ) × (on_chain table.before.items (length table.before.items) (chain_of table.newest.items key) n ≡ true)
+    × (place_at table.removed.items n ≡ i)
 key-listed table ps key i lists is =
     let h = keys-place key ps i is in
     let within = h.0 in
-    let old = lists.listed i (omega (arith, keys-long ps, within)) in
-    (old.0, subst (λ k. on_chain table.before.items (length table.before.items) (chain_of table.newest.items k) old.0 ≡ true) h.1 old.1, old.2)
+    let old = lists.listed i (omega (arith, keys-long ps, within)) in (
+      old.0,
+      subst (λ k. on_chain table.before.items (length table.before.items) (chain_of table.newest.items k) old.0
+          ≡ true) h.1 old.1,
+      old.2,
+    )
 
 -- ---- another key
 
-value-put-other : (ms : Members) (token step : List ℕ) (v : Tree) → same_text step token ≡ false → value_of (put_member ms token v) step ≡ value_of ms step
+value-put-other : (ms : Members) (token step : List ℕ) (v : Tree) → same_text step token ≡ false
+    → value_of (put_member ms token v) step ≡ value_of ms step
 value-put-other no_member token step v other = ap (λ b. cond b (Some v) None) other
 value-put-other (member k t ms) token step v other =
     let P : Bool → Type 0 = λ b. same_text token k ≡ b
@@ -154,7 +169,8 @@ value-put-other (member k t ms) token step v other =
       | false ↦ λ _. ap (cond (same_text step k) (Some t)) (value-put-other ms token step v other)
     ]) refl
 
-value-cut-other : (ms ns : Members) (token step : List ℕ) → same_text step token ≡ false → cut_member ms token ≡ Some ns → value_of ns step ≡ value_of ms step
+value-cut-other : (ms ns : Members) (token step : List ℕ) → same_text step token ≡ false
+    → cut_member ms token ≡ Some ns → value_of ns step ≡ value_of ms step
 value-cut-other no_member ns token step other made = cc
 value-cut-other (member k t ms) ns token step other made =
     let P : Bool → Type 0 = λ b. same_text token k ≡ b → cond b (Some ms) (option_map (member k t) (cut_member ms token)) ≡ Some ns
@@ -171,7 +187,8 @@ value-cut-other (member k t ms) ns token step other made =
 
 -- an edit at one key of a mapping keeps the values of the others
 abbrev KeepsOthers : (Tree → List ℕ → Result Tree Miss) → Type 0
-KeepsOthers edit = (ms : Members) (u : Tree) (token step : List ℕ) → same_text step token ≡ false → edit (mapping ms) token ≡ Ok u → child u step ≡ child (mapping ms) step
+KeepsOthers edit = (ms : Members) (u : Tree) (token step : List ℕ) → same_text step token ≡ false
+    → edit (mapping ms) token ≡ Ok u → child u step ≡ child (mapping ms) step
 
 put-others : (v : Tree) → KeepsOthers (λ u token. put u token v)
 unfolding child put
@@ -194,7 +211,8 @@ edit_path-more edit step t token r [] rs = refl
 edit_path-more edit step t token r (next ∷ tokens) rs = refl
 
 -- an edit below some steps is one of the value to which they lead
-pub edit-under : (edit : Tree → List ℕ → Result Tree Miss) (common : List (List ℕ)) (r : List ℕ) (rs : List (List ℕ)) (step : ℕ) (t w u : Tree)
+pub edit-under : (edit : Tree → List ℕ → Result Tree Miss) (common : List (List ℕ)) (r : List ℕ) (rs : List (List ℕ))
+    (step : ℕ) (t w u : Tree)
     → at_from step t common ≡ Ok w → edit_path edit step t (common ++ r ∷ rs) ≡ Ok u
     → (x : Tree) × (n : ℕ) × (at_from step u common ≡ Ok x) × (edit_path edit n w (r ∷ rs) ≡ Ok x)
 edit-under edit [] r rs step t w u there is =
@@ -208,7 +226,8 @@ edit-under edit (c ∷ cs) r rs step t w u there is =
     (h.0, h.1, ap (λ x. at_step step x (λ y. at_from (suc step) y cs)) found ∙ h.2, h.3)
 
 -- its last step
-last-edit : (edit : Tree → List ℕ → Result Tree Miss) (n : ℕ) (t u : Tree) (token : List ℕ) → edit_path edit n t (token ∷ []) ≡ Ok u → edit t token ≡ Ok u
+last-edit : (edit : Tree → List ℕ → Result Tree Miss) (n : ℕ) (t u : Tree) (token : List ℕ)
+    → edit_path edit n t (token ∷ []) ≡ Ok u → edit t token ≡ Ok u
 last-edit edit n t u token is = let a = at_step-Ok n (edit t token) Ok u is in same_Ok a.0 u (edit t token) a.1 a.2
 
 -- or a step on the way
@@ -220,7 +239,8 @@ deeper-edit edit n t u token next rest is =
     let p = at_step-Ok n (put t token b.0) Ok u b.2 in
     (a.0, b.0, a.1, same_Ok p.0 u (put t token b.0) p.1 p.2)
 
-beside : (edit : Tree → List ℕ → Result Tree Miss) → KeepsOthers edit → (n : ℕ) (ms : Members) (u : Tree) (token step : List ℕ) (rest : List (List ℕ))
+beside : (edit : Tree → List ℕ → Result Tree Miss) → KeepsOthers edit
+    → (n : ℕ) (ms : Members) (u : Tree) (token step : List ℕ) (rest : List (List ℕ))
     → same_text step token ≡ false → edit_path edit n (mapping ms) (token ∷ rest) ≡ Ok u → child u step ≡ child (mapping ms) step
 beside edit keeps n ms u token step [] other is = keeps ms u token step other (last-edit edit n (mapping ms) u token is)
 beside edit keeps n ms u token step (next ∷ rest) other is =
@@ -233,7 +253,8 @@ at-kept edit keeps t u steps path leaves is =
     let common = leaves.common in
     let after = leaves.step ∷ leaves.steps_after in
     let from : ℕ = 1 + length common in
-    let h = edit-under edit common leaves.token leaves.tokens_after 1 t (mapping leaves.ms) u leaves.there (subst (λ p. edit_path edit 1 t p ≡ Ok u) leaves.path_is is) in
+    let h = edit-under edit common leaves.token leaves.tokens_after 1 t (mapping leaves.ms) u leaves.there
+    (subst (λ p. edit_path edit 1 t p ≡ Ok u) leaves.path_is is) in
     let same = beside edit keeps h.1 leaves.ms h.0 leaves.token leaves.step leaves.tokens_after leaves.other h.3 in
     ap (at u) leaves.steps_are ∙ at_from-append common after 1 u ∙ ap (λ r. and_then r (λ w. at_from from w after)) h.2
     ∙ ap (λ r. at_step from r (λ w. at_from (suc from) w leaves.steps_after)) same
@@ -254,7 +275,8 @@ delete-path [] t some = absurd (omega (arith, some))
 delete-path (token ∷ tokens) t some = refl
 
 -- elsewhere
-apart : (edit : Tree → List ℕ → Result Tree Miss) → KeepsOthers edit → (t u : Tree) (steps path : List (List ℕ)) (o : Option KeyTable) → Leaves t steps path
+apart : (edit : Tree → List ℕ → Result Tree Miss) → KeepsOthers edit
+    → (t u : Tree) (steps path : List (List ℕ)) (o : Option KeyTable) → Leaves t steps path
     → edit_path edit 1 t path ≡ Ok u → IndexesBy steps o t → IndexesBy steps o u
 apart edit keeps t u steps path None leaves is known = tt
 apart edit keeps t u steps path (Some table) leaves is known = (known.0, at-kept edit keeps t u steps path leaves is ∙ known.1, known.2)
@@ -262,7 +284,8 @@ apart edit keeps t u steps path (Some table) leaves is known = (known.0, at-kept
 pub set-apart : (index : KeyIndex) (t v u : Tree) (path : List (List ℕ)) → 0 < length path → Leaves t (steps_of index.steps.items) path
     → set t path v ≡ Ok u → Indexes index t → Indexes index u
 set-apart index t v u path some leaves is known =
-    apart (λ x token. put x token v) (put-others v) t u (steps_of index.steps.items) path index.table leaves (sym (set-path path t v some) ∙ is) known
+    apart (λ x token. put x token v) (put-others v) t u (steps_of index.steps.items) path index.table leaves
+    (sym (set-path path t v some) ∙ is) known
 
 pub delete-apart : (index : KeyIndex) (t u : Tree) (path : List (List ℕ)) → 0 < length path → Leaves t (steps_of index.steps.items) path
     → delete t path ≡ Ok u → Indexes index t → Indexes index u
@@ -270,7 +293,8 @@ delete-apart index t u path some leaves is known =
     apart cut cut-others t u (steps_of index.steps.items) path index.table leaves (sym (delete-path path t some) ∙ is) known
 
 -- a value that is put keeps a mapping's keys, where its key was there
-put-keys : (table : KeyTable) (w u v : Tree) (key : List ℕ) (i : ℕ) → ListsIn table w → key_in w key ≡ Some i → put w key v ≡ Ok u → ListsIn table u
+put-keys : (table : KeyTable) (w u v : Tree) (key : List ℕ) (i : ℕ) → ListsIn table w → key_in w key ≡ Some i
+    → put w key v ≡ Ok u → ListsIn table u
 unfolding put
 put-keys table (text value) u v key i lists there is = absurd lists
 put-keys table (sequence ts) u v key i lists there is = absurd lists
@@ -287,14 +311,16 @@ child-key table (mapping ms) c key lists is = there ms (present-Ok (value_of ms 
     there : (ms : Members) → value_of ms key ≡ Some c → (i : ℕ) × (place_of ms key ≡ Some i)
     there no_member found = cc
     there (member other t ms) found =
-        let P : Bool → Type 0 = λ b. cond b (Some t) (value_of ms key) ≡ Some c → (i : ℕ) × (cond b (Some 0) (option_map suc (place_of ms key)) ≡ Some i) in
+        let P : Bool → Type 0 = λ b. cond b (Some t) (value_of ms key) ≡ Some c
+        → (i : ℕ) × (cond b (Some 0) (option_map suc (place_of ms key)) ≡ Some i) in
         (elim (same_text key other) as P [
           | true ↦ λ e. (0, refl)
           | false ↦ λ e. let p = there ms e in (suc p.0, ap (option_map suc) p.1)
         ]) found
 
 -- below a key
-under : (edit : Tree → List ℕ → Result Tree Miss) (t u : Tree) (steps path : List (List ℕ)) (key next : List ℕ) (rest : List (List ℕ)) (o : Option KeyTable)
+under : (edit : Tree → List ℕ → Result Tree Miss) (t u : Tree) (steps path : List (List ℕ)) (key next : List ℕ)
+    (rest : List (List ℕ)) (o : Option KeyTable)
     → path ≡ steps ++ key ∷ next ∷ rest → edit_path edit 1 t path ≡ Ok u → IndexesBy steps o t → IndexesBy steps o u
 under edit t u steps path key next rest None split is known = tt
 under edit t u steps path key next rest (Some table) split is known =
@@ -306,7 +332,8 @@ under edit t u steps path key next rest (Some table) split is known =
 pub set-under : (index : KeyIndex) (t v u : Tree) (path : List (List ℕ)) (key next : List ℕ) (rest : List (List ℕ)) → 0 < length path
     → path ≡ steps_of index.steps.items ++ key ∷ next ∷ rest → set t path v ≡ Ok u → Indexes index t → Indexes index u
 set-under index t v u path key next rest some split is known =
-    under (λ x token. put x token v) t u (steps_of index.steps.items) path key next rest index.table split (sym (set-path path t v some) ∙ is) known
+    under (λ x token. put x token v) t u (steps_of index.steps.items) path key next rest index.table split
+    (sym (set-path path t v some) ∙ is) known
 
 pub delete-under : (index : KeyIndex) (t u : Tree) (path : List (List ℕ)) (key next : List ℕ) (rest : List (List ℕ)) → 0 < length path
     → path ≡ steps_of index.steps.items ++ key ∷ next ∷ rest → delete t path ≡ Ok u → Indexes index t → Indexes index u
@@ -345,12 +372,14 @@ cut-old old new (text value) u key i lists there is less = absurd lists
 cut-old old new (sequence ts) u key i lists there is less = absurd lists
 cut-old old new (mapping ms) u key i lists there is less =
     let o = option_map-Some mapping (cut_member ms key) u (present-Ok _ u is) in
-    subst (ListsIn new) o.2 (subst (Lists new) (sym (keys-cut ms o.0 key i there o.1)) (less (keys_of ms) lists (place-inside ms key i there)))
+    subst (ListsIn new) o.2 (subst (Lists new) (sym (keys-cut ms o.0 key i there o.1))
+    (less (keys_of ms) lists (place-inside ms key i there)))
 
 -- at a new key
 new-by : (t v u : Tree) (steps path : List (List ℕ)) (key : List ℕ) (old new : Option KeyTable) → path ≡ steps ++ key ∷ []
     → edit_path (λ x token. put x token v) 1 t path ≡ Ok u → last_key t path ≡ None → IndexesBy steps old t
-    → IfSome new (λ table. (before : KeyTable) × (old ≡ Some before) × ((keys : List (List ℕ)) → Lists before keys → Lists table (keys ++ key ∷ [])))
+    → IfSome new (λ table. (before : KeyTable) × (old ≡ Some before)
+    × ((keys : List (List ℕ)) → Lists before keys → Lists table (keys ++ key ∷ [])))
     → IndexesBy steps new u
 new-by t v u steps path key old None split is none known made = tt
 new-by t v u steps path key old (Some table) split is none known made =
@@ -363,7 +392,8 @@ new-by t v u steps path key old (Some table) split is none known made =
 
 pub set-new : (old new : KeyIndex) (t v u : Tree) (path : List (List ℕ)) (key : List ℕ) → 0 < length path
     → path ≡ steps_of old.steps.items ++ key ∷ [] → last_key t path ≡ None → set t path v ≡ Ok u → Indexes old t → new.steps ≡ old.steps
-    → IfSome new.table (λ table. (before : KeyTable) × (old.table ≡ Some before) × ((keys : List (List ℕ)) → Lists before keys → Lists table (keys ++ key ∷ [])))
+    → IfSome new.table (λ table. (before : KeyTable) × (old.table ≡ Some before)
+    × ((keys : List (List ℕ)) → Lists before keys → Lists table (keys ++ key ∷ [])))
     → Indexes new u
 set-new old new t v u path key some split none is known steps made =
     subst (λ s. IndexesBy (steps_of s.items) new.table u) (sym steps)
@@ -372,7 +402,8 @@ set-new old new t v u path key some split none is known steps made =
 -- at a key that is removed
 cut-by : (t u : Tree) (steps path : List (List ℕ)) (key : List ℕ) (i : ℕ) (old new : Option KeyTable) → path ≡ steps ++ key ∷ []
     → edit_path cut 1 t path ≡ Ok u → last_key t path ≡ Some i → IndexesBy steps old t
-    → IfSome new (λ table. (before : KeyTable) × (old ≡ Some before) × ((keys : List (List ℕ)) → Lists before keys → i < length keys → Lists table (remove keys i)))
+    → IfSome new (λ table. (before : KeyTable) × (old ≡ Some before)
+    × ((keys : List (List ℕ)) → Lists before keys → i < length keys → Lists table (remove keys i)))
     → IndexesBy steps new u
 cut-by t u steps path key i old None split is found known made = tt
 cut-by t u steps path key i old (Some table) split is found known made =
@@ -384,7 +415,8 @@ cut-by t u steps path key i old (Some table) split is found known made =
 
 pub delete-there : (old new : KeyIndex) (t u : Tree) (path : List (List ℕ)) (key : List ℕ) (i : ℕ) → 0 < length path
     → path ≡ steps_of old.steps.items ++ key ∷ [] → last_key t path ≡ Some i → delete t path ≡ Ok u → Indexes old t → new.steps ≡ old.steps
-    → IfSome new.table (λ table. (before : KeyTable) × (old.table ≡ Some before) × ((keys : List (List ℕ)) → Lists before keys → i < length keys → Lists table (remove keys i)))
+    → IfSome new.table (λ table. (before : KeyTable) × (old.table ≡ Some before)
+    × ((keys : List (List ℕ)) → Lists before keys → i < length keys → Lists table (remove keys i)))
     → Indexes new u
 delete-there old new t u path key i some split found is known steps made =
     subst (λ s. IndexesBy (steps_of s.items) new.table u) (sym steps)
@@ -440,12 +472,14 @@ pub table-told : (o : Option (Bor KeyTable)) (index : Option (Bor KeyIndex)) (i 
 table-told None index i tokens is says = tt
 table-told (Some table) index i tokens is says = λ x y known there. says x y (subst (λ o. IfSome o (λ j. Indexes j.now x)) is known) there
 
-pub table-copied : (o : Option (Bor KeyTable)) (index : KeyIndex) (tokens : List (List ℕ)) → option_copied o ≡ index.table → steps_of index.steps.items ≡ tokens
+pub table-copied : (o : Option (Bor KeyTable)) (index : KeyIndex) (tokens : List (List ℕ))
+    → option_copied o ≡ index.table → steps_of index.steps.items ≡ tokens
     → IfSome o (λ table. (x y : Tree) → Indexes index x → at x tokens ≡ Ok y → ListsIn table.now y)
 table-copied None index tokens is steps = tt
 table-copied (Some table) index tokens is steps = λ x y known there. says index.table is x y known there
   where
-    says : (o : Option KeyTable) → Some table.now ≡ o → (x y : Tree) → IndexesBy (steps_of index.steps.items) o x → at x tokens ≡ Ok y → ListsIn table.now y
+    says : (o : Option KeyTable) → Some table.now ≡ o → (x y : Tree) → IndexesBy (steps_of index.steps.items) o x
+        → at x tokens ≡ Ok y → ListsIn table.now y
     says None is x y known there = cc
     says (Some other) is x y known there =
         let same : other ≡ table.now = cc in
@@ -479,7 +513,8 @@ tokens-from (t ∷ tokens) (suc n) within =
     let count = h.3 in
     (h.0, h.1, ap (λ ks. chars (cow_str_bytes t) ∷ ks) h.2, omega (arith, count))
 
-pub key-only : (tokens : List (CowStr Global)) (steps : List (List ℕ)) (n : ℕ) → n < length tokens → steps ≡ texts (take n tokens) → length tokens - 1 ≡ n
+pub key-only : (tokens : List (CowStr Global)) (steps : List (List ℕ)) (n : ℕ) → n < length tokens
+    → steps ≡ texts (take n tokens) → length tokens - 1 ≡ n
     → (key : List ℕ) × (texts tokens ≡ steps ++ key ∷ [])
 key-only tokens steps n within is last =
     let h = tokens-from tokens n within in
@@ -489,7 +524,8 @@ key-only tokens steps n within is last =
     none [] count = refl
     none (r ∷ rest) count = absurd (omega (arith, count, last))
 
-pub key-deeper : (tokens : List (CowStr Global)) (steps : List (List ℕ)) (n : ℕ) → n < length tokens → steps ≡ texts (take n tokens) → (length tokens - 1 ≡ n → ⊥)
+pub key-deeper : (tokens : List (CowStr Global)) (steps : List (List ℕ)) (n : ℕ) → n < length tokens
+    → steps ≡ texts (take n tokens) → (length tokens - 1 ≡ n → ⊥)
     → (key next : List ℕ) × (rest : List (List ℕ)) × (texts tokens ≡ steps ++ key ∷ next ∷ rest)
 key-deeper tokens steps n within is more =
     let h = tokens-from tokens n within in
@@ -506,7 +542,8 @@ parents-deep (x ∷ []) y z zs = parents-more x y (z ∷ zs) ∙ ap (λ ks. x �
 parents-deep (x ∷ w ∷ ws) y z zs = parents-more x w (ws ++ y ∷ z ∷ zs) ∙ ap (λ ks. x ∷ ks) (parents-deep (w ∷ ws) y z zs)
 
 -- the place of a step before the last
-pub step-placed : (places : StepPlaces) (tokens : List (CowStr Global)) (n : ℕ) (token : CowStr Global) (t cur : Tree) → n + 1 < length tokens → token ≡ get_or tokens n token
+pub step-placed : (places : StepPlaces) (tokens : List (CowStr Global)) (n : ℕ) (token : CowStr Global) (t cur : Tree)
+    → n + 1 < length tokens → token ≡ get_or tokens n token
     → ArePlaces places t (texts tokens) → at t (texts (take n tokens)) ≡ Ok cur
     → (n < length places.parents.items) × (step_place cur (chars (cow_str_bytes token)) ≡ Ok (get_or places.parents.items n 0))
 step-placed places tokens n token t cur more is are there =
@@ -515,10 +552,16 @@ step-placed places tokens n token t cur more is are there =
     let before = texts (take n tokens) in
     let after = texts (drop (n + 1) tokens) in
     let whole = texts-split tokens n token (omega (arith, more)) is in
-    let rest = first after (omega (arith, more, length-map (drop (n + 1) tokens) (λ (x : CowStr Global). chars (cow_str_bytes x)), length-drop (n + 1) tokens)) in
+    let rest = first after (omega (
+      arith,
+      more,
+      length-map (drop (n + 1) tokens) (λ (x : CowStr Global). chars (cow_str_bytes x)),
+      length-drop (n + 1) tokens,
+    )) in
     let parents : parents_of (texts tokens) ≡ before ++ text ∷ parents_of (rest.0 ∷ rest.1) =
     ap parents_of (whole ∙ ap (λ ks. before ++ text ∷ ks) rest.2) ∙ parents-deep before text rest.0 rest.1 in
-    let long : length before ≡ n = length-map (take n tokens) (λ (x : CowStr Global). chars (cow_str_bytes x)) ∙ length-take-le n tokens (omega (arith, more)) in
+    let long : length before ≡ n = length-map (take n tokens) (λ (x : CowStr Global). chars (cow_str_bytes x))
+    ∙ length-take-le n tokens (omega (arith, more)) in
     subst (λ k. (k < length ps) × (step_place cur text ≡ Ok (get_or ps k 0))) long
     (Leads-step before text (parents_of (rest.0 ∷ rest.1)) 1 t cur ps (subst (λ xs. Leads xs t ps) parents are.parents) there)
   where

@@ -1,5 +1,6 @@
 -- In a mapping where keys differ, a pair with a key is the only one, so its place is the key's.
-use Rattle.std.proofs.Common.{◌≡◌, ℕ, zero, suc, ◌<◌, Bool, true, false, cond, not, ◌&&◌, ◌||◌, List, [], ◌∷◌, length, get_or, Some, option_map, refl, ap, subst, arith, rules}
+use Rattle.std.proofs.Common.{◌≡◌, ℕ, zero, suc, ◌<◌, Bool, true, false, cond, not, ◌&&◌, ◌||◌, List, [], ◌∷◌, length}
+use Rattle.std.proofs.Common.{get_or, Some, option_map, refl, ap, subst, arith, rules}
 use Rattle.std.specs.Str.{chars}
 use Rattle.std.proofs.lemmas.Bool.{and_parts}
 use Rattle.std.proofs.lemmas.Slice.Eq.{compares_Decides}
@@ -19,7 +20,8 @@ not_true true is also = cc
 not_true false is also = cc
 
 -- a pair's key is one of the keys
-has_key-at : (ps : List Pair) (i : ℕ) (d : Pair) (key : List ℕ) → i < length ps → same_text key (chars (text_bytes (get_or ps i d).0)) ≡ true
+has_key-at : (ps : List Pair) (i : ℕ) (d : Pair) (key : List ℕ) → i < length ps
+    → same_text key (chars (text_bytes (get_or ps i d).0)) ≡ true
     → has_key key (members_of ps) ≡ true
 has_key-at [] i d key within is = absurd (omega arith)
 has_key-at (p ∷ ps) zero d key within is = ap (λ b. b || has_key key (members_of ps)) is
@@ -45,7 +47,8 @@ key_place-at key (p ∷ ps) (suc i) d differ within is =
     ]) refl
 
 -- the pair at a key's place has the key
-pub key_place-same : (key : List ℕ) (ps : List Pair) (i : ℕ) (d : Pair) → key_place key ps ≡ Some i → same_text key (chars (text_bytes (get_or ps i d).0)) ≡ true
+pub key_place-same : (key : List ℕ) (ps : List Pair) (i : ℕ) (d : Pair) → key_place key ps ≡ Some i
+    → same_text key (chars (text_bytes (get_or ps i d).0)) ≡ true
 key_place-same key [] i d is = cc
 key_place-same key (p ∷ ps) i d is =
     let name = chars (text_bytes p.0) in

@@ -1,5 +1,7 @@
 -- Indices read digit by digit: a number so far, and what the digits after it make of it.
-use Rattle.std.proofs.Common.{◌≡◌, ℕ, zero, suc, ◌+◌, ◌-◌, ◌*◌, ◌<◌, Bool, true, false, cond, ◌&&◌, ◌==◌, List, [], ◌∷◌, length, get_or, drop, Option, Some, None, option_map, refl, sym, ap, subst, ◌∙◌, arith}
+use Rattle.std.proofs.Common.{◌≡◌, ℕ, zero, suc, ◌+◌, ◌-◌, ◌*◌, ◌<◌, Bool, true, false, cond, ◌&&◌, ◌==◌, List, []}
+use Rattle.std.proofs.Common.{◌∷◌, length, get_or, drop, Option, Some, None, option_map, refl, sym, ap, subst, ◌∙◌}
+use Rattle.std.proofs.Common.{arith}
 use Rattle.std.specs.Char.{digit_value}
 use Rattle.std.specs.Option.{option_and_then}
 use Rattle.std.proofs.lemmas.Bool.{eqb-true}
@@ -48,10 +50,13 @@ pub read_on-None : (cs : List ℕ) → read_on None cs ≡ number_of cs
 read_on-None [] = refl
 read_on-None (c ∷ cs) =
     let value : Bool → Option ℕ = λ number. cond number (Some (number_after (10 * 0 + (c - 48)) cs)) None in
-    let P : Bool → Type 0 = λ z. (c == 48) ≡ z → cond (digit c) (read_on (Some (c - 48)) cs) None ≡ value (cond z (is_empty cs) (digit c && list_all digit cs)) in
-    let Q : Bool → Type 0 = λ d. digit c ≡ d → (c == 48) ≡ false → cond d (read_on (Some (c - 48)) cs) None ≡ value (d && list_all digit cs) in
+    let P : Bool → Type 0 = λ z. (c == 48) ≡ z → cond (digit c) (read_on (Some (c - 48)) cs) None
+    ≡ value (cond z (is_empty cs) (digit c && list_all digit cs)) in
+    let Q : Bool → Type 0 = λ d. digit c ≡ d → (c == 48) ≡ false
+    → cond d (read_on (Some (c - 48)) cs) None ≡ value (d && list_all digit cs) in
     (elim (c == 48) as P [
-      | true ↦ λ e. subst (λ d. cond (digit d) (read_on (Some (d - 48)) cs) None ≡ cond (is_empty cs) (Some (number_after (10 * 0 + (d - 48)) cs)) None)
+      | true ↦ λ e. subst (λ d. cond (digit d) (read_on (Some (d - 48)) cs) None
+          ≡ cond (is_empty cs) (Some (number_after (10 * 0 + (d - 48)) cs)) None)
           (sym (eqb-true c 48 e)) (read_on-0 cs)
       | false ↦ (elim (digit c) as Q [
         | true ↦ λ d e. read_on-Some cs (c - 48) (digit-above c d e)
@@ -71,7 +76,8 @@ digit-false c large = grind (arith, nat_tests)
 -- ---- one turn of the loop over the characters
 
 read_on-more : (cs : List ℕ) (n c : ℕ) (so_far : Option ℕ) → (n < length cs) × (c ≡ get_or cs n c)
-    → read_on so_far (drop n cs) ≡ cond (digit c) (option_and_then (λ m. read_on (Some m) (drop (n + 1) cs)) (digit_after so_far (c - 48))) None
+    → read_on so_far (drop n cs) ≡ cond (digit c)
+    (option_and_then (λ m. read_on (Some m) (drop (n + 1) cs)) (digit_after so_far (c - 48))) None
 read_on-more cs n c so_far turn =
     at_drop_more (read_on so_far) cs n c turn.0
     ∙ ap (λ d. cond (digit d) (option_and_then (λ m. read_on (Some m) (drop (n + 1) cs)) (digit_after so_far (d - 48))) None) (sym turn.1)

@@ -1,5 +1,7 @@
 -- Places in the lists of a tree of src/, and in the elements and members that they are seen as.
-use Rattle.std.proofs.Common.{◌≡◌, ℕ, zero, suc, ◌+◌, ◌<◌, ◌≤◌, Bool, true, false, cond, List, [], ◌∷◌, ◌++◌, length, get_or, set, drop, Option, Some, None, option_map, refl, sym, ap, subst, ◌∙◌, arith, rules}
+use Rattle.std.proofs.Common.{◌≡◌, ℕ, zero, suc, ◌+◌, ◌<◌, ◌≤◌, Bool, true, false, cond, List, [], ◌∷◌, ◌++◌, length}
+use Rattle.std.proofs.Common.{get_or, set, drop, Option, Some, None, option_map, refl, sym, ap, subst, ◌∙◌, arith}
+use Rattle.std.proofs.Common.{rules}
 use Rattle.std.specs.List.{remove}
 use Rattle.std.specs.Str.{chars, IsUtf8, bytes_eq}
 use Rattle.std.proofs.lemmas.Bool.Decides.{same_from_decides}
@@ -36,7 +38,8 @@ key_place-start (Some n) = ap Some (omega arith)
 
 -- a pair with the key is found
 pub key_place-turn : (key : List ℕ) (ps : List Pair) (place : ℕ) (p : Pair) → place < length ps → p ≡ get_or ps place p
-    → key_place key (drop place ps) ≡ cond (same_text key (chars (text_bytes p.0))) (Some 0) (option_map suc (key_place key (drop (place + 1) ps)))
+    → key_place key (drop place ps) ≡ cond (same_text key (chars (text_bytes p.0))) (Some 0)
+    (option_map suc (key_place key (drop (place + 1) ps)))
 key_place-turn key ps place p within is =
     at_drop_more (key_place key) ps place p within
     ∙ ap (λ q. cond (same_text key (chars (text_bytes q.0))) (Some 0) (option_map suc (key_place key (drop (place + 1) ps)))) (sym is)
@@ -63,7 +66,8 @@ pub value_of-place : (key : List ℕ) (ps : List Pair) (i : ℕ) → key_place k
 value_of-place key [] i is = cc
 value_of-place key (p ∷ ps) i is =
     let P : Bool → Type 0 = λ b. cond b (Some 0) (option_map suc (key_place key ps)) ≡ Some i
-    → (i < suc (length ps)) × ((d : Pair) → cond b (Some (tree_of p.1)) (value_of (members_of ps) key) ≡ Some (tree_of (get_or (p ∷ ps) i d).1)) in
+    → (i < suc (length ps)) × ((d : Pair) → cond b (Some (tree_of p.1)) (value_of (members_of ps) key)
+    ≡ Some (tree_of (get_or (p ∷ ps) i d).1)) in
     (elim (same_text key (chars (text_bytes p.0))) as P [
       | true ↦ λ e. let z : i ≡ 0 = cc in rw z (omega arith, λ d. refl)
       | false ↦ λ e.
@@ -79,13 +83,15 @@ pub put_member-place : (key : List ℕ) (ps : List Pair) (i : ℕ) (t : Tree) (d
 put_member-place key [] i t d is = cc
 put_member-place key (p ∷ ps) i t d is =
     let P : Bool → Type 0 = λ b. cond b (Some 0) (option_map suc (key_place key ps)) ≡ Some i
-    → cond b (member (chars (text_bytes p.0)) (tree_of t) (members_of ps)) (member (chars (text_bytes p.0)) (tree_of p.1) (put_member (members_of ps) key (tree_of t)))
+    → cond b (member (chars (text_bytes p.0)) (tree_of t) (members_of ps))
+    (member (chars (text_bytes p.0)) (tree_of p.1) (put_member (members_of ps) key (tree_of t)))
     ≡ members_of (set (p ∷ ps) i ((get_or (p ∷ ps) i d).0, t)) in
     (elim (same_text key (chars (text_bytes p.0))) as P [
       | true ↦ λ e. let z : i ≡ 0 = cc in rw z
       | false ↦ λ e.
           let o = option_map-Some suc (key_place key ps) i e in
-          subst (λ n. member (chars (text_bytes p.0)) (tree_of p.1) (put_member (members_of ps) key (tree_of t)) ≡ members_of (set (p ∷ ps) n ((get_or (p ∷ ps) n d).0, t))) o.2
+          subst (λ n. member (chars (text_bytes p.0)) (tree_of p.1) (put_member (members_of ps) key (tree_of t))
+          ≡ members_of (set (p ∷ ps) n ((get_or (p ∷ ps) n d).0, t))) o.2
           (ap (member (chars (text_bytes p.0)) (tree_of p.1)) (put_member-place key ps o.0 t d o.1))
     ]) is
 
@@ -101,7 +107,8 @@ cut_member-place key (p ∷ ps) i is =
       | true ↦ λ e. let z : i ≡ 0 = cc in rw z
       | false ↦ λ e.
           let o = option_map-Some suc (key_place key ps) i e in
-          subst (λ n. option_map (member (chars (text_bytes p.0)) (tree_of p.1)) (cut_member (members_of ps) key) ≡ Some (members_of (remove (p ∷ ps) n))) o.2
+          subst (λ n. option_map (member (chars (text_bytes p.0)) (tree_of p.1)) (cut_member (members_of ps) key)
+          ≡ Some (members_of (remove (p ∷ ps) n))) o.2
           (ap (option_map (member (chars (text_bytes p.0)) (tree_of p.1))) (cut_member-place key ps o.0 o.1))
     ]) is
 
@@ -122,11 +129,13 @@ pub put_member-absent : (key : List ℕ) (ps : List Pair) (k : Text) (t : Tree) 
 put_member-absent key [] k t is named = ap (λ n. member n (tree_of t) grammar.no_member) (sym named)
 put_member-absent key (p ∷ ps) k t is named =
     let P : Bool → Type 0 = λ b. cond b (Some 0) (option_map suc (key_place key ps)) ≡ None
-    → cond b (member (chars (text_bytes p.0)) (tree_of t) (members_of ps)) (member (chars (text_bytes p.0)) (tree_of p.1) (put_member (members_of ps) key (tree_of t)))
+    → cond b (member (chars (text_bytes p.0)) (tree_of t) (members_of ps))
+    (member (chars (text_bytes p.0)) (tree_of p.1) (put_member (members_of ps) key (tree_of t)))
     ≡ members_of ((p ∷ ps) ++ (k, t) ∷ []) in
     (elim (same_text key (chars (text_bytes p.0))) as P [
       | true ↦ λ e. cc
-      | false ↦ λ e. ap (member (chars (text_bytes p.0)) (tree_of p.1)) (put_member-absent key ps k t (option_map-None suc (key_place key ps) e) named)
+      | false ↦ λ e. ap (member (chars (text_bytes p.0)) (tree_of p.1))
+          (put_member-absent key ps k t (option_map-None suc (key_place key ps) e) named)
     ]) is
 
 -- and isn't taken out
@@ -137,7 +146,8 @@ cut_member-absent key (p ∷ ps) is =
     → cond b (Some (members_of ps)) (option_map (member (chars (text_bytes p.0)) (tree_of p.1)) (cut_member (members_of ps) key)) ≡ None in
     (elim (same_text key (chars (text_bytes p.0))) as P [
       | true ↦ λ e. cc
-      | false ↦ λ e. ap (option_map (member (chars (text_bytes p.0)) (tree_of p.1))) (cut_member-absent key ps (option_map-None suc (key_place key ps) e))
+      | false ↦ λ e. ap (option_map (member (chars (text_bytes p.0)) (tree_of p.1)))
+          (cut_member-absent key ps (option_map-None suc (key_place key ps) e))
     ]) is
 
 -- ---- the element at an index
@@ -149,7 +159,8 @@ element_at-index (t ∷ ts) zero d within = refl
 element_at-index (t ∷ ts) (suc i) d within = element_at-index ts i d (omega arith)
 
 -- an element is replaced at its index
-pub put_element-index : (ts : List Tree) (i : ℕ) (t : Tree) → i < length ts → put_element (elements_of ts) i (tree_of t) ≡ Some (elements_of (set ts i t))
+pub put_element-index : (ts : List Tree) (i : ℕ) (t : Tree) → i < length ts
+    → put_element (elements_of ts) i (tree_of t) ≡ Some (elements_of (set ts i t))
 put_element-index [] i t within = absurd (omega arith)
 put_element-index (u ∷ ts) zero t within = refl
 put_element-index (u ∷ ts) (suc i) t within = ap (option_map (element (tree_of u))) (put_element-index ts i t (omega arith))

@@ -1,8 +1,10 @@
 -- Laws of one step: what `child` finds in the tree that `put` gives, and where `put` changes nothing.
-use Rattle.std.proofs.Common.{◌≡◌, ℕ, zero, suc, Bool, true, false, cond, ◌&&◌, List, [], ◌∷◌, Option, Some, None, option_map, Result, Ok, Err, refl, sym, ap, ap₂, subst, eq-eqb}
+use Rattle.std.proofs.Common.{◌≡◌, ℕ, zero, suc, Bool, true, false, cond, ◌&&◌, List, [], ◌∷◌, Option, Some, None}
+use Rattle.std.proofs.Common.{option_map, Result, Ok, Err, refl, sym, ap, ap₂, subst, eq-eqb}
 use Rattle.yaml_grammar.specs.Texts.{same_text}
 use Rattle.yaml_grammar.specs.Trees.{Tree, text, sequence, mapping, Elements, no_element, element, Members, no_member, member}
-use Rattle.tree_path.specs.Paths.{Index, number, after_last, no_index, index_of, at_index, present, element_at, put_element, push_element, value_of, put_member, child, put}
+use Rattle.tree_path.specs.Paths.{Index, number, after_last, no_index, index_of, at_index, present, element_at}
+use Rattle.tree_path.specs.Paths.{put_element, push_element, value_of, put_member, child, put}
 use Rattle.tree_path.specs.declared.place.Miss.{Miss}
 use Rattle.tree_path.specs.declared.place.Miss.TheVariants.{Absent}
 
@@ -39,21 +41,25 @@ same_text-same (c ∷ cs) = ap₂ ◌&&◌ (eq-eqb c c refl) (same_text-same cs)
 pub value_of-put_member : (ms : Members) (key : List ℕ) (v : Tree) → value_of (put_member ms key v) key ≡ Some v
 value_of-put_member no_member key v = rw (same_text-same key)
 value_of-put_member (member other t ms) key v =
-    let P : Bool → Type 0 = λ b. same_text key other ≡ b → value_of (cond b (member other v ms) (member other t (put_member ms key v))) key ≡ Some v in
+    let P : Bool → Type 0 = λ b. same_text key other ≡ b
+    → value_of (cond b (member other v ms) (member other t (put_member ms key v))) key ≡ Some v in
     (elim (same_text key other) as P [ true ↦ λ e. rw e | false ↦ λ e. rw e (value_of-put_member ms key v) ]) refl
 
 -- the second put wins
 pub put_member-put_member : (ms : Members) (key : List ℕ) (b v : Tree) → put_member (put_member ms key b) key v ≡ put_member ms key v
 put_member-put_member no_member key b v = rw (same_text-same key)
 put_member-put_member (member other t ms) key b v =
-    let P : Bool → Type 0 = λ x. same_text key other ≡ x → put_member (cond x (member other b ms) (member other t (put_member ms key b))) key v ≡ cond x (member other v ms) (member other t (put_member ms key v)) in
+    let P : Bool → Type 0 = λ x. same_text key other ≡ x
+    → put_member (cond x (member other b ms) (member other t (put_member ms key b))) key v
+    ≡ cond x (member other v ms) (member other t (put_member ms key v)) in
     (elim (same_text key other) as P [ true ↦ λ e. rw e | false ↦ λ e. rw e (ap (member other t) (put_member-put_member ms key b v)) ]) refl
 
 -- to put what is there changes nothing
 pub put_member-value_of : (ms : Members) (key : List ℕ) (c : Tree) → value_of ms key ≡ Some c → put_member ms key c ≡ ms
 put_member-value_of no_member key c is = cc
 put_member-value_of (member other t ms) key c is =
-    let P : Bool → Type 0 = λ x. cond x (Some t) (value_of ms key) ≡ Some c → cond x (member other c ms) (member other t (put_member ms key c)) ≡ member other t ms in
+    let P : Bool → Type 0 = λ x. cond x (Some t) (value_of ms key) ≡ Some c
+    → cond x (member other c ms) (member other t (put_member ms key c)) ≡ member other t ms in
     (elim (same_text key other) as P [ true ↦ λ e. cc | false ↦ λ e. ap (member other t) (put_member-value_of ms key c e) ]) is
 
 -- ---- elements
@@ -68,7 +74,8 @@ element_at-put_element (element t ts) us (suc n) v is =
     rw e (element_at-put_element ts o.0 n v o.1)
 
 -- the second put wins
-pub put_element-put_element : (ts us : Elements) (n : ℕ) (b v : Tree) → put_element ts n b ≡ Some us → put_element us n v ≡ put_element ts n v
+pub put_element-put_element : (ts us : Elements) (n : ℕ) (b v : Tree) → put_element ts n b ≡ Some us
+    → put_element us n v ≡ put_element ts n v
 put_element-put_element no_element us n b v is = cc
 put_element-put_element (element t ts) us zero b v is = let e : us ≡ element b ts = cc in rw e
 put_element-put_element (element t ts) us (suc n) b v is =

@@ -1,5 +1,7 @@
 -- One step in a tree of src/: the index and the pair that the code finds, and what the definitions say there.
-use Rattle.std.proofs.Common.{◌≡◌, ℕ, ◌<◌, ◌≤◌, Bool, true, false, cond, nat_lt, List, [], ◌∷◌, ◌++◌, length, get_or, set, codes, Option, Some, None, option_map, Result, Ok, Err, Global, Vec, vec_len, refl, sym, ap, ◌∙◌, arith, rules}
+use Rattle.std.proofs.Common.{◌≡◌, ℕ, ◌<◌, ◌≤◌, Bool, true, false, cond, nat_lt, List, [], ◌∷◌, ◌++◌, length, get_or}
+use Rattle.std.proofs.Common.{set, codes, Option, Some, None, option_map, Result, Ok, Err, Global, Vec, vec_len, refl}
+use Rattle.std.proofs.Common.{sym, ap, ◌∙◌, arith, rules}
 use Rattle.std.specs.List.{remove}
 use Rattle.std.specs.Option.{ok_or}
 use Rattle.std.specs.Str.{chars, IsUtf8, bytes_eq}
@@ -14,11 +16,15 @@ use Rattle.yaml_data.specs.Seen.{Pair, tree_of, elements_of, members_of}
 use Rattle.yaml_data.specs.TextBytes.{text_bytes}
 use Rattle.yaml_data.specs.declared.text.Text.{Text}
 use Rattle.yaml_data.specs.declared.tree.Tree.{Tree}
-use Rattle.tree_path.specs.Paths.{Index, number, after_last, no_index, is_number, number_after, index_of, at_index, present, element_at, put_element, cut_element, push_element, child, put, cut}
+use Rattle.tree_path.specs.Paths.{Index, number, after_last, no_index, is_number, number_after, index_of, at_index}
+use Rattle.tree_path.specs.Paths.{present, element_at, put_element, cut_element, push_element, child, put, cut}
 use Rattle.tree_path.specs.Steps.{number_of, index_below, key_place}
 use Rattle.tree_path.specs.declared.place.Miss.{Miss}
 use Rattle.tree_path.specs.declared.place.Miss.TheVariants.{Absent, NoIndex}
-use Rattle.tree_path.proofs.Places.{value_of-place, put_member-place, cut_member-place, value_of-absent, put_member-absent, cut_member-absent, element_at-index, put_element-index, cut_element-index, element_at-past, put_element-past, cut_element-past, push_element-last}
+use Rattle.tree_path.proofs.Places.{value_of-place, put_member-place, cut_member-place, value_of-absent}
+use Rattle.tree_path.proofs.Places.{put_member-absent, cut_member-absent, element_at-index, put_element-index}
+use Rattle.tree_path.proofs.Places.{cut_element-index, element_at-past, put_element-past, cut_element-past}
+use Rattle.tree_path.proofs.Places.{push_element-last}
 
 -- ---- what a token is
 
@@ -35,7 +41,8 @@ pub index_below-dash : (token : List ℕ) (count : ℕ) → same_text token (cod
 index_below-dash token count is = rw is
 
 -- nor is a token that spells no number
-pub index_below-other : (token : List ℕ) (count : ℕ) → same_text token (codes "-") ≡ false → number_of token ≡ None → index_below token count ≡ Err NoIndex
+pub index_below-other : (token : List ℕ) (count : ℕ) → same_text token (codes "-") ≡ false → number_of token ≡ None
+    → index_below token count ≡ Err NoIndex
 index_below-other token count is none =
     let P : Bool → Type 0 = λ b. cond b (Some (number_after 0 token)) None ≡ None
     → at_index (cond b (number (number_after 0 token)) no_index) (λ n. cond (nat_lt n count) (Some n) None) (Err Absent) ≡ Err NoIndex in
@@ -115,7 +122,8 @@ pub put-Seq : (ts : List Tree) (token : List ℕ) (i : ℕ) (t : Tree) → index
 unfolding put
 put-Seq ts token i t is =
     let b = below-Ok (index_of token) (length ts) i is in
-    ap (λ index. at_index index (λ n. option_map sequence (put_element (elements_of ts) n (tree_of t))) (Ok (sequence (push_element (elements_of ts) (tree_of t))))) b.0
+    ap (λ index. at_index index (λ n. option_map sequence (put_element (elements_of ts) n (tree_of t)))
+    (Ok (sequence (push_element (elements_of ts) (tree_of t))))) b.0
     ∙ ap (λ o. present (option_map sequence o)) (put_element-index ts i t b.1)
 
 -- or isn't there
@@ -123,7 +131,8 @@ pub put-Seq-missed : (ts : List Tree) (token : List ℕ) (v : grammar.Tree) (mis
     → index_below token (length ts) ≡ Err miss → put (sequence (elements_of ts)) token v ≡ Err miss
 unfolding put
 put-Seq-missed ts token v miss other is =
-    below-Err (index_of token) (length ts) miss (λ n. option_map sequence (put_element (elements_of ts) n v)) (Ok (sequence (push_element (elements_of ts) v)))
+    below-Err (index_of token) (length ts) miss (λ n. option_map sequence (put_element (elements_of ts) n v))
+    (Ok (sequence (push_element (elements_of ts) v)))
     (λ n past. ap (option_map sequence) (put_element-past ts n v past)) (λ e. absurd (not_last token other e)) is
 
 -- or is added at the end
@@ -213,12 +222,14 @@ index-counted v token count r counted is =
     let e : length v.items ≡ count = search rules in ap (index_below token) e ∙ sym is
 
 -- the place that the code finds
-pub place-found : (o : Option ℕ) (key : List ℕ) (ps qs : List Pair) (i : ℕ) → Ok i ≡ ok_or o Absent → o ≡ key_place key ps → ps ≡ qs → key_place key qs ≡ Some i
+pub place-found : (o : Option ℕ) (key : List ℕ) (ps qs : List Pair) (i : ℕ) → Ok i ≡ ok_or o Absent
+    → o ≡ key_place key ps → ps ≡ qs → key_place key qs ≡ Some i
 place-found None key ps qs i is found same = cc
 place-found (Some n) key ps qs i is found same = let e : n ≡ i = cc in ap (key_place key) (sym same) ∙ sym found ∙ ap Some e
 
 -- or misses
-pub place-missed : (o : Option ℕ) (key : List ℕ) (ps qs : List Pair) (miss : Miss) → Err miss ≡ ok_or o Absent → o ≡ key_place key ps → ps ≡ qs
+pub place-missed : (o : Option ℕ) (key : List ℕ) (ps qs : List Pair) (miss : Miss) → Err miss ≡ ok_or o Absent
+    → o ≡ key_place key ps → ps ≡ qs
     → (key_place key qs ≡ None) × (Absent ≡ miss)
 place-missed None key ps qs miss is found same = (ap (key_place key) (sym same) ∙ sym found, cc)
 place-missed (Some n) key ps qs miss is found same = cc

@@ -1,5 +1,7 @@
 -- What a table of keys lists after a key was added or removed, and what follows for a key that no chain has.
-use Rattle.std.proofs.Common.{◌≡◌, ℕ, zero, suc, ◌+◌, ◌-◌, ◌<◌, ◌≤◌, ◌==◌, Bool, true, false, cond, ◌||◌, List, [], ◌∷◌, ◌++◌, length, get_or, set, drop, ◌⊎◌, inl, inr, ⊎_elim, refl, sym, ap, ap₂, subst, ◌∙◌, arith, eq-eqb, nat_lt, Result, Ok, Err, is_ok}
+use Rattle.std.proofs.Common.{◌≡◌, ℕ, zero, suc, ◌+◌, ◌-◌, ◌<◌, ◌≤◌, ◌==◌, Bool, true, false, cond, ◌||◌, List, []}
+use Rattle.std.proofs.Common.{◌∷◌, ◌++◌, length, get_or, set, drop, ◌⊎◌, inl, inr, ⊎_elim, refl, sym, ap, ap₂, subst}
+use Rattle.std.proofs.Common.{◌∙◌, arith, eq-eqb, nat_lt, Result, Ok, Err, is_ok}
 use Rattle.std.specs.Result.{OnOk}
 use Rattle.std.specs.List.{insert, remove}
 use Rattle.std.proofs.lemmas.Bool.{eqb-true, eqb-false}
@@ -23,7 +25,8 @@ or_left a b is = ap (λ x. x || b) is
 pub chain-above : (links : List ℕ) (m link n : ℕ) → on_chain links m link n ≡ true → link ≤ m
 chain-above links zero link n is = cc
 chain-above links (suc m) link n is =
-    let P : Bool → Type 0 = λ b. (link == suc m) ≡ b → cond b ((n == m) || on_chain links m (get_or links m 0) n) (on_chain links m link n) ≡ true → link ≤ suc m in
+    let P : Bool → Type 0 = λ b. (link == suc m) ≡ b
+    → cond b ((n == m) || on_chain links m (get_or links m 0) n) (on_chain links m link n) ≡ true → link ≤ suc m in
     (elim (link == suc m) as P [
       | true ↦ λ e _. let same = eqb-true link (suc m) e in omega (arith, same)
       | false ↦ λ _ on. let h = chain-above links m link n on in omega (arith, h)
@@ -54,8 +57,10 @@ chain-start links m link n is = sym (chain-skip links m link n (chain-above link
 pub chain-next : (links : List ℕ) (k n : ℕ) → on_chain links (suc k) (suc k) n ≡ true
     → (n ≡ k) ⊎ (on_chain links k (get_or links k 0) n ≡ true)
 chain-next links k n is =
-    let whole = sym (ap (λ b. cond b ((n == k) || on_chain links k (get_or links k 0) n) (on_chain links k (suc k) n)) (eq-eqb (suc k) (suc k) refl)) ∙ is in
-    let P : Bool → Type 0 = λ b. (n == k) ≡ b → (b || on_chain links k (get_or links k 0) n) ≡ true → (n ≡ k) ⊎ (on_chain links k (get_or links k 0) n ≡ true) in
+    let whole = sym (ap (λ b. cond b ((n == k) || on_chain links k (get_or links k 0) n) (on_chain links k (suc k) n))
+    (eq-eqb (suc k) (suc k) refl)) ∙ is in
+    let P : Bool → Type 0 = λ b. (n == k) ≡ b → (b || on_chain links k (get_or links k 0) n) ≡ true
+    → (n ≡ k) ⊎ (on_chain links k (get_or links k 0) n ≡ true) in
     (elim (n == k) as P [
       | true ↦ λ e _. inl (eqb-true n k e)
       | false ↦ λ _ on. inr on
@@ -71,7 +76,8 @@ chain-step links (suc k) next n some is other on =
     chain-start links k next n (subst (λ l. on_chain links k l n ≡ true) (sym (is ∙ ap (λ m. get_or links m 0) back)) rest)
 
 -- it ends where no link leads down
-pub chain-ends : (links : List ℕ) (link n : ℕ) → 0 < link → (n ≡ link - 1 → ⊥) → (get_or links (link - 1) 0 ≡ 0) ⊎ (link ≤ get_or links (link - 1) 0)
+pub chain-ends : (links : List ℕ) (link n : ℕ) → 0 < link → (n ≡ link - 1 → ⊥)
+    → (get_or links (link - 1) 0 ≡ 0) ⊎ (link ≤ get_or links (link - 1) 0)
     → on_chain links link link n ≡ true → ⊥
 chain-ends links zero n some other ends on = omega (arith, some)
 chain-ends links (suc k) n some other ends on =
@@ -93,11 +99,13 @@ chain-push links x (suc m) link n le =
     (chain-push links x m (get_or links m 0) n (omega (arith, le))) (chain-push links x m link n (omega (arith, le)))
 
 -- a chain that had a number has it still
-chain-kept : (links : List ℕ) (x link n : ℕ) → on_chain links (length links) link n ≡ true → on_chain (links ++ x ∷ []) (suc (length links)) link n ≡ true
+chain-kept : (links : List ℕ) (x link n : ℕ) → on_chain links (length links) link n ≡ true
+    → on_chain (links ++ x ∷ []) (suc (length links)) link n ≡ true
 chain-kept links x link n is =
     let le = chain-above links (length links) link n is in
     let P : Bool → Type 0 = λ b. (link == suc (length links)) ≡ b
-    → cond b ((n == length links) || on_chain (links ++ x ∷ []) (length links) (get_or (links ++ x ∷ []) (length links) 0) n) (on_chain (links ++ x ∷ []) (length links) link n) ≡ true in
+    → cond b ((n == length links) || on_chain (links ++ x ∷ []) (length links)
+    (get_or (links ++ x ∷ []) (length links) 0) n) (on_chain (links ++ x ∷ []) (length links) link n) ≡ true in
     (elim (link == suc (length links)) as P [
       | true ↦ λ e. let same = eqb-true link (suc (length links)) e in absurd (omega (arith, le, same))
       | false ↦ λ _. chain-push links x (length links) link n (omega arith) ∙ is
@@ -111,7 +119,8 @@ pushed (l ∷ links) x = pushed links x
 chain-new : (links : List ℕ) (x n : ℕ) → on_chain (links ++ x ∷ []) (suc (length links)) (suc (length links)) n
     ≡ ((n == length links) || on_chain links (length links) x n)
 chain-new links x n =
-    ap (λ b. cond b ((n == length links) || on_chain (links ++ x ∷ []) (length links) (get_or (links ++ x ∷ []) (length links) 0) n) (on_chain (links ++ x ∷ []) (length links) (suc (length links)) n))
+    ap (λ b. cond b ((n == length links) || on_chain (links ++ x ∷ []) (length links)
+    (get_or (links ++ x ∷ []) (length links) 0) n) (on_chain (links ++ x ∷ []) (length links) (suc (length links)) n))
     (eq-eqb (suc (length links)) (suc (length links)) refl)
     ∙ ap (λ v. (n == length links) || on_chain (links ++ x ∷ []) (length links) v n) (pushed links x)
     ∙ ap (λ b. (n == length links) || b) (chain-push links x (length links) x n (omega arith))
@@ -125,7 +134,8 @@ after-first links number n within other on =
     let from = chain-start links (length links) (suc number) n on in
     let rest = ⊎_elim (λ same. absurd (other same)) (λ more. more) (chain-next links number n from) in
     let low = chain-above links number (get_or links number 0) n rest in
-    chain-skip links (length links) (get_or links number 0) n (omega (arith, low, within)) ∙ chain-start links number (get_or links number 0) n rest
+    chain-skip links (length links) (get_or links number 0) n (omega (arith, low, within))
+    ∙ chain-start links number (get_or links number 0) n rest
 
 -- a table whose first link to a number leads on to the next one
 pub head-unlinked : (old new : KeyTable) (bucket number : ℕ) → bucket < length old.newest.items → number < length old.before.items
@@ -148,11 +158,13 @@ head-unlinked old new bucket number inside within first newest before = record {
         (length-set old.newest.items bucket (get_or old.before.items number 0))
 
     kept : (own n : ℕ) → (n ≡ number → ⊥) → on_chain old.before.items (length old.before.items) (get_or old.newest.items own 0) n ≡ true
-        → on_chain old.before.items (length old.before.items) (get_or (set old.newest.items bucket (get_or old.before.items number 0)) own 0) n ≡ true
+        → on_chain old.before.items (length old.before.items)
+        (get_or (set old.newest.items bucket (get_or old.before.items number 0)) own 0) n ≡ true
     kept own n other on =
         let links = old.before.items in
         let next = get_or links number 0 in
-        let P : Bool → Type 0 = λ b. (own == bucket) ≡ b → on_chain links (length links) (get_or (set old.newest.items bucket next) own 0) n ≡ true in
+        let P : Bool → Type 0 = λ b. (own == bucket) ≡ b
+        → on_chain links (length links) (get_or (set old.newest.items bucket next) own 0) n ≡ true in
         (elim (own == bucket) as P [
           | true ↦ λ e.
               let same = eqb-true own bucket e in
@@ -161,7 +173,8 @@ head-unlinked old new bucket number inside within first newest before = record {
               ∙ after-first links number n within other
               (subst (λ link. on_chain links (length links) link n ≡ true) (ap (λ k. get_or old.newest.items k 0) same ∙ first) on)
           | false ↦ λ e.
-              ap (λ link. on_chain links (length links) link n) (get_or-set_other old.newest.items bucket own next 0 (eqb-false own bucket e)) ∙ on
+              ap (λ link. on_chain links (length links) link n)
+              (get_or-set_other old.newest.items bucket own next 0 (eqb-false own bucket e)) ∙ on
         ]) refl
 
 -- what is on a chain after a number, once that number's link or another's passes a number over
@@ -177,7 +190,8 @@ passed-after links newer number m n leads other kept on =
           let same = eqb-true m newer e in
           let led = subst (λ link. on_chain links m link n ≡ true) (ap (λ k. get_or links k 0) same ∙ leads.1) on in
           let above = chain-above links m (suc number) n led in
-          let rest = ⊎_elim (λ same. absurd (other same)) (λ more. more) (chain-next links number n (chain-start links m (suc number) n led)) in
+          let rest = ⊎_elim (λ same. absurd (other same)) (λ more. more)
+          (chain-next links number n (chain-start links m (suc number) n led)) in
           let low = chain-above links number next n rest in
           ap (λ link. on_chain (set links newer next) m link n)
           (ap (λ k. get_or (set links newer next) k 0) same ∙ get_or-set_same links newer next 0 leads.0)
@@ -196,7 +210,8 @@ chain-passed links newer number (suc m) link n leads other on =
     let kept : (link : ℕ) → on_chain links m link n ≡ true → on_chain (set links newer next) m link n ≡ true =
     λ link on. chain-passed links newer number m link n leads other on in
     let P : Bool → Type 0 = λ b. cond b ((n == m) || on_chain links m (get_or links m 0) n) (on_chain links m link n) ≡ true
-    → cond b ((n == m) || on_chain (set links newer next) m (get_or (set links newer next) m 0) n) (on_chain (set links newer next) m link n) ≡ true in
+    → cond b ((n == m) || on_chain (set links newer next) m (get_or (set links newer next) m 0) n)
+    (on_chain (set links newer next) m link n) ≡ true in
     let Q : Bool → Type 0 = λ b. (b || on_chain links m (get_or links m 0) n) ≡ true
     → (b || on_chain (set links newer next) m (get_or (set links newer next) m 0) n) ≡ true in
     (elim (link == suc m) as P [
@@ -253,7 +268,8 @@ below-found (r ∷ rs) least limit n (suc i) rise within less more =
     ap (λ b. cond b (suc (below rs n)) 0) (below-yes r n (omega (arith, first, last)))
     ∙ ap suc (below-found rs (suc r) limit n i rise.2 (omega (arith, within)) (later i less) (λ lt. more (omega (arith, lt))))
   where
-    later : (i : ℕ) → ((before : ℕ) → suc before ≡ suc i → get_or (r ∷ rs) before 0 < n) → (before : ℕ) → suc before ≡ i → get_or rs before 0 < n
+    later : (i : ℕ) → ((before : ℕ) → suc before ≡ suc i → get_or (r ∷ rs) before 0 < n) → (before : ℕ)
+        → suc before ≡ i → get_or rs before 0 < n
     later i less before is = less (suc before) (ap suc is)
 
 pub below-stands : (rs : List ℕ) (limit n i : ℕ) → Rise 0 limit rs → i ≤ length rs → StandsAt rs n i → below rs n ≡ i
@@ -343,9 +359,11 @@ below-insert (q ∷ qs) least limit r zero n rise within stands =
 below-insert (q ∷ qs) least limit r (suc i) n rise within stands =
     let last = stands.0 i refl in
     let first = rise-first qs q least limit i rise (omega (arith, within)) in
-    let P : Bool → Type 0 = λ b. nat_lt q n ≡ b → cond b (suc (below (insert qs i r) n)) 0 ≡ cond b (suc (below qs n)) 0 + cond (nat_lt r n) 1 0 in
+    let P : Bool → Type 0 = λ b. nat_lt q n ≡ b
+    → cond b (suc (below (insert qs i r) n)) 0 ≡ cond b (suc (below qs n)) 0 + cond (nat_lt r n) 1 0 in
     (elim (nat_lt q n) as P [
-      | true ↦ λ _. ap suc (below-insert qs (suc q) limit r i n rise.2 (omega (arith, within)) (later i stands)) ∙ plus (below qs n) (cond (nat_lt r n) 1 0)
+      | true ↦ λ _. ap suc (below-insert qs (suc q) limit r i n rise.2 (omega (arith, within)) (later i stands))
+          ∙ plus (below qs n) (cond (nat_lt r n) 1 0)
       | false ↦ λ e.
           let from = below_false q n e in
           sym (ap (λ b. 0 + cond b 1 0) (below-no r n (omega (arith, first, last, from))))
@@ -360,7 +378,8 @@ below-insert (q ∷ qs) least limit r (suc i) n rise within stands =
 -- ---- a table without a key
 
 -- the number of the key at a place has that place
-number-placed : (rs : List ℕ) (limit place i : ℕ) → Rise 0 limit rs → i ≤ length rs → StandsAt rs (place + i) i → place_at rs (place + i) ≡ place
+number-placed : (rs : List ℕ) (limit place i : ℕ) → Rise 0 limit rs → i ≤ length rs → StandsAt rs (place + i) i
+    → place_at rs (place + i) ≡ place
 number-placed rs limit place i rise within stands =
     let h = below-stands rs limit (place + i) i rise within stands in omega (arith, h)
 
@@ -427,10 +446,12 @@ lists-removed table new keys place i lists within inside stands chains removed =
     let more = length-insert rs i (place + i) inside in
     let total = lists.numbers in record {
       some = subst (λ n. 0 < n) (sym chains.buckets) lists.some;
-      numbers = chains.numbers ∙ counted (length links) (length keys) (length (remove keys place)) (length rs) (length (insert rs i (place + i))) total less more ∙ sym (ap (λ xs. length (remove keys place) + length xs) removed);
+      numbers = chains.numbers ∙ counted (length links) (length keys) (length (remove keys place)) (length rs)
+          (length (insert rs i (place + i))) total less more ∙ sym (ap (λ xs. length (remove keys place) + length xs) removed);
       rise = subst (λ xs. Rise 0 (length new.before.items) xs) (sym removed)
           (subst (λ size. Rise 0 size (insert rs i (place + i))) (sym chains.numbers)
-          (rise-insert rs 0 (length links) (place + i) i lists.rise inside (omega arith) (bounded (length links) (length keys) (length rs) total within inside) stands));
+          (rise-insert rs 0 (length links) (place + i) i lists.rise inside (omega arith)
+          (bounded (length links) (length keys) (length rs) total within inside) stands));
       listed = λ q lt. let h = here q (omega (arith, less, lt)) in (h.0, h.1, ap (λ xs. place_at xs h.0) removed ∙ h.2);
     }
   where
@@ -449,10 +470,12 @@ lists-removed table new keys place i lists within inside stands chains removed =
         chains.others key n (λ same. other (sym is ∙ ap (place_at table.removed.items) same ∙ own)) on
 
     here : (q : ℕ) → q + 1 < length keys + 0
-        → ListedIn new.newest.items new.before.items (length new.before.items) (insert table.removed.items i (place + i)) q (get_or (remove keys place) q [])
+        → ListedIn new.newest.items new.before.items (length new.before.items)
+        (insert table.removed.items i (place + i)) q (get_or (remove keys place) q [])
     here q lt =
         let P : Bool → Type 0 = λ b. nat_lt q place ≡ b
-        → ListedIn new.newest.items new.before.items (length new.before.items) (insert table.removed.items i (place + i)) q (get_or (remove keys place) q []) in
+        → ListedIn new.newest.items new.before.items (length new.before.items)
+        (insert table.removed.items i (place + i)) q (get_or (remove keys place) q []) in
         (elim (nat_lt q place) as P [
           | true ↦ λ e.
               let before_it = below_true q place e in
@@ -487,10 +510,12 @@ lists-added table new keys key bucket lists is inside newest before removed =
     let more = length_push keys key in
     let total = lists.numbers in record {
       some = subst (λ xs. 0 < length xs) (sym newest) (subst (λ n. 0 < n) (sym (length-set heads bucket (suc (length links)))) lists.some);
-      numbers = ap length before ∙ counted (length (links ++ get_or heads bucket 0 ∷ [])) (length links) (length keys) (length (keys ++ key ∷ [])) (length table.removed.items) long total more
+      numbers = ap length before ∙ counted (length (links ++ get_or heads bucket 0 ∷ [])) (length links) (length keys)
+          (length (keys ++ key ∷ [])) (length table.removed.items) long total more
           ∙ sym (ap (λ xs. length (keys ++ key ∷ []) + length xs) removed);
       rise = subst (λ xs. Rise 0 (length new.before.items) xs) (sym removed)
-          (subst (λ n. Rise 0 n table.removed.items) (sym (ap length before ∙ long)) (rise-wider table.removed.items 0 (length links) lists.rise));
+          (subst (λ n. Rise 0 n table.removed.items) (sym (ap length before ∙ long))
+          (rise-wider table.removed.items 0 (length links) lists.rise));
       listed = λ q lt. seen q (here q (omega (arith, more, lt)));
     }
   where
@@ -502,36 +527,57 @@ lists-added table new keys key bucket lists is inside newest before removed =
     rise-wider (r ∷ rs) least limit rise = let lt = rise.1 in (rise.0, omega (arith, lt), rise-wider rs (suc r) limit rise.2)
 
     -- the head of a key's chain
-    head : (other : List ℕ) → chain_of (set table.newest.items bucket (suc (length table.before.items))) other ≡ get_or (set table.newest.items bucket (suc (length table.before.items))) (bucket_of (length table.newest.items) other) 0
-    head other = ap (λ n. get_or (set table.newest.items bucket (suc (length table.before.items))) (bucket_of n other) 0) (length-set table.newest.items bucket (suc (length table.before.items)))
+    head : (other : List ℕ) → chain_of (set table.newest.items bucket (suc (length table.before.items))) other
+        ≡ get_or (set table.newest.items bucket (suc (length table.before.items))) (bucket_of (length table.newest.items) other) 0
+    head other = ap (λ n. get_or (set table.newest.items bucket (suc (length table.before.items)))
+        (bucket_of n other) 0) (length-set table.newest.items bucket (suc (length table.before.items)))
 
     kept : (other : List ℕ) (n : ℕ) → on_chain table.before.items (length table.before.items) (chain_of table.newest.items other) n ≡ true
-        → on_chain (table.before.items ++ get_or table.newest.items bucket 0 ∷ []) (suc (length table.before.items)) (chain_of (set table.newest.items bucket (suc (length table.before.items))) other) n ≡ true
+        → on_chain (table.before.items ++ get_or table.newest.items bucket 0 ∷ []) (suc (length table.before.items))
+        (chain_of (set table.newest.items bucket (suc (length table.before.items))) other) n ≡ true
     kept other n on =
         let own = bucket_of (length table.newest.items) other in
-        let P : Bool → Type 0 = λ b. (own == bucket) ≡ b → on_chain (table.before.items ++ get_or table.newest.items bucket 0 ∷ []) (suc (length table.before.items)) (get_or (set table.newest.items bucket (suc (length table.before.items))) own 0) n ≡ true in
-        ap (λ link. on_chain (table.before.items ++ get_or table.newest.items bucket 0 ∷ []) (suc (length table.before.items)) link n) (head other)
+        let P : Bool → Type 0 = λ b. (own == bucket) ≡ b
+        → on_chain (table.before.items ++ get_or table.newest.items bucket 0 ∷ [])
+        (suc (length table.before.items)) (get_or
+        (set table.newest.items bucket (suc (length table.before.items))) own 0) n ≡ true in
+        ap (λ link. on_chain (table.before.items ++ get_or table.newest.items bucket 0 ∷ [])
+        (suc (length table.before.items)) link n) (head other)
         ∙ (elim (own == bucket) as P [
           | true ↦ λ e.
               let same = eqb-true own bucket e in
               ap (λ link. on_chain (table.before.items ++ get_or table.newest.items bucket 0 ∷ []) (suc (length table.before.items)) link n)
-              (ap (λ k. get_or (set table.newest.items bucket (suc (length table.before.items))) k 0) same ∙ get_or-set_same table.newest.items bucket (suc (length table.before.items)) 0 inside)
+              (ap (λ k. get_or (set table.newest.items bucket (suc (length table.before.items))) k 0) same
+              ∙ get_or-set_same table.newest.items bucket (suc (length table.before.items)) 0 inside)
               ∙ chain-new table.before.items (get_or table.newest.items bucket 0) n
-              ∙ or_right (n == length table.before.items) _ (subst (λ k. on_chain table.before.items (length table.before.items) (get_or table.newest.items k 0) n ≡ true) same on)
+              ∙ or_right (n == length table.before.items) _
+              (subst (λ k. on_chain table.before.items (length table.before.items) (get_or table.newest.items k 0) n
+              ≡ true) same on)
           | false ↦ λ e.
-              ap (λ link. on_chain (table.before.items ++ get_or table.newest.items bucket 0 ∷ []) (suc (length table.before.items)) link n) (get_or-set_other table.newest.items bucket own (suc (length table.before.items)) 0 (eqb-false own bucket e))
+              ap (λ link. on_chain (table.before.items ++ get_or table.newest.items bucket 0 ∷ [])
+              (suc (length table.before.items)) link n)
+              (get_or-set_other table.newest.items bucket own (suc (length table.before.items)) 0 (eqb-false own bucket e))
               ∙ chain-kept table.before.items (get_or table.newest.items bucket 0) (get_or table.newest.items own 0) n on
         ]) refl
 
-    newest_key : ListedIn (set table.newest.items bucket (suc (length table.before.items))) (table.before.items ++ get_or table.newest.items bucket 0 ∷ []) (suc (length table.before.items)) table.removed.items (length keys) (get_or (keys ++ key ∷ []) (length keys) [])
+    newest_key : ListedIn (set table.newest.items bucket (suc (length table.before.items)))
+        (table.before.items ++ get_or table.newest.items bucket 0 ∷ [])
+        (suc (length table.before.items)) table.removed.items (length keys) (get_or (keys ++ key ∷ []) (length keys) [])
     newest_key = (
       length table.before.items,
-      subst (λ k. on_chain (table.before.items ++ get_or table.newest.items bucket 0 ∷ []) (suc (length table.before.items)) (chain_of (set table.newest.items bucket (suc (length table.before.items))) k) (length table.before.items) ≡ true) (sym (last keys))
-          (ap (λ link. on_chain (table.before.items ++ get_or table.newest.items bucket 0 ∷ []) (suc (length table.before.items)) link (length table.before.items))
-          (head key ∙ ap (λ k. get_or (set table.newest.items bucket (suc (length table.before.items))) k 0) (sym is) ∙ get_or-set_same table.newest.items bucket (suc (length table.before.items)) 0 inside)
+      subst (λ k. on_chain (table.before.items ++ get_or table.newest.items bucket 0 ∷ [])
+          (suc (length table.before.items)) (chain_of
+          (set table.newest.items bucket (suc (length table.before.items))) k) (length table.before.items) ≡ true)
+          (sym (last keys))
+          (ap (λ link. on_chain (table.before.items ++ get_or table.newest.items bucket 0 ∷ [])
+          (suc (length table.before.items)) link (length table.before.items))
+          (head key ∙ ap (λ k. get_or (set table.newest.items bucket (suc (length table.before.items))) k 0) (sym is)
+          ∙ get_or-set_same table.newest.items bucket (suc (length table.before.items)) 0 inside)
           ∙ chain-new table.before.items (get_or table.newest.items bucket 0) (length table.before.items)
-          ∙ or_left (length table.before.items == length table.before.items) _ (eq-eqb (length table.before.items) (length table.before.items) refl)),
-      placed (below-all table.removed.items 0 (length table.before.items) (length table.before.items) lists.rise (omega arith)) lists.numbers,
+          ∙ or_left (length table.before.items == length table.before.items) _
+          (eq-eqb (length table.before.items) (length table.before.items) refl)),
+      placed (below-all table.removed.items 0 (length table.before.items) (length table.before.items) lists.rise
+          (omega arith)) lists.numbers,
     )
       where
         last : (ks : List (List ℕ)) → get_or (ks ++ key ∷ []) (length ks) [] ≡ key
@@ -539,37 +585,58 @@ lists-added table new keys key bucket lists is inside newest before removed =
         last (k ∷ ks) = last ks
 
         placed : below table.removed.items (length table.before.items) ≡ length table.removed.items
-            → length table.before.items ≡ length keys + length table.removed.items → place_at table.removed.items (length table.before.items) ≡ length keys
+            → length table.before.items ≡ length keys + length table.removed.items
+            → place_at table.removed.items (length table.before.items) ≡ length keys
         placed all total = omega (arith, all, total)
 
-    here : (q : ℕ) → q < length keys + 1 → ListedIn (set table.newest.items bucket (suc (length table.before.items))) (table.before.items ++ get_or table.newest.items bucket 0 ∷ []) (suc (length table.before.items)) table.removed.items q (get_or (keys ++ key ∷ []) q [])
+    here : (q : ℕ) → q < length keys + 1 → ListedIn (set table.newest.items bucket (suc (length table.before.items)))
+        (table.before.items ++ get_or table.newest.items bucket 0 ∷ [])
+        (suc (length table.before.items)) table.removed.items q (get_or (keys ++ key ∷ []) q [])
     here q lt =
-        let P : Bool → Type 0 = λ b. nat_lt q (length keys) ≡ b → ListedIn (set table.newest.items bucket (suc (length table.before.items))) (table.before.items ++ get_or table.newest.items bucket 0 ∷ []) (suc (length table.before.items)) table.removed.items q (get_or (keys ++ key ∷ []) q []) in
+        let P : Bool → Type 0 = λ b. nat_lt q (length keys) ≡ b
+        → ListedIn (set table.newest.items bucket (suc (length table.before.items)))
+        (table.before.items ++ get_or table.newest.items bucket 0 ∷ [])
+        (suc (length table.before.items)) table.removed.items q (get_or (keys ++ key ∷ []) q []) in
         (elim (nat_lt q (length keys)) as P [
           | true ↦ λ e.
               let within = below_true q (length keys) e in
               let old = lists.listed q within in (
                 old.0,
-                subst (λ k. on_chain (table.before.items ++ get_or table.newest.items bucket 0 ∷ []) (suc (length table.before.items)) (chain_of (set table.newest.items bucket (suc (length table.before.items))) k) old.0 ≡ true)
+                subst (λ k. on_chain (table.before.items ++ get_or table.newest.items bucket 0 ∷ [])
+                    (suc (length table.before.items)) (chain_of
+                    (set table.newest.items bucket (suc (length table.before.items))) k) old.0 ≡ true)
                     (sym (get_or_append_left keys (key ∷ []) [] q within)) (kept (get_or keys q []) old.0 old.1),
                 old.2,
               )
           | false ↦ λ e.
               let past = below_false q (length keys) e in
               let same : length keys ≡ q = omega (arith, past, lt) in
-              subst (λ q. ListedIn (set table.newest.items bucket (suc (length table.before.items))) (table.before.items ++ get_or table.newest.items bucket 0 ∷ []) (suc (length table.before.items)) table.removed.items q (get_or (keys ++ key ∷ []) q [])) same newest_key
+              subst (λ q. ListedIn (set table.newest.items bucket (suc (length table.before.items)))
+              (table.before.items ++ get_or table.newest.items bucket 0 ∷ [])
+              (suc (length table.before.items)) table.removed.items q (get_or (keys ++ key ∷ []) q [])) same newest_key
         ]) refl
 
-    seen : (q : ℕ) → ListedIn (set table.newest.items bucket (suc (length table.before.items))) (table.before.items ++ get_or table.newest.items bucket 0 ∷ []) (suc (length table.before.items)) table.removed.items q (get_or (keys ++ key ∷ []) q []) → IsListed new q (get_or (keys ++ key ∷ []) q [])
+    seen : (q : ℕ) → ListedIn (set table.newest.items bucket (suc (length table.before.items)))
+        (table.before.items ++ get_or table.newest.items bucket 0 ∷ [])
+        (suc (length table.before.items)) table.removed.items q (get_or (keys ++ key ∷ []) q [])
+        → IsListed new q (get_or (keys ++ key ∷ []) q [])
     seen q h = (
       h.0,
-      subst (λ xs. on_chain new.before.items (length new.before.items) (chain_of xs (get_or (keys ++ key ∷ []) q [])) h.0 ≡ true) (sym newest)
-          (subst (λ xs. on_chain xs (length xs) (chain_of (set table.newest.items bucket (suc (length table.before.items))) (get_or (keys ++ key ∷ []) q [])) h.0 ≡ true) (sym before)
-          (subst (λ m. on_chain (table.before.items ++ get_or table.newest.items bucket 0 ∷ []) m (chain_of (set table.newest.items bucket (suc (length table.before.items))) (get_or (keys ++ key ∷ []) q [])) h.0 ≡ true) (longer (length_push table.before.items (get_or table.newest.items bucket 0))) h.1)),
+      subst (λ xs. on_chain new.before.items (length new.before.items)
+          (chain_of xs (get_or (keys ++ key ∷ []) q [])) h.0 ≡ true) (sym newest)
+          (subst (λ xs. on_chain xs (length xs) (chain_of
+          (set table.newest.items bucket (suc (length table.before.items))) (get_or (keys ++ key ∷ []) q [])) h.0
+          ≡ true) (sym before)
+          (subst (λ m. on_chain (table.before.items ++ get_or table.newest.items bucket 0 ∷ []) m
+          (chain_of (set table.newest.items bucket (suc (length table.before.items)))
+          (get_or (keys ++ key ∷ []) q [])) h.0 ≡ true)
+          (longer (length_push table.before.items (get_or table.newest.items bucket 0))) h.1)),
       ap (λ xs. place_at xs h.0) removed ∙ h.2,
     )
       where
-        longer : length (table.before.items ++ get_or table.newest.items bucket 0 ∷ []) ≡ length table.before.items + 1 → suc (length table.before.items) ≡ length (table.before.items ++ get_or table.newest.items bucket 0 ∷ [])
+        longer : length (table.before.items ++ get_or table.newest.items bucket 0 ∷ [])
+            ≡ length table.before.items + 1 → suc (length table.before.items)
+            ≡ length (table.before.items ++ get_or table.newest.items bucket 0 ∷ [])
         longer is = omega (arith, is)
 
 -- ---- the loop over the characters of a key

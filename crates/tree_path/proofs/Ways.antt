@@ -1,5 +1,7 @@
 -- The places of the steps of a path: where they lead, what stays of them after an edit below, and the lists of them.
-use Rattle.std.proofs.Common.{◌≡◌, ℕ, zero, suc, ◌+◌, ◌-◌, ◌<◌, Bool, true, false, cond, nat_lt, List, [], ◌∷◌, ◌++◌, length, take, drop, get_or, Option, Some, None, option_map, Ok, Err, Global, refl, sym, ap, subst, ◌∙◌, arith}
+use Rattle.std.proofs.Common.{◌≡◌, ℕ, zero, suc, ◌+◌, ◌-◌, ◌<◌, Bool, true, false, cond, nat_lt, List, [], ◌∷◌, ◌++◌}
+use Rattle.std.proofs.Common.{length, take, drop, get_or, Option, Some, None, option_map, Ok, Err, Global, refl, sym}
+use Rattle.std.proofs.Common.{ap, subst, ◌∙◌, arith}
 use Rattle.std.specs.Cow.{cow_str_bytes}
 use Rattle.std.specs.declared.borrow.CowStr.{CowStr}
 use Rattle.std.specs.Option.{ok_or}
@@ -10,7 +12,9 @@ use Rattle.yaml_grammar.specs.Trees.{Tree, text, sequence, mapping, Elements, Me
 use Rattle.yaml_data.specs.Seen.{Pair, elements_of, members_of}
 use Rattle.yaml_data.specs.declared.tree.Tree.{Tree as Node}
 use Rattle.json_pointer.specs.Tokens.{texts}
-use Rattle.tree_path.specs.Paths.{Index, number, after_last, no_index, index_of, at_index, present, element_at, put_element, value_of, put_member, push_element, place_of, child, put, at_step, at_from, last_key, key_in}
+use Rattle.tree_path.specs.Paths.{Index, number, after_last, no_index, index_of, at_index, present, element_at}
+use Rattle.tree_path.specs.Paths.{put_element, value_of, put_member, push_element, place_of, child, put, at_step}
+use Rattle.tree_path.specs.Paths.{at_from, last_key, key_in}
 use Rattle.tree_path.specs.Steps.{index_below, key_place, step_place, Leads, parents_of, Knows, KnowsWay, KnowsStep, KnowsLast}
 use Rattle.tree_path.specs.declared.place.Miss.{Miss}
 use Rattle.tree_path.specs.declared.place.Miss.TheVariants.{Absent, NoIndex}
@@ -27,7 +31,8 @@ use Rattle.tree_path.proofs.StepLaws.{option_map-Some, option_map-None, present-
 pub place_of-there : (ms : Members) (key : List ℕ) (c : Tree) → value_of ms key ≡ Some c → (i : ℕ) × (place_of ms key ≡ Some i)
 place_of-there no_member key c is = cc
 place_of-there (member other t ms) key c is =
-    let P : Bool → Type 0 = λ b. cond b (Some t) (value_of ms key) ≡ Some c → (i : ℕ) × (cond b (Some 0) (option_map suc (place_of ms key)) ≡ Some i) in
+    let P : Bool → Type 0 = λ b. cond b (Some t) (value_of ms key) ≡ Some c
+    → (i : ℕ) × (cond b (Some 0) (option_map suc (place_of ms key)) ≡ Some i) in
     (elim (same_text key other) as P [
       | true ↦ λ e. (0, refl)
       | false ↦ λ e. let p = place_of-there ms key c e in (suc p.0, ap (option_map suc) p.1)
@@ -48,7 +53,8 @@ place_of-put : (ms : Members) (key : List ℕ) (c b : Tree) → value_of ms key 
 place_of-put no_member key c b is = cc
 place_of-put (member other t ms) key c b is =
     let P : Bool → Type 0 = λ x. same_text key other ≡ x → cond x (Some t) (value_of ms key) ≡ Some c
-    → place_of (cond x (member other b ms) (member other t (put_member ms key b))) key ≡ cond x (Some 0) (option_map suc (place_of ms key)) in
+    → place_of (cond x (member other b ms) (member other t (put_member ms key b))) key
+    ≡ cond x (Some 0) (option_map suc (place_of ms key)) in
     (elim (same_text key other) as P [
       | true ↦ λ e found. rw e
       | false ↦ λ e found. rw e (ap (option_map suc) (place_of-put ms key c b found))
@@ -78,7 +84,8 @@ unfolding child step_place
 place-missed (text value) token miss is = let same : Absent ≡ miss = cc in ap Err same
 place-missed (sequence ts) token miss is = by (index_of token) is
   where
-    by : (index : Index) → at_index index (λ n. option_map (λ _. n) (element_at ts n)) (Err Absent) ≡ Err miss → at_index index (element_at ts) (Err Absent) ≡ Err miss
+    by : (index : Index) → at_index index (λ n. option_map (λ _. n) (element_at ts n)) (Err Absent) ≡ Err miss
+        → at_index index (element_at ts) (Err Absent) ≡ Err miss
     by (number n) missed =
         let m = present-missed (option_map (λ _. n) (element_at ts n)) miss missed in
         ap present (option_map-None (λ _. n) (element_at ts n) m.0) ∙ ap Err m.1
@@ -89,7 +96,8 @@ place-missed (mapping ms) token miss is =
     ap present (value_of-missed ms token m.0) ∙ ap Err m.1
 
 -- a value that is replaced keeps its place
-pub place-put : (t u : Tree) (token : List ℕ) (c b : Tree) → child t token ≡ Ok c → put t token b ≡ Ok u → step_place u token ≡ step_place t token
+pub place-put : (t u : Tree) (token : List ℕ) (c b : Tree) → child t token ≡ Ok c → put t token b ≡ Ok u
+    → step_place u token ≡ step_place t token
 unfolding child put step_place
 place-put (text value) u token c b found is = cc
 place-put (sequence ts) u token c b found is =
@@ -99,7 +107,8 @@ place-put (sequence ts) u token c b found is =
     by : (index : Index) → at_index index (element_at ts) (Err Absent) ≡ Ok c
         → at_index index (λ n. option_map sequence (put_element ts n b)) (Ok (sequence (push_element ts b))) ≡ Ok u
         → (us : Elements) × (sequence us ≡ u)
-        × (at_index index (λ n. option_map (λ _. n) (element_at us n)) (Err Absent) ≡ at_index index (λ n. option_map (λ _. n) (element_at ts n)) (Err Absent))
+        × (at_index index (λ n. option_map (λ _. n) (element_at us n)) (Err Absent)
+        ≡ at_index index (λ n. option_map (λ _. n) (element_at ts n)) (Err Absent))
     by (number n) there made =
         let o = option_map-Some sequence (put_element ts n b) u (present-Ok _ u made) in (
           o.0,
@@ -111,7 +120,8 @@ place-put (sequence ts) u token c b found is =
     by no_index there made = cc
 place-put (mapping ms) u token c b found is =
     let e : mapping (put_member ms token b) ≡ u = cc in
-    subst (λ x. step_place x token ≡ step_place (mapping ms) token) e (ap present (place_of-put ms token c b (present-Ok (value_of ms token) c found)))
+    subst (λ x. step_place x token ≡ step_place (mapping ms) token) e
+    (ap present (place_of-put ms token c b (present-Ok (value_of ms token) c found)))
 
 -- ---- the place that the code finds
 
@@ -127,7 +137,8 @@ step_place-Seq ts token = by (index_of token)
   where
     same : (n : ℕ) → option_map (λ _. n) (element_at (elements_of ts) n) ≡ cond (nat_lt n (length ts)) (Some n) None
     same n =
-        let P : Bool → Type 0 = λ b. nat_lt n (length ts) ≡ b → option_map (λ _. n) (element_at (elements_of ts) n) ≡ cond b (Some n) None in
+        let P : Bool → Type 0 = λ b. nat_lt n (length ts) ≡ b
+        → option_map (λ _. n) (element_at (elements_of ts) n) ≡ cond b (Some n) None in
         (elim (nat_lt n (length ts)) as P [
           | true ↦ λ e. element-there ts n n (below_true n (length ts) e)
           | false ↦ λ e. ap (option_map (λ _. n)) (element_at-past ts n (below_false n (length ts) e))
@@ -154,10 +165,12 @@ pub no-place : (value token : List ℕ) (place : ℕ) → step_place (text value
 no-place value token place is = cc (sym (step_place-Text value token) ∙ is)
 
 -- the index, and the pair with the key
-pub index-placed : (ts : List Node) (token : List ℕ) (place : ℕ) → step_place (sequence (elements_of ts)) token ≡ Ok place → index_below token (length ts) ≡ Ok place
+pub index-placed : (ts : List Node) (token : List ℕ) (place : ℕ)
+    → step_place (sequence (elements_of ts)) token ≡ Ok place → index_below token (length ts) ≡ Ok place
 index-placed ts token place is = sym (step_place-Seq ts token) ∙ is
 
-pub key-placed : (ps : List Pair) (token : List ℕ) (place : ℕ) → step_place (mapping (members_of ps)) token ≡ Ok place → key_place token ps ≡ Some place
+pub key-placed : (ps : List Pair) (token : List ℕ) (place : ℕ) → step_place (mapping (members_of ps)) token ≡ Ok place
+    → key_place token ps ≡ Some place
 key-placed ps token place is = present-Ok (key_place token ps) place (sym (step_place-Map ps token) ∙ is)
 
 -- a place that may be missing
@@ -173,12 +186,14 @@ Leads-prefix (x ∷ xs) ys t [] leads = leads
 Leads-prefix (x ∷ xs) ys t (p ∷ ps) leads = (leads.0, leads.1, leads.2, Leads-prefix xs ys leads.0 ps leads.3)
 
 -- the value at the end of the steps after one
-after-step : (x : List ℕ) (xs : List (List ℕ)) (step : ℕ) (t u cur : Tree) → child t x ≡ Ok u → at_from step t (x ∷ xs) ≡ Ok cur → at_from (suc step) u xs ≡ Ok cur
+after-step : (x : List ℕ) (xs : List (List ℕ)) (step : ℕ) (t u cur : Tree) → child t x ≡ Ok u
+    → at_from step t (x ∷ xs) ≡ Ok cur → at_from (suc step) u xs ≡ Ok cur
 after-step x xs step t u cur found is = ap (λ r. at_step step r (λ w. at_from (suc step) w xs)) (sym found) ∙ is
 
 -- the place of one of them
 pub Leads-step : (xs : List (List ℕ)) (token : List ℕ) (ys : List (List ℕ)) (step : ℕ) (t cur : Tree) (ps : List ℕ)
-    → Leads (xs ++ token ∷ ys) t ps → at_from step t xs ≡ Ok cur → (length xs < length ps) × (step_place cur token ≡ Ok (get_or ps (length xs) 0))
+    → Leads (xs ++ token ∷ ys) t ps → at_from step t xs ≡ Ok cur
+    → (length xs < length ps) × (step_place cur token ≡ Ok (get_or ps (length xs) 0))
 Leads-step [] token ys step t cur [] leads is = absurd leads
 Leads-step [] token ys step t cur (p ∷ ps) leads is =
     let same : t ≡ cur = cc in (omega arith, subst (λ x. step_place x token ≡ Ok p) same leads.1)
@@ -197,8 +212,13 @@ Leads-push [] token step t cur next [] p leads long is place found =
     (next, subst (λ x. step_place x token ≡ Ok p) same place, subst (λ x. child x token ≡ Ok next) same found, tt)
 Leads-push [] token step t cur next (q ∷ ps) p leads long is place found = cc
 Leads-push (x ∷ xs) token step t cur next [] p leads long is place found = absurd leads
-Leads-push (x ∷ xs) token step t cur next (q ∷ ps) p leads long is place found =
-    (leads.0, leads.1, leads.2, Leads-push xs token (suc step) leads.0 cur next ps p leads.3 (omega (arith, long)) (after-step x xs step t leads.0 cur leads.2 is) place found)
+Leads-push (x ∷ xs) token step t cur next (q ∷ ps) p leads long is place found = (
+  leads.0,
+  leads.1,
+  leads.2,
+  Leads-push xs token (suc step) leads.0 cur next ps p leads.3 (omega (arith, long))
+      (after-step x xs step t leads.0 cur leads.2 is) place found,
+)
 
 -- the steps before the last
 pub parents-split : (path parents : List (List ℕ)) (last : List ℕ) → path ≡ parents ++ last ∷ [] → parents_of path ≡ parents
@@ -225,7 +245,8 @@ path-split (x ∷ xs) some = split-last x xs
 
 -- ---- what is known of them
 
-pub knows-way : (known : Known) (t : Tree) (path parents : List (List ℕ)) (last : List ℕ) → path ≡ parents ++ last ∷ [] → Knows known t path → KnowsWay known parents t
+pub knows-way : (known : Known) (t : Tree) (path parents : List (List ℕ)) (last : List ℕ)
+    → path ≡ parents ++ last ∷ [] → Knows known t path → KnowsWay known parents t
 knows-way (Found places) t path parents last split knows =
     subst (λ xs. Leads xs t places.now.parents.items) (parents-split path parents last split) knows.parents
 knows-way Nothing t path parents last split knows = tt
@@ -234,23 +255,28 @@ pub knows-prefix : (known : Known) (xs ys : List (List ℕ)) (t : Tree) → Know
 knows-prefix (Found places) xs ys t knows = Leads-prefix xs ys t places.now.parents.items knows
 knows-prefix Nothing xs ys t knows = tt
 
-pub knows-last : (known : Known) (t u : Tree) (path parents : List (List ℕ)) (last : List ℕ) → path ≡ parents ++ last ∷ [] → at_from 1 t parents ≡ Ok u
+pub knows-last : (known : Known) (t u : Tree) (path parents : List (List ℕ)) (last : List ℕ)
+    → path ≡ parents ++ last ∷ [] → at_from 1 t parents ≡ Ok u
     → Knows known t path → KnowsLast known (key_in u last)
 knows-last (Found places) t u path parents last split is knows = knows.last ∙ ap (last_key t) split ∙ last_key-parent parents last 1 t u is
 knows-last Nothing t u path parents last split is knows = tt
 
-pub knows-step : (known : Known) (tokens : List (CowStr Global)) (n : ℕ) (token : CowStr Global) (t cur : Tree) → n < length tokens → token ≡ get_or tokens n token
+pub knows-step : (known : Known) (tokens : List (CowStr Global)) (n : ℕ) (token : CowStr Global) (t cur : Tree)
+    → n < length tokens → token ≡ get_or tokens n token
     → KnowsWay known (texts tokens) t → at_from 1 t (texts (take n tokens)) ≡ Ok cur → KnowsStep known n cur (chars (cow_str_bytes token))
 knows-step (Found places) tokens n token t cur within same knows is =
     let ps = places.now.parents.items in
     let text = chars (cow_str_bytes token) in
     let before = texts (take n tokens) in
-    let long : length before ≡ n = length-map (take n tokens) (λ (x : CowStr Global). chars (cow_str_bytes x)) ∙ length-take-le n tokens (omega arith) in
+    let long : length before ≡ n = length-map (take n tokens) (λ (x : CowStr Global). chars (cow_str_bytes x))
+    ∙ length-take-le n tokens (omega arith) in
     subst (λ k. (k < length ps) × (step_place cur text ≡ Ok (get_or ps k 0))) long
-    (Leads-step before text (texts (drop (n + 1) tokens)) 1 t cur ps (subst (λ ts. Leads ts t ps) (texts-split tokens n token within same) knows) is)
+    (Leads-step before text (texts (drop (n + 1) tokens)) 1 t cur ps
+    (subst (λ ts. Leads ts t ps) (texts-split tokens n token within same) knows) is)
 knows-step Nothing tokens n token t cur within same knows is = tt
 
 -- in the tree with another value there
-pub knows-above : (known : Known) (n : ℕ) (c b u d : Tree) (token : List ℕ) → child c token ≡ Ok u → put c token d ≡ Ok b → KnowsStep known n c token → KnowsStep known n b token
+pub knows-above : (known : Known) (n : ℕ) (c b u d : Tree) (token : List ℕ) → child c token ≡ Ok u
+    → put c token d ≡ Ok b → KnowsStep known n c token → KnowsStep known n b token
 knows-above (Found places) n c b u d token found is knows = (knows.0, place-put c b token u d found is ∙ knows.1)
 knows-above Nothing n c b u d token found is knows = tt

@@ -1,6 +1,7 @@
 -- What paths do in trees: the value at a place, and the trees after a `set` and a `delete`. Each is a tree, or the
 -- first refusal on the way; steps count from 1.
-use Rattle.std.specs.Prelude.{ℕ, zero, suc, ◌+◌, ◌-◌, ◌*◌, Bool, false, ◌==◌, if◌then◌else◌, List, [], ◌∷◌, codes, Option, Some, None, option_map, Result, Ok, Err}
+use Rattle.std.specs.Prelude.{ℕ, zero, suc, ◌+◌, ◌-◌, ◌*◌, Bool, false, ◌==◌, if◌then◌else◌, List, [], ◌∷◌, codes}
+use Rattle.std.specs.Prelude.{Option, Some, None, option_map, Result, Ok, Err}
 use Rattle.yaml_chars.specs.Signs.{digit_zero}
 use Rattle.yaml_chars.specs.Classes.{in_range}
 use Rattle.std.specs.List.{list_all}

@@ -1,6 +1,7 @@
 -- What a table of keys says of a mapping: each key has a number, the numbers grow with the places, and the chain of a
 -- key's bucket has its number. So a key that is on no chain is in the mapping nowhere.
-use Rattle.std.specs.Prelude.{◌≡◌, ◌<◌, ◌≤◌, ◌+◌, ◌++◌, ◌-◌, ◌*◌, ◌%◌, ◌^◌, ℕ, zero, suc, List, [], ◌∷◌, length, get_or, Ok, IfSome, Bool, true, false, ◌||◌, if◌then◌else◌, ◌==◌, nat_lt}
+use Rattle.std.specs.Prelude.{◌≡◌, ◌<◌, ◌≤◌, ◌+◌, ◌++◌, ◌-◌, ◌*◌, ◌%◌, ◌^◌, ℕ, zero, suc, List, [], ◌∷◌, length}
+use Rattle.std.specs.Prelude.{get_or, Ok, IfSome, Bool, true, false, ◌||◌, if◌then◌else◌, ◌==◌, nat_lt}
 use Rattle.std.specs.Str.{chars}
 use Rattle.yaml_grammar.specs.Texts.{same_text}
 use Rattle.yaml_grammar.specs.Trees.{Tree, text, sequence, mapping, Members, no_member, member}

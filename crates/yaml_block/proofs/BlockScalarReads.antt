@@ -2,7 +2,8 @@
 use Rattle.std.proofs.Common.{ap, append_assoc, refl, sym, ◌∙◌, ◌≡◌}
 use Rattle.std.specs.Prelude.{Bool, List, None, Option, Some, [], false, if◌then◌else◌, ℕ, ◌++◌, ◌+◌, ◌∷◌}
 use Rattle.std.proofs.lemmas.Bool.{and_parts, not-true}
-use Rattle.yaml_grammar.specs.BlockScalars.{BlockScalar, Body, Chomping, Header, bare_block_text, block_events, block_text, block_value, goes_on}
+use Rattle.yaml_grammar.specs.BlockScalars.{BlockScalar, Body, Chomping, Header, bare_block_text, block_events}
+use Rattle.yaml_grammar.specs.BlockScalars.{block_text, block_value, goes_on}
 use Rattle.yaml_grammar.specs.Events.{folded_style, literal_style, scalar_event}
 use Rattle.yaml_grammar.specs.Separation.{LineEnd, comments_text}
 use Rattle.yaml_grammar.specs.Texts.{byte_len}

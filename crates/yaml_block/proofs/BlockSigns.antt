@@ -1,7 +1,9 @@
 -- What comes after a sign: on its line, or on a later one, or nothing.
 use Rattle.std.proofs.Common.{ap, arith, inl, inr, refl, sym, ◌∙◌, ◌≡◌}
-use Rattle.std.specs.Prelude.{Bool, List, None, Some, [], false, if◌then◌else◌, is_some, length, nat_le, nat_lt, not, suc, true, ℕ, ◌&&◌, ◌+◌, ◌==◌, ◌||◌, ◌∷◌}
-use Rattle.std.proofs.lemmas.Bool.{and_from, and_left, and_parts, and_right, cases_Bool, cases_eq, cases_lt, eqb-true, false≢true, lt-ltb, le-ltb, not-false, not_from_false, or_from, or_parts}
+use Rattle.std.specs.Prelude.{Bool, List, None, Some, [], false, if◌then◌else◌, is_some, length, nat_le, nat_lt, not}
+use Rattle.std.specs.Prelude.{suc, true, ℕ, ◌&&◌, ◌+◌, ◌==◌, ◌||◌, ◌∷◌}
+use Rattle.std.proofs.lemmas.Bool.{and_from, and_left, and_parts, and_right, cases_Bool, cases_eq, cases_lt, eqb-true}
+use Rattle.std.proofs.lemmas.Bool.{false≢true, lt-ltb, le-ltb, not-false, not_from_false, or_from, or_parts}
 use Rattle.std.proofs.lemmas.Bool.Decides.{nat_tests}
 use Rattle.yaml_chars.specs.Classes.{line_break, white}
 use Rattle.yaml_grammar.specs.BlockNodes.{Indented, Node, compact_items, compact_pairs, node, omitted}

@@ -1,6 +1,7 @@
 -- The steps of the reader at a flow node: a leaf, the first key of a mapping, or the key of a further pair.
 use Rattle.std.proofs.Common.{ap, arith, inl, inr, length, refl, subst, sym, ◌<◌, ◌∙◌, ◌≡◌, ◌≤◌, ◌⊎◌}
-use Rattle.std.specs.Prelude.{Bool, IfSome, List, None, Option, Some, [], false, insert, is_some, nat_le, true, ℕ, ◌&&◌, ◌*◌, ◌++◌, ◌+◌, ◌-◌, ◌∷◌}
+use Rattle.std.specs.Prelude.{Bool, IfSome, List, None, Option, Some, [], false, insert, is_some, nat_le, true, ℕ}
+use Rattle.std.specs.Prelude.{◌&&◌, ◌*◌, ◌++◌, ◌+◌, ◌-◌, ◌∷◌}
 use Rattle.std.specs.Str.{IsCharBoundary, IsUtf8}
 use Rattle.std.proofs.lemmas.Bool.{and_left, and_parts, and_right}
 use Rattle.yaml_chars.specs.Breaks.{no_break}
@@ -38,7 +39,8 @@ use Rattle.yaml_block.specs.declared.line_sign.Sign.TheVariants.{Asked, Colon}
 use Rattle.yaml_block.specs.declared.frame.Waits.TheVariants.{Key, Value}
 use Rattle.yaml_block.specs.declared.reader.Reader.{Reader}
 use Rattle.yaml_block.proofs.Stacks.{appended_before, appended_more, appended_one, opened}
-use Rattle.yaml_block.proofs.LeafSteps.{asked_pair, first_key, leaf_goes_on, leaf_read, next_asked, next_key, no_first_key, no_leaf, no_next_key, no_next_node, second_key}
+use Rattle.yaml_block.proofs.LeafSteps.{asked_pair, first_key, leaf_goes_on, leaf_read, next_asked, next_key}
+use Rattle.yaml_block.proofs.LeafSteps.{no_first_key, no_leaf, no_next_key, no_next_node, second_key}
 use Rattle.yaml_block.proofs.PlaceSteps.{WhiteTo, comments_to, flow_to, short_is, unbroken_is, white_to}
 use Rattle.yaml_block.proofs.TextPlaces.{IsPastSign, past_sign}
 

@@ -11,7 +11,8 @@ use Rattle.yaml_grammar.specs.FlowNodes.{Flow, flow_events, flow_text, short_key
 use Rattle.yaml_grammar.specs.FlowScalars.{block_key}
 use Rattle.yaml_grammar.specs.Separation.{LineEnd, comments_text, sep_text}
 use Rattle.yaml_grammar.specs.Texts.{byte_len, first}
-use Rattle.yaml_recognizers.specs.BlockFrames.{BlockFrame, PairKey, Sits, key_asked, key_on_line, keyed_part, plug, unwind, waits_item, waits_key, waits_value}
+use Rattle.yaml_recognizers.specs.BlockFrames.{BlockFrame, PairKey, Sits, key_asked, key_on_line, keyed_part, plug}
+use Rattle.yaml_recognizers.specs.BlockFrames.{unwind, waits_item, waits_key, waits_value}
 use Rattle.yaml_recognizers.specs.BlockNodes.{bar}
 use Rattle.yaml_recognizers.specs.BlockScalars.{read_block}
 use Rattle.yaml_recognizers.specs.Comments.{all_comments, closes_line}
@@ -26,8 +27,11 @@ use Rattle.yaml_recognizers.proofs.Flow.OneLineText.{unbroken}
 use Rattle.yaml_events.specs.EventPlaces.{line_starts}
 use Rattle.yaml_block.specs.declared.line_sign.Sign.TheVariants.{Asked, Colon}
 use Rattle.yaml_block.specs.BlockParts.{part_at}
-use Rattle.yaml_block.specs.Frames.{AfterSign, AtLeaf, AtLine, AtPair, MaySit, Seated, events_in, fits_frames, pairs_of, place_in, sign_after, sits_place}
-use Rattle.yaml_block.proofs.BlockLeaves.{bar_part, first_key_opens, leaf_before_colon, leaf_closes, leaf_goes_on as leaf_unclosed, leaf_missing, leaf_one_line, next_key_missing, next_key_opens, next_key_unfit, question_opens}
+use Rattle.yaml_block.specs.Frames.{AfterSign, AtLeaf, AtLine, AtPair, MaySit, Seated, events_in, fits_frames}
+use Rattle.yaml_block.specs.Frames.{pairs_of, place_in, sign_after, sits_place}
+use Rattle.yaml_block.proofs.BlockLeaves.{bar_part, first_key_opens, leaf_before_colon, leaf_closes}
+use Rattle.yaml_block.proofs.BlockLeaves.{leaf_goes_on as leaf_unclosed, leaf_missing, leaf_one_line}
+use Rattle.yaml_block.proofs.BlockLeaves.{next_key_missing, next_key_opens, next_key_unfit, question_opens}
 
 -- ---- where the mapping may sit
 

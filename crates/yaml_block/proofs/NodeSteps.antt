@@ -23,7 +23,8 @@ use Rattle.yaml_events.specs.EventPlaces.{line_starts}
 use Rattle.yaml_block.specs.declared.line_sign.Sign.TheVariants.{Dash}
 use Rattle.yaml_block.specs.BlockParts.{as_part, part_at, sep_after}
 use Rattle.yaml_block.specs.Frames.{AfterSign, AtLeaf, AtNode, AtNodeLine, place_in}
-use Rattle.yaml_block.proofs.BlockLines.{is_deep, leaf_alone_after, mapping_or_leaf_after, nothing_after, sep_after_text, sequence_after, too_shallow_after}
+use Rattle.yaml_block.proofs.BlockLines.{is_deep, leaf_alone_after, mapping_or_leaf_after, nothing_after}
+use Rattle.yaml_block.proofs.BlockLines.{sep_after_text, sequence_after, too_shallow_after}
 use Rattle.yaml_block.proofs.BlockSigns.{leaf_on_line, nothing_on_line, untabbed_taken}
 use Rattle.yaml_block.proofs.SignSteps.{byte_len_spaces, untaken}
 

@@ -10,7 +10,8 @@ use Rattle.yaml_grammar.specs.BlockScalars.{past_spaces, spaces_before}
 use Rattle.yaml_grammar.specs.Events.{Event, omitted_at, seq_start}
 use Rattle.yaml_grammar.specs.Separation.{LineEnd, comments_text, inline}
 use Rattle.yaml_grammar.specs.Texts.{byte_len, first, is_empty, spaces, starts_line}
-use Rattle.yaml_recognizers.specs.BlockFrames.{BlockFrame, key_asked, key_on_line, on_sign_line, plug, unwind, waits_item, waits_key, waits_value}
+use Rattle.yaml_recognizers.specs.BlockFrames.{BlockFrame, key_asked, key_on_line, on_sign_line, plug, unwind}
+use Rattle.yaml_recognizers.specs.BlockFrames.{waits_item, waits_key, waits_value}
 use Rattle.yaml_recognizers.specs.BlockNodes.{node_below}
 use Rattle.yaml_recognizers.specs.BlockScalars.{read_block}
 use Rattle.yaml_recognizers.specs.Comments.{all_comments, closes_line}
@@ -27,7 +28,9 @@ use Rattle.yaml_block.specs.declared.frame.Waits.TheVariants.{Key}
 use Rattle.yaml_block.specs.BlockParts.{as_part, part_at, part_after_sign}
 use Rattle.yaml_block.specs.Frames.{AfterSign, AtLeaf, AtLine, AtNodeLine, Awaits, Seated, events_in, fits_frame, part_after, waits_of}
 use Rattle.yaml_block.specs.Signs.{is_colon, is_shallow}
-use Rattle.yaml_block.proofs.BlockSigns.{compact_or_leaf, leaf_on_sign_line, node_on_lines as node_after_lines, nothing_on_sign_line, omitted_after, unclosed_goes_on, untabbed, untabbed_taken}
+use Rattle.yaml_block.proofs.BlockSigns.{compact_or_leaf, leaf_on_sign_line, node_on_lines as node_after_lines}
+use Rattle.yaml_block.proofs.BlockSigns.{nothing_on_sign_line, omitted_after, unclosed_goes_on, untabbed}
+use Rattle.yaml_block.proofs.BlockSigns.{untabbed_taken}
 
 -- after a sign, by what may be there
 after_is : (before : Sign) (k : ℕ) (t : List ℕ) → part_after before k t ≡ part_after_sign (not (is_colon before))

@@ -1,6 +1,7 @@
 -- The part after a sign, and a node at the start of a line: what each step of the code leads to.
 use Rattle.std.proofs.Common.{◌≡◌, refl, sym, ◌∙◌, ap, subst, arith, ℕ, ◌+◌, ◌-◌, ◌*◌, ◌<◌, ◌≤◌, length, Ok, Err, inl, inr, add-one}
-use Rattle.std.specs.Prelude.{Bool, true, false, not, suc, ◌&&◌, ◌||◌, ◌⊎◌, List, [], ◌∷◌, ◌++◌, Option, Some, None, Result, IfErr, IfOk, OnOk, nat_le, if◌then◌else◌, slice_index}
+use Rattle.std.specs.Prelude.{Bool, true, false, not, suc, ◌&&◌, ◌||◌, ◌⊎◌, List, [], ◌∷◌, ◌++◌, Option, Some, None}
+use Rattle.std.specs.Prelude.{Result, IfErr, IfOk, OnOk, nat_le, if◌then◌else◌, slice_index}
 use Rattle.std.specs.Str.{IsUtf8, IsCharBoundary}
 use Rattle.std.proofs.lemmas.Bool.{cases_lt, false≢true, cases_Bool, and_left, and_right}
 use Rattle.std.proofs.lemmas.Bool.Decides.{nat_tests}
@@ -39,7 +40,8 @@ use Rattle.yaml_block.specs.BlockParts.{as_part}
 use Rattle.yaml_block.specs.Frames.{AfterSign, AtLeaf, AtLine, AtNodeLine, AtNode, waits_of}
 use Rattle.yaml_block.specs.Signs.{is_colon}
 use Rattle.yaml_block.specs.Signs.{is_shallow as is_shallow_after}
-use Rattle.yaml_block.specs.States.{Before, BeforePart, BeforeLeaf, BeforeNodeLine, BeforeNode, Leads, Fails, FailsBy, Holds, Stack, GoesOn, IsAfterSign, Onward}
+use Rattle.yaml_block.specs.States.{Before, BeforePart, BeforeLeaf, BeforeNodeLine, BeforeNode, Leads, Fails, FailsBy}
+use Rattle.yaml_block.specs.States.{Holds, Stack, GoesOn, IsAfterSign, Onward}
 use Rattle.yaml_block.specs.Lines.{IsLine, is_shallow}
 use Rattle.yaml_block.specs.declared.indentation.Indentation.{Indentation}
 use Rattle.yaml_block.specs.declared.frame.Leaf.{Leaf}
@@ -58,7 +60,8 @@ use Rattle.yaml_block.proofs.BlockSigns.{no_pair_there, white_after_spaces}
 use Rattle.yaml_block.proofs.UnwindSteps.{left_out}
 use Rattle.yaml_block.proofs.SignSteps.{compact_leaf, compact_sequence, no_white, node_on_lines, omits_value, sign_leaf}
 use Rattle.yaml_block.proofs.LeafSteps.{asked_pair}
-use Rattle.yaml_block.proofs.NodeSteps.{line_leaf, line_leaf_after_tab, line_leaf_alone, line_too_shallow, node_line, node_no_white, node_on_line, sequence_opens}
+use Rattle.yaml_block.proofs.NodeSteps.{line_leaf, line_leaf_after_tab, line_leaf_alone, line_too_shallow, node_line}
+use Rattle.yaml_block.proofs.NodeSteps.{node_no_white, node_on_line, sequence_opens}
 
 -- ---- what a callee leads to, from another state
 

@@ -1,12 +1,14 @@
 -- The lines of a scalar, with the empty lines before them, and its whole body.
-use Rattle.std.proofs.Common.{◌≡◌, ℕ, Bool, true, false, List, [], ◌∷◌, ◌++◌, Option, Some, None, refl, ap, sym, ◌∙◌, subst, arith, length, drop}
+use Rattle.std.proofs.Common.{◌≡◌, ℕ, Bool, true, false, List, [], ◌∷◌, ◌++◌, Option, Some, None, refl, ap, sym, ◌∙◌}
+use Rattle.std.proofs.Common.{subst, arith, length, drop}
 use Rattle.std.specs.Prelude.{◌&&◌, ◌==◌, slice_range}
 use Rattle.std.specs.Str.{IsUtf8, chars}
 use Rattle.std.proofs.lemmas.Bool.{and_right, false≢true}
 use Rattle.std.proofs.lemmas.Str.{chars-nil}
 use Rattle.yaml_chars.specs.Places.{between, rest}
 use Rattle.yaml_chars.proofs.Places.{between-append}
-use Rattle.yaml_grammar.specs.BlockScalars.{Chomping, strip, clip, keep, BlockEmptyLine, TextLine, block_value, trailing_line_feeds, goes_on, value_without_lines, text_value, Body}
+use Rattle.yaml_grammar.specs.BlockScalars.{Chomping, strip, clip, keep, BlockEmptyLine, TextLine, block_value}
+use Rattle.yaml_grammar.specs.BlockScalars.{trailing_line_feeds, goes_on, value_without_lines, text_value, Body}
 use Rattle.yaml_grammar.specs.FlowScalars.{line_feeds}
 use Rattle.yaml_grammar.specs.Texts.{begins, is_empty}
 use Rattle.yaml_recognizers.proofs.BlockScalars.BlockScalarFacts.{body_found, body_is, no_body}
@@ -33,26 +35,31 @@ begins_longer (x ∷ xs) (y ∷ ys) zs h = by_cases (y == x) (begins xs (ys ++ z
     by_cases false a b f h = h
 
 -- after the line's text are other characters than the line feeds of the value
-pub piece_unfed : (chomping : Chomping) (gs : List BlockEmptyLine) (l : TextLine) (ls : List TextLine) (feeds : ℕ) (text after : List ℕ) → begins (line_feeds feeds) text ≡ false
+pub piece_unfed : (chomping : Chomping) (gs : List BlockEmptyLine) (l : TextLine) (ls : List TextLine) (feeds : ℕ)
+    (text after : List ℕ) → begins (line_feeds feeds) text ≡ false
     → line_feeds feeds ≡ trailing_line_feeds chomping l → text ≡ text_after l ++ after → is_one_piece chomping gs (l ∷ ls) ≡ false
 piece_unfed chomping gs l [] feeds text after h c e =
-    and_right (is_empty gs) _ (begins_longer (trailing_line_feeds chomping l) (text_after l) after (ap (begins (trailing_line_feeds chomping l)) (sym e) ∙ (ap (λ xs. begins xs text) (sym c) ∙ h)))
+    and_right (is_empty gs) _ (begins_longer (trailing_line_feeds chomping l) (text_after l) after
+    (ap (begins (trailing_line_feeds chomping l)) (sym e) ∙ (ap (λ xs. begins xs text) (sym c) ∙ h)))
 piece_unfed chomping gs l (m ∷ ms) feeds text after h c e = refl
 
-piece_longer : (chomping : Chomping) (gs : List BlockEmptyLine) (l : TextLine) (ls : List TextLine) → (ls ≡ [] → ⊥) → is_one_piece chomping gs (l ∷ ls) ≡ false
+piece_longer : (chomping : Chomping) (gs : List BlockEmptyLine) (l : TextLine) (ls : List TextLine) → (ls ≡ [] → ⊥)
+    → is_one_piece chomping gs (l ∷ ls) ≡ false
 piece_longer chomping gs l [] n = absurd (n refl)
 piece_longer chomping gs l (m ∷ ms) n = refl
 
 some_lines : (q : ℕ) (text after : List ℕ) → goes_on q text ≡ true → IsPastEmpties q text → lines_at q text ≡ Some ([], after) → ⊥
 some_lines q text after g past e =
-    let one = on_parts (read_text_line q (drop q text)) (λ l rest. on (lines_at q rest) (λ ls after. Some (l ∷ ls, after))) ([], after) (sym (lines_step q text g past) ∙ e) in
+    let one = on_parts (read_text_line q (drop q text))
+    (λ l rest. on (lines_at q rest) (λ ls after. Some (l ∷ ls, after))) ([], after) (sym (lines_step q text g past) ∙ e) in
     let more = on_parts (lines_at q one.1) (λ ls after. Some (one.0 ∷ ls, after)) ([], after) one.3 in
     let parts = some_parts (one.0 ∷ more.0) [] more.1 after more.3 in
     let none : one.0 ∷ more.0 ≡ [] = parts.0 in
     cc
 
 -- a value in one piece ends where its last line does
-pub piece_ended : (q : ℕ) (chomping : Chomping) (text after : List ℕ) (gs : List BlockEmptyLine) (l : TextLine) (ls : List TextLine) → goes_on q text ≡ true → IsPastEmpties q text
+pub piece_ended : (q : ℕ) (chomping : Chomping) (text after : List ℕ) (gs : List BlockEmptyLine) (l : TextLine)
+    (ls : List TextLine) → goes_on q text ≡ true → IsPastEmpties q text
     → lines_at q text ≡ Some (ls, after) → is_one_piece chomping gs (l ∷ ls) ≡ false
 piece_ended q chomping text after gs l ls g past e =
     piece_longer chomping gs l ls (λ n. some_lines q text after g past (e ∙ ap (λ x. Some (x, after)) n))
@@ -73,7 +80,8 @@ module _ (q : ℕ) (folded : Bool) (chomping : Chomping) (bs : List ℕ) (i empt
   read_as : (r : Read (List TextLine)) → lines_at q (rest bs j) ≡ r
       → on (lines_at q (empties_at q (rest bs i)).1) (λ ls after. Some (block_value folded chomping (empties_at q (rest bs i)).0 ls, after))
       ≡ on r (λ ls after. Some (block_value folded chomping (empties_at q (rest bs i)).0 ls, after))
-  read_as r e = ap (λ (x : Read (List TextLine)). on x (λ ls after. Some (block_value folded chomping (empties_at q (rest bs i)).0 ls, after))) (ap (lines_at q) g.leaves ∙ e)
+  read_as r e = ap (λ (x : Read (List TextLine)).
+      on x (λ ls after. Some (block_value folded chomping (empties_at q (rest bs i)).0 ls, after))) (ap (lines_at q) g.leaves ∙ e)
 
   -- what a piece says of the lines after the empty lines
   piece_lines : (r : Read (List TextLine)) → lines_at q (rest bs j) ≡ r → ArePiece q chomping (rest bs i)
@@ -81,9 +89,11 @@ module _ (q : ℕ) (folded : Bool) (chomping : Chomping) (bs : List ℕ) (i empt
   piece_lines r e p = (p.0, p.1, sym e ∙ ap (lines_at q) (sym g.leaves) ∙ p.2, p.3)
 
   -- no text line
-  pub lines_none : (value : List ℕ) → lines_at q (rest bs j) ≡ Some ([], rest bs j) → value ≡ value_without_lines chomping empties → AreLines q folded chomping bs i value j
+  pub lines_none : (value : List ℕ) → lines_at q (rest bs j) ≡ Some ([], rest bs j)
+      → value ≡ value_without_lines chomping empties → AreLines q folded chomping bs i value j
   lines_none value e v =
-      let whole : value_without_lines chomping (length (empties_at q (rest bs i)).0) ≡ chars value = ap (value_without_lines chomping) g.counts ∙ sym (chars_kept chomping empties) ∙ ap chars (sym v) in
+      let whole : value_without_lines chomping (length (empties_at q (rest bs i)).0) ≡ chars value =
+      ap (value_without_lines chomping) g.counts ∙ sym (chars_kept chomping empties) ∙ ap chars (sym v) in
       record {
         above = let above = g.above in omega arith;
         boundary = g.boundary;
@@ -93,28 +103,35 @@ module _ (q : ℕ) (folded : Bool) (chomping : Chomping) (bs : List ℕ) (i empt
   module _ (line : Line) (n : IsLine q bs j line) where
     -- the first line is put before those after it
     in_prefix : (r : Read (List TextLine))
-        → on (on r (λ ls after. Some (n.read ∷ ls, after))) (λ ls after. Some (block_value folded chomping (empties_at q (rest bs i)).0 ls, after))
+        → on (on r (λ ls after. Some (n.read ∷ ls, after)))
+        (λ ls after. Some (block_value folded chomping (empties_at q (rest bs i)).0 ls, after))
         ≡ on r (λ ls after. Some (line_feeds (length (empties_at q (rest bs i)).0) ++ text_value folded chomping n.read ls, after))
     in_prefix None = refl
     in_prefix (Some r) = refl
 
     -- where no lines are read after it, none are read
     pub lines_missing : lines_at q (rest bs line.next) ≡ None → lines_at q (empties_at q (rest bs i)).1 ≡ None
-    lines_missing none = ap (lines_at q) g.leaves ∙ n.reads ∙ ap (λ (r : Read (List TextLine)). on r (λ ls after. Some (n.read ∷ ls, after))) none
+    lines_missing none = ap (lines_at q) g.leaves ∙ n.reads
+        ∙ ap (λ (r : Read (List TextLine)). on r (λ ls after. Some (n.read ∷ ls, after))) none
 
     -- the lines are read, with the value that was pushed
-    pub lines_pushed : (prefix value : List ℕ) (end : ℕ) → prefix ≡ [] ++ line_feeds empties → ArePushed q folded chomping bs line prefix value end → AreLines q folded chomping bs i value end
+    pub lines_pushed : (prefix value : List ℕ) (end : ℕ) → prefix ≡ [] ++ line_feeds empties
+        → ArePushed q folded chomping bs line prefix value end → AreLines q folded chomping bs i value end
     lines_pushed prefix value end f p =
-        let fed : chars prefix ≡ line_feeds (length (empties_at q (rest bs i)).0) = ap chars f ∙ chars_feeds empties ∙ ap line_feeds (sym g.counts) in
+        let fed : chars prefix ≡ line_feeds (length (empties_at q (rest bs i)).0) = ap chars f ∙ chars_feeds empties
+        ∙ ap line_feeds (sym g.counts) in
         record {
-          above = let above = g.above in let empty_after = n.after in let within = n.placed.above in let empties_fit = n.placed.empties_fit in let further = p.above in omega arith;
+          above = let above = g.above in let empty_after = n.after in let within = n.placed.above in
+              let empties_fit = n.placed.empties_fit in let further = p.above in omega arith;
           boundary = p.boundary;
-          reads = read_as (on (lines_at q (rest bs line.next)) (λ ls after. Some (n.read ∷ ls, after))) n.reads ∙ in_prefix (lines_at q (rest bs line.next))
+          reads = read_as (on (lines_at q (rest bs line.next)) (λ ls after. Some (n.read ∷ ls, after))) n.reads
+              ∙ in_prefix (lines_at q (rest bs line.next))
               ∙ ap (λ x. value_from q folded chomping x n.read (rest bs line.next)) (sym fed) ∙ p.reads n.read n.described n.spells;
         }
 
     -- the value is in the text
-    pub lines_piece : IsUtf8 bs → (value : List ℕ) (end : ℕ) → IsPiece q chomping bs empties line end → value ≡ slice_range bs line.start end → AreLines q folded chomping bs i value line.next
+    pub lines_piece : IsUtf8 bs → (value : List ℕ) (end : ℕ) → IsPiece q chomping bs empties line end
+        → value ≡ slice_range bs line.start end → AreLines q folded chomping bs i value line.next
     lines_piece u value end p v =
         let none : (empties_at q (rest bs i)).0 ≡ [] = empty_list (empties_at q (rest bs i)).0 (g.counts ∙ p.none_before) in
         let placed = n.placed in
@@ -123,11 +140,13 @@ module _ (q : ℕ) (folded : Bool) (chomping : Chomping) (bs : List ℕ) (i empt
         ap (λ gs. block_value folded chomping gs (n.read ∷ [])) none
         ∙ (ap (λ t. t ++ trailing_line_feeds chomping n.read) n.spells
         ∙ (ap (λ t. between bs line.start line.end ++ t) (sym (p.spells n.read n.described))
-        ∙ (sym (between-append bs line.start line.end end u (omega arith) p.above placed.start_boundary placed.end_boundary p.boundary) ∙ ap chars (sym v)))) in
+        ∙ (sym (between-append bs line.start line.end end u
+        (omega arith) p.above placed.start_boundary placed.end_boundary p.boundary) ∙ ap chars (sym v)))) in
         record {
           above = let above = g.above in let empty_after = n.after in let empties_fit = placed.empties_fit in omega arith;
           boundary = placed.next_boundary;
-          reads = read_as (Some (n.read ∷ [], rest bs line.next)) (n.reads ∙ ap (λ (r : Read (List TextLine)). on r (λ ls after. Some (n.read ∷ ls, after))) p.last)
+          reads = read_as (Some (n.read ∷ [], rest bs line.next))
+              (n.reads ∙ ap (λ (r : Read (List TextLine)). on r (λ ls after. Some (n.read ∷ ls, after))) p.last)
               ∙ ap (λ t. Some (t, rest bs line.next)) whole;
         }
 
@@ -137,11 +156,13 @@ module _ (q : ℕ) (folded : Bool) (chomping : Chomping) (bs : List ℕ) (i empt
         let found = piece_lines (on (lines_at q (rest bs line.next)) (λ ls after. Some (n.read ∷ ls, after))) n.reads p in
         let more = on_parts (lines_at q (rest bs line.next)) (λ ls after. Some (n.read ∷ ls, after)) (found.0, found.1) found.2 in
         let same = (some_parts (n.read ∷ more.0) found.0 more.1 found.1 more.3).0 in
-        false≢true (sym (a n.read (empties_at q (rest bs i)).0 more.0 more.1 n.described n.follows g.counts more.2) ∙ ap (is_one_piece chomping (empties_at q (rest bs i)).0) same ∙ found.3)
+        false≢true (sym (a n.read (empties_at q (rest bs i)).0 more.0 more.1 n.described n.follows g.counts more.2)
+        ∙ ap (is_one_piece chomping (empties_at q (rest bs i)).0) same ∙ found.3)
 
 -- ---- the whole body
 
-module _ (digit : Option ℕ) (m : ℕ) (folded : Bool) (chomping : Chomping) (q : ℕ) (bs : List ℕ) (i : ℕ) (f : find_indent digit m (rest bs i) ≡ Some q) where
+module _ (digit : Option ℕ) (m : ℕ) (folded : Bool) (chomping : Chomping) (q : ℕ) (bs : List ℕ) (i : ℕ)
+    (f : find_indent digit m (rest bs i) ≡ Some q) where
   -- the body with these text lines
   with_lines : List TextLine → Body
   with_lines ls = record { indent = q; empties = (empties_at q (rest bs i)).0; texts = ls }
@@ -152,23 +173,32 @@ module _ (digit : Option ℕ) (m : ℕ) (folded : Bool) (chomping : Chomping) (q
 
   -- without text lines that fit there is no body
   pub no_body_lines : lines_at q (empties_at q (rest bs i)).1 ≡ None → NoBody digit m (rest bs i)
-  no_body_lines e = no_body digit m (rest bs i) (body_read_as ∙ ap (λ (r : Read (List TextLine)). on r (λ ls after. Some (with_lines ls, after))) e)
+  no_body_lines e = no_body digit m (rest bs i)
+      (body_read_as ∙ ap (λ (r : Read (List TextLine)). on r (λ ls after. Some (with_lines ls, after))) e)
 
   -- with them there is one
-  pub body_there : (value : List ℕ) (end : ℕ) → AreLines q folded chomping bs i value end → IsBody digit m folded chomping (rest bs i) (chars value) (rest bs end)
+  pub body_there : (value : List ℕ) (end : ℕ) → AreLines q folded chomping bs i value end
+      → IsBody digit m folded chomping (rest bs i) (chars value) (rest bs end)
   unfolding with_lines
   body_there value end h =
-      let found = on_parts (lines_at q (empties_at q (rest bs i)).1) (λ ls after. Some (block_value folded chomping (empties_at q (rest bs i)).0 ls, after)) (chars value, rest bs end) h.reads in
-      let same = some_parts (block_value folded chomping (empties_at q (rest bs i)).0 found.0) (chars value) found.1 (rest bs end) found.3 in
+      let found = on_parts (lines_at q (empties_at q (rest bs i)).1)
+      (λ ls after. Some (block_value folded chomping (empties_at q (rest bs i)).0 ls, after))
+      (chars value, rest bs end) h.reads in
+      let same = some_parts (block_value folded chomping (empties_at q (rest bs i)).0 found.0) (chars value) found.1
+      (rest bs end) found.3 in
       let reads : read_body digit m (rest bs i) ≡ Some (with_lines found.0, rest bs end) =
-      body_read_as ∙ ap (λ (r : Read (List TextLine)). on r (λ ls after. Some (with_lines ls, after))) found.2 ∙ ap (λ x. Some (with_lines found.0, x)) same.1 in
-      subst (λ x. IsBody digit m folded chomping (rest bs i) x (rest bs end)) same.0 (body_is digit m folded chomping (rest bs i) (with_lines found.0) (rest bs end) reads)
+      body_read_as ∙ ap (λ (r : Read (List TextLine)). on r (λ ls after. Some (with_lines ls, after))) found.2
+      ∙ ap (λ x. Some (with_lines found.0, x)) same.1 in
+      subst (λ x. IsBody digit m folded chomping (rest bs i) x (rest bs end)) same.0
+      (body_is digit m folded chomping (rest bs i) (with_lines found.0) (rest bs end) reads)
 
   -- a body with its value in one piece is one here
-  pub piece_there : (body : Body) (after : List ℕ) → BodyStands digit m (rest bs i) body after → is_one_piece chomping body.empties body.texts ≡ true → ArePiece q chomping (rest bs i)
+  pub piece_there : (body : Body) (after : List ℕ) → BodyStands digit m (rest bs i) body after
+      → is_one_piece chomping body.empties body.texts ≡ true → ArePiece q chomping (rest bs i)
   unfolding with_lines
   piece_there body after s p =
-      let found = on_parts (lines_at q (empties_at q (rest bs i)).1) (λ ls after. Some (with_lines ls, after)) (body, after) (sym body_read_as ∙ body_found digit m (rest bs i) body after s) in
+      let found = on_parts (lines_at q (empties_at q (rest bs i)).1) (λ ls after. Some (with_lines ls, after))
+      (body, after) (sym body_read_as ∙ body_found digit m (rest bs i) body after s) in
       let same : with_lines found.0 ≡ body = (some_parts (with_lines found.0) body found.1 after found.3).0 in
       (found.0, found.1, found.2, ap (λ (b : Body). is_one_piece chomping b.empties b.texts) same ∙ p)
 

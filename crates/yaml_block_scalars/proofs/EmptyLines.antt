@@ -1,5 +1,6 @@
 -- Lines of spaces, by the places where they end.
-use Rattle.std.proofs.Common.{◌≡◌, ℕ, suc, ◌+◌, ◌-◌, ◌<◌, ◌≤◌, Bool, true, false, List, [], ◌∷◌, None, refl, ap, sym, ◌∙◌, subst, arith, length}
+use Rattle.std.proofs.Common.{◌≡◌, ℕ, suc, ◌+◌, ◌-◌, ◌<◌, ◌≤◌, Bool, true, false, List, [], ◌∷◌, None, refl, ap, sym}
+use Rattle.std.proofs.Common.{◌∙◌, subst, arith, length}
 use Rattle.std.specs.Prelude.{max, is_some}
 use Rattle.std.specs.Str.{IsUtf8, IsCharBoundary}
 use Rattle.std.proofs.lemmas.Bool.{and_left, and_right, le-leb, lt-leb}
@@ -21,17 +22,24 @@ use Rattle.yaml_scan.specs.ScanPlaces.{AreSpaces, IsBreak}
 no_break_here : (cs : List ℕ) → read_break cs ≡ None → first line_break cs ≡ false
 no_break_here cs e = sym (break_some cs) ∙ ap (λ r. is_some r) e
 
-empty_step : (p : ℕ → Bool) (bs : List ℕ) (i j k : ℕ) → IsUtf8 bs → IsCharBoundary bs i → AreSpaces bs i j → p (j - i) ≡ true → (h : IsBreak bs j k)
+empty_step : (p : ℕ → Bool) (bs : List ℕ) (i j k : ℕ) → IsUtf8 bs → IsCharBoundary bs i → AreSpaces bs i j
+    → p (j - i) ≡ true → (h : IsBreak bs j k)
     → empties_of p (rest bs i) ≡ (record { width = j - i; stop = h.break } ∷ (empties_of p (rest bs k)).0, (empties_of p (rest bs k)).1)
 empty_step p bs i j k u b s w h =
-    let one : List BlockEmptyLine × List ℕ = (record { width = spaces_before (rest bs i); stop = h.break } ∷ (empties_of p (rest bs k)).0, (empties_of p (rest bs k)).1) in
+    let one : List BlockEmptyLine × List ℕ = (
+      record { width = spaces_before (rest bs i); stop = h.break }
+          ∷ (empties_of p (rest bs k)).0,
+      (empties_of p (rest bs k)).1,
+    ) in
     empties_step p (rest bs i) h.break (rest bs k) (ap p s.counts ∙ w) (ap read_break s.leaves ∙ h.reads)
     ∙ ap (λ (x : ℕ). (record { width = x; stop = h.break } ∷ (empties_of p (rest bs k)).0, (empties_of p (rest bs k)).1)) s.counts
 
-empty_wide : (p : ℕ → Bool) (bs : List ℕ) (i j : ℕ) → IsUtf8 bs → IsCharBoundary bs i → AreSpaces bs i j → p (j - i) ≡ false → empties_of p (rest bs i) ≡ ([], rest bs i)
+empty_wide : (p : ℕ → Bool) (bs : List ℕ) (i j : ℕ) → IsUtf8 bs → IsCharBoundary bs i → AreSpaces bs i j
+    → p (j - i) ≡ false → empties_of p (rest bs i) ≡ ([], rest bs i)
 empty_wide p bs i j u b s w = empties_stop p (rest bs i) (and_left _ _ (ap p s.counts ∙ w))
 
-empty_unbroken : (p : ℕ → Bool) (bs : List ℕ) (i j : ℕ) → IsUtf8 bs → IsCharBoundary bs i → AreSpaces bs i j → read_break (rest bs j) ≡ None → empties_of p (rest bs i) ≡ ([], rest bs i)
+empty_unbroken : (p : ℕ → Bool) (bs : List ℕ) (i j : ℕ) → IsUtf8 bs → IsCharBoundary bs i → AreSpaces bs i j
+    → read_break (rest bs j) ≡ None → empties_of p (rest bs i) ≡ ([], rest bs i)
 empty_unbroken p bs i j u b s e =
     empties_stop p (rest bs i) (and_right (p (spaces_before (rest bs i))) _ (ap (first line_break) s.leaves ∙ no_break_here (rest bs j) e))
 
@@ -49,28 +57,43 @@ pub empties_none : (q : ℕ) (bs : List ℕ) (i : ℕ) → IsCharBoundary bs i �
 empties_none q bs i b = record { above = omega arith; boundary = b; counts = omega arith; leaves = refl }
 
 -- one empty line more is passed
-pub empties_more : (q : ℕ) (bs : List ℕ) (i count j k m : ℕ) → IsUtf8 bs → AreEmptiesSoFar q bs i count j → AreSpaces bs j k → k - j ≤ q → IsBreak bs k m → AreEmptiesSoFar q bs i (count + 1) m
+pub empties_more : (q : ℕ) (bs : List ℕ) (i count j k m : ℕ) → IsUtf8 bs → AreEmptiesSoFar q bs i count j
+    → AreSpaces bs j k → k - j ≤ q → IsBreak bs k m → AreEmptiesSoFar q bs i (count + 1) m
 empties_more q bs i count j k m u h s w n =
     let step = empty_step (at_most q) bs j k m u h.boundary s (le-leb (k - j) q w) n in
-    let one : length (empties_at q (rest bs j)).0 ≡ suc (length (empties_at q (rest bs m)).0) = ap (λ (g : List BlockEmptyLine × List ℕ). length g.0) step in
+    let one : length (empties_at q (rest bs j)).0 ≡ suc (length (empties_at q (rest bs m)).0) =
+    ap (λ (g : List BlockEmptyLine × List ℕ). length g.0) step in
     let above = h.above in
     let further = s.above in
     let after = n.above in
     let counts = h.counts in
-    record { above = omega arith; boundary = n.boundary; counts = omega arith; leaves = h.leaves ∙ ap (λ (g : List BlockEmptyLine × List ℕ). g.1) step }
+    record {
+      above = omega arith;
+      boundary = n.boundary;
+      counts = omega arith;
+      leaves = h.leaves ∙ ap (λ (g : List BlockEmptyLine × List ℕ). g.1) step;
+    }
 
-empties_end : (q : ℕ) (bs : List ℕ) (i count j : ℕ) → AreEmptiesSoFar q bs i count j → empties_at q (rest bs j) ≡ ([], rest bs j) → AreEmpties q bs i count j
+empties_end : (q : ℕ) (bs : List ℕ) (i count j : ℕ) → AreEmptiesSoFar q bs i count j
+    → empties_at q (rest bs j) ≡ ([], rest bs j) → AreEmpties q bs i count j
 empties_end q bs i count j h e =
     let none : length (empties_at q (rest bs j)).0 ≡ 0 = ap (λ (g : List BlockEmptyLine × List ℕ). length g.0) e in
     let counts = h.counts in
-    record { above = h.above; boundary = h.boundary; counts = omega arith; leaves = h.leaves ∙ ap (λ (g : List BlockEmptyLine × List ℕ). g.1) e }
+    record {
+      above = h.above;
+      boundary = h.boundary;
+      counts = omega arith;
+      leaves = h.leaves ∙ ap (λ (g : List BlockEmptyLine × List ℕ). g.1) e;
+    }
 
 -- a line with too many spaces is no empty line
-pub empties_wide : (q : ℕ) (bs : List ℕ) (i count j k : ℕ) → IsUtf8 bs → AreEmptiesSoFar q bs i count j → AreSpaces bs j k → q < k - j → AreEmpties q bs i count j
+pub empties_wide : (q : ℕ) (bs : List ℕ) (i count j k : ℕ) → IsUtf8 bs → AreEmptiesSoFar q bs i count j
+    → AreSpaces bs j k → q < k - j → AreEmpties q bs i count j
 empties_wide q bs i count j k u h s w = empties_end q bs i count j h (empty_wide (at_most q) bs j k u h.boundary s (lt-leb (k - j) q w))
 
 -- nor is a line with something after its spaces
-pub empties_unbroken : (q : ℕ) (bs : List ℕ) (i count j k : ℕ) → IsUtf8 bs → AreEmptiesSoFar q bs i count j → AreSpaces bs j k → read_break (rest bs k) ≡ None → AreEmpties q bs i count j
+pub empties_unbroken : (q : ℕ) (bs : List ℕ) (i count j k : ℕ) → IsUtf8 bs → AreEmptiesSoFar q bs i count j
+    → AreSpaces bs j k → read_break (rest bs k) ≡ None → AreEmpties q bs i count j
 empties_unbroken q bs i count j k u h s e = empties_end q bs i count j h (empty_unbroken (at_most q) bs j k u h.boundary s e)
 
 -- none comes after them
@@ -87,20 +110,33 @@ pub record AreLeadingSoFar (bs : List ℕ) (i width j : ℕ) : Type 0 where
   pub leaves : (all_empties (rest bs i)).1 ≡ (all_empties (rest bs j)).1
 
 -- one line of spaces more is passed
-pub leading_more : (bs : List ℕ) (i width j k m : ℕ) → IsUtf8 bs → AreLeadingSoFar bs i width j → AreSpaces bs j k → IsBreak bs k m → AreLeadingSoFar bs i (max width (k - j)) m
+pub leading_more : (bs : List ℕ) (i width j k m : ℕ) → IsUtf8 bs → AreLeadingSoFar bs i width j → AreSpaces bs j k
+    → IsBreak bs k m → AreLeadingSoFar bs i (max width (k - j)) m
 leading_more bs i width j k m u h s n =
     let step = empty_step (λ _. true) bs j k m u h.boundary s refl n in
-    let one : widest (all_empties (rest bs j)).0 ≡ max (k - j) (widest (all_empties (rest bs m)).0) = ap (λ (g : List BlockEmptyLine × List ℕ). widest g.0) step in
+    let one : widest (all_empties (rest bs j)).0 ≡ max (k - j) (widest (all_empties (rest bs m)).0) =
+    ap (λ (g : List BlockEmptyLine × List ℕ). widest g.0) step in
     let above = h.above in
     let further = s.above in
     let after = n.above in
     let width_is = h.widest_is in
-    record { above = omega arith; boundary = n.boundary; widest_is = omega arith; leaves = h.leaves ∙ ap (λ (g : List BlockEmptyLine × List ℕ). g.1) step }
+    record {
+      above = omega arith;
+      boundary = n.boundary;
+      widest_is = omega arith;
+      leaves = h.leaves ∙ ap (λ (g : List BlockEmptyLine × List ℕ). g.1) step;
+    }
 
 -- a line with something after its spaces ends them
-pub leading_end : (bs : List ℕ) (i width j k : ℕ) → IsUtf8 bs → AreLeadingSoFar bs i width j → AreSpaces bs j k → read_break (rest bs k) ≡ None → AreLeading bs i width j
+pub leading_end : (bs : List ℕ) (i width j k : ℕ) → IsUtf8 bs → AreLeadingSoFar bs i width j → AreSpaces bs j k
+    → read_break (rest bs k) ≡ None → AreLeading bs i width j
 leading_end bs i width j k u h s e =
     let stop = empty_unbroken (λ _. true) bs j k u h.boundary s e in
     let none : widest (all_empties (rest bs j)).0 ≡ 0 = ap (λ (g : List BlockEmptyLine × List ℕ). widest g.0) stop in
     let width_is = h.widest_is in
-    record { above = h.above; boundary = h.boundary; widest_is = omega arith; leaves = h.leaves ∙ ap (λ (g : List BlockEmptyLine × List ℕ). g.1) stop }
+    record {
+      above = h.above;
+      boundary = h.boundary;
+      widest_is = omega arith;
+      leaves = h.leaves ∙ ap (λ (g : List BlockEmptyLine × List ℕ). g.1) stop;
+    }

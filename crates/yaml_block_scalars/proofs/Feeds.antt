@@ -37,7 +37,8 @@ feeds_pushed zero text = refl
 feeds_pushed (suc k) text = ap (λ t. 10 ∷ t) (feeds_pushed k text)
 
 -- one line feed more is passed
-pub feeds_more : (bs : List ℕ) (at count end : ℕ) → IsUtf8 bs → AreFeedsSoFar bs at count end → end - at < count → end < length bs → get_or bs end 0 ≡ 10 → AreFeedsSoFar bs at count (end + 1)
+pub feeds_more : (bs : List ℕ) (at count end : ℕ) → IsUtf8 bs → AreFeedsSoFar bs at count end → end - at < count
+    → end < length bs → get_or bs end 0 ≡ 10 → AreFeedsSoFar bs at count (end + 1)
 feeds_more bs at count end u h few l e =
     let there = ascii_prefix bs end 10 u l (omega arith) e in
     let above = h.above in
@@ -55,21 +56,25 @@ begins_short (suc n) zero [] l h = refl
 begins_short (suc n) zero (c ∷ cs) l h = and_left (c == 10) (begins (line_feeds n) cs) h
 begins_short (suc n) (suc k) text l h = begins_short n k text (omega arith) h
 
-few_feeds : (bs : List ℕ) (at count end : ℕ) → AreFeedsSoFar bs at count end → end - at < count → first (λ c. c == 10) (rest bs end) ≡ false → begins (line_feeds count) (rest bs at) ≡ false
+few_feeds : (bs : List ℕ) (at count end : ℕ) → AreFeedsSoFar bs at count end → end - at < count
+    → first (λ c. c == 10) (rest bs end) ≡ false → begins (line_feeds count) (rest bs at) ≡ false
 few_feeds bs at count end h few n = ap (begins (line_feeds count)) h.spells ∙ begins_short count (end - at) (rest bs end) few n
 
 -- the text ends before all of them
-pub feeds_cut : (bs : List ℕ) (at count end : ℕ) → AreFeedsSoFar bs at count end → end - at < count → length bs ≤ end → begins (line_feeds count) (rest bs at) ≡ false
+pub feeds_cut : (bs : List ℕ) (at count end : ℕ) → AreFeedsSoFar bs at count end → end - at < count → length bs ≤ end
+    → begins (line_feeds count) (rest bs at) ≡ false
 feeds_cut bs at count end h few l = few_feeds bs at count end h few (first_at_end (λ c. c == 10) bs end l)
 
 -- another byte comes before all of them
-pub feeds_stopped : (bs : List ℕ) (at count end : ℕ) → IsUtf8 bs → AreFeedsSoFar bs at count end → end - at < count → end < length bs → (get_or bs end 0 ≡ 10 → ⊥)
+pub feeds_stopped : (bs : List ℕ) (at count end : ℕ) → IsUtf8 bs → AreFeedsSoFar bs at count end → end - at < count
+    → end < length bs → (get_or bs end 0 ≡ 10 → ⊥)
     → begins (line_feeds count) (rest bs at) ≡ false
 feeds_stopped bs at count end u h few l n =
     few_feeds bs at count end h few (first_there (λ c. c == 10) bs end blind-feed u h.boundary l ∙ ne_eqb (get_or bs end 0) 10 n)
 
 -- all of them are passed
-pub feeds_all : (bs : List ℕ) (at count end : ℕ) → IsUtf8 bs → IsCharBoundary bs at → AreFeedsSoFar bs at count end → count ≤ end - at → AreFeeds bs at count end
+pub feeds_all : (bs : List ℕ) (at count end : ℕ) → IsUtf8 bs → IsCharBoundary bs at → AreFeedsSoFar bs at count end
+    → count ≤ end - at → AreFeeds bs at count end
 feeds_all bs at count end u b h l =
     let few = h.few in
     let e : end - at ≡ count = omega arith in

@@ -9,7 +9,9 @@ use Rattle.yaml_chars.specs.Classes.{line_break}
 use Rattle.yaml_chars.specs.Places.{rest, between}
 use Rattle.yaml_chars.proofs.Places.{between-append, rest-between}
 use Rattle.yaml_events.specs.EventPlaces.{line_starts, without_mark}
-use Rattle.yaml_grammar.specs.BlockScalars.{Body, BlockEmptyLine, TextLine, body_text, block_empty_text, block_empties_text, goes_on, text_line_fits, text_line_text, text_lines_fit, text_lines_text}
+use Rattle.yaml_grammar.specs.BlockScalars.{Body, BlockEmptyLine, TextLine, body_text, block_empty_text}
+use Rattle.yaml_grammar.specs.BlockScalars.{block_empties_text, goes_on, text_line_fits, text_line_text}
+use Rattle.yaml_grammar.specs.BlockScalars.{text_lines_fit, text_lines_text}
 use Rattle.yaml_grammar.specs.Separation.{Break, break_text, cr, cr_lf, lf, stop_fits}
 use Rattle.yaml_grammar.specs.Texts.{is_empty, optional, spaces, starts_line}
 use Rattle.yaml_recognizers.specs.BlockScalarFacts.{BodyStands}
@@ -37,7 +39,8 @@ nil_after : (xs ys : List ℕ) → xs ++ ys ≡ [] → ys ≡ []
 nil_after [] ys h = h
 nil_after (x ∷ xs) ys h = cc
 
-stop_ends : (bol : Bool) (xs : List ℕ) (stop : Option Break) (after : List ℕ) → stop_fits stop after ≡ true → Ends bol (xs ++ optional break_text stop) after
+stop_ends : (bol : Bool) (xs : List ℕ) (stop : Option Break) (after : List ℕ) → stop_fits stop after ≡ true
+    → Ends bol (xs ++ optional break_text stop) after
 stop_ends bol xs None after h = inr (none_left after h)
 stop_ends bol xs (Some b) after h = inl (starts_joined bol xs (break_text b) ∙ break_starts (starts_line bol xs) b)
 
@@ -45,21 +48,27 @@ empties_start : (gs : List BlockEmptyLine) → starts_line true (block_empties_t
 empties_start [] = refl
 empties_start (g ∷ gs) =
     starts_joined true (block_empty_text g) (block_empties_text gs)
-    ∙ (ap (λ b. starts_line b (block_empties_text gs)) (starts_joined true (spaces g.width) (break_text g.stop) ∙ break_starts (starts_line true (spaces g.width)) g.stop) ∙ empties_start gs)
+    ∙ (ap (λ b. starts_line b (block_empties_text gs))
+    (starts_joined true (spaces g.width) (break_text g.stop)
+    ∙ break_starts (starts_line true (spaces g.width)) g.stop) ∙ empties_start gs)
 
 lines_end : (q : ℕ) (ls : List TextLine) (after : List ℕ) → text_lines_fit q ls after ≡ true → Ends true (text_lines_text q ls) after
 lines_end q [] after h = inl refl
 lines_end q (l ∷ ls) after h =
     let p = and_parts (text_line_fits q l (text_lines_text q ls ++ after)) (text_lines_fit q ls after) h in
-    let stop : stop_fits l.stop (block_empties_text l.empties ++ (text_lines_text q ls ++ after)) ≡ true = (and_parts _ _ (and_parts _ _ p.0).0).1 in
+    let stop : stop_fits l.stop (block_empties_text l.empties ++ (text_lines_text q ls ++ after)) ≡ true =
+    (and_parts _ _ (and_parts _ _ p.0).0).1 in
     elim (stop_ends true (spaces q ++ l.text) l.stop (block_empties_text l.empties ++ (text_lines_text q ls ++ after)) stop) [
       | inl starts ↦ (let line : starts_line true (text_line_text q l) ≡ true =
-          starts_joined true (spaces q ++ l.text ++ optional break_text l.stop) (block_empties_text l.empties) ∙ (ap (λ b. starts_line b (block_empties_text l.empties)) starts ∙ empties_start l.empties) in
+          starts_joined true (spaces q ++ l.text ++ optional break_text l.stop) (block_empties_text l.empties)
+          ∙ (ap (λ b. starts_line b (block_empties_text l.empties)) starts ∙ empties_start l.empties) in
           elim (lines_end q ls after p.1) [
-            | inl more ↦ inl (starts_joined true (text_line_text q l) (text_lines_text q ls) ∙ (ap (λ b. starts_line b (text_lines_text q ls)) line ∙ more))
+            | inl more ↦ inl (starts_joined true (text_line_text q l) (text_lines_text q ls)
+                ∙ (ap (λ b. starts_line b (text_lines_text q ls)) line ∙ more))
             | inr none ↦ inr none
           ])
-      | inr none ↦ inr (nil_after (text_lines_text q ls) after (nil_after (block_empties_text l.empties) (text_lines_text q ls ++ after) none))
+      | inr none ↦ inr (nil_after (text_lines_text q ls) after
+          (nil_after (block_empties_text l.empties) (text_lines_text q ls ++ after) none))
     ]
 
 -- ---- places
@@ -68,38 +77,50 @@ any_start : (b : Bool) (xs : List ℕ) → starts_line b xs ≡ true → starts_
 any_start b [] h = refl
 any_start b (x ∷ xs) h = h
 
-starts_marked : (xs ys : List ℕ) → starts_line (starts_line true (without_mark ys)) xs ≡ true → starts_line true (without_mark (ys ++ xs)) ≡ true
+starts_marked : (xs ys : List ℕ) → starts_line (starts_line true (without_mark ys)) xs ≡ true
+    → starts_line true (without_mark (ys ++ xs)) ≡ true
 starts_marked [] [] h = refl
-starts_marked (x ∷ xs) [] h = cond_both (x == 0xfeff) xs (x ∷ xs) (λ (t : List ℕ). starts_line true t ≡ true) (λ _. any_start (line_break x) xs h) (λ _. h)
+starts_marked (x ∷ xs) [] h = cond_both (x == 0xfeff) xs (x ∷ xs) (λ (t : List ℕ). starts_line true t ≡ true)
+    (λ _. any_start (line_break x) xs h) (λ _. h)
 starts_marked xs (y ∷ ys) h =
     cond_both (y == 0xfeff) (ys ++ xs) (y ∷ (ys ++ xs)) (λ (t : List ℕ). starts_line true t ≡ true)
     (λ e. starts_joined true ys xs ∙ rw e at h)
     (λ e. starts_joined (line_break y) ys xs ∙ rw e at h)
 
-starts_at : (text : List ℕ) (at end : ℕ) (xs : List ℕ) → IsUtf8 text → at ≤ end → IsCharBoundary text at → IsCharBoundary text end → rest text at ≡ xs ++ rest text end
+starts_at : (text : List ℕ) (at end : ℕ) (xs : List ℕ) → IsUtf8 text → at ≤ end → IsCharBoundary text at
+    → IsCharBoundary text end → rest text at ≡ xs ++ rest text end
     → starts_line (line_starts text at) xs ≡ true → line_starts text end ≡ true
 starts_at text at end xs u l b d spells h =
-    let same : between text at end ≡ xs = append_cancel_right (between text at end) xs (rest text end) (sym (rest-between text at end u l b d) ∙ spells) in
-    let whole : between text 0 end ≡ between text 0 at ++ xs = between-append text 0 at end u (omega arith) l (IsCharBoundary-start text u) b d ∙ ap (λ t. between text 0 at ++ t) same in
+    let same : between text at end ≡ xs = append_cancel_right (between text at end) xs (rest text end)
+    (sym (rest-between text at end u l b d) ∙ spells) in
+    let whole : between text 0 end ≡ between text 0 at ++ xs =
+    between-append text 0 at end u (omega arith) l (IsCharBoundary-start text u) b d
+    ∙ ap (λ t. between text 0 at ++ t) same in
     ap (λ t. starts_line true (without_mark t)) whole ∙ starts_marked xs (between text 0 at) h
 
 -- so it is after a body
-pub body_ends : (m : ℕ) (folded : Bool) (header : ScannedHeader) (text : List ℕ) (at : ℕ) (value : List ℕ) (end : ℕ) → IsUtf8 text → IsCharBoundary text at
+pub body_ends : (m : ℕ) (folded : Bool) (header : ScannedHeader) (text : List ℕ) (at : ℕ) (value : List ℕ) (end : ℕ)
+    → IsUtf8 text → IsCharBoundary text at
     → IsBodyAt m folded header text at value end → IsLineStart text at → IsLineStart text end
 body_ends m folded header text at value end u b h (inl line) =
     let body : Body = h.means.body in
     let stands : BodyStands header.digit m (rest text at) body (rest text end) = h.means.stands in
     let lines : text_lines_fit body.indent body.texts (rest text end) ≡ true = (and_parts _ _ (and_parts _ _ stands.fits).0).1 in
     elim (lines_end body.indent body.texts (rest text end) lines) [
-      | inl starts ↦ (let empties : starts_line (line_starts text at) (block_empties_text body.empties) ≡ true = ap (λ b. starts_line b (block_empties_text body.empties)) line ∙ empties_start body.empties in
+      | inl starts ↦ (let empties : starts_line (line_starts text at) (block_empties_text body.empties) ≡ true =
+          ap (λ b. starts_line b (block_empties_text body.empties)) line ∙ empties_start body.empties in
           inl (starts_at text at end (body_text body) u h.above b h.boundary stands.spells
-          (starts_joined (line_starts text at) (block_empties_text body.empties) (text_lines_text body.indent body.texts) ∙ (ap (λ b. starts_line b (text_lines_text body.indent body.texts)) empties ∙ starts))))
+          (starts_joined (line_starts text at) (block_empties_text body.empties)
+          (text_lines_text body.indent body.texts)
+          ∙ (ap (λ b. starts_line b (text_lines_text body.indent body.texts)) empties ∙ starts))))
       | inr none ↦ inr none
     ]
-body_ends m folded header text at value end u b h (inr none) = inr (nil_after (body_text h.means.body) (rest text end) (sym h.means.stands.spells ∙ none))
+body_ends m folded header text at value end u b h (inr none) =
+    inr (nil_after (body_text h.means.body) (rest text end) (sym h.means.stands.spells ∙ none))
 
 -- ---- what comes after the body
 
 -- the line after a body is neither a text line of its indentation nor an empty one
-pub body_stops : (digit : Option ℕ) (m : ℕ) (text : List ℕ) (body : Body) (after : List ℕ) → BodyStands digit m text body after → goes_on body.indent after ≡ false
+pub body_stops : (digit : Option ℕ) (m : ℕ) (text : List ℕ) (body : Body) (after : List ℕ)
+    → BodyStands digit m text body after → goes_on body.indent after ≡ false
 body_stops digit m text body after stands = not-true (goes_on body.indent after) (and_parts _ _ stands.fits).1

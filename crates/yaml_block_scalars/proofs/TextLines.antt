@@ -1,8 +1,10 @@
 -- Text lines, by the places where they start and end.
-use Rattle.std.proofs.Common.{◌≡◌, ℕ, ◌+◌, ◌-◌, ◌<◌, ◌≤◌, true, false, List, [], ◌∷◌, Option, Some, ◌++◌, refl, ap, sym, ◌∙◌, append_assoc, arith, inl, inr}
+use Rattle.std.proofs.Common.{◌≡◌, ℕ, ◌+◌, ◌-◌, ◌<◌, ◌≤◌, true, false, List, [], ◌∷◌, Option, Some, ◌++◌, refl, ap}
+use Rattle.std.proofs.Common.{sym, ◌∙◌, append_assoc, arith, inl, inr}
 use Rattle.std.specs.Prelude.{◌&&◌, ◌==◌, not, nat_lt}
 use Rattle.std.specs.Str.{IsUtf8, IsCharBoundary}
-use Rattle.std.proofs.lemmas.Bool.{and_from, and_left, and_right, cases_Bool, cases_lt, cond-true, cond-false, eq-eqb, false≢true, le-ltb, lt-ltb, ne_eqb, or_from, or_left, or_right}
+use Rattle.std.proofs.lemmas.Bool.{and_from, and_left, and_right, cases_Bool, cases_lt, cond-true, cond-false, eq-eqb}
+use Rattle.std.proofs.lemmas.Bool.{false≢true, le-ltb, lt-ltb, ne_eqb, or_from, or_left, or_right}
 use Rattle.yaml_chars.specs.Classes.{nb, white}
 use Rattle.yaml_chars.specs.Places.{between, rest}
 use Rattle.yaml_chars.proofs.Classes.{white_is_nb}
@@ -28,13 +30,16 @@ use Rattle.yaml_scan.proofs.ByteRuns.{spaces_dropped_at}
 -- ---- where a line goes on
 
 module _ (q : ℕ) (bs : List ℕ) (i j : ℕ) (u : IsUtf8 bs) (b : IsCharBoundary bs i) (s : AreSpaces bs i j) where
-  stays : IsPastEmpties q (rest bs i) → nat_lt q (j - i) ≡ false → (spaces_before (rest bs i) == q) && first nb (past_spaces (rest bs i)) && no_marker true (rest bs i) ≡ false → goes_on q (rest bs i) ≡ false
+  stays : IsPastEmpties q (rest bs i) → nat_lt q (j - i) ≡ false
+      → (spaces_before (rest bs i) == q) && first nb (past_spaces (rest bs i)) && no_marker true (rest bs i) ≡ false
+      → goes_on q (rest bs i) ≡ false
   stays past w t = or_from _ _ (or_from _ _ (ap (nat_lt q) s.counts ∙ w) past) t
 
   -- a line with too few spaces doesn't go on
   pub line_narrow : IsPastEmpties q (rest bs i) → j - i < q → goes_on q (rest bs i) ≡ false
   line_narrow past w =
-      stays past (le-ltb q (j - i) (omega arith)) (and_left _ _ (and_left _ _ (ap (λ x. x == q) s.counts ∙ ne_eqb (j - i) q (λ e. omega arith))))
+      stays past (le-ltb q (j - i) (omega arith))
+      (and_left _ _ (and_left _ _ (ap (λ x. x == q) s.counts ∙ ne_eqb (j - i) q (λ e. omega arith))))
 
   -- nor a line with nothing after its spaces
   pub line_no_text : IsPastEmpties q (rest bs i) → j - i ≡ q → first nb (rest bs j) ≡ false → goes_on q (rest bs i) ≡ false
@@ -44,10 +49,12 @@ module _ (q : ℕ) (bs : List ℕ) (i j : ℕ) (u : IsUtf8 bs) (b : IsCharBounda
   -- nor a marker
   pub line_marked : IsPastEmpties q (rest bs i) → j - i ≡ q → marker (rest bs i) ≡ true → goes_on q (rest bs i) ≡ false
   line_marked past w e =
-      stays past (le-ltb q (j - i) (omega arith)) (and_right ((spaces_before (rest bs i) == q) && first nb (past_spaces (rest bs i))) _ (ap not e))
+      stays past (le-ltb q (j - i) (omega arith))
+      (and_right ((spaces_before (rest bs i) == q) && first nb (past_spaces (rest bs i))) _ (ap not e))
 
   starts : q ≤ j - i → goes_on q (rest bs i) ≡ true → IsTextStart q bs i (i + q)
-  starts w g = let there = spaces_dropped_at bs i j q u b s w in record { above = omega arith; boundary = there.1; goes = g; drops = there.0 }
+  starts w g = let there = spaces_dropped_at bs i j q u b s w in
+      record { above = omega arith; boundary = there.1; goes = g; drops = there.0 }
 
   -- a line with more spaces starts with whitespace
   pub start_wide : q < j - i → IsTextStart q bs i (i + q)
@@ -94,10 +101,15 @@ module _ (q : ℕ) (bs : List ℕ) (i : ℕ) (past : IsPastEmpties q (rest bs i)
       ]
 
   -- a text line is there
-  pub line_there : (line : Line) (after : ℕ) → IsTextStart q bs i line.start → AreTaken nb bs line.start line.end → IsStop bs line.end line.has_break after
+  pub line_there : (line : Line) (after : ℕ) → IsTextStart q bs i line.start → AreTaken nb bs line.start line.end
+      → IsStop bs line.end line.has_break after
       → AreEmpties q bs after line.empties line.next → line.white ≡ first white (rest bs line.start) → IsLine q bs i line
   line_there line after h t s g w =
-      let read : TextLine = record { text = take_while nb (rest bs line.start); stop = s.stop; empties = (empties_at q (rest bs after)).0 } in
+      let read : TextLine = record {
+        text = take_while nb (rest bs line.start);
+        stop = s.stop;
+        empties = (empties_at q (rest bs after)).0;
+      } in
       let stops : read_stop (drop_while nb (rest bs line.start)) ≡ Some (s.stop, rest bs after) = ap read_stop t.leaves ∙ s.reads in
       let further = s.above in
       let more = g.above in
@@ -115,11 +127,18 @@ module _ (q : ℕ) (bs : List ℕ) (i : ℕ) (past : IsPastEmpties q (rest bs i)
         described = record { begins_white = white_taken (rest bs line.start) ∙ sym w; breaks = s.is_break; empties = g.counts };
         spells = t.takes;
         follows = (let stop : rest bs line.end ≡ optional break_text s.stop ++ rest bs after =
-            (sound_is (StopOf (rest bs line.end)) (read_stop (rest bs line.end)) (s.stop, rest bs after) (stop_sound (rest bs line.end)) s.reads).0 in
+            (sound_is (StopOf (rest bs line.end)) (read_stop (rest bs line.end)) (s.stop, rest bs after)
+            (stop_sound (rest bs line.end)) s.reads).0 in
             let empties : rest bs after ≡ block_empties_text (empties_at q (rest bs after)).0 ++ rest bs line.next =
-            (empties_of_sound (at_most q) (rest bs after)).0 ∙ ap (λ t'. block_empties_text (empties_at q (rest bs after)).0 ++ t') g.leaves in
-            stop ∙ (ap (λ t'. optional break_text s.stop ++ t') empties ∙ sym (append_assoc (optional break_text s.stop) (block_empties_text (empties_at q (rest bs after)).0) (rest bs line.next))));
+            (empties_of_sound (at_most q) (rest bs after)).0
+            ∙ ap (λ t'. block_empties_text (empties_at q (rest bs after)).0 ++ t') g.leaves in
+            stop ∙ (ap (λ t'. optional break_text s.stop ++ t') empties
+            ∙ sym (append_assoc (optional break_text s.stop) (block_empties_text (empties_at q (rest bs after)).0)
+            (rest bs line.next))));
         reads = stepped line.start h
-            ∙ ap (λ (r : Read (Option Break)). on (on r (λ stop t'. let g = empties_at q t' in Some (record { text = take_while nb (rest bs line.start); stop = stop; empties = g.0 }, g.1))) (λ l t'. on (lines_at q t') (λ ls after. Some (l ∷ ls, after)))) stops
+            ∙ ap (λ (r : Read (Option Break)). on (on r
+            (λ stop t'. let g = empties_at q t' in Some
+            (record { text = take_while nb (rest bs line.start); stop = stop; empties = g.0 }, g.1)))
+            (λ l t'. on (lines_at q t') (λ ls after. Some (l ∷ ls, after)))) stops
             ∙ ap (λ (t' : List ℕ). on (lines_at q t') (λ ls after. Some (read ∷ ls, after))) g.leaves;
       }

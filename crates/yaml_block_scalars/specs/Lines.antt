@@ -3,7 +3,8 @@ use Rattle.std.specs.Prelude.{◌≡◌, ℕ, ◌+◌, ◌<◌, ◌≤◌, Bool,
 use Rattle.std.specs.Str.{IsCharBoundary, chars}
 use Rattle.yaml_chars.specs.Classes.{white, line_break}
 use Rattle.yaml_chars.specs.Places.{rest, between}
-use Rattle.yaml_grammar.specs.BlockScalars.{Chomping, BlockEmptyLine, TextLine, trailing_line_feeds, goes_on, spaces_before, past_spaces, text_value, widest}
+use Rattle.yaml_grammar.specs.BlockScalars.{Chomping, BlockEmptyLine, TextLine, trailing_line_feeds, goes_on}
+use Rattle.yaml_grammar.specs.BlockScalars.{spaces_before, past_spaces, text_value, widest}
 use Rattle.yaml_grammar.specs.FlowScalars.{line_feeds}
 use Rattle.yaml_grammar.specs.Texts.{first}
 use Rattle.yaml_recognizers.specs.BlockScalars.{all_empties, empties_at, lines_at}

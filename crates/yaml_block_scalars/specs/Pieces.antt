@@ -1,6 +1,7 @@
 -- Values that the text has in one piece.
 use Rattle.std.specs.Prelude.{Bool, false, ◌&&◌, List, [], ◌∷◌, ◌++◌, ℕ, length}
-use Rattle.yaml_grammar.specs.BlockScalars.{Chomping, BlockEmptyLine, TextLine, value_without_lines, trailing_line_feeds, block_empties_text}
+use Rattle.yaml_grammar.specs.BlockScalars.{Chomping, BlockEmptyLine, TextLine, value_without_lines}
+use Rattle.yaml_grammar.specs.BlockScalars.{trailing_line_feeds, block_empties_text}
 use Rattle.yaml_grammar.specs.Separation.{break_text}
 use Rattle.yaml_grammar.specs.Texts.{begins, is_empty, optional}
 

@@ -1,5 +1,7 @@
 -- A break in the bytes of a text is one in its characters.
-use Rattle.std.proofs.Common.{◌≡◌, ℕ, ◌+◌, ◌-◌, ◌<◌, ◌≤◌, true, List, ◌∷◌, Some, None, refl, ap, sym, ◌∙◌, subst, arith, length, inl, inr, get_or, take, drop, drop-drop, length-drop, slice_range, slice_index, slice_get}
+use Rattle.std.proofs.Common.{◌≡◌, ℕ, ◌+◌, ◌-◌, ◌<◌, ◌≤◌, true, List, ◌∷◌, Some, None, refl, ap, sym, ◌∙◌, subst}
+use Rattle.std.proofs.Common.{arith, length, inl, inr, get_or, take, drop, drop-drop, length-drop, slice_range}
+use Rattle.std.proofs.Common.{slice_index, slice_get}
 use Rattle.std.specs.Str.{IsUtf8, IsCharBoundary, chars}
 use Rattle.std.proofs.lemmas.Bool.{cases_lt, not_from_false, not-true, false_from_ne_true, false≢true}
 use Rattle.std.proofs.lemmas.List.{get_or_default, get_or-take, get_or-drop, length-take, take_rest}
@@ -30,11 +32,13 @@ no_break_is piece h = λ j d l. ap no_break (get_or_default piece j d 0 l) ∙ n
 -- an ASCII byte before it, read in the characters
 byte_there : (bs ds : List ℕ) (i c : ℕ) → drop i bs ≡ c ∷ ds → (i < length bs) × (get_or bs i 0 ≡ c)
 byte_there bs ds i c e =
-    let first : get_or (drop i bs) 0 0 ≡ get_or bs i 0 = get_or-drop i bs 0 0 ∙ ap (λ x. get_or bs x 0) (let z : i + 0 ≡ i = omega arith in z) in
+    let first : get_or (drop i bs) 0 0 ≡ get_or bs i 0 = get_or-drop i bs 0 0
+    ∙ ap (λ x. get_or bs x 0) (let z : i + 0 ≡ i = omega arith in z) in
     (omega (arith, length-drop i bs, ap (λ (x : List ℕ). length x) e), sym first ∙ ap (λ (x : List ℕ). get_or x 0 0) e)
 
 -- an ASCII byte of a text is the character there, and the next one starts after it
-char_there : (bs ds : List ℕ) (i c : ℕ) → IsUtf8 bs → c < 128 → drop i bs ≡ c ∷ ds → (rest bs i ≡ c ∷ rest bs (i + 1)) × IsCharBoundary bs i × IsCharBoundary bs (i + 1) × (drop (i + 1) bs ≡ ds)
+char_there : (bs ds : List ℕ) (i c : ℕ) → IsUtf8 bs → c < 128 → drop i bs ≡ c ∷ ds
+    → (rest bs i ≡ c ∷ rest bs (i + 1)) × IsCharBoundary bs i × IsCharBoundary bs (i + 1) × (drop (i + 1) bs ≡ ds)
 char_there bs ds i c u a e =
     let there = byte_there bs ds i c e in
     let byte = there.1 in
@@ -46,7 +50,8 @@ char_there bs ds i c u a e =
     )
 
 -- an ASCII character before it is a byte there
-first_is_byte : (bs : List ℕ) (i c : ℕ) → IsUtf8 bs → IsCharBoundary bs i → c < 128 → slice_get (rest bs i) 0 ≡ Some c → slice_get (drop i bs) 0 ≡ Some c
+first_is_byte : (bs : List ℕ) (i c : ℕ) → IsUtf8 bs → IsCharBoundary bs i → c < 128 → slice_get (rest bs i) 0 ≡ Some c
+    → slice_get (drop i bs) 0 ≡ Some c
 first_is_byte bs i c u b a e = elim (cases_lt i (length bs)) [
   | inl l ↦ (let there = char_at bs i u b l in
       let prefix : Some there.0 ≡ Some c = sym (ap (λ (x : List ℕ). slice_get x 0) there.1.splits) ∙ e in
@@ -55,7 +60,8 @@ first_is_byte bs i c u b a e = elim (cases_lt i (length bs)) [
         | inl low ↦ sym (there.1.low low) ∙ same
         | inr high ↦ (let above = there.1.high high in absurd (omega arith))
       ] in
-      slice_get-get_or (drop i bs) 0 0 (omega (arith, length-drop i bs)) ∙ ap (λ x. Some x) (get_or-drop i bs 0 0 ∙ ap (λ x. get_or bs x 0) (let z : i + 0 ≡ i = omega arith in z) ∙ byte))
+      slice_get-get_or (drop i bs) 0 0 (omega (arith, length-drop i bs))
+      ∙ ap (λ x. Some x) (get_or-drop i bs 0 0 ∙ ap (λ x. get_or bs x 0) (let z : i + 0 ≡ i = omega arith in z) ∙ byte))
   | inr past ↦ (let none : None ≡ Some c = sym (ap (λ (x : List ℕ). slice_get x 0) (rest-end bs i past)) ∙ e in cc)
 ]
 
@@ -97,7 +103,8 @@ break_at bs i n u (cr e alone size) =
 -- ---- the next break
 
 -- the next break over the bytes ends the line over the characters
-pub ends_line : (text : List ℕ) (at start len : ℕ) → IsUtf8 text → IsCharBoundary text at → IsNextBreak text at start len → EndsLine text at start len
+pub ends_line : (text : List ℕ) (at start len : ℕ) → IsUtf8 text → IsCharBoundary text at
+    → IsNextBreak text at start len → EndsLine text at start len
 ends_line text at start len u b h =
     let there = break_at text start len u h.break in
     record {
@@ -109,7 +116,8 @@ ends_line text at start len u b h =
 
 -- The first byte of a break in the bytes from `at` on is at place k of those, and the break there takes so many bytes.
 pub next_break_is : (text piece after : List ℕ) (at k len : ℕ) → piece ≡ drop at text → after ≡ drop (at + k) text
-    → ((j : ℕ) → 0 ≤ j → j < k → line_break (slice_index piece j) ≡ true → ⊥) → StartsWithBreak after len (drop len after) → IsNextBreak text at (at + k) len
+    → ((j : ℕ) → 0 ≤ j → j < k → line_break (slice_index piece j) ≡ true → ⊥)
+    → StartsWithBreak after len (drop len after) → IsNextBreak text at (at + k) len
 next_break_is text piece after at k len is_piece is_after before stands =
     let size : (at + k) - at ≡ k = omega arith in
     let none : NoBreak (take k piece) = no_break_is (take k piece) (λ j low l is_break.
@@ -119,7 +127,8 @@ next_break_is text piece after at k len is_piece is_after before stands =
     record {
       above = omega arith;
       none_before = subst NoBreak (ap (take k) is_piece ∙ ap (λ x. take x (drop at text)) (sym size)) none;
-      break = subst (λ x. StartsWithBreak x len (drop (at + k + len) text)) is_after (subst (λ x. StartsWithBreak after len x) later stands);
+      break = subst (λ x. StartsWithBreak x len (drop (at + k + len) text)) is_after
+          (subst (λ x. StartsWithBreak after len x) later stands);
     }
 
 -- the bytes of a text from a place on, as a slice of them reads
@@ -129,7 +138,8 @@ bytes_from text bytes i e = take_rest bytes i ∙ ap (drop i) e
 -- ---- there is one answer
 
 -- a break begins with one of its bytes
-pub break_begins : (text : List ℕ) (len : ℕ) (after : List ℕ) → StartsWithBreak text len after → (c : ℕ) × (cs : List ℕ) × (text ≡ c ∷ cs) × (line_break c ≡ true)
+pub break_begins : (text : List ℕ) (len : ℕ) (after : List ℕ) → StartsWithBreak text len after
+    → (c : ℕ) × (cs : List ℕ) × (text ≡ c ∷ cs) × (line_break c ≡ true)
 break_begins text len after (cr_lf e size) = (13, 10 ∷ after, e, refl)
 break_begins text len after (lf e size) = (10, after, e, refl)
 break_begins text len after (cr e alone size) = (13, after, e, refl)
@@ -139,7 +149,8 @@ cr_is_no_lf : ◌≡◌ {A = ℕ} 13 10 → ⊥
 cr_is_no_lf h = omega (arith, h)
 
 -- one break alone comes before a text
-pub same_break : (text : List ℕ) (len other : ℕ) (after rest : List ℕ) → StartsWithBreak text len after → StartsWithBreak text other rest → (len ≡ other) × (after ≡ rest)
+pub same_break : (text : List ℕ) (len other : ℕ) (after rest : List ℕ) → StartsWithBreak text len after
+    → StartsWithBreak text other rest → (len ≡ other) × (after ≡ rest)
 same_break text len other after rest (cr_lf e m) (cr_lf f n) = (m ∙ sym n, cc)
 same_break text len other after rest (cr_lf e m) (lf f n) = absurd (cr_is_no_lf cc)
 same_break text len other after rest (cr_lf e m) (cr f alone n) =
@@ -153,28 +164,35 @@ same_break text len other after rest (cr e alone m) (lf f n) = absurd (cr_is_no_
 same_break text len other after rest (cr e alone m) (cr f also n) = (m ∙ sym n, cc)
 
 -- a byte of a break at the place itself is where the next break starts, and no next break starts after one
-pub starts_by : (text : List ℕ) (at start len k : ℕ) → IsNextBreak text at start len → at ≤ k → k < length text → line_break (slice_index text k) ≡ true → start ≤ k
+pub starts_by : (text : List ℕ) (at start len k : ℕ) → IsNextBreak text at start len → at ≤ k → k < length text
+    → line_break (slice_index text k) ≡ true → start ≤ k
 starts_by text at start len k h above within is_break = elim (cases_lt k start) [
-  | inl before ↦ (let size : k - at < length (slice_range text at start) = omega (arith, length-take (start - at) (drop at text), length-drop at text) in
-      let there : get_or (slice_range text at start) (k - at) 0 ≡ get_or text k 0 = get_or-take (start - at) (drop at text) (k - at) 0 (omega arith) ∙ get_or-drop at text (k - at) 0 ∙ ap (λ x. get_or text x 0) (let e : at + (k - at) ≡ k = omega arith in e) in
+  | inl before ↦ (let size : k - at < length (slice_range text at start) =
+      omega (arith, length-take (start - at) (drop at text), length-drop at text) in
+      let there : get_or (slice_range text at start) (k - at) 0 ≡ get_or text k 0 =
+      get_or-take (start - at) (drop at text) (k - at) 0 (omega arith) ∙ get_or-drop at text (k - at) 0
+      ∙ ap (λ x. get_or text x 0) (let e : at + (k - at) ≡ k = omega arith in e) in
       absurd (false≢true (sym (not-true _ (h.none_before (k - at) 0 size)) ∙ ap line_break there ∙ is_break)))
   | inr after ↦ after
 ]
 
 -- the byte at a break is LF or CR
-break_byte : (text : List ℕ) (at start len : ℕ) → IsNextBreak text at start len → (start < length text) × (line_break (slice_index text start) ≡ true)
+break_byte : (text : List ℕ) (at start len : ℕ) → IsNextBreak text at start len
+    → (start < length text) × (line_break (slice_index text start) ≡ true)
 break_byte text at start len h =
     let first = break_begins (drop start text) len (drop (start + len) text) h.break in
     let there = byte_there text first.1 start first.0 first.2 in
     (there.0, ap line_break there.1 ∙ first.3)
 
 -- a place has one next break
-pub same_next_break : (text : List ℕ) (at start other len more : ℕ) → IsNextBreak text at start len → IsNextBreak text at other more → (start ≡ other) × (len ≡ more)
+pub same_next_break : (text : List ℕ) (at start other len more : ℕ) → IsNextBreak text at start len
+    → IsNextBreak text at other more → (start ≡ other) × (len ≡ more)
 same_next_break text at start other len more h g =
     let one = break_byte text at start len h in
     let two = break_byte text at other more g in
     let below : start ≤ other = starts_by text at start len other h g.above two.0 two.1 in
     let above : other ≤ start = starts_by text at other more start g h.above one.0 one.1 in
     let same : start ≡ other = omega arith in
-    let also : StartsWithBreak (drop start text) more (drop (start + more) text) = subst (λ x. StartsWithBreak (drop x text) more (drop (x + more) text)) (sym same) g.break in
+    let also : StartsWithBreak (drop start text) more (drop (start + more) text) =
+    subst (λ x. StartsWithBreak (drop x text) more (drop (x + more) text)) (sym same) g.break in
     (same, (same_break (drop start text) len more (drop (start + len) text) (drop (start + more) text) h.break also).0)

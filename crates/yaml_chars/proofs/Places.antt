@@ -1,12 +1,18 @@
 -- Places in a text, the characters from there on, and how they change from place to place.
-use Rattle.std.proofs.Common.{◌≡◌, ℕ, ◌+◌, ◌-◌, ◌<◌, ◌≤◌, true, List, [], ◌∷◌, ◌++◌, refl, ap, sym, ◌∙◌, arith, length, inl, inr, get_or, take, drop, drop-drop, take-append-drop, length-drop, length-append, append_assoc, slice_range}
+use Rattle.std.proofs.Common.{◌≡◌, ℕ, ◌+◌, ◌-◌, ◌<◌, ◌≤◌, true, List, [], ◌∷◌, ◌++◌, refl, ap, sym, ◌∙◌, arith}
+use Rattle.std.proofs.Common.{length, inl, inr, get_or, take, drop, drop-drop, take-append-drop, length-drop}
+use Rattle.std.proofs.Common.{length-append, append_assoc, slice_range}
 use lib.Utf8.{encodes, encode, scalar, scalars, scalar_cases}
 use Rattle.std.specs.Char.{len_utf8}
 use Rattle.std.specs.List.{list_all}
 use Rattle.std.specs.Str.{IsUtf8, IsCharBoundary, chars}
 use Rattle.std.proofs.lemmas.Bool.{cases_lt, and_parts, and_from, le-leb, or_left, or_right}
 use Rattle.std.proofs.lemmas.List.{drop_more, drop_all, drop_at, take_at, take_rest, get_or-drop, append_cancel_right}
-use Rattle.std.proofs.lemmas.Str.{chars-nil, chars-encodes, encodes-chars, encodes-append, scalars-chars, chars-append, chars_past_char, cons_from_encodes, drop_past_char, IsUtf8-drop, IsUtf8-between, encode_ascii, length-encode, len_utf8_bounds, byte_from_char, char_from_byte, IsCharBoundary-before_ascii, IsCharBoundary-after_ascii, IsCharBoundary-at_seam, IsCharBoundary-from_rest, IsCharBoundary-past_char}
+use Rattle.std.proofs.lemmas.Str.{chars-nil, chars-encodes, encodes-chars, encodes-append, scalars-chars}
+use Rattle.std.proofs.lemmas.Str.{chars-append, chars_past_char, cons_from_encodes, drop_past_char, IsUtf8-drop}
+use Rattle.std.proofs.lemmas.Str.{IsUtf8-between, encode_ascii, length-encode, len_utf8_bounds, byte_from_char}
+use Rattle.std.proofs.lemmas.Str.{char_from_byte, IsCharBoundary-before_ascii, IsCharBoundary-after_ascii}
+use Rattle.std.proofs.lemmas.Str.{IsCharBoundary-at_seam, IsCharBoundary-from_rest, IsCharBoundary-past_char}
 use Rattle.yaml_chars.specs.Classes.{code_point}
 use Rattle.yaml_chars.specs.Places.{rest, between}
 
@@ -53,25 +59,32 @@ pub between-nil : (bs : List ℕ) (i : ℕ) → between bs i i ≡ []
 between-nil bs i = ap (λ x. chars (take x (drop i bs))) (let e : i - i ≡ 0 = omega arith in e) ∙ chars-nil
 
 -- the characters from a place on are those up to a later place and those from there on
-pub rest-between : (bs : List ℕ) (i j : ℕ) → IsUtf8 bs → i ≤ j → IsCharBoundary bs i → IsCharBoundary bs j → rest bs i ≡ between bs i j ++ rest bs j
+pub rest-between : (bs : List ℕ) (i j : ℕ) → IsUtf8 bs → i ≤ j → IsCharBoundary bs i → IsCharBoundary bs j
+    → rest bs i ≡ between bs i j ++ rest bs j
 rest-between bs i j u l b d =
     let whole : take (j - i) (drop i bs) ++ drop (j - i) (drop i bs) ≡ drop i bs = take-append-drop (j - i) (drop i bs) in
-    let later : drop (j - i) (drop i bs) ≡ drop j bs = drop-drop (j - i) i bs ∙ ap (λ x. drop x bs) (let e : i + (j - i) ≡ j = omega arith in e) in
-    ap chars (sym whole) ∙ chars-append (take (j - i) (drop i bs)) (drop (j - i) (drop i bs)) (IsUtf8-between bs i j u l b d) ∙ ap (λ x. chars (take (j - i) (drop i bs)) ++ chars x) later
+    let later : drop (j - i) (drop i bs) ≡ drop j bs = drop-drop (j - i) i bs
+    ∙ ap (λ x. drop x bs) (let e : i + (j - i) ≡ j = omega arith in e) in
+    ap chars (sym whole) ∙ chars-append (take (j - i) (drop i bs)) (drop (j - i) (drop i bs))
+    (IsUtf8-between bs i j u l b d) ∙ ap (λ x. chars (take (j - i) (drop i bs)) ++ chars x) later
 
 -- the characters between two places, in UTF-8, are the bytes there
-pub encodes-between : (bs : List ℕ) (i j : ℕ) → IsUtf8 bs → i ≤ j → IsCharBoundary bs i → IsCharBoundary bs j → encodes (between bs i j) ≡ slice_range bs i j
+pub encodes-between : (bs : List ℕ) (i j : ℕ) → IsUtf8 bs → i ≤ j → IsCharBoundary bs i → IsCharBoundary bs j
+    → encodes (between bs i j) ≡ slice_range bs i j
 encodes-between bs i j u l b d = encodes-chars (slice_range bs i j) (IsUtf8-between bs i j u l b d)
 
 -- the characters between two places, divided at a third
-pub between-append : (bs : List ℕ) (i j k : ℕ) → IsUtf8 bs → i ≤ j → j ≤ k → IsCharBoundary bs i → IsCharBoundary bs j → IsCharBoundary bs k → between bs i k ≡ between bs i j ++ between bs j k
+pub between-append : (bs : List ℕ) (i j k : ℕ) → IsUtf8 bs → i ≤ j → j ≤ k → IsCharBoundary bs i → IsCharBoundary bs j
+    → IsCharBoundary bs k → between bs i k ≡ between bs i j ++ between bs j k
 between-append bs i j k u l m b d f =
     append_cancel_right (between bs i k) (between bs i j ++ between bs j k) (rest bs k) (
-    sym (rest-between bs i k u (omega arith) b f) ∙ rest-between bs i j u l b d ∙ ap (λ x. between bs i j ++ x) (rest-between bs j k u m d f)
+    sym (rest-between bs i k u (omega arith) b f) ∙ rest-between bs i j u l b d
+    ∙ ap (λ x. between bs i j ++ x) (rest-between bs j k u m d f)
     ∙ sym (append_assoc (between bs i j) (between bs j k) (rest bs k)))
 
 -- one ASCII byte more before it, and at the end
-pub between-ascii : (bs : List ℕ) (i j : ℕ) → IsUtf8 bs → i < j → IsCharBoundary bs j → get_or bs i 0 < 128 → between bs i j ≡ get_or bs i 0 ∷ between bs (i + 1) j
+pub between-ascii : (bs : List ℕ) (i j : ℕ) → IsUtf8 bs → i < j → IsCharBoundary bs j → get_or bs i 0 < 128
+    → between bs i j ≡ get_or bs i 0 ∷ between bs (i + 1) j
 between-ascii bs i j u l d a =
     let in_bs : i < length bs = omega (arith, d.0) in
     let here = IsCharBoundary-before_ascii bs i in_bs a in
@@ -83,10 +96,12 @@ between-ascii bs i j u l d a =
 -- an ASCII byte is the one character between its place and the next
 pub between-one_ascii : (bs : List ℕ) (i : ℕ) → IsUtf8 bs → i < length bs → get_or bs i 0 < 128 → between bs i (i + 1) ≡ get_or bs i 0 ∷ []
 between-one_ascii bs i u l a =
-    between-ascii bs i (i + 1) u (omega arith) (IsCharBoundary-after_ascii bs i u l a) a ∙ ap (λ x. get_or bs i 0 ∷ x) (between-nil bs (i + 1))
+    between-ascii bs i (i + 1) u (omega arith) (IsCharBoundary-after_ascii bs i u l a) a
+    ∙ ap (λ x. get_or bs i 0 ∷ x) (between-nil bs (i + 1))
 
 -- an ASCII byte at the end is one character more
-pub between-push_ascii : (bs : List ℕ) (i j : ℕ) → IsUtf8 bs → i ≤ j → IsCharBoundary bs i → j < length bs → get_or bs j 0 < 128 → between bs i (j + 1) ≡ between bs i j ++ get_or bs j 0 ∷ []
+pub between-push_ascii : (bs : List ℕ) (i j : ℕ) → IsUtf8 bs → i ≤ j → IsCharBoundary bs i → j < length bs
+    → get_or bs j 0 < 128 → between bs i (j + 1) ≡ between bs i j ++ get_or bs j 0 ∷ []
 between-push_ascii bs i j u l b in_bs a =
     between-append bs i j (j + 1) u l (omega arith) b (IsCharBoundary-before_ascii bs j in_bs a) (IsCharBoundary-after_ascii bs j u in_bs a)
     ∙ ap (λ x. between bs i j ++ x) (between-one_ascii bs j u in_bs a)
@@ -114,8 +129,15 @@ char_at_is bs after i c u b e =
     let v = IsUtf8-drop bs i u b in
     let later : drop (i + len_utf8 c) bs ≡ after = drop_past_char bs after i c e in
     let bytes : drop i bs ≡ encode c ++ drop (i + len_utf8 c) bs = e ∙ ap (λ x. encode c ++ x) (sym later) in
-    let first : get_or (drop i bs) 0 0 ≡ get_or bs i 0 = get_or-drop i bs 0 0 ∙ ap (λ x. get_or bs x 0) (let z : i + 0 ≡ i = omega arith in z) in
-    let size : 0 < length (drop i bs) = omega (arith, ap length e, length-append (encode c) after, length-encode c, (len_utf8_bounds c).0) in
+    let first : get_or (drop i bs) 0 0 ≡ get_or bs i 0 = get_or-drop i bs 0 0
+    ∙ ap (λ x. get_or bs x 0) (let z : i + 0 ≡ i = omega arith in z) in
+    let size : 0 < length (drop i bs) = omega (
+      arith,
+      ap length e,
+      length-append (encode c) after,
+      length-encode c,
+      (len_utf8_bounds c).0,
+    ) in
     record {
       scalar = scalar_at_beginning (drop i bs) after c v e;
       bytes = bytes;
@@ -156,18 +178,22 @@ scalars-append (c ∷ cs) ds e =
     (and_from (scalar c) (scalars cs) here.0 later.0, later.1)
 
 -- the second list starts at a place of the text
-pub split_at : (bs : List ℕ) (i : ℕ) (prefix after : List ℕ) → IsUtf8 bs → IsCharBoundary bs i → rest bs i ≡ prefix ++ after → IsSplit bs i prefix after (i + length (encodes prefix))
+pub split_at : (bs : List ℕ) (i : ℕ) (prefix after : List ℕ) → IsUtf8 bs → IsCharBoundary bs i
+    → rest bs i ≡ prefix ++ after → IsSplit bs i prefix after (i + length (encodes prefix))
 split_at bs i prefix after u b e =
     let v = IsUtf8-drop bs i u b in
     let n = length (encodes prefix) in
     let both = scalars-append prefix after (ap scalars (sym e) ∙ scalars-chars (drop i bs) v) in
     let bytes : drop i bs ≡ encodes prefix ++ encodes after = sym (encodes-rest bs i u b) ∙ ap encodes e ∙ encodes-append prefix after in
-    let cut : drop (i + n) bs ≡ encodes after = sym (drop-drop n i bs) ∙ ap (drop n) bytes ∙ drop_at (encodes prefix) (encodes after) n refl in
+    let cut : drop (i + n) bs ≡ encodes after = sym (drop-drop n i bs) ∙ ap (drop n) bytes
+    ∙ drop_at (encodes prefix) (encodes after) n refl in
     let size : (i + n) - i ≡ n = omega arith in
-    let taken : slice_range bs i (i + n) ≡ encodes prefix = ap (λ x. take x (drop i bs)) size ∙ ap (take n) bytes ∙ take_at (encodes prefix) (encodes after) n refl in
+    let taken : slice_range bs i (i + n) ≡ encodes prefix = ap (λ x. take x (drop i bs)) size ∙ ap (take n) bytes
+    ∙ take_at (encodes prefix) (encodes after) n refl in
     record {
       above = omega arith;
-      boundary = IsCharBoundary-from_rest bs i n b.0 (IsCharBoundary-at_seam (drop i bs) (encodes prefix) (encodes after) bytes (after, (both.1, refl)));
+      boundary = IsCharBoundary-from_rest bs i n b.0
+          (IsCharBoundary-at_seam (drop i bs) (encodes prefix) (encodes after) bytes (after, (both.1, refl)));
       spells_prefix = ap chars taken ∙ chars-encodes prefix both.0;
       spells_after = ap chars cut ∙ chars-encodes after both.1;
     }

@@ -1,5 +1,7 @@
 -- A test of each byte is one of each character, where it does not tell characters from 128 on apart.
-use Rattle.std.proofs.Common.{◌≡◌, ℕ, zero, suc, ◌+◌, ◌-◌, ◌<◌, ◌≤◌, Bool, true, false, not, ◌&&◌, ◌||◌, List, [], ◌∷◌, ◌++◌, refl, ap, sym, ◌∙◌, subst, arith, length, inl, inr, get_or, drop, length-append, length-drop, append-nil, slice_range, slice_index, ltb, ltb-true}
+use Rattle.std.proofs.Common.{◌≡◌, ℕ, zero, suc, ◌+◌, ◌-◌, ◌<◌, ◌≤◌, Bool, true, false, not, ◌&&◌, ◌||◌, List, []}
+use Rattle.std.proofs.Common.{◌∷◌, ◌++◌, refl, ap, sym, ◌∙◌, subst, arith, length, inl, inr, get_or, drop}
+use Rattle.std.proofs.Common.{length-append, length-drop, append-nil, slice_range, slice_index, ltb, ltb-true}
 use lib.Utf8.{encodes, encode, scalar, scalars, scalar_cases}
 use Rattle.std.specs.Char.{len_utf8}
 use Rattle.std.specs.List.{AllPass, list_all}
@@ -8,7 +10,9 @@ use Rattle.std.proofs.lemmas.Bool.{cases_lt, cases_Bool, and_parts, and_from, co
 use Rattle.std.proofs.lemmas.Bool.Decides.{nat_tests}
 use Rattle.std.proofs.lemmas.List.{get_or-append-add, get_or-take, get_or-drop, get_or_past, length-take}
 use Rattle.std.proofs.lemmas.List.Sums.{AllPass-from_list_all}
-use Rattle.std.proofs.lemmas.Str.{chars-encodes, encodes-chars, scalars-chars, IsUtf8-between, encode_ascii, byte_from_char, char_from_byte, length-encode, len_utf8_bounds, IsCharBoundary-before_ascii, IsCharBoundary-after_ascii, IsCharBoundary-end}
+use Rattle.std.proofs.lemmas.Str.{chars-encodes, encodes-chars, scalars-chars, IsUtf8-between, encode_ascii}
+use Rattle.std.proofs.lemmas.Str.{byte_from_char, char_from_byte, length-encode, len_utf8_bounds}
+use Rattle.std.proofs.lemmas.Str.{IsCharBoundary-before_ascii, IsCharBoundary-after_ascii, IsCharBoundary-end}
 use Rattle.yaml_chars.specs.Classes.{nb_json, line_break, white, space, indicator, flow_indicator}
 use Rattle.yaml_chars.specs.Breaks.{no_break}
 use Rattle.yaml_chars.specs.Places.{rest, between, IsRun}
@@ -80,8 +84,11 @@ bytes-encode : (c : ℕ) → c < 0x110000 → AreBytes (encode c)
 unfolding encode
 bytes-encode c l =
     cond_both (ltb c 128) _ _ AreBytes (λ e. (let a = ltb-true c 128 e in one_more _ _ (omega arith) no_bytes))
-    (λ e. cond_both (ltb c 2048) _ _ AreBytes (λ f. (let a = ltb-true c 2048 f in one_more _ _ (omega arith) (one_more _ _ (omega arith) no_bytes)))
-    (λ f. cond_both (ltb c 65536) _ _ AreBytes (λ g. (let a = ltb-true c 65536 g in one_more _ _ (omega arith) (one_more _ _ (omega arith) (one_more _ _ (omega arith) no_bytes))))
+    (λ e. cond_both (ltb c 2048) _ _ AreBytes (λ f.
+    (let a = ltb-true c 2048 f in one_more _ _ (omega arith) (one_more _ _ (omega arith) no_bytes)))
+    (λ f. cond_both (ltb c 65536) _ _ AreBytes (λ g.
+    (let a = ltb-true c 65536 g in one_more _ _ (omega arith)
+    (one_more _ _ (omega arith) (one_more _ _ (omega arith) no_bytes))))
     (λ g. one_more _ _ (omega arith) (one_more _ _ (omega arith) (one_more _ _ (omega arith) (one_more _ _ (omega arith) no_bytes))))))
 
 -- two lists of bytes, joined, are bytes
@@ -136,17 +143,22 @@ test-encodes test (c ∷ cs) blind s h =
     let there : 0 < length all = omega (arith, length-append (encode c) (encodes cs)) in
     let fits = scalar_fits c both.0 in
     let first : get_or all 0 0 < 256 = byte_fits all 0 (c ∷ cs, (s, refl)) in
-    let here : test c ≡ test (get_or all 0 0) = blind_both test c (get_or all 0 0) blind fits first (λ a. char_from_byte all (encodes cs) c refl a there) (λ a. elim (cases_lt c 128) [
+    let here : test c ≡ test (get_or all 0 0) =
+    blind_both test c (get_or all 0 0) blind fits first (λ a. char_from_byte all (encodes cs) c refl a there)
+    (λ a. elim (cases_lt c 128) [
       | inl low ↦ (let same = byte_from_char all (encodes cs) c refl low in absurd (omega arith))
       | inr high ↦ high
     ]) in
-    let later : AllBytesPass test (encodes cs) = λ k l. sym (ap test (get_or-append-add (encode c) (encodes cs) k 0)) ∙ h (length (encode c) + k) (omega (arith, length-append (encode c) (encodes cs))) in
+    let later : AllBytesPass test (encodes cs) = λ k l. sym (ap test (get_or-append-add (encode c) (encodes cs) k 0))
+    ∙ h (length (encode c) + k) (omega (arith, length-append (encode c) (encodes cs))) in
     and_from (test c) (list_all test cs) (here ∙ h 0 there) (test-encodes test cs blind both.1 later)
 
 -- where each byte passes, each character does
-pub test-chars : (test : ℕ → Bool) (bs : List ℕ) → IsBlind test → IsUtf8 bs → ((k : ℕ) → k < length bs → test (get_or bs k 0) ≡ true) → list_all test (chars bs) ≡ true
+pub test-chars : (test : ℕ → Bool) (bs : List ℕ) → IsBlind test → IsUtf8 bs
+    → ((k : ℕ) → k < length bs → test (get_or bs k 0) ≡ true) → list_all test (chars bs) ≡ true
 unfolding AllBytesPass
-test-chars test bs blind u h = test-encodes test (chars bs) blind (scalars-chars bs u) (subst (AllBytesPass test) (sym (encodes-chars bs u)) h)
+test-chars test bs blind u h = test-encodes test (chars bs) blind (scalars-chars bs u)
+    (subst (AllBytesPass test) (sym (encodes-chars bs u)) h)
 
 -- if all bytes pass such a test, all characters do
 pub AllPass-chars : (test : ℕ → Bool) (bs : List ℕ) → IsBlind test → IsUtf8 bs → AllPass test bs → AllPass test (chars bs)
@@ -233,16 +245,20 @@ last_of c (d ∷ cs) s =
     )
 
 -- between two places there is a last character
-pub last_char : (bs : List ℕ) (i j : ℕ) → IsUtf8 bs → i < j → IsCharBoundary bs i → IsCharBoundary bs j → (prefix : List ℕ) × (c : ℕ) × IsLastChar bs i j prefix c
+pub last_char : (bs : List ℕ) (i j : ℕ) → IsUtf8 bs → i < j → IsCharBoundary bs i → IsCharBoundary bs j
+    → (prefix : List ℕ) × (c : ℕ) × IsLastChar bs i j prefix c
 unfolding last_byte
 last_char bs i j u l b d =
     let cut = slice_range bs i j in
     let v = IsUtf8-between bs i j u (omega arith) b d in
     let size : length cut ≡ j - i = omega (arith, length-take (j - i) (drop i bs), length-drop i bs, d.0) in
-    let last : last_byte cut ≡ get_or bs (j - 1) 0 = ap (λ x. get_or cut x 0) (ap (λ x. x - 1) size) ∙ get_or-take (j - i) (drop i bs) (j - i - 1) 0 (omega arith) ∙ get_or-drop i bs (j - i - 1) 0 ∙ ap (λ x. get_or bs x 0) (let e : i + (j - i - 1) ≡ j - 1 = omega arith in e) in
+    let last : last_byte cut ≡ get_or bs (j - 1) 0 = ap (λ x. get_or cut x 0) (ap (λ x. x - 1) size)
+    ∙ get_or-take (j - i) (drop i bs) (j - i - 1) 0 (omega arith) ∙ get_or-drop i bs (j - i - 1) 0
+    ∙ ap (λ x. get_or bs x 0) (let e : i + (j - i - 1) ≡ j - 1 = omega arith in e) in
     go (chars cut) (scalars-chars cut v) (encodes-chars cut v) size last
   where
-    go : (cs : List ℕ) → scalars cs ≡ true → encodes cs ≡ slice_range bs i j → length (slice_range bs i j) ≡ j - i → last_byte (slice_range bs i j) ≡ get_or bs (j - 1) 0 → (prefix : List ℕ) × (c : ℕ) × IsLastChar bs i j prefix c
+    go : (cs : List ℕ) → scalars cs ≡ true → encodes cs ≡ slice_range bs i j → length (slice_range bs i j) ≡ j - i
+        → last_byte (slice_range bs i j) ≡ get_or bs (j - 1) 0 → (prefix : List ℕ) × (c : ℕ) × IsLastChar bs i j prefix c
     go [] s e size last = absurd (omega (arith, ap (λ (x : List ℕ). length x) e))
     go (c ∷ cs) s e size last =
         let found = last_of c cs s in
@@ -259,13 +275,16 @@ last_char bs i j u l b d =
         )
 
 -- such a test of the last character is that of the last byte
-pub test-last_char : (test : ℕ → Bool) (bs : List ℕ) (i j : ℕ) (prefix : List ℕ) (c : ℕ) → IsBlind test → IsUtf8 bs → IsLastChar bs i j prefix c → test c ≡ test (get_or bs (j - 1) 0)
-test-last_char test bs i j prefix c blind u last = blind_both test c (get_or bs (j - 1) 0) blind last.fits (byte_fits bs (j - 1) u) last.low last.high
+pub test-last_char : (test : ℕ → Bool) (bs : List ℕ) (i j : ℕ) (prefix : List ℕ) (c : ℕ) → IsBlind test → IsUtf8 bs
+    → IsLastChar bs i j prefix c → test c ≡ test (get_or bs (j - 1) 0)
+test-last_char test bs i j prefix c blind u last =
+    blind_both test c (get_or bs (j - 1) 0) blind last.fits (byte_fits bs (j - 1) u) last.low last.high
 
 -- ---- runs
 
 -- a place where a test that passes all characters from 128 on stops is one between characters
-boundary_at_stop : (test : ℕ → Bool) (bs : List ℕ) (j : ℕ) → IsBlind test → test 128 ≡ true → IsUtf8 bs → j ≤ length bs → (j < length bs → test (slice_index bs j) ≡ false) → IsCharBoundary bs j
+boundary_at_stop : (test : ℕ → Bool) (bs : List ℕ) (j : ℕ) → IsBlind test → test 128 ≡ true → IsUtf8 bs
+    → j ≤ length bs → (j < length bs → test (slice_index bs j) ≡ false) → IsCharBoundary bs j
 boundary_at_stop test bs j blind high u l stop = elim (cases_lt j (length bs)) [
   | inl in_bs ↦ IsCharBoundary-before_ascii bs j in_bs (elim (cases_lt (get_or bs j 0) 128) [
     | inl a ↦ a
@@ -275,13 +294,15 @@ boundary_at_stop test bs j blind high u l stop = elim (cases_lt j (length bs)) [
 ]
 
 -- the same of what comes after characters that pass a test which no character from 128 on passes
-boundary_after : (test : ℕ → Bool) (bs : List ℕ) (i j : ℕ) → IsBlind test → test 128 ≡ false → IsUtf8 bs → IsCharBoundary bs i → i ≤ j → j ≤ length bs
+boundary_after : (test : ℕ → Bool) (bs : List ℕ) (i j : ℕ) → IsBlind test → test 128 ≡ false → IsUtf8 bs
+    → IsCharBoundary bs i → i ≤ j → j ≤ length bs
     → ((k : ℕ) → i ≤ k → k < j → test (slice_index bs k) ≡ true) → IsCharBoundary bs j
 boundary_after test bs i j blind high u b l within passes = elim (cases_lt i j) [
   | inl more ↦ (let last = passes (j - 1) (omega arith) (omega arith) in
       let ascii : get_or bs (j - 1) 0 < 128 = elim (cases_lt (get_or bs (j - 1) 0) 128) [
         | inl a ↦ a
-        | inr a ↦ (let fits = byte_fits bs (j - 1) u in absurd (false≢true (sym high ∙ sym (blind (get_or bs (j - 1) 0) a (omega arith)) ∙ last)))
+        | inr a ↦ (let fits = byte_fits bs (j - 1) u in
+            absurd (false≢true (sym high ∙ sym (blind (get_or bs (j - 1) 0) a (omega arith)) ∙ last)))
       ] in
       let e : (j - 1) + 1 ≡ j = omega arith in
       subst (λ x. IsCharBoundary bs x) e (IsCharBoundary-after_ascii bs (j - 1) u (omega arith) ascii))
@@ -304,7 +325,8 @@ run_is test bs i j blind u b l within passes stop =
     }
 
 -- The characters after a run do not begin with one that passes.
-pub run_stops : (test : ℕ → Bool) (bs : List ℕ) (i j c : ℕ) (cs : List ℕ) → IsBlind test → IsUtf8 bs → IsRun test bs i j → rest bs j ≡ c ∷ cs → test c ≡ false
+pub run_stops : (test : ℕ → Bool) (bs : List ℕ) (i j c : ℕ) (cs : List ℕ) → IsBlind test → IsUtf8 bs
+    → IsRun test bs i j → rest bs j ≡ c ∷ cs → test c ≡ false
 run_stops test bs i j c cs blind u run e = elim (cases_lt j (length bs)) [
   | inl l ↦ (let there = char_at bs j u run.boundary l in
       let prefix : c ∷ cs ≡ there.0 ∷ rest bs (j + len_utf8 there.0) = sym e ∙ there.1.splits in

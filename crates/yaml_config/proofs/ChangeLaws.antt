@@ -1,14 +1,18 @@
 -- What one step's edit does to the length of a node.
-use Rattle.std.proofs.Common.{◌≡◌, ℕ, zero, suc, ◌+◌, ◌-◌, ◌*◌, ◌<◌, ◌==◌, Bool, true, false, if◌then◌else◌, List, codes, Option, Some, None, option_map, Ok, Err, refl, sym, ap, subst, ◌∙◌, arith}
+use Rattle.std.proofs.Common.{◌≡◌, ℕ, zero, suc, ◌+◌, ◌-◌, ◌*◌, ◌<◌, ◌==◌, Bool, true, false, if◌then◌else◌, List}
+use Rattle.std.proofs.Common.{codes, Option, Some, None, option_map, Ok, Err, refl, sym, ap, subst, ◌∙◌, arith}
 use Rattle.std.proofs.lemmas.Bool.Decides.{nat_tests}
 use Rattle.yaml_grammar.specs.Texts.{byte_len, spaces, same_text}
 use Rattle.yaml_grammar.specs.Trees.{Tree, text, sequence, mapping, Elements, no_element, element, Members, no_member, member}
-use Rattle.yaml_grammar.specs.Style.{key_lines, elements_at, elements_after, lines_after_dash, members_at, members_after, value_at, style_text}
+use Rattle.yaml_grammar.specs.Style.{key_lines, elements_at, elements_after, lines_after_dash, members_at}
+use Rattle.yaml_grammar.specs.Style.{members_after, value_at, style_text}
 use Rattle.yaml_writer.specs.Sizes.{length_at, element_size, value_size}
 use Rattle.yaml_writer.specs.declared.size.Size.{Size}
 use Rattle.yaml_writer.proofs.SizeLaws.{three, four, spaces_bytes, key_law, element_law, value_law}
 use Rattle.yaml_data.proofs.CharacterLemmas.{same_text-true}
-use Rattle.tree_path.specs.Paths.{Index, number, after_last, no_index, index_of, at_index, present, element_at as child_at, put_element, cut_element, push_element, value_of, put_member, cut_member, child, put, cut}
+use Rattle.tree_path.specs.Paths.{Index, number, after_last, no_index, index_of, at_index, present}
+use Rattle.tree_path.specs.Paths.{element_at as child_at, put_element, cut_element, push_element, value_of}
+use Rattle.tree_path.specs.Paths.{put_member, cut_member, child, put, cut}
 use Rattle.yaml_config.specs.Changes.{IsCollection, node_at, node_length, slot_in, child_size, element_row, member_row, growth, first_row}
 use Rattle.yaml_config.specs.declared.change.Slot.{Slot}
 use Rattle.yaml_config.specs.declared.change.Slot.TheVariants.{Value, Element}
@@ -35,7 +39,8 @@ node-value (mapping (member key t ms)) i =
     omega (arith, three (codes "\n") (spaces (i + 2)) (members_at (member key t ms) (i + 2)), spaces_bytes (i + 2))
 
 -- a value in a slot, by its size and by its node
-pub child-node : (slot : Slot) (t : Tree) (n : ℕ) → (k : ℕ) × ((u : Tree) → length_at (child_size slot u) n ≡ k + node_length slot u (n + 2))
+pub child-node : (slot : Slot) (t : Tree) (n : ℕ)
+    → (k : ℕ) × ((u : Tree) → length_at (child_size slot u) n ≡ k + node_length slot u (n + 2))
 child-node Value t n = (1, λ u. omega (arith, value_law u n, node-value u n))
 child-node Element t n = (0, λ u. let same = ap byte_len (node-element u n) in omega (arith, element_law u n, same))
 
@@ -88,12 +93,14 @@ put_element-rows (element t ts) us (suc i) u v n found is =
     omega (arith, new, rest, element_row-length t ts n, element_row-length t o.0 n)
 
 put_member-rows : (ms : Members) (key : List ℕ) (u v : Tree) (n : ℕ) → value_of ms key ≡ Some u
-    → byte_len (members_after (put_member ms key v) n) + length_at (value_size u) n ≡ byte_len (members_after ms n) + length_at (value_size v) n
+    → byte_len (members_after (put_member ms key v) n) + length_at (value_size u) n
+    ≡ byte_len (members_after ms n) + length_at (value_size v) n
 put_member-rows no_member key u v n found = cc
 put_member-rows (member other t ms) key u v n found = by (same_text key other) found (put_member-rows ms key u v n)
   where
     by : (b : Bool) → (if b then Some t else value_of ms key) ≡ Some u
-        → (value_of ms key ≡ Some u → byte_len (members_after (put_member ms key v) n) + length_at (value_size u) n ≡ byte_len (members_after ms n) + length_at (value_size v) n)
+        → (value_of ms key ≡ Some u → byte_len (members_after (put_member ms key v) n) + length_at (value_size u) n
+        ≡ byte_len (members_after ms n) + length_at (value_size v) n)
         → byte_len (members_after (if b then member other v ms else member other t (put_member ms key v)) n) + length_at (value_size u) n
         ≡ byte_len (members_after (member other t ms) n) + length_at (value_size v) n
     by true e rest =
@@ -185,7 +192,8 @@ first_row-length Value row n some = omega arith
 first_row-length Element row n some = omega (arith, one_less n row.lines some)
 
 growth-length : (slot : Slot) (count : ℕ) (row : Size) (n old_rows new_rows old_length new_length : ℕ) → 0 < row.lines
-    → new_rows ≡ old_rows + length_at row n → (count ≡ 0 → (old_length ≡ 3) × (old_rows ≡ 0)) → (0 < count → old_length + unled slot n ≡ old_rows)
+    → new_rows ≡ old_rows + length_at row n → (count ≡ 0 → (old_length ≡ 3) × (old_rows ≡ 0))
+    → (0 < count → old_length + unled slot n ≡ old_rows)
     → new_length + unled slot n ≡ new_rows
     → new_length + length_at (growth count row slot).removed n ≡ old_length + length_at (growth count row slot).added n
 growth-length slot zero row n old_rows new_rows old_length new_length some rows empty filled new =
@@ -209,22 +217,26 @@ abbrev pub member_count : Members → ℕ
 member_count no_member = 0
 member_count (member key t ms) = suc (member_count ms)
 
-elements_unled : (slot : Slot) (ts : Elements) (n : ℕ) → 0 < element_count ts → node_length slot (sequence ts) n + unled slot n ≡ byte_len (elements_after ts n)
+elements_unled : (slot : Slot) (ts : Elements) (n : ℕ) → 0 < element_count ts
+    → node_length slot (sequence ts) n + unled slot n ≡ byte_len (elements_after ts n)
 elements_unled slot no_element n some = absurd (omega arith)
 elements_unled Value (element t ts) n some = omega (arith, elements_led t ts n)
 elements_unled Element (element t ts) n some = omega (arith, elements_led t ts n)
 
-members_unled : (slot : Slot) (ms : Members) (n : ℕ) → 0 < member_count ms → node_length slot (mapping ms) n + unled slot n ≡ byte_len (members_after ms n)
+members_unled : (slot : Slot) (ms : Members) (n : ℕ) → 0 < member_count ms
+    → node_length slot (mapping ms) n + unled slot n ≡ byte_len (members_after ms n)
 members_unled slot no_member n some = absurd (omega arith)
 members_unled Value (member key t ms) n some = omega (arith, members_led key t ms n)
 members_unled Element (member key t ms) n some = omega (arith, members_led key t ms n)
 
-elements_none : (slot : Slot) (ts : Elements) (n : ℕ) → element_count ts ≡ 0 → (node_length slot (sequence ts) n ≡ 3) × (byte_len (elements_after ts n) ≡ 0)
+elements_none : (slot : Slot) (ts : Elements) (n : ℕ) → element_count ts ≡ 0
+    → (node_length slot (sequence ts) n ≡ 3) × (byte_len (elements_after ts n) ≡ 0)
 elements_none Value no_element n e = (omega arith, refl)
 elements_none Element no_element n e = (omega arith, refl)
 elements_none slot (element t ts) n e = absurd (omega arith)
 
-members_none : (slot : Slot) (ms : Members) (n : ℕ) → member_count ms ≡ 0 → (node_length slot (mapping ms) n ≡ 3) × (byte_len (members_after ms n) ≡ 0)
+members_none : (slot : Slot) (ms : Members) (n : ℕ) → member_count ms ≡ 0
+    → (node_length slot (mapping ms) n ≡ 3) × (byte_len (members_after ms n) ≡ 0)
 members_none Value no_member n e = (omega arith, refl)
 members_none Element no_member n e = (omega arith, refl)
 members_none slot (member key t ms) n e = absurd (omega arith)
@@ -235,32 +247,38 @@ elements-grow : (slot : Slot) (ts us : Elements) (row : Size) (n : ℕ) → 0 < 
     → node_length slot (sequence us) n + length_at (growth (element_count ts) row slot).removed n
     ≡ node_length slot (sequence ts) n + length_at (growth (element_count ts) row slot).added n
 elements-grow slot ts us row n some filled rows =
-    growth-length slot (element_count ts) row n _ _ _ _ some rows (elements_none slot ts n) (elements_unled slot ts n) (elements_unled slot us n filled)
+    growth-length slot (element_count ts) row n _ _ _ _ some rows (elements_none slot ts n) (elements_unled slot ts n)
+    (elements_unled slot us n filled)
 
 members-grow : (slot : Slot) (ms ns : Members) (row : Size) (n : ℕ) → 0 < row.lines → 0 < member_count ns
     → byte_len (members_after ns n) ≡ byte_len (members_after ms n) + length_at row n
     → node_length slot (mapping ns) n + length_at (growth (member_count ms) row slot).removed n
     ≡ node_length slot (mapping ms) n + length_at (growth (member_count ms) row slot).added n
 members-grow slot ms ns row n some filled rows =
-    growth-length slot (member_count ms) row n _ _ _ _ some rows (members_none slot ms n) (members_unled slot ms n) (members_unled slot ns n filled)
+    growth-length slot (member_count ms) row n _ _ _ _ some rows (members_none slot ms n) (members_unled slot ms n)
+    (members_unled slot ns n filled)
 
 -- ---- a new element, a new member
 
 push_element-rows : (ts : Elements) (v : Tree) (n : ℕ)
-    → (byte_len (elements_after (push_element ts v) n) ≡ byte_len (elements_after ts n) + length_at (element_row v) n) × (0 < element_count (push_element ts v))
+    → (byte_len (elements_after (push_element ts v) n) ≡ byte_len (elements_after ts n) + length_at (element_row v) n)
+    × (0 < element_count (push_element ts v))
 push_element-rows no_element v n = (omega (arith, element_row-length v no_element n), omega arith)
 push_element-rows (element t ts) v n =
     let rest = (push_element-rows ts v n).0 in
     (omega (arith, rest, element_row-length t ts n, element_row-length t (push_element ts v) n), omega arith)
 
 put_member-grows : (ms : Members) (key : List ℕ) (v : Tree) (n : ℕ) → value_of ms key ≡ None
-    → (byte_len (members_after (put_member ms key v) n) ≡ byte_len (members_after ms n) + length_at (member_row key v) n) × (0 < member_count (put_member ms key v))
+    → (byte_len (members_after (put_member ms key v) n)
+    ≡ byte_len (members_after ms n) + length_at (member_row key v) n) × (0 < member_count (put_member ms key v))
 put_member-grows no_member key v n absent = (omega (arith, member_row-length key v no_member n), omega arith)
 put_member-grows (member other t ms) key v n absent = by (same_text key other) absent (put_member-grows ms key v n)
   where
     by : (b : Bool) → (if b then Some t else value_of ms key) ≡ None
-        → (value_of ms key ≡ None → (byte_len (members_after (put_member ms key v) n) ≡ byte_len (members_after ms n) + length_at (member_row key v) n) × (0 < member_count (put_member ms key v)))
-        → (byte_len (members_after (if b then member other v ms else member other t (put_member ms key v)) n) ≡ byte_len (members_after (member other t ms) n) + length_at (member_row key v) n)
+        → (value_of ms key ≡ None → (byte_len (members_after (put_member ms key v) n)
+        ≡ byte_len (members_after ms n) + length_at (member_row key v) n) × (0 < member_count (put_member ms key v)))
+        → (byte_len (members_after (if b then member other v ms else member other t (put_member ms key v)) n)
+        ≡ byte_len (members_after (member other t ms) n) + length_at (member_row key v) n)
         × (0 < member_count (if b then member other v ms else member other t (put_member ms key v)))
     by true e rest = cc
     by false e rest =
@@ -284,7 +302,8 @@ put-grows slot ms key v n absent =
 -- ---- an element less, a member less
 
 cut_element-rows : (ts us : Elements) (i : ℕ) (u : Tree) (n : ℕ) → child_at ts i ≡ Some u → cut_element ts i ≡ Some us
-    → (byte_len (elements_after ts n) ≡ byte_len (elements_after us n) + length_at (element_row u) n) × (element_count ts ≡ suc (element_count us))
+    → (byte_len (elements_after ts n) ≡ byte_len (elements_after us n) + length_at (element_row u) n)
+    × (element_count ts ≡ suc (element_count us))
 cut_element-rows no_element us i u n found is = cc
 cut_element-rows (element t ts) us zero u n found is =
     let same : t ≡ u = cc in
@@ -303,14 +322,18 @@ cut_element-rows (element t ts) us (suc i) u n found is =
     (omega (arith, new, rows, element_row-length t ts n, element_row-length t o.0 n), omega (arith, count, less))
 
 cut_member-rows : (ms ns : Members) (key : List ℕ) (u : Tree) (n : ℕ) → value_of ms key ≡ Some u → cut_member ms key ≡ Some ns
-    → (byte_len (members_after ms n) ≡ byte_len (members_after ns n) + length_at (member_row key u) n) × (member_count ms ≡ suc (member_count ns))
+    → (byte_len (members_after ms n) ≡ byte_len (members_after ns n) + length_at (member_row key u) n)
+    × (member_count ms ≡ suc (member_count ns))
 cut_member-rows no_member ns key u n found is = cc
 cut_member-rows (member other t ms) ns key u n found is = by (same_text key other) refl found is (cut_member-rows ms)
   where
-    by : (b : Bool) → same_text key other ≡ b → (if b then Some t else value_of ms key) ≡ Some u → (if b then Some ms else option_map (member other t) (cut_member ms key)) ≡ Some ns
+    by : (b : Bool) → same_text key other ≡ b → (if b then Some t else value_of ms key) ≡ Some u
+        → (if b then Some ms else option_map (member other t) (cut_member ms key)) ≡ Some ns
         → ((ns : Members) (key : List ℕ) (u : Tree) (n : ℕ) → value_of ms key ≡ Some u → cut_member ms key ≡ Some ns
-        → (byte_len (members_after ms n) ≡ byte_len (members_after ns n) + length_at (member_row key u) n) × (member_count ms ≡ suc (member_count ns)))
-        → (byte_len (members_after (member other t ms) n) ≡ byte_len (members_after ns n) + length_at (member_row key u) n) × (suc (member_count ms) ≡ suc (member_count ns))
+        → (byte_len (members_after ms n) ≡ byte_len (members_after ns n) + length_at (member_row key u) n)
+        × (member_count ms ≡ suc (member_count ns)))
+        → (byte_len (members_after (member other t ms) n)
+        ≡ byte_len (members_after ns n) + length_at (member_row key u) n) × (suc (member_count ms) ≡ suc (member_count ns))
     by true named e f rest =
         let same : t ≡ u = cc in
         let s : ms ≡ ns = cc in
@@ -332,15 +355,18 @@ cut_member-rows (member other t ms) ns key u n found is = by (same_text key othe
 -- an element less makes it shorter by its row
 pub cut-shrinks_elements : (slot : Slot) (ts us : Elements) (i : ℕ) (u : Tree) (n : ℕ) → child_at ts i ≡ Some u → cut_element ts i ≡ Some us
     → (node_length slot (sequence us) n + length_at (growth (element_count us) (element_row u) slot).added n
-    ≡ node_length slot (sequence ts) n + length_at (growth (element_count us) (element_row u) slot).removed n) × (element_count ts ≡ suc (element_count us))
+    ≡ node_length slot (sequence ts) n + length_at (growth (element_count us) (element_row u) slot).removed n)
+    × (element_count ts ≡ suc (element_count us))
 cut-shrinks_elements slot ts us i u n found is =
     let p = cut_element-rows ts us i u n found is in
     (sym (elements-grow slot us ts (element_row u) n (omega arith) (omega (arith, p.1)) p.0), p.1)
 
 -- so does a member less
-pub cut-shrinks_members : (slot : Slot) (ms ns : Members) (key : List ℕ) (u : Tree) (n : ℕ) → value_of ms key ≡ Some u → cut_member ms key ≡ Some ns
+pub cut-shrinks_members : (slot : Slot) (ms ns : Members) (key : List ℕ) (u : Tree) (n : ℕ) → value_of ms key ≡ Some u
+    → cut_member ms key ≡ Some ns
     → (node_length slot (mapping ns) n + length_at (growth (member_count ns) (member_row key u) slot).added n
-    ≡ node_length slot (mapping ms) n + length_at (growth (member_count ns) (member_row key u) slot).removed n) × (member_count ms ≡ suc (member_count ns))
+    ≡ node_length slot (mapping ms) n + length_at (growth (member_count ns) (member_row key u) slot).removed n)
+    × (member_count ms ≡ suc (member_count ns))
 cut-shrinks_members slot ms ns key u n found is =
     let p = cut_member-rows ms ns key u n found is in
     (sym (members-grow slot ns ms (member_row key u) n (omega arith) (omega (arith, p.1)) p.0), p.1)
@@ -375,7 +401,8 @@ cut_member-there : (ms : Members) (key : List ℕ) (u : Tree) → value_of ms ke
 cut_member-there no_member key u is = cc
 cut_member-there (member other t ms) key u is = by (same_text key other) is (cut_member-there ms key u)
   where
-    by : (b : Bool) → (if b then Some t else value_of ms key) ≡ Some u → (value_of ms key ≡ Some u → (ns : Members) × (cut_member ms key ≡ Some ns))
+    by : (b : Bool) → (if b then Some t else value_of ms key) ≡ Some u
+        → (value_of ms key ≡ Some u → (ns : Members) × (cut_member ms key ≡ Some ns))
         → (ns : Members) × ((if b then Some ms else option_map (member other t) (cut_member ms key)) ≡ Some ns)
     by true e rest = (ms, refl)
     by false e rest = let p = rest e in (member other t p.0, ap (option_map (member other t)) p.1)
@@ -384,7 +411,8 @@ present-Err : {A : Type 0} (o : Option A) (miss : Miss) → present o ≡ Err mi
 present-Err None miss is = (refl, cc)
 present-Err (Some x) miss is = cc
 
-put_index-missed : (index : Index) (ts : Elements) (v : Tree) (miss : Miss) → (index ≡ after_last → ⊥) → at_index index (child_at ts) (Err Absent) ≡ Err miss
+put_index-missed : (index : Index) (ts : Elements) (v : Tree) (miss : Miss) → (index ≡ after_last → ⊥)
+    → at_index index (child_at ts) (Err Absent) ≡ Err miss
     → at_index index (λ i. option_map sequence (put_element ts i v)) (Ok (sequence (push_element ts v))) ≡ Err miss
 put_index-missed (number i) ts v miss other is =
     let p = present-Err (child_at ts i) miss is in
@@ -393,18 +421,21 @@ put_index-missed after_last ts v miss other is = absurd (other refl)
 put_index-missed no_index ts v miss other is = cc
 
 -- in a sequence without that element nothing is put
-pub put_sequence-missed : (ts : Elements) (v : Tree) (token : List ℕ) (miss : Miss) → (index_of token ≡ after_last → ⊥) → child (sequence ts) token ≡ Err miss
+pub put_sequence-missed : (ts : Elements) (v : Tree) (token : List ℕ) (miss : Miss)
+    → (index_of token ≡ after_last → ⊥) → child (sequence ts) token ≡ Err miss
     → put (sequence ts) token v ≡ Err miss
 unfolding child put
 put_sequence-missed ts v token miss other is = put_index-missed (index_of token) ts v miss other is
 
 -- nor in a text
-pub put_text-missed : (value : List ℕ) (v : Tree) (token : List ℕ) (miss : Miss) → child (text value) token ≡ Err miss → put (text value) token v ≡ Err miss
+pub put_text-missed : (value : List ℕ) (v : Tree) (token : List ℕ) (miss : Miss) → child (text value) token ≡ Err miss
+    → put (text value) token v ≡ Err miss
 unfolding child put
 put_text-missed value v token miss is = is
 
 -- `-` puts an element at the end
-pub put_last : (ts : Elements) (v : Tree) (token : List ℕ) → index_of token ≡ after_last → put (sequence ts) token v ≡ Ok (sequence (push_element ts v))
+pub put_last : (ts : Elements) (v : Tree) (token : List ℕ) → index_of token ≡ after_last
+    → put (sequence ts) token v ≡ Ok (sequence (push_element ts v))
 unfolding put
 put_last ts v token is = ap (λ index. at_index index (λ i. option_map sequence (put_element ts i v)) (Ok (sequence (push_element ts v)))) is
 
@@ -434,7 +465,8 @@ cut-missed (mapping ms) token miss is =
 -- ---- a value taken out
 
 cut_index-there : (index : Index) (slot : Slot) (ts : Elements) (u : Tree) → at_index index (child_at ts) (Err Absent) ≡ Ok u
-    → (us : Elements) × (at_index index (λ i. option_map sequence (cut_element ts i)) (Err Absent) ≡ Ok (sequence us)) × (element_count ts ≡ suc (element_count us))
+    → (us : Elements) × (at_index index (λ i. option_map sequence (cut_element ts i)) (Err Absent) ≡ Ok (sequence us))
+    × (element_count ts ≡ suc (element_count us))
     × ((n : ℕ) → node_length slot (sequence us) n + length_at (growth (element_count us) (element_row u) slot).added n
     ≡ node_length slot (sequence ts) n + length_at (growth (element_count us) (element_row u) slot).removed n)
 cut_index-there (number i) slot ts u is =

@@ -1,10 +1,14 @@
 -- The depth of a tree after an edit: a value that is set is one level deeper than its path has steps.
-use Rattle.std.proofs.Common.{◌≡◌, ℕ, zero, suc, ◌+◌, ◌<◌, ◌≤◌, max, min, nat_le, Bool, true, false, if◌then◌else◌, List, [], ◌∷◌, length, Some, option_map, Ok, Err, ap, arith}
+use Rattle.std.proofs.Common.{◌≡◌, ℕ, zero, suc, ◌+◌, ◌<◌, ◌≤◌, max, min, nat_le, Bool, true, false, if◌then◌else◌}
+use Rattle.std.proofs.Common.{List, [], ◌∷◌, length, Some, option_map, Ok, Err, ap, arith}
 use Rattle.std.proofs.lemmas.Bool.Decides.{nat_tests}
 use Rattle.yaml_grammar.specs.Texts.{same_text}
 use Rattle.yaml_config.specs.Limits.{config_limits}
-use Rattle.yaml_grammar.specs.Trees.{Tree, text, sequence, mapping, Elements, no_element, element, Members, no_member, member, depth, elements_depth, members_depth}
-use Rattle.tree_path.specs.Paths.{Index, number, after_last, no_index, index_of, at_index, element_at as child_at, put_element, cut_element, push_element, value_of, put_member, cut_member, child, put, cut, at_step, edit_from, set, delete}
+use Rattle.yaml_grammar.specs.Trees.{Tree, text, sequence, mapping, Elements, no_element, element, Members, no_member}
+use Rattle.yaml_grammar.specs.Trees.{member, depth, elements_depth, members_depth}
+use Rattle.tree_path.specs.Paths.{Index, number, after_last, no_index, index_of, at_index, element_at as child_at}
+use Rattle.tree_path.specs.Paths.{put_element, cut_element, push_element, value_of, put_member, cut_member, child}
+use Rattle.tree_path.specs.Paths.{put, cut, at_step, edit_from, set, delete}
 use Rattle.tree_path.specs.declared.place.Miss.TheVariants.{Absent}
 use Rattle.tree_path.proofs.StepLaws.{option_map-Some, present-Ok}
 use Rattle.tree_path.proofs.EditLaws.{at_step-Ok, and_then-Ok, same_Ok}
@@ -28,7 +32,8 @@ member_deep (member other t ms) key u is = by (same_text key other) is (member_d
     by true e rest = let same : t ≡ u = cc in let deep = ap depth same in omega arith
     by false e rest = let after = rest e in omega arith
 
-put_element-deepens : (ts us : Elements) (i : ℕ) (v : Tree) → put_element ts i v ≡ Some us → Deepens (elements_depth ts) (depth v) (elements_depth us)
+put_element-deepens : (ts us : Elements) (i : ℕ) (v : Tree) → put_element ts i v ≡ Some us
+    → Deepens (elements_depth ts) (depth v) (elements_depth us)
 put_element-deepens no_element us i v is = cc
 put_element-deepens (element t ts) us zero v is =
     let same : element v ts ≡ us = cc in
@@ -55,7 +60,8 @@ put_member-deepens no_member key v = record { most = omega arith; least = omega 
 put_member-deepens (member other t ms) key v = by (same_text key other) (put_member-deepens ms key v)
   where
     by : (b : Bool) → Deepens (members_depth ms) (depth v) (members_depth (put_member ms key v))
-        → Deepens (members_depth (member other t ms)) (depth v) (members_depth (if b then member other v ms else member other t (put_member ms key v)))
+        → Deepens (members_depth (member other t ms)) (depth v)
+        (members_depth (if b then member other v ms else member other t (put_member ms key v)))
     by true rest = record { most = omega arith; least = omega arith }
     by false rest =
         let most = rest.most in
@@ -87,7 +93,8 @@ cut_member-shallow (member other t ms) ns key is = by (same_text key other) is (
 
 -- ---- one step
 
-child_index-deep : (index : Index) (ts : Elements) (u : Tree) → at_index index (child_at ts) (Err Absent) ≡ Ok u → depth u ≤ elements_depth ts
+child_index-deep : (index : Index) (ts : Elements) (u : Tree) → at_index index (child_at ts) (Err Absent) ≡ Ok u
+    → depth u ≤ elements_depth ts
 child_index-deep (number i) ts u is = element_deep ts i u (present-Ok _ u is)
 child_index-deep after_last ts u is = cc
 child_index-deep no_index ts u is = cc
@@ -129,7 +136,8 @@ put-deepens (mapping ms) v w token is =
     let least = rest.least in
     record { most = omega arith; least = omega arith }
 
-cut_index-shallow : (index : Index) (ts : Elements) (w : Tree) → at_index index (λ i. option_map sequence (cut_element ts i)) (Err Absent) ≡ Ok w
+cut_index-shallow : (index : Index) (ts : Elements) (w : Tree)
+    → at_index index (λ i. option_map sequence (cut_element ts i)) (Err Absent) ≡ Ok w
     → depth w ≤ suc (elements_depth ts)
 cut_index-shallow (number i) ts w is =
     let o = option_map-Some sequence (cut_element ts i) w (present-Ok _ w is) in
@@ -180,7 +188,8 @@ set-deepens t v w [] is =
     record { most = omega arith; least = omega arith }
 set-deepens t v w (token ∷ tokens) is = set_from-deepens v tokens 1 t w token is
 
-delete_from-shallow : (tokens : List (List ℕ)) (step : ℕ) (t w : Tree) (token : List ℕ) → edit_from cut step t token tokens ≡ Ok w → depth w ≤ depth t
+delete_from-shallow : (tokens : List (List ℕ)) (step : ℕ) (t w : Tree) (token : List ℕ)
+    → edit_from cut step t token tokens ≡ Ok w → depth w ≤ depth t
 delete_from-shallow [] step t w token is =
     let a = at_step-Ok step (cut t token) Ok w is in cut-shallow t w token (same_Ok a.0 w (cut t token) a.1 a.2)
 delete_from-shallow (next ∷ tokens) step t w token is =
@@ -201,7 +210,8 @@ delete-shallow t w (token ∷ tokens) is = delete_from-shallow tokens 1 t w toke
 -- ---- whether it keeps the limit of depth
 
 -- the depth of the path and the value decides whether a set keeps the limit
-pub set-fits : (t v w : Tree) (path : List (List ℕ)) → depth t ≤ config_limits.depth → set t path v ≡ Ok w → nat_le (length path + depth v) config_limits.depth ≡ nat_le (depth w) config_limits.depth
+pub set-fits : (t v w : Tree) (path : List (List ℕ)) → depth t ≤ config_limits.depth → set t path v ≡ Ok w
+    → nat_le (length path + depth v) config_limits.depth ≡ nat_le (depth w) config_limits.depth
 set-fits t v w path deep is =
     let rest = set-deepens t v w path is in
     let most = rest.most in
@@ -209,9 +219,11 @@ set-fits t v w path deep is =
     grind (arith, nat_tests)
 
 -- a delete keeps the limit of depth
-pub delete-fits : (t w : Tree) (path : List (List ℕ)) → depth t ≤ config_limits.depth → delete t path ≡ Ok w → true ≡ nat_le (depth w) config_limits.depth
+pub delete-fits : (t w : Tree) (path : List (List ℕ)) → depth t ≤ config_limits.depth → delete t path ≡ Ok w
+    → true ≡ nat_le (depth w) config_limits.depth
 delete-fits t w path deep is = let shallow = delete-shallow t w path is in grind (arith, nat_tests)
 
 -- a sum that stops at the greatest number passes the same test
-pub capped_fits : (steps deep sum : ℕ) → sum ≡ min (steps + deep) 18446744073709551615 → nat_le sum config_limits.depth ≡ nat_le (steps + deep) config_limits.depth
+pub capped_fits : (steps deep sum : ℕ) → sum ≡ min (steps + deep) 18446744073709551615
+    → nat_le sum config_limits.depth ≡ nat_le (steps + deep) config_limits.depth
 capped_fits steps deep sum is = grind (arith, nat_tests)

@@ -1,11 +1,16 @@
 -- The length of a whole tree after an edit at the end of a path, from that of the node that is edited.
-use Rattle.std.proofs.Common.{◌≡◌, ℕ, zero, suc, ◌+◌, ◌*◌, ◌^◌, ◌<◌, ◌≤◌, Bool, true, false, if◌then◌else◌, List, [], ◌∷◌, ◌++◌, length, codes, Some, Result, Ok, Err, refl, sym, ap, subst, ◌∙◌, add-zero, arith}
+use Rattle.std.proofs.Common.{◌≡◌, ℕ, zero, suc, ◌+◌, ◌*◌, ◌^◌, ◌<◌, ◌≤◌, Bool, true, false, if◌then◌else◌, List, []}
+use Rattle.std.proofs.Common.{◌∷◌, ◌++◌, length, codes, Some, Result, Ok, Err, refl, sym, ap, subst, ◌∙◌, add-zero}
+use Rattle.std.proofs.Common.{arith}
 use Rattle.std.proofs.Math.Nat.{mul-le-mul_left, mul-le-mul_right}
 use Rattle.yaml_grammar.specs.Texts.{byte_len, same_text, spaces}
-use Rattle.yaml_grammar.specs.Trees.{Tree, text, sequence, mapping, Elements, no_element, element, Members, no_member, member, depth, elements_depth, members_depth}
-use Rattle.yaml_grammar.specs.Style.{key_lines, elements_at, elements_after, lines_after_dash, members_at, members_after, value_at, style_text}
+use Rattle.yaml_grammar.specs.Trees.{Tree, text, sequence, mapping, Elements, no_element, element, Members, no_member}
+use Rattle.yaml_grammar.specs.Trees.{member, depth, elements_depth, members_depth}
+use Rattle.yaml_grammar.specs.Style.{key_lines, elements_at, elements_after, lines_after_dash, members_at}
+use Rattle.yaml_grammar.specs.Style.{members_after, value_at, style_text}
 use Rattle.yaml_writer.proofs.SizeLaws.{three, elements_law, members_law}
-use Rattle.tree_path.specs.Paths.{Index, number, after_last, no_index, index_of, at_index, element_at as child_at, value_of, child, refusal, at_step, at_from}
+use Rattle.tree_path.specs.Paths.{Index, number, after_last, no_index, index_of, at_index, element_at as child_at}
+use Rattle.tree_path.specs.Paths.{value_of, child, refusal, at_step, at_from}
 use Rattle.yaml_config.specs.Changes.{IsCollection, Changes, ChangesSmall, node_length, slot_in, Located, shifted_change}
 use Rattle.yaml_config.specs.declared.change.Change.{Change}
 use Rattle.yaml_config.specs.declared.change.Slot.{Slot}
@@ -37,10 +42,12 @@ deeper : (n k : ℕ) → n + 2 + 2 * k ≡ n + 2 * suc k
 deeper n k = omega arith
 
 -- an edit at the end of the path changes the whole tree so
-pub edit-Located : (edit : Tree → List ℕ → Result Tree Miss) (parents : List (List ℕ)) (last : List ℕ) (step : ℕ) (s r : Slot) (t u v : Tree)
+pub edit-Located : (edit : Tree → List ℕ → Result Tree Miss) (parents : List (List ℕ)) (last : List ℕ) (step : ℕ)
+    (s r : Slot) (t u v : Tree)
     → Located parents s t r u → edit u last ≡ Ok v
     → (w : Tree) × (edit_path edit step t (parents ++ last ∷ []) ≡ Ok w)
-    × ((n : ℕ) → node_length s w n + node_length r u (n + 2 * length parents) ≡ node_length s t n + node_length r v (n + 2 * length parents))
+    × ((n : ℕ) → node_length s w n + node_length r u (n + 2 * length parents)
+    ≡ node_length s t n + node_length r v (n + 2 * length parents))
     × (((x y : Tree) → edit x last ≡ Ok y → IsCollection x × IsCollection y) → IsCollection t × IsCollection w)
 edit-Located edit [] last step s r t u v low is = (
   v,
@@ -70,14 +77,16 @@ edit-Located edit (token ∷ parents) last step s r t u v low is =
     )
 
 -- an edit whose last step fails
-pub missed-Located : (edit : Tree → List ℕ → Result Tree Miss) (parents : List (List ℕ)) (last : List ℕ) (step : ℕ) (s r : Slot) (t u : Tree) (miss : Miss)
+pub missed-Located : (edit : Tree → List ℕ → Result Tree Miss) (parents : List (List ℕ)) (last : List ℕ) (step : ℕ)
+    (s r : Slot) (t u : Tree) (miss : Miss)
     → Located parents s t r u → edit u last ≡ Err miss
     → edit_path edit step t (parents ++ last ∷ []) ≡ Err (refusal miss (step + length parents))
 missed-Located edit [] last step s r t u miss low is =
     ap (λ x. at_step step x Ok) (subst (λ x. edit x last ≡ Err miss) low.0 is) ∙ ap (λ k. Err (refusal miss k)) (sym (add-zero step))
 missed-Located edit (token ∷ parents) last step s r t u miss low is =
     edit_path-step edit step t token last parents
-    ∙ rw (low.1, missed-Located edit parents last (suc step) (slot_in t) r low.0 u miss low.2 is) (ap (λ k. Err (refusal miss k)) (omega arith))
+    ∙ rw (low.1, missed-Located edit parents last (suc step) (slot_in t) r low.0 u miss low.2 is)
+    (ap (λ k. Err (refusal miss k)) (omega arith))
 
 -- ---- the change of the whole
 
@@ -144,7 +153,8 @@ element_within (element t ts) (suc i) u is =
     let lines = three (codes "- ") (lines_after_dash t 0) (elements_after ts 0) in
     record { within_bytes = omega arith; within_deep = omega arith }
 
-member_within : (ms : Members) (key : List ℕ) (u : Tree) → value_of ms key ≡ Some u → Within u (byte_len (members_after ms 0)) (members_depth ms)
+member_within : (ms : Members) (key : List ℕ) (u : Tree) → value_of ms key ≡ Some u
+    → Within u (byte_len (members_after ms 0)) (members_depth ms)
 member_within no_member key u is = cc
 member_within (member other t ms) key u is = by (same_text key other) is (member_within ms key u)
   where

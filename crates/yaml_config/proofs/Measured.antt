@@ -1,5 +1,7 @@
 -- The lengths that the code finds, as those of the definitions' edits.
-use Rattle.std.proofs.Common.{◌≡◌, ℕ, suc, ◌+◌, ◌-◌, ◌*◌, ◌^◌, ◌<◌, ◌≤◌, ◌==◌, Bool, true, false, if◌then◌else◌, List, [], ◌∷◌, ◌++◌, length, codes, Ok, Err, Global, Vec, vec_len, refl, sym, ap, subst, ◌∙◌, arith, rules}
+use Rattle.std.proofs.Common.{◌≡◌, ℕ, suc, ◌+◌, ◌-◌, ◌*◌, ◌^◌, ◌<◌, ◌≤◌, ◌==◌, Bool, true, false, if◌then◌else◌, List}
+use Rattle.std.proofs.Common.{[], ◌∷◌, ◌++◌, length, codes, Ok, Err, Global, Vec, vec_len, refl, sym, ap, subst, ◌∙◌}
+use Rattle.std.proofs.Common.{arith, rules}
 use Rattle.yaml_grammar.specs.Texts.{same_text}
 use Rattle.yaml_grammar.specs.Trees as grammar
 use Rattle.yaml_grammar.specs.Trees.{sequence, mapping, text}
@@ -8,14 +10,17 @@ use Rattle.yaml_writer.specs.Sizes.{length_at}
 use Rattle.yaml_writer.specs.declared.size.Size.{Size}
 use Rattle.yaml_data.specs.declared.tree.Tree.{Tree}
 use Rattle.tree_path.specs.Paths.{after_last, index_of, push_element, put_member, child, put, cut, refusal, set, delete}
-use Rattle.yaml_config.specs.Changes.{Changes, ChangesNode, ChangesSmall, Located, slot_in, child_size, element_row, member_row, first_row, growth, reversed_change, shifted_change}
+use Rattle.yaml_config.specs.Changes.{Changes, ChangesNode, ChangesSmall, Located, slot_in, child_size, element_row}
+use Rattle.yaml_config.specs.Changes.{member_row, first_row, growth, reversed_change, shifted_change}
 use Rattle.yaml_config.specs.declared.change.Change.{Change}
 use Rattle.yaml_config.specs.declared.change.Slot.{Slot}
 use Rattle.yaml_config.specs.declared.change.Slot.TheVariants.{Value, Element}
 use Rattle.tree_path.specs.declared.place.Miss.{Miss}
 use Rattle.tree_path.proofs.StepLaws.{put-there}
 use Rattle.tree_path.proofs.Edits.{set-edit, delete-edit}
-use Rattle.yaml_config.proofs.ChangeLaws.{element_count, member_count, put-replaces, push-grows, put-grows, put_last, put_new, cut_sequence-there, cut_mapping-there, put-collection, cut-collection}
+use Rattle.yaml_config.proofs.ChangeLaws.{element_count, member_count, put-replaces, push-grows, put-grows, put_last}
+use Rattle.yaml_config.proofs.ChangeLaws.{put_new, cut_sequence-there, cut_mapping-there, put-collection}
+use Rattle.yaml_config.proofs.ChangeLaws.{cut-collection}
 use Rattle.yaml_config.proofs.Located.{edit-Located, missed-Located, changes-whole}
 
 -- ---- counts
@@ -60,7 +65,8 @@ growth-small count row slot small = by (count == 0)
     by true = record { removed = record { bytes = omega arith; lines = omega arith }; added = first_row-small slot row small }
     by false = record { removed = record { bytes = omega arith; lines = omega arith }; added = small }
 
-changed : (slot : Slot) (change : Change) (t w : grammar.Tree) → IsSmallSize change.removed → IsSmallSize change.added → ChangesNode slot change t w
+changed : (slot : Slot) (change : Change) (t w : grammar.Tree) → IsSmallSize change.removed → IsSmallSize change.added
+    → ChangesNode slot change t w
     → ChangesSmall slot change t w
 changed slot change t w removed added is =
     let a = removed.bytes in
@@ -94,7 +100,8 @@ replaced slot t u v token removed added found out in_ small_out small_in =
     )
 
 -- an element that is added at the end
-pub pushed : (slot : Slot) (t : grammar.Tree) (ts : List Tree) (v : grammar.Tree) (token : List ℕ) (count : ℕ) (row : Size) (change : Change)
+pub pushed : (slot : Slot) (t : grammar.Tree) (ts : List Tree) (v : grammar.Tree) (token : List ℕ) (count : ℕ)
+    (row : Size) (change : Change)
     → t ≡ sequence (elements_of ts) → index_of token ≡ after_last → length ts ≡ count → row ≡ element_row v → IsSmallSize row
     → change ≡ growth count row slot → Put slot change t token v
 pushed slot t ts v token count row change is last counted sized small grown =
@@ -107,11 +114,13 @@ pushed slot t ts v token count row change is last counted sized small grown =
     (subst (λ c. Put slot c (sequence (elements_of ts)) token v) (sym same) (
       sequence (push_element (elements_of ts) v),
       put_last (elements_of ts) v token last,
-      changed slot _ (sequence (elements_of ts)) (sequence (push_element (elements_of ts) v)) bounds.removed bounds.added (push-grows slot (elements_of ts) v),
+      changed slot _ (sequence (elements_of ts))
+          (sequence (push_element (elements_of ts) v)) bounds.removed bounds.added (push-grows slot (elements_of ts) v),
     ))
 
 -- the change of a new member at the end of a mapping
-pub added : (slot : Slot) (t : grammar.Tree) (ps : List Pair) (v : grammar.Tree) (token : List ℕ) (miss : Miss) (count : ℕ) (row : Size) (change : Change)
+pub added : (slot : Slot) (t : grammar.Tree) (ps : List Pair) (v : grammar.Tree) (token : List ℕ) (miss : Miss)
+    (count : ℕ) (row : Size) (change : Change)
     → t ≡ mapping (members_of ps) → child t token ≡ Err miss → length ps ≡ count → row ≡ member_row token v → IsSmallSize row
     → change ≡ growth count row slot → Put slot change t token v
 added slot t ps v token miss count row change is missed counted sized small grown =
@@ -130,13 +139,15 @@ added slot t ps v token miss count row change is missed counted sized small grow
     ))
 
 -- a step into a sequence finds an element
-pub some_elements : (t u : grammar.Tree) (ts : List Tree) (token : List ℕ) → t ≡ sequence (elements_of ts) → child t token ≡ Ok u → 1 ≤ length ts
+pub some_elements : (t u : grammar.Tree) (ts : List Tree) (token : List ℕ) → t ≡ sequence (elements_of ts)
+    → child t token ≡ Ok u → 1 ≤ length ts
 some_elements t u ts token is found =
     let p = cut_sequence-there Value (elements_of ts) u token (subst (λ x. child x token ≡ Ok u) is found) in
     omega (arith, p.2, elements_counted ts)
 
 -- a step into a mapping finds a member
-pub some_members : (t u : grammar.Tree) (ps : List Pair) (token : List ℕ) → t ≡ mapping (members_of ps) → child t token ≡ Ok u → 1 ≤ length ps
+pub some_members : (t u : grammar.Tree) (ps : List Pair) (token : List ℕ) → t ≡ mapping (members_of ps)
+    → child t token ≡ Ok u → 1 ≤ length ps
 some_members t u ps token is found =
     let p = cut_mapping-there Value (members_of ps) u token (subst (λ x. child x token ≡ Ok u) is found) in
     omega (arith, p.2, members_counted ps)

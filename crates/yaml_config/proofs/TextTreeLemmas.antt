@@ -38,7 +38,8 @@ elements_hold_texts : (es : List TextTree) → AreTextElements (elements_from (m
 elements_hold_texts [] = tt
 elements_hold_texts (e ∷ es) = (e.1, elements_hold_texts es)
 
-members_hold_texts : (ms : List (Text × TextTree)) → AreTextMembers (members_from (map (λ (m : Pair). (m.0, tree_of m.1)) (map (λ (m : Text × TextTree). (m.0, m.1.0)) ms)))
+members_hold_texts : (ms : List (Text × TextTree))
+    → AreTextMembers (members_from (map (λ (m : Pair). (m.0, tree_of m.1)) (map (λ (m : Text × TextTree). (m.0, m.1.0)) ms)))
 members_hold_texts [] = tt
 members_hold_texts (m ∷ ms) = (chars-IsText (text_bytes m.0) (IsUtf8-text_bytes m.0), m.1.1, members_hold_texts ms)
 

@@ -1,5 +1,6 @@
 -- The keys of a mapping, looked up one after another among those before.
-use Rattle.std.proofs.Common.{◌≡◌, ℕ, Bool, true, false, not, ◌&&◌, ◌||◌, List, [], ◌∷◌, Bor, Ordering, Less, Equal, Greater, nat_cmp, is_eq, IsUtf8, encode_utf8_all, refl, sym, ap, ap₂, ◌∙◌}
+use Rattle.std.proofs.Common.{◌≡◌, ℕ, Bool, true, false, not, ◌&&◌, ◌||◌, List, [], ◌∷◌, Bor, Ordering, Less, Equal}
+use Rattle.std.proofs.Common.{Greater, nat_cmp, is_eq, IsUtf8, encode_utf8_all, refl, sym, ap, ap₂, ◌∙◌}
 use Rattle.std.proofs.lemmas.Bool.Decides.{same_from_decides}
 use Rattle.std.proofs.lemmas.Map.Text.{is_eq-slice_cmp}
 use Rattle.std.proofs.lemmas.Slice.Eq.{bytes_eq-Decides}
@@ -122,13 +123,16 @@ and_assoc true b c = refl
 and_assoc false b c = refl
 
 -- a key that was seen before
-pub clear_seen : {A : Type 0} (k : Key) (ks : List Key) (m : Text × A) (ms : List (Text × A)) → k.now ≡ text_bytes m.0 → is_seen k.now ks ≡ true
+pub clear_seen : {A : Type 0} (k : Key) (ks : List Key) (m : Text × A) (ms : List (Text × A)) → k.now ≡ text_bytes m.0
+    → is_seen k.now ks ≡ true
     → (none_seen ks (m ∷ ms) && keys_differ (key_members (m ∷ ms))) ≡ false
 clear_seen k ks m ms e seen = rw (← e, seen) refl
 
 -- and one that was not
-pub clear_new : {A : Type 0} (k : Key) (ks : List Key) (m : Text × A) (ms : List (Text × A)) → IsUtf8 k.now → k.now ≡ text_bytes m.0 → is_seen k.now ks ≡ false
-    → (none_seen (insert_key key_cmp ks k) ms && keys_differ (key_members ms)) ≡ (none_seen ks (m ∷ ms) && keys_differ (key_members (m ∷ ms)))
+pub clear_new : {A : Type 0} (k : Key) (ks : List Key) (m : Text × A) (ms : List (Text × A)) → IsUtf8 k.now
+    → k.now ≡ text_bytes m.0 → is_seen k.now ks ≡ false
+    → (none_seen (insert_key key_cmp ks k) ms && keys_differ (key_members ms))
+    ≡ (none_seen ks (m ∷ ms) && keys_differ (key_members (m ∷ ms)))
 clear_new k ks m ms utf8 e new =
     ap (λ a. a && keys_differ (key_members ms)) (none_seen-insert k ks ms utf8)
     ∙ sym (and_assoc (none_seen ks ms) (not (has_key (chars k.now) (key_members ms))) (keys_differ (key_members ms)))

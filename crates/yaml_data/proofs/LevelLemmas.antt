@@ -12,7 +12,8 @@ levels_distinct-append [] l = by (level_distinct l)
     by : (b : Bool) → (b && true) ≡ (true && b)
     by true = refl
     by false = refl
-levels_distinct-append (x ∷ xs) l = ap (λ b. level_distinct x && b) (levels_distinct-append xs l) ∙ by (level_distinct x) (levels_distinct xs) (level_distinct l)
+levels_distinct-append (x ∷ xs) l = ap (λ b. level_distinct x && b) (levels_distinct-append xs l)
+    ∙ by (level_distinct x) (levels_distinct xs) (level_distinct l)
   where
     by : (a b c : Bool) → (a && (b && c)) ≡ ((a && b) && c)
     by true b c = refl
@@ -24,7 +25,8 @@ steps_left-append [] l = omega arith
 steps_left-append (x ∷ xs) l = let after = steps_left-append xs l in omega (arith, after)
 
 -- a step: the level gives way to what comes after its first value, and to what is inside that
-pub step_distinct : (all others level first rest inside own : Bool) → all ≡ (others && level) → level ≡ (first && rest) → first ≡ (own && inside) → own ≡ true
+pub step_distinct : (all others level first rest inside own : Bool) → all ≡ (others && level)
+    → level ≡ (first && rest) → first ≡ (own && inside) → own ≡ true
     → ((others && rest) && inside) ≡ all
 step_distinct all others level first rest inside own p q r s =
     by others rest inside ∙ sym (p ∙ ap (λ b. others && b) (q ∙ ap (λ b. b && rest) (r ∙ ap (λ b. b && inside) s)))

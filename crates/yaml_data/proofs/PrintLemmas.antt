@@ -1,5 +1,7 @@
 -- Keys whose prints differ, which they do if they ascend in some order, differ.
-use Rattle.std.proofs.Common.{◌≡◌, ℕ, zero, suc, ◌+◌, ◌<◌, ◌≤◌, Bool, true, false, cond, not, ◌&&◌, ◌||◌, ◌==◌, List, [], ◌∷◌, length, get_or, sum_by, IsPermutation, IsSorted, nat_cmp, IsUtf8, refl, sym, ap, ap₂, ◌∙◌, subst, le_of_eq, lt_trans, zero-add, true≢false, arith}
+use Rattle.std.proofs.Common.{◌≡◌, ℕ, zero, suc, ◌+◌, ◌<◌, ◌≤◌, Bool, true, false, cond, not, ◌&&◌, ◌||◌, ◌==◌, List}
+use Rattle.std.proofs.Common.{[], ◌∷◌, length, get_or, sum_by, IsPermutation, IsSorted, nat_cmp, IsUtf8, refl, sym}
+use Rattle.std.proofs.Common.{ap, ap₂, ◌∙◌, subst, le_of_eq, lt_trans, zero-add, true≢false, arith}
 use Rattle.std.proofs.lemmas.Bool.{eq-eqb, eqb-true}
 use Rattle.std.proofs.lemmas.Bool.Decides.{nat_tests}
 use Rattle.std.proofs.lemmas.List.Sorted.{sum_by-IsPermutation, IsNonDecreasingBy-from_sort}
@@ -71,7 +73,8 @@ at_most_once p (q ∷ qs) up = once_more p q qs (p == q) refl up (at_most_once p
 
 -- ---- equal keys have a print twice
 
-held_here : {A : Type 0} (key : List ℕ) (m : Text × A) (ms : List (Text × A)) (same : Bool) → same_text (chars key) (chars (text_bytes m.0)) ≡ same
+held_here : {A : Type 0} (key : List ℕ) (m : Text × A) (ms : List (Text × A)) (same : Bool)
+    → same_text (chars key) (chars (text_bytes m.0)) ≡ same
     → IsUtf8 key → has_key (chars key) (key_members (m ∷ ms)) ≡ true
     → (has_key (chars key) (key_members ms) ≡ true → 1 ≤ count (print_of key) (key_prints ms))
     → 1 ≤ count (print_of key) (key_prints (m ∷ ms))
@@ -138,4 +141,5 @@ ascending-from_distinct ps qs moved sorted once =
     λ p. subst (λ n. n ≤ 1) (sym (sum_by-IsPermutation (one_for p) ps qs moved)) (once p) in
     λ k d within.
     let rises = IsNonDecreasingBy-from_sort (λ n. n) qs sorted k (k + 1) d (omega arith) within in
-    less_or_same (get_or qs k d) (get_or qs (k + 1) d) (get_or qs k d == get_or qs (k + 1) d) refl rises (λ e. no_same_neighbours qs k d within e distinct)
+    less_or_same (get_or qs k d) (get_or qs (k + 1) d) (get_or qs k d == get_or qs (k + 1) d) refl rises
+    (λ e. no_same_neighbours qs k d within e distinct)

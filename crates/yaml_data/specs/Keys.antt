@@ -1,6 +1,7 @@
 -- The two parts of `distinct` of a mapping: its own keys differ, and so do those in its values.
 use Rattle.std.specs.Prelude.{ℕ, ◌+◌, Bool, true, not, ◌&&◌, List, [], ◌∷◌}
-use Rattle.yaml_grammar.specs.Trees.{Tree, text, sequence, mapping, Elements, no_element, element, Members, no_member, member, has_key, distinct, elements_distinct}
+use Rattle.yaml_grammar.specs.Trees.{Tree, text, sequence, mapping, Elements, no_element, element, Members, no_member}
+use Rattle.yaml_grammar.specs.Trees.{member, has_key, distinct, elements_distinct}
 use Rattle.std.specs.Str.{chars}
 use Rattle.yaml_data.specs.Seen.{elements_of, members_of}
 use Rattle.yaml_data.specs.TextBytes.{text_bytes}

@@ -1,5 +1,7 @@
 -- Closing lines after a place where a line starts: the first is at the place itself, or after a line feed.
-use Rattle.std.proofs.Common.{◌≡◌, ℕ, zero, suc, ◌+◌, ◌-◌, ◌<◌, ◌≤◌, true, List, [], ◌∷◌, ◌++◌, length, take, drop, refl, ap, sym, ◌∙◌, subst, arith, inl, inr, append_assoc, length-append, length-drop, take-append-drop, length-take-le}
+use Rattle.std.proofs.Common.{◌≡◌, ℕ, zero, suc, ◌+◌, ◌-◌, ◌<◌, ◌≤◌, true, List, [], ◌∷◌, ◌++◌, length, take, drop}
+use Rattle.std.proofs.Common.{refl, ap, sym, ◌∙◌, subst, arith, inl, inr, append_assoc, length-append, length-drop}
+use Rattle.std.proofs.Common.{take-append-drop, length-take-le}
 use Rattle.std.specs.Prelude.{◌⊎◌, IsTrue}
 use Rattle.std.proofs.lemmas.Bool.{cases_lt}
 use Rattle.std.proofs.lemmas.Bool.Decides.{nat_tests}
@@ -48,7 +50,13 @@ starts_after bytes place c =
 
 -- a closing lies within the bytes
 pub lies_within : (bytes : List ℕ) (place : ℕ) → ClosesAt bytes place → place ≤ length bytes
-lies_within bytes place c = omega (arith, c.ends, ap length c.is, length-append c.before (closing_line ++ c.after), length-append closing_line c.after)
+lies_within bytes place c = omega (
+  arith,
+  c.ends,
+  ap length c.is,
+  length-append c.before (closing_line ++ c.after),
+  length-append closing_line c.after,
+)
 
 -- ---- what is found closes
 
@@ -75,10 +83,17 @@ module _ (bytes : List ℕ) (at : ℕ) (within : at ≤ length bytes) (starts : 
         before = prefix ++ 10 ∷ [];
         after = after;
         is =
-            sym (take-append-drop at bytes) ∙ ap (λ xs. take at bytes ++ xs) (sym (take-append-drop k rest) ∙ ap (λ xs. take k rest ++ xs) (OccursAt-split rest line_and_closing_line k o))
+            sym (take-append-drop at bytes) ∙ ap (λ xs. take at bytes ++ xs)
+            (sym (take-append-drop k rest) ∙ ap (λ xs. take k rest ++ xs) (OccursAt-split rest line_and_closing_line k o))
             ∙ simp append_assoc;
         line = line_after prefix;
-        ends = omega (arith, length-append prefix (10 ∷ []), length-append (take at bytes) (take k rest), length-take-le at bytes within, length-take-le k rest (omega arith));
+        ends = omega (
+          arith,
+          length-append prefix (10 ∷ []),
+          length-append (take at bytes) (take k rest),
+          length-take-le at bytes within,
+          length-take-le k rest (omega arith),
+        );
       }
 
   -- ---- what closes is found
@@ -92,13 +107,22 @@ module _ (bytes : List ℕ) (at : ℕ) (within : at ≤ length bytes) (starts : 
   at_once : (after : List ℕ) (place : ℕ) → drop at bytes ≡ closing_line ++ after → place ≡ at + 4 → Shown place
   at_once after place e p = inl (after, e, p)
 
-  later : (ys after : List ℕ) (place : ℕ) → drop at bytes ≡ ys ++ (line_and_closing_line ++ after) → place ≡ at + length ys + 5 → Shown place
+  later : (ys after : List ℕ) (place : ℕ) → drop at bytes ≡ ys ++ (line_and_closing_line ++ after)
+      → place ≡ at + length ys + 5 → Shown place
   later ys after place e p =
-      let size : length (drop at bytes) ≡ length ys + length (line_and_closing_line ++ after) = ap length e ∙ length-append ys (line_and_closing_line ++ after) in
-      inr (length ys, OccursAt-from_part (drop at bytes) line_and_closing_line (length ys) (omega (arith, length-append line_and_closing_line after)) (ap (λ xs. take 5 (drop (length ys) xs)) e ∙ ap (take 5) (drop-append_seam ys (line_and_closing_line ++ after))), p)
+      let size : length (drop at bytes) ≡ length ys + length (line_and_closing_line ++ after) = ap length e
+      ∙ length-append ys (line_and_closing_line ++ after) in
+      inr (
+        length ys,
+        OccursAt-from_part (drop at bytes) line_and_closing_line (length ys)
+            (omega (arith, length-append line_and_closing_line after))
+            (ap (λ xs. take 5 (drop (length ys) xs)) e ∙ ap (take 5) (drop-append_seam ys (line_and_closing_line ++ after))),
+        p,
+      )
 
   -- where the line before the closing line ends at or after the place
-  beyond : (before after : List ℕ) → bytes ≡ before ++ (closing_line ++ after) → IsTrue (ends_line before) → at ≤ length before → Shown (length before + 4)
+  beyond : (before after : List ℕ) → bytes ≡ before ++ (closing_line ++ after) → IsTrue (ends_line before)
+      → at ≤ length before → Shown (length before + 4)
   beyond before after e line above =
       go (drop at before) refl (ap (drop at) e ∙ drop-append-le at before (closing_line ++ after) above)
     where
@@ -108,20 +132,28 @@ module _ (bytes : List ℕ) (at : ℕ) (within : at ≤ length bytes) (starts : 
           at_once after (length before + 4) (d ∙ ap (λ xs. xs ++ (closing_line ++ after)) q) (omega arith)
       go (x ∷ xs) q d =
           let l = last_of x xs in
-          let whole : before ≡ (take at before ++ l.0) ++ l.1 ∷ [] = sym (take-append-drop at before) ∙ ap (λ ys. take at before ++ ys) (q ∙ l.2) ∙ sym (append_assoc (take at before) l.0 (l.1 ∷ [])) in
+          let whole : before ≡ (take at before ++ l.0) ++ l.1 ∷ [] = sym (take-append-drop at before)
+          ∙ ap (λ ys. take at before ++ ys) (q ∙ l.2) ∙ sym (append_assoc (take at before) l.0 (l.1 ∷ [])) in
           let feed : l.1 ≡ 10 = last_byte (take at before ++ l.0) l.1 (subst (λ ys. ends_line ys ≡ true) whole line) in
-          let size : length before - at ≡ length l.0 + 1 = sym (length-drop at before) ∙ ap length (q ∙ l.2) ∙ length-append l.0 (l.1 ∷ []) in
-          later l.0 after (length before + 4) (d ∙ ap (λ ys. ys ++ (closing_line ++ after)) (q ∙ l.2 ∙ ap (λ y. l.0 ++ y ∷ []) feed) ∙ append_assoc l.0 (10 ∷ []) (closing_line ++ after)) (omega arith)
+          let size : length before - at ≡ length l.0 + 1 = sym (length-drop at before) ∙ ap length (q ∙ l.2)
+          ∙ length-append l.0 (l.1 ∷ []) in
+          later l.0 after (length before + 4) (d ∙ ap (λ ys. ys ++ (closing_line ++ after))
+          (q ∙ l.2 ∙ ap (λ y. l.0 ++ y ∷ []) feed) ∙ append_assoc l.0 (10 ∷ []) (closing_line ++ after)) (omega arith)
 
   -- no closing line that begins before the place ends after it: its dots would end a line
   astride : (before after : List ℕ) → bytes ≡ before ++ (closing_line ++ after) → (k : ℕ) → k < 3 → at ≡ length before + suc k → ⊥
   astride before after e k l p =
-      dots k l (ap (λ xs. take at xs) e ∙ ap (λ i. take i (before ++ (closing_line ++ after))) p ∙ take-append-add before (closing_line ++ after) (suc k))
+      dots k l (ap (λ xs. take at xs) e ∙ ap (λ i. take i (before ++ (closing_line ++ after))) p
+      ∙ take-append-add before (closing_line ++ after) (suc k))
     where
       dots : (k : ℕ) → k < 3 → take at bytes ≡ before ++ take (suc k) (closing_line ++ after) → ⊥
       dots zero l q = (let d : ◌≡◌ {A = ℕ} 46 10 = last_byte before 46 (subst (λ xs. ends_line xs ≡ true) q starts) in absurd (omega arith))
-      dots (suc zero) l q = (let d : ◌≡◌ {A = ℕ} 46 10 = last_byte (before ++ 46 ∷ []) 46 (subst (λ xs. ends_line xs ≡ true) (q ∙ sym (append_assoc before (46 ∷ []) (46 ∷ []))) starts) in absurd (omega arith))
-      dots (suc (suc zero)) l q = (let d : ◌≡◌ {A = ℕ} 46 10 = last_byte (before ++ 46 ∷ 46 ∷ []) 46 (subst (λ xs. ends_line xs ≡ true) (q ∙ sym (append_assoc before (46 ∷ 46 ∷ []) (46 ∷ []))) starts) in absurd (omega arith))
+      dots (suc zero) l q = (let d : ◌≡◌ {A = ℕ} 46 10 =
+          last_byte (before ++ 46 ∷ []) 46 (subst (λ xs. ends_line xs ≡ true)
+          (q ∙ sym (append_assoc before (46 ∷ []) (46 ∷ []))) starts) in absurd (omega arith))
+      dots (suc (suc zero)) l q = (let d : ◌≡◌ {A = ℕ} 46 10 =
+          last_byte (before ++ 46 ∷ 46 ∷ []) 46 (subst (λ xs. ends_line xs ≡ true)
+          (q ∙ sym (append_assoc before (46 ∷ 46 ∷ []) (46 ∷ []))) starts) in absurd (omega arith))
       dots (suc (suc (suc k))) l q = absurd (omega arith)
 
   -- each closing after the place is one of the two

@@ -42,32 +42,41 @@ use Rattle.yaml_docs.proofs.TextPlaces.{StandsUpTo, place_after}
 -- ---- markers
 
 -- `---` is at the place
-pub dashes_there : (bs : List ℕ) (at : ℕ) → IsUtf8 bs → IsCharBoundary bs at → marker_of 45 (rest bs at) ≡ true → StandsUpTo bs at (codes "---") (drop 3 (rest bs at)) (at + 3)
-dashes_there bs at u b h = place_after bs at (codes "---") (drop 3 (rest bs at)) u b (begins_split (codes "---") (rest bs at) (and_parts _ _ h).0)
+pub dashes_there : (bs : List ℕ) (at : ℕ) → IsUtf8 bs → IsCharBoundary bs at → marker_of 45 (rest bs at) ≡ true
+    → StandsUpTo bs at (codes "---") (drop 3 (rest bs at)) (at + 3)
+dashes_there bs at u b h = place_after bs at (codes "---") (drop 3 (rest bs at)) u b
+    (begins_split (codes "---") (rest bs at) (and_parts _ _ h).0)
 
 -- `...` is at the place
-pub dots_there : (bs : List ℕ) (at : ℕ) → IsUtf8 bs → IsCharBoundary bs at → marker_of 46 (rest bs at) ≡ true → StandsUpTo bs at (codes "...") (drop 3 (rest bs at)) (at + 3)
-dots_there bs at u b h = place_after bs at (codes "...") (drop 3 (rest bs at)) u b (begins_split (codes "...") (rest bs at) (and_parts _ _ h).0)
+pub dots_there : (bs : List ℕ) (at : ℕ) → IsUtf8 bs → IsCharBoundary bs at → marker_of 46 (rest bs at) ≡ true
+    → StandsUpTo bs at (codes "...") (drop 3 (rest bs at)) (at + 3)
+dots_there bs at u b h = place_after bs at (codes "...") (drop 3 (rest bs at)) u b
+    (begins_split (codes "...") (rest bs at) (and_parts _ _ h).0)
 
 -- if the line of a `...` goes on, there is no suffix
-pub no_suffix : (text after : List ℕ) → after ≡ drop 3 text → closes_line (all_comments false after) ≡ false → suffix_with (all_comments false (drop 3 text)) ≡ None
-no_suffix text after e h = subst (λ (t : List ℕ). suffix_with (all_comments false t) ≡ None) e (let none : suffix_with (all_comments false after) ≡ None = rw h refl in none)
+pub no_suffix : (text after : List ℕ) → after ≡ drop 3 text → closes_line (all_comments false after) ≡ false
+    → suffix_with (all_comments false (drop 3 text)) ≡ None
+no_suffix text after e h = subst (λ (t : List ℕ). suffix_with (all_comments false t) ≡ None) e
+    (let none : suffix_with (all_comments false after) ≡ None = rw h refl in none)
 
 suffix_found : (c : List LineEnd × List ℕ) (after : List ℕ) → closes_line c ≡ true → c.1 ≡ after → suffix_with c ≡ Some (suffix c.0, after)
 suffix_found c after h e = rw h (ap (λ (t : List ℕ). Some (suffix c.0, t)) e)
 
 -- else there is one
-pub suffix_is : (text past_marker after : List ℕ) → past_marker ≡ drop 3 text → closes_line (all_comments false past_marker) ≡ true → (all_comments false past_marker).1 ≡ after
+pub suffix_is : (text past_marker after : List ℕ) → past_marker ≡ drop 3 text
+    → closes_line (all_comments false past_marker) ≡ true → (all_comments false past_marker).1 ≡ after
     → suffix_with (all_comments false (drop 3 text)) ≡ Some (suffix (all_comments false past_marker).0, after)
 suffix_is text past_marker after e h l =
-    subst (λ (t : List ℕ). suffix_with (all_comments false t) ≡ Some (suffix (all_comments false past_marker).0, after)) e (suffix_found (all_comments false past_marker) after h l)
+    subst (λ (t : List ℕ). suffix_with (all_comments false t)
+    ≡ Some (suffix (all_comments false past_marker).0, after)) e (suffix_found (all_comments false past_marker) after h l)
 
 -- something is left before the end of a text
 pub some_left : (bs : List ℕ) (at : ℕ) → IsUtf8 bs → IsCharBoundary bs at → at < length bs → is_empty (rest bs at) ≡ false
 some_left bs at u b l = ap is_empty (char_at bs at u b l).1.splits
 
 -- no line starts after a `---`
-pub inside_line : (bs : List ℕ) (at : ℕ) → IsUtf8 bs → IsCharBoundary bs at → marker_of 45 (rest bs at) ≡ true → line_starts bs (at + 3) ≡ false
+pub inside_line : (bs : List ℕ) (at : ℕ) → IsUtf8 bs → IsCharBoundary bs at → marker_of 45 (rest bs at) ≡ true
+    → line_starts bs (at + 3) ≡ false
 inside_line bs at u b h =
     let s = dashes_there bs at u b h in
     starts_after bs at (at + 3) (codes "--") 45 u (omega arith) b s.boundary s.is refl
@@ -93,8 +102,10 @@ not_both true b h = h
 not_both false b h = refl
 
 -- at anything else it isn't
-pub no_omission : (c : List LineEnd × List ℕ) (after : List ℕ) → c.1 ≡ after → is_empty after ≡ false → marker after ≡ false → is_line_end after ≡ false → omits 0 false c ≡ false
-no_omission c after e some m l = not_both (closes_line c) (block_node_stops 0 false c.1) (ap (block_node_stops 0 false) e ∙ no_end after some m l)
+pub no_omission : (c : List LineEnd × List ℕ) (after : List ℕ) → c.1 ≡ after → is_empty after ≡ false
+    → marker after ≡ false → is_line_end after ≡ false → omits 0 false c ≡ false
+no_omission c after e some m l = not_both (closes_line c) (block_node_stops 0 false c.1)
+    (ap (block_node_stops 0 false) e ∙ no_end after some m l)
 
 -- nor if the line of the `---` goes on
 pub no_closed_line : (c : List LineEnd × List ℕ) → closes_line c ≡ false → omits 0 false c ≡ false
@@ -108,16 +119,19 @@ pub omitted_read : (text after : List ℕ) (c : List LineEnd × List ℕ) → om
 omitted_read text after c h e = rw h (ap (λ (t : List ℕ). Some (nothing c.0, t)) e)
 
 -- a document with its node
-pub node_read : (text after : List ℕ) (c : List LineEnd × List ℕ) (n : Node) → omits 0 false c ≡ false → document_node_at false text ≡ Some (n, after)
+pub node_read : (text after : List ℕ) (c : List LineEnd × List ℕ) (n : Node) → omits 0 false c ≡ false
+    → document_node_at false text ≡ Some (n, after)
     → explicit_with document_node_at text c ≡ Some (content n, after)
 node_read text after c n h e = rw (h, e) refl
 
 -- without a node there is no document
-pub node_missing : (text : List ℕ) (c : List LineEnd × List ℕ) → omits 0 false c ≡ false → document_node_at false text ≡ None → explicit_with document_node_at text c ≡ None
+pub node_missing : (text : List ℕ) (c : List LineEnd × List ℕ) → omits 0 false c ≡ false
+    → document_node_at false text ≡ None → explicit_with document_node_at text c ≡ None
 node_missing text c h e = rw (h, e) refl
 
 -- what follows a `---` is read
-pub explicit_is : (text after : List ℕ) (r : Read Explicit) → marker_of 45 text ≡ true → after ≡ drop 3 text → explicit_with document_node_at after (all_comments false after) ≡ r
+pub explicit_is : (text after : List ℕ) (r : Read Explicit) → marker_of 45 text ≡ true → after ≡ drop 3 text
+    → explicit_with document_node_at after (all_comments false after) ≡ r
     → read_explicit document_node_at text ≡ r
 unfolding read_explicit
 explicit_is text after r h e k = rw h (subst (λ (t : List ℕ). explicit_with document_node_at t (all_comments false t) ≡ r) e k)
@@ -135,16 +149,19 @@ after_dashes_is (nothing comments) at = refl
 -- ---- events
 
 -- the events of a node become those of a document
-pub in_document : (text : List ℕ) (old one two new : List Event) (meaning : List grammar.Event) → one ≡ old ++ DocStart ∷ [] → Appended text one two meaning → new ≡ two ++ DocEnd ∷ []
+pub in_document : (text : List ℕ) (old one two new : List Event) (meaning : List grammar.Event)
+    → one ≡ old ++ DocStart ∷ [] → Appended text one two meaning → new ≡ two ++ DocEnd ∷ []
     → Appended text old new (as_document meaning)
 in_document text old one two new meaning e a f =
-    appended_then text old one new (grammar.document_start ∷ []) (meaning ++ document_end ∷ []) (appended_one text old one DocStart grammar.document_start e refl tt)
+    appended_then text old one new (grammar.document_start ∷ []) (meaning ++ document_end ∷ [])
+    (appended_one text old one DocStart grammar.document_start e refl tt)
     (appended_then text one two new meaning (document_end ∷ []) a (appended_one text two new DocEnd document_end f refl tt))
 
 -- ---- what is read at a place
 
 -- the node after a `---` is read
-pub content_read : (bs : List ℕ) (at : ℕ) (old new : List Event) (end : ℕ) → line_starts bs at ≡ false → omits 0 false (all_comments false (rest bs at)) ≡ false
+pub content_read : (bs : List ℕ) (at : ℕ) (old new : List Event) (end : ℕ) → line_starts bs at ≡ false
+    → omits 0 false (all_comments false (rest bs at)) ≡ false
     → BlockNodeRead 0 false bs at old new end → ExplicitNodeRead bs at old new end
 content_read bs at old new end l o r =
     record {
@@ -158,11 +175,14 @@ content_read bs at old new end l o r =
 
 -- if there is none, none is read
 pub content_missing : (bs : List ℕ) (at : ℕ) → line_starts bs at ≡ false → omits 0 false (all_comments false (rest bs at)) ≡ false
-    → document_node_at (line_starts bs at) (rest bs at) ≡ None → explicit_with document_node_at (rest bs at) (all_comments false (rest bs at)) ≡ None
-content_missing bs at l o h = node_missing (rest bs at) (all_comments false (rest bs at)) o (subst (λ (bol : Bool). document_node_at bol (rest bs at) ≡ None) l h)
+    → document_node_at (line_starts bs at) (rest bs at) ≡ None
+    → explicit_with document_node_at (rest bs at) (all_comments false (rest bs at)) ≡ None
+content_missing bs at l o h = node_missing (rest bs at) (all_comments false (rest bs at)) o
+    (subst (λ (bol : Bool). document_node_at bol (rest bs at) ≡ None) l h)
 
 -- an omitted node is read
-pub nothing_read : (bs : List ℕ) (at : ℕ) (old new : List Event) (end : ℕ) (event : Event) → IsOmitted bs at end → new ≡ old ++ event ∷ [] → event_of event ≡ scalar_event omitted_style at at []
+pub nothing_read : (bs : List ℕ) (at : ℕ) (old new : List Event) (end : ℕ) (event : Event) → IsOmitted bs at end
+    → new ≡ old ++ event ∷ [] → event_of event ≡ scalar_event omitted_style at at []
     → BorrowsPlain bs event → ExplicitNodeRead bs at old new end
 nothing_read bs at old new end event o e m b =
     record {
@@ -174,7 +194,8 @@ nothing_read bs at old new end event o e m b =
     }
 
 -- between the events of a document's start and end
-pub explicit_found : (bs : List ℕ) (at : ℕ) (old one two new : List Event) (end : ℕ) → marker_of 45 (rest bs at) ≡ true → rest bs (at + 3) ≡ drop 3 (rest bs at)
+pub explicit_found : (bs : List ℕ) (at : ℕ) (old one two new : List Event) (end : ℕ)
+    → marker_of 45 (rest bs at) ≡ true → rest bs (at + 3) ≡ drop 3 (rest bs at)
     → one ≡ old ++ DocStart ∷ [] → new ≡ two ++ DocEnd ∷ [] → ExplicitNodeRead bs (at + 3) one two end → ExplicitRead bs at old new end
 explicit_found bs at old one two new end h l e f r =
     record {
@@ -182,14 +203,17 @@ explicit_found bs at old one two new end h l e f r =
       starts = r.starts;
       document = r.document;
       reads = explicit_is (rest bs at) (rest bs (at + 3)) (Some (r.document, rest bs end)) h l r.reads;
-      appended = subst (λ (es : List grammar.Event). Appended bs old new es) (after_dashes_is r.document at) (in_document bs old one two new (after_dashes r.document (at + 3)) e r.appended f);
+      appended = subst (λ (es : List grammar.Event). Appended bs old new es) (after_dashes_is r.document at)
+          (in_document bs old one two new (after_dashes r.document (at + 3)) e r.appended f);
     }
 
 -- a bare document is read
-pub bare_found : (bs : List ℕ) (at : ℕ) (old one two new : List Event) (end : ℕ) → line_starts bs at ≡ true → one ≡ old ++ DocStart ∷ [] → new ≡ two ++ DocEnd ∷ []
+pub bare_found : (bs : List ℕ) (at : ℕ) (old one two new : List Event) (end : ℕ) → line_starts bs at ≡ true
+    → one ≡ old ++ DocStart ∷ [] → new ≡ two ++ DocEnd ∷ []
     → BlockNodeRead 0 false bs at one two end → SectionRead bs at Bare old new end
 bare_found bs at old one two new end l e f r =
-    let found : document_node_at true (rest bs at) ≡ Some (r.node, rest bs end) = subst (λ (bol : Bool). document_node_at bol (rest bs at) ≡ Some (r.node, rest bs end)) l r.found in
+    let found : document_node_at true (rest bs at) ≡ Some (r.node, rest bs end) =
+    subst (λ (bol : Bool). document_node_at bol (rest bs at) ≡ Some (r.node, rest bs end)) l r.found in
     record {
       boundary = r.boundary;
       starts = r.fresh;
@@ -199,23 +223,34 @@ bare_found bs at old one two new end l e f r =
     }
 
 -- if there is none, none is read
-pub bare_missing : (bs : List ℕ) (at : ℕ) → line_starts bs at ≡ true → document_node_at (line_starts bs at) (rest bs at) ≡ None → read_as Bare (rest bs at) ≡ None
+pub bare_missing : (bs : List ℕ) (at : ℕ) → line_starts bs at ≡ true
+    → document_node_at (line_starts bs at) (rest bs at) ≡ None → read_as Bare (rest bs at) ≡ None
 bare_missing bs at l h =
-    let none : document_node_at true (rest bs at) ≡ None = subst (λ (bol : Bool). document_node_at bol (rest bs at) ≡ None) l h in rw none refl
+    let none : document_node_at true (rest bs at) ≡ None =
+    subst (λ (bol : Bool). document_node_at bol (rest bs at) ≡ None) l h in rw none refl
 
 -- a suffix is the section there
-pub suffix_section : (bs : List ℕ) (at : ℕ) (events : List Event) (end : ℕ) → SuffixRead bs at end → SectionRead bs at Suffix events events end
+pub suffix_section : (bs : List ℕ) (at : ℕ) (events : List Event) (end : ℕ) → SuffixRead bs at end
+    → SectionRead bs at Suffix events events end
 suffix_section bs at events end r =
     record { boundary = r.boundary; starts = r.starts; found = suffix r.comments; reads = r.reads; appended = appended_none bs events }
 
 -- so is an explicit document
-pub explicit_section : (bs : List ℕ) (at : ℕ) (old new : List Event) (end : ℕ) → ExplicitRead bs at old new end → SectionRead bs at ExplicitSection old new end
+pub explicit_section : (bs : List ℕ) (at : ℕ) (old new : List Event) (end : ℕ) → ExplicitRead bs at old new end
+    → SectionRead bs at ExplicitSection old new end
 explicit_section bs at old new end r =
     let found : read_explicit document_node_at (rest bs at) ≡ Some (r.document, rest bs end) = r.reads in
-    record { boundary = r.boundary; starts = r.starts; found = document (explicit r.document); reads = rw found refl; appended = r.appended }
+    record {
+      boundary = r.boundary;
+      starts = r.starts;
+      found = document (explicit r.document);
+      reads = rw found refl;
+      appended = r.appended;
+    }
 
 -- so is a document with a directive
-pub directed_section : (bs : List ℕ) (at : ℕ) (old new : List Event) (end : ℕ) → DocumentRead bs at old new end → SectionRead bs at Directed old new end
+pub directed_section : (bs : List ℕ) (at : ℕ) (old new : List Event) (end : ℕ) → DocumentRead bs at old new end
+    → SectionRead bs at Directed old new end
 directed_section bs at old new end r =
     record {
       boundary = r.boundary;
@@ -236,17 +271,21 @@ directed_none text h = ap (λ (x : Read Document). on x (λ d after. Some (docum
 -- ---- after a directive
 
 -- after a directive the document is read
-pub document_found : (bs : List ℕ) (at : ℕ) (line : Line) (old new : List Event) (end : ℕ) → IsDirective bs at line → ExplicitRead bs line.start old new end → DocumentRead bs at old new end
+pub document_found : (bs : List ℕ) (at : ℕ) (line : Line) (old new : List Event) (end : ℕ) → IsDirective bs at line
+    → ExplicitRead bs line.start old new end → DocumentRead bs at old new end
 document_found bs at line old new end d r =
     let found : read_explicit document_node_at (rest bs line.start) ≡ Some (r.document, rest bs end) = r.reads in
     record {
       boundary = r.boundary;
       starts = r.starts;
       document = directed d.blank d.version d.comments r.document;
-      reads = d.reads document_node_at ∙ ap (λ (x : Read Explicit). on x (λ y after. Some (directed d.blank d.version d.comments y, after))) found;
+      reads = d.reads document_node_at ∙ ap (λ (x : Read Explicit).
+          on x (λ y after. Some (directed d.blank d.version d.comments y, after))) found;
       appended = subst (λ (place : ℕ). Appended bs old new (explicit_events r.document place)) d.place r.appended;
     }
 
 -- if there is none, none is read
-pub document_missing : (bs : List ℕ) (at : ℕ) (line : Line) → IsDirective bs at line → read_explicit document_node_at (rest bs line.start) ≡ None → read_directed document_node_at (rest bs at) ≡ None
-document_missing bs at line d h = d.reads document_node_at ∙ ap (λ (x : Read Explicit). on x (λ y after. Some (directed d.blank d.version d.comments y, after))) h
+pub document_missing : (bs : List ℕ) (at : ℕ) (line : Line) → IsDirective bs at line
+    → read_explicit document_node_at (rest bs line.start) ≡ None → read_directed document_node_at (rest bs at) ≡ None
+document_missing bs at line d h = d.reads document_node_at
+    ∙ ap (λ (x : Read Explicit). on x (λ y after. Some (directed d.blank d.version d.comments y, after))) h

@@ -39,7 +39,8 @@ pub empty_text : (bs : List ℕ) → IsUtf8 bs → rest bs 0 ≡ [] → IsMarkEn
 empty_text bs u e = no_mark bs u (ap (first order_mark) e)
 
 -- so does a text that starts with another character
-pub other_prefix : (bs : List ℕ) (character : ℕ) (after : List ℕ) → IsUtf8 bs → rest bs 0 ≡ character ∷ after → (character ≡ 0xfeff → ⊥) → IsMarkEnd bs 0
+pub other_prefix : (bs : List ℕ) (character : ℕ) (after : List ℕ) → IsUtf8 bs → rest bs 0 ≡ character ∷ after
+    → (character ≡ 0xfeff → ⊥) → IsMarkEnd bs 0
 other_prefix bs character after u e n =
     let other : (character == 0xfeff) ≡ false = elim (cases_Bool (character == 0xfeff)) [
       | inl h ↦ absurd (n (eqb-true character 0xfeff h))
@@ -47,7 +48,8 @@ other_prefix bs character after u e n =
     ] in
     no_mark bs u (ap (first order_mark) e ∙ other)
 
-marked : (bs : List ℕ) (after : List ℕ) → rest bs 0 ≡ 0xfeff ∷ after → stream_meaning (chars bs) ≡ sections_meaning 3 (sections_at true true after)
+marked : (bs : List ℕ) (after : List ℕ) → rest bs 0 ≡ 0xfeff ∷ after
+    → stream_meaning (chars bs) ≡ sections_meaning 3 (sections_at true true after)
 marked bs after e = ap stream_meaning e ∙ (ap flat_meaning (stream_steps (0xfeff ∷ after)) ∙ marked_meaning (sections_at true true after))
 
 -- a byte order mark is passed

@@ -16,7 +16,8 @@ use Rattle.yaml_recognizers.specs.BlockScalars.{read_block}
 use Rattle.yaml_recognizers.specs.CanonicalStreams.{FlatStream}
 use Rattle.yaml_recognizers.specs.CanonicalStreams.{Section}
 use Rattle.yaml_recognizers.specs.FlowScalars.{read_scalar}
-use Rattle.yaml_recognizers.specs.NodePlaces.{NodePlace, NodeSpelled, NodeStands, NodeStarts, SpelledAt, StartsAt, block_at, flow_at, stream_places}
+use Rattle.yaml_recognizers.specs.NodePlaces.{NodePlace, NodeSpelled, NodeStands, NodeStarts, SpelledAt, StartsAt}
+use Rattle.yaml_recognizers.specs.NodePlaces.{block_at, flow_at, stream_places}
 use Rattle.yaml_recognizers.specs.Recognizers.{stream_at, sections_at}
 use Rattle.yaml_recognizers.specs.StandingNodes.{BlockNodeStands, FlowNodeStands}
 use Rattle.yaml_recognizers.specs.Streams.{order_mark, with_mark}
@@ -38,19 +39,22 @@ marked : (mark : Bool) (sections : Option (List Section)) (s : FlatStream) → w
 marked mark None s e = cc
 marked mark (Some ps) s e = let is : ◌≡◌ {A = FlatStream} (record { mark = mark; sections = ps }) s = cc in sym (ap (λ f. f.mark) is)
 
-marked_by_test : (test : Bool) (one other : Option (List Section)) (s : FlatStream) → (if test then with_mark true one else with_mark false other) ≡ Some s → s.mark ≡ test
+marked_by_test : (test : Bool) (one other : Option (List Section)) (s : FlatStream)
+    → (if test then with_mark true one else with_mark false other) ≡ Some s → s.mark ≡ test
 marked_by_test true one other s e = marked true one s e
 marked_by_test false one other s e = marked false other s e
 
 mark_is_first : (text : List ℕ) (p : Stream) → Presents p text → p.mark ≡ first order_mark text
 mark_is_first text p h =
     let found : stream_at text ≡ Some (stream_form p) = (form_found read_scalar reads_scalars read_block blocks_read text p h).0 in
-    marked_by_test (first order_mark text) (sections_at true true (drop 1 text)) (sections_at true true text) (stream_form p) (sym (stream_steps text) ∙ found)
+    marked_by_test (first order_mark text) (sections_at true true (drop 1 text)) (sections_at true true text)
+    (stream_form p) (sym (stream_steps text) ∙ found)
 
 -- ---- what comes before a node, without the mark
 
 -- without the byte order mark of a presentation, where one that has none begins with another character
-unmarked : (mark : Bool) (before after : List ℕ) → first order_mark (mark_text mark ++ (before ++ after)) ≡ mark → without_mark (mark_text mark ++ before) ≡ before
+unmarked : (mark : Bool) (before after : List ℕ) → first order_mark (mark_text mark ++ (before ++ after)) ≡ mark
+    → without_mark (mark_text mark ++ before) ≡ before
 unmarked true before after e = refl
 unmarked false [] after e = refl
 unmarked false (c ∷ before) after e = let no : order_mark c ≡ false = e in rw no refl
@@ -66,11 +70,15 @@ part_is_at : (bytes : List ℕ) (p : Stream) (at : ℕ) (bol : Bool) (part after
 part_is_at bytes p at bol part after u h spelled starts =
     let all : List ℕ = part ++ after in
     let same : spelled.before ≡ mark_text p.mark ++ starts.before =
-    append_cancel_right spelled.before (mark_text p.mark ++ starts.before) all (sym spelled.is ∙ starts.is ∙ sym (append_assoc (mark_text p.mark) starts.before all)) in
+    append_cancel_right spelled.before (mark_text p.mark ++ starts.before) all
+    (sym spelled.is ∙ starts.is ∙ sym (append_assoc (mark_text p.mark) starts.before all)) in
     let whole : rest bytes 0 ≡ spelled.before ++ all = rest-start bytes ∙ sym h.spells ∙ spelled.is in
-    let here : StandsUpTo bytes 0 spelled.before all (0 + byte_len spelled.before) = place_after bytes 0 spelled.before all u (IsCharBoundary-start bytes u) whole in
-    let there : StandsUpTo bytes 0 spelled.before all at = subst (λ (k : ℕ). StandsUpTo bytes 0 spelled.before all k) (zero-add (byte_len spelled.before) ∙ spelled.place) here in
-    let marks : first order_mark (mark_text p.mark ++ (starts.before ++ all)) ≡ p.mark = ap (first order_mark) (sym starts.is ∙ h.spells) ∙ sym (mark_is_first (chars bytes) p h) in
+    let here : StandsUpTo bytes 0 spelled.before all (0 + byte_len spelled.before) =
+    place_after bytes 0 spelled.before all u (IsCharBoundary-start bytes u) whole in
+    let there : StandsUpTo bytes 0 spelled.before all at =
+    subst (λ (k : ℕ). StandsUpTo bytes 0 spelled.before all k) (zero-add (byte_len spelled.before) ∙ spelled.place) here in
+    let marks : first order_mark (mark_text p.mark ++ (starts.before ++ all)) ≡ p.mark =
+    ap (first order_mark) (sym starts.is ∙ h.spells) ∙ sym (mark_is_first (chars bytes) p h) in
     let begins : without_mark spelled.before ≡ starts.before = ap without_mark same ∙ unmarked p.mark starts.before all marks in
     record {
       boundary = there.boundary;
@@ -84,7 +92,8 @@ node_is_at : (bytes : List ℕ) (p : Stream) (place : NodePlace) → IsUtf8 byte
     → NodeSpelled (stream_text p) place → NodeStarts p.mark (stream_text p) place → NodeStands place → NodeIsAt bytes place
 node_is_at bytes p (flow_at n c bol at f after) u h spelled starts stands =
     let here : PartIsAt bytes at bol (flow_text f) after = part_is_at bytes p at bol (flow_text f) after u h spelled starts in
-    let bols : FlowNodeStands n c (line_starts bytes at) (flow_text f ++ after) f after = subst (λ (b : Bool). FlowNodeStands n c b (flow_text f ++ after) f after) (sym here.starts) stands in
+    let bols : FlowNodeStands n c (line_starts bytes at) (flow_text f ++ after) f after =
+    subst (λ (b : Bool). FlowNodeStands n c b (flow_text f ++ after) f after) (sym here.starts) stands in
     (here.boundary, subst (λ (t : List ℕ). FlowNodeStands n c (line_starts bytes at) t f after) (sym here.is) bols)
 node_is_at bytes p (block_at m shallow bol at node after) u h spelled starts stands =
     let here : PartIsAt bytes at bol (node_text node) after = part_is_at bytes p at bol (node_text node) after u h spelled starts in

@@ -1,5 +1,7 @@
 -- Reading on to the next piece.
-use Rattle.std.proofs.Common.{◌≡◌, ℕ, ◌+◌, ◌-◌, ◌≤◌, ◌<◌, Bool, true, false, List, [], ◌∷◌, ◌++◌, length, take, drop, refl, sym, ap, ◌∙◌, subst, arith, append_assoc, length-append, length-drop, take-append-drop, length-take-le}
+use Rattle.std.proofs.Common.{◌≡◌, ℕ, ◌+◌, ◌-◌, ◌≤◌, ◌<◌, Bool, true, false, List, [], ◌∷◌, ◌++◌, length, take, drop}
+use Rattle.std.proofs.Common.{refl, sym, ap, ◌∙◌, subst, arith, append_assoc, length-append, length-drop}
+use Rattle.std.proofs.Common.{take-append-drop, length-take-le}
 use Rattle.std.specs.Prelude.{Option, Result, Ok, Err, slice_range}
 use Rattle.std.specs.Io.KnownBytes.{Consumes}
 use Rattle.std.proofs.KnownBytes.{Consumes-nil, Consumes-trans}
@@ -10,7 +12,10 @@ use Rattle.yaml_docs.specs.Cutting.{Held, Unclosed, Takes, Overfeeds}
 use Rattle.yaml_docs.specs.declared.cutter.Fed.{Fed}
 use Rattle.yaml_docs.proofs.ClosingLines.{lies_within}
 use Rattle.yaml_docs.proofs.CutLines.{closes-shorter}
-use Rattle.yaml_docs.specs.PieceReading.{piece_limit, input_limit, ahead, piece_or_rest, IsSound, IsOverlong, Feeds, Fills, Advances, FeedsAll, FillsSome, FillsNone, FillsBeyond, FeedsPiece, AdvancesToPiece, AdvancesToEnd, FailsToRead, FindsTooLong, FindsInputLong, RunsOutOfMemory, HasPieceAhead, AdvancesWithin, AdvancesAhead}
+use Rattle.yaml_docs.specs.PieceReading.{piece_limit, input_limit, ahead, piece_or_rest, IsSound, IsOverlong, Feeds}
+use Rattle.yaml_docs.specs.PieceReading.{Fills, Advances, FeedsAll, FillsSome, FillsNone, FillsBeyond, FeedsPiece}
+use Rattle.yaml_docs.specs.PieceReading.{AdvancesToPiece, AdvancesToEnd, FailsToRead, FindsTooLong, FindsInputLong}
+use Rattle.yaml_docs.specs.PieceReading.{RunsOutOfMemory, HasPieceAhead, AdvancesWithin, AdvancesAhead}
 use Rattle.yaml_docs.specs.declared.pieces.Pieces.{Pieces}
 use Rattle.yaml_docs.specs.declared.pieces.PiecesFault.{PiecesFault}
 use Rattle.yaml_docs.specs.declared.pieces.PiecesFault.TheVariants as fault
@@ -20,16 +25,20 @@ pub unclosed-none : Unclosed []
 unclosed-none place c = (let within = lies_within [] place c in omega (arith, within, c.ends))
 
 -- where too many bytes would be taken
-pub overlong : (longest : ℕ) (old more : List ℕ) (taken : ℕ) (closed : Bool) → Takes old more taken closed → longest + 1 ≤ length old + taken → IsOverlong longest (old ++ more)
+pub overlong : (longest : ℕ) (old more : List ℕ) (taken : ℕ) (closed : Bool) → Takes old more taken closed
+    → longest + 1 ≤ length old + taken → IsOverlong longest (old ++ more)
 overlong longest old more taken true takes long =
     let piece = old ++ take taken more in
-    let size : length piece ≡ length old + taken = length-append old (take taken more) ∙ ap (λ n. length old + n) (length-take-le taken more takes.0) in
-    let split : old ++ more ≡ piece ++ drop taken more = ap (λ l. old ++ l) (sym (take-append-drop taken more)) ∙ sym (append_assoc old (take taken more) (drop taken more)) in
+    let size : length piece ≡ length old + taken = length-append old (take taken more)
+    ∙ ap (λ n. length old + n) (length-take-le taken more takes.0) in
+    let split : old ++ more ≡ piece ++ drop taken more = ap (λ l. old ++ l) (sym (take-append-drop taken more))
+    ∙ sym (append_assoc old (take taken more) (drop taken more)) in
     let rest = length-append piece (drop taken more) in
     let all = ap length split in
     record {
       unclosed = λ place le closes.
-          (let here : ClosesAt piece place = closes-shorter piece (drop taken more) place (subst (λ l. ClosesAt l place) split closes) (omega (arith, le, long, size)) in
+          (let here : ClosesAt piece place = closes-shorter piece (drop taken more) place
+          (subst (λ l. ClosesAt l place) split closes) (omega (arith, le, long, size)) in
           let at = takes.1.once place here in
           omega (arith, at, le, long, size));
       long = omega (arith, all, rest, size, long);
@@ -66,7 +75,8 @@ range-all xs start end within none = length-none (slice_range xs start end) none
 
 -- ---- taking in what was read
 
-module _ (longest most : ℕ) (old : Pieces) (cutter : Held) (taken : ℕ) (sound : IsSound longest most old) (grown : cutter.bytes ≡ piece_or_rest old ++ take taken (ahead old)) (max : cutter.max ≡ old.cutter.max) where
+module _ (longest most : ℕ) (old : Pieces) (cutter : Held) (taken : ℕ) (sound : IsSound longest most old)
+    (grown : cutter.bytes ≡ piece_or_rest old ++ take taken (ahead old)) (max : cutter.max ≡ old.cutter.max) where
   abbrev fed : Pieces
   fed = record old { cutter = cutter; start = old.start + taken }
 
@@ -89,7 +99,8 @@ module _ (longest most : ℕ) (old : Pieces) (cutter : Held) (taken : ℕ) (soun
       ap (λ l. piece_or_rest old ++ l) (range-split old.chunk.items old.start old.end taken sound.ordered within few)
       ∙ sym (append_assoc (piece_or_rest old) (take taken (ahead old)) (ahead fed)) ∙ ap (λ l. l ++ ahead fed) (sym grown)
 
-  feeds-by : (closed : Bool) → Takes (piece_or_rest old) (ahead old) taken closed → length cutter.bytes ≤ cutter.max → Feeds longest most old fed (Ok closed)
+  feeds-by : (closed : Bool) → Takes (piece_or_rest old) (ahead old) taken closed → length cutter.bytes ≤ cutter.max
+      → Feeds longest most old fed (Ok closed)
   feeds-by true takes short = record {
     sound = fed-sound takes.0;
     joined = fed-joined takes.0;
@@ -104,21 +115,25 @@ module _ (longest most : ℕ) (old : Pieces) (cutter : Held) (taken : ℕ) (soun
       record {
         sound = fed-sound few;
         joined = sym (grown ∙ ap (λ l. piece_or_rest old ++ l) all);
-        used = ap (λ n. take n (drop (old.start + taken) old.chunk.items)) (let none : old.end - (old.start + taken) ≡ 0 = omega (arith, size, takes.0) in none);
+        used = ap (λ n. take n (drop (old.start + taken) old.chunk.items))
+            (let none : old.end - (old.start + taken) ≡ 0 = omega (arith, size, takes.0) in none);
         unclosed = subst Unclosed (sym (grown ∙ ap (λ l. piece_or_rest old ++ l) all)) takes.1;
         short = omega (arith, short, max, sound.max);
         total = refl;
       }
 
 -- what the cutter does with a part of the chunk, it does with the input's bytes ahead
-pub feeds : (longest most : ℕ) (old : Pieces) (items : List ℕ) (cutter : Held) (f : Fed) → IsSound longest most old → items ≡ old.chunk.items → cutting.Feeds old.cutter (slice_range items old.start old.end) cutter f
+pub feeds : (longest most : ℕ) (old : Pieces) (items : List ℕ) (cutter : Held) (f : Fed) → IsSound longest most old
+    → items ≡ old.chunk.items → cutting.Feeds old.cutter (slice_range items old.start old.end) cutter f
     → length cutter.bytes ≤ cutter.max → Feeds longest most old (record old { cutter = cutter; start = old.start + f.taken }) (Ok f.closed)
 feeds longest most old items cutter f sound same is short =
-    let now : cutting.Feeds old.cutter (ahead old) cutter f = subst (λ l. cutting.Feeds old.cutter (slice_range l old.start old.end) cutter f) same is in
+    let now : cutting.Feeds old.cutter (ahead old) cutter f =
+    subst (λ l. cutting.Feeds old.cutter (slice_range l old.start old.end) cutter f) same is in
     feeds-by longest most old cutter f.taken sound now.held now.max f.closed now.takes short
 
 -- a cutter that is fed too much has too long a piece
-pub overfed : (longest most : ℕ) (old : Pieces) (items : List ℕ) → IsSound longest most old → items ≡ old.chunk.items → Overfeeds old.cutter (slice_range items old.start old.end) → IsOverlong longest (piece_or_rest old ++ ahead old)
+pub overfed : (longest most : ℕ) (old : Pieces) (items : List ℕ) → IsSound longest most old → items ≡ old.chunk.items
+    → Overfeeds old.cutter (slice_range items old.start old.end) → IsOverlong longest (piece_or_rest old ++ ahead old)
 overfed longest most old items sound same is =
     let now : Overfeeds old.cutter (ahead old) = subst (λ l. Overfeeds old.cutter (slice_range l old.start old.end)) same is in
     overlong longest (piece_or_rest old) (ahead old) now.taken now.closed now.takes (omega (arith, now.long, sound.max))
@@ -131,8 +146,10 @@ module _ (longest most : ℕ) (old new : Pieces) (sound : IsSound longest most o
   feeds-at r is = subst (λ n. Feeds n most old new r) sound.max (subst (λ n. Feeds (piece_limit old) n old new r) sound.whole is)
 
   -- what was read, by limits that are known
-  pub fills-at : (given left : Option (List ℕ)) (r : Result Bool PiecesFault) → Fills (piece_limit old) (input_limit old) given left old new r → Fills longest most given left old new r
-  fills-at given left r is = subst (λ n. Fills n most given left old new r) sound.max (subst (λ n. Fills (piece_limit old) n given left old new r) sound.whole is)
+  pub fills-at : (given left : Option (List ℕ)) (r : Result Bool PiecesFault)
+      → Fills (piece_limit old) (input_limit old) given left old new r → Fills longest most given left old new r
+  fills-at given left r is = subst (λ n. Fills n most given left old new r) sound.max
+      (subst (λ n. Fills (piece_limit old) n given left old new r) sound.whole is)
 
 -- ---- so far
 
@@ -145,7 +162,8 @@ pub record SoFar (given left : Option (List ℕ)) (old now : Pieces) : Type 0 wh
   pub total : now.total ≡ old.total + length more
 
 -- before the first read, nothing was taken
-pub so_far-none : (given : Option (List ℕ)) (old now : Pieces) → piece_or_rest now ≡ [] → ahead now ≡ ahead old → now.total ≡ old.total → SoFar given given old now
+pub so_far-none : (given : Option (List ℕ)) (old now : Pieces) → piece_or_rest now ≡ [] → ahead now ≡ ahead old
+    → now.total ≡ old.total → SoFar given given old now
 so_far-none given old now none same total = record {
   more = [];
   taken = Consumes-nil given;
@@ -156,7 +174,8 @@ so_far-none given old now none same total = record {
 
 module _ (longest most : ℕ) (given mid left : Option (List ℕ)) (old now fed new : Pieces) where
   -- a chunk without a closing line, and one more read
-  pub so_far-more : SoFar given mid old now → FeedsAll longest most now fed → FillsSome longest most mid left fed new → SoFar given left old new
+  pub so_far-more : SoFar given mid old now → FeedsAll longest most now fed → FillsSome longest most mid left fed new
+      → SoFar given left old new
   so_far-more s feeds fills = record {
     more = s.more ++ ahead new;
     taken = Consumes-trans given mid left s.more (ahead new) s.taken fills.taken;
@@ -166,7 +185,8 @@ module _ (longest most : ℕ) (given mid left : Option (List ℕ)) (old now fed 
   }
 
   -- where the reader ends, what is left is no piece
-  pub at-end : SoFar given mid old now → FeedsAll longest most now fed → FillsNone longest most mid left fed new → AdvancesToEnd longest most given left old new
+  pub at-end : SoFar given mid old now → FeedsAll longest most now fed → FillsNone longest most mid left fed new
+      → AdvancesToEnd longest most given left old new
   at-end s feeds fills = record {
     more = s.more;
     taken = subst (Consumes given left) (append-nil s.more) (Consumes-trans given mid left s.more [] s.taken fills.taken);
@@ -187,7 +207,8 @@ module _ (longest most : ℕ) (given mid left : Option (List ℕ)) (old now fed 
   }
 
   -- where more than a session may have is read, `InputLong` is right
-  pub beyond : SoFar given mid old now → FeedsAll longest most now fed → FillsBeyond most mid left fed → FindsInputLong longest most given left old
+  pub beyond : SoFar given mid old now → FeedsAll longest most now fed → FillsBeyond most mid left fed
+      → FindsInputLong longest most given left old
   beyond s feeds fills = record {
     more = s.more;
     beyond = fills.more;
@@ -199,7 +220,8 @@ module _ (longest most : ℕ) (given mid left : Option (List ℕ)) (old now fed 
   }
 
   -- where filling the chunk fails, the read of the next piece fails in the same way
-  pub fill-fails : SoFar given mid old now → FeedsAll longest most now fed → (f : PiecesFault) → Fills longest most mid left fed new (Err f) → Advances longest most given left old new (Err f)
+  pub fill-fails : SoFar given mid old now → FeedsAll longest most now fed → (f : PiecesFault)
+      → Fills longest most mid left fed new (Err f) → Advances longest most given left old new (Err f)
   fill-fails s fed_all fault.Read fills = failed s fed_all fills
   fill-fails s fed_all fault.InputLong fills = beyond s fed_all fills
   fill-fails s fed_all fault.TooLong fills = absurd fills
@@ -228,7 +250,8 @@ module _ (longest most : ℕ) (given mid left : Option (List ℕ)) (old now fed 
 -- ---- the next piece without a read
 
 -- an emptied cutter with the same limit changes nothing else
-pub cleared-sound : (longest most : ℕ) (old : Pieces) (cutter : Held) → IsSound longest most old → cutter.max ≡ old.cutter.max → IsSound longest most (record old { cutter = cutter })
+pub cleared-sound : (longest most : ℕ) (old : Pieces) (cutter : Held) → IsSound longest most old
+    → cutter.max ≡ old.cutter.max → IsSound longest most (record old { cutter = cutter })
 cleared-sound longest most old cutter sound max = record {
   max = max ∙ sound.max;
   whole = sound.whole;
@@ -244,7 +267,8 @@ module _ (longest most : ℕ) (old cleared new : Pieces) (none : piece_or_rest c
   joined-ahead = ap (λ l. l ++ ahead cleared) none ∙ same
 
   -- bytes that close a piece are not all taken in
-  pub advances-ahead : HasPieceAhead old → cleared.total ≡ old.total → (closed : Bool) → Feeds longest most cleared new (Ok closed) → AdvancesWithin longest most old new
+  pub advances-ahead : HasPieceAhead old → cleared.total ≡ old.total → (closed : Bool)
+      → Feeds longest most cleared new (Ok closed) → AdvancesWithin longest most old new
   advances-ahead piece total true fed = record {
     sound = fed.sound;
     joined = sym joined-ahead ∙ fed.joined;
@@ -252,10 +276,12 @@ module _ (longest most : ℕ) (old cleared new : Pieces) (none : piece_or_rest c
     short = fed.short;
     total = fed.total ∙ total;
   }
-  advances-ahead piece total false fed = absurd (fed.unclosed piece.0 (subst (λ l. ClosesAt l piece.0) (sym joined-ahead ∙ fed.joined) piece.1))
+  advances-ahead piece total false fed = absurd
+      (fed.unclosed piece.0 (subst (λ l. ClosesAt l piece.0) (sym joined-ahead ∙ fed.joined) piece.1))
 
   -- a chunk is no longer than a piece may be
-  pub fails-ahead : IsSound longest most old → (f : PiecesFault) → Feeds longest most cleared new (Err f) → AdvancesAhead longest most old new (Err f)
+  pub fails-ahead : IsSound longest most old → (f : PiecesFault) → Feeds longest most cleared new (Err f)
+      → AdvancesAhead longest most old new (Err f)
   fails-ahead sound fault.TooLong fed =
       let size = range-length old.chunk.items old.start old.end sound.ordered (omega (arith, sound.within, sound.room)) in
       let long : longest < length (ahead old) = subst (λ l. longest < length l) joined-ahead fed.long in

@@ -19,22 +19,27 @@ use Rattle.yaml_recognizers.proofs.Scalars.ScalarsInNodes.{reads_scalars}
 use Rattle.yaml_docs.specs.Sections.{flat_meaning, stream_meaning}
 use Rattle.yaml_docs.specs.Reading.{IsShortText, IsSyntax, RefusesBytes}
 use Rattle.yaml_events.specs.declared.read_fault.ReadFault.{ReadFault}
-use Rattle.yaml_events.specs.declared.read_fault.ReadFault.TheVariants.{TooLong, NotUtf8, Syntax, Documents, KeyNotText, KeyTwice, TooDeep, LargeInStyle, OutOfMemory}
+use Rattle.yaml_events.specs.declared.read_fault.ReadFault.TheVariants.{TooLong, NotUtf8, Syntax, Documents}
+use Rattle.yaml_events.specs.declared.read_fault.ReadFault.TheVariants.{KeyNotText, KeyTwice, TooDeep, LargeInStyle}
+use Rattle.yaml_events.specs.declared.read_fault.ReadFault.TheVariants.{OutOfMemory}
 use Rattle.yaml_docs.proofs.TextPlaces.{byte_len-chars}
 
 -- the characters of UTF-8 are a text
 pub is_text : (bytes : List ℕ) → IsUtf8 bytes → IsText (chars bytes)
 is_text bytes u = code_points-chars bytes u
 
-some_stream : (o : Option FlatStream) (events : List Event) → flat_meaning o ≡ Some events → (s : FlatStream) × (o ≡ Some s) × (flat_events s ≡ events)
+some_stream : (o : Option FlatStream) (events : List Event) → flat_meaning o ≡ Some events
+    → (s : FlatStream) × (o ≡ Some s) × (flat_events s ≡ events)
 some_stream None events h = cc
 some_stream (Some s) events h = (s, refl, (let e : flat_events s ≡ events = cc in e))
 
 -- what the stream means is what the bytes read as
-pub bytes_read : (bytes : List ℕ) (events : List Event) → IsUtf8 bytes → stream_meaning (chars bytes) ≡ Some events → Reads (chars bytes) events
+pub bytes_read : (bytes : List ℕ) (events : List Event) → IsUtf8 bytes → stream_meaning (chars bytes) ≡ Some events
+    → Reads (chars bytes) events
 bytes_read bytes events u h =
     let s = some_stream (stream_at (chars bytes)) events h in
-    subst (λ (es : List Event). Reads (chars bytes) es) s.2 (text_reads read_scalar reads_scalars read_block blocks_read (chars bytes) s.0 (is_text bytes u) s.1)
+    subst (λ (es : List Event). Reads (chars bytes) es) s.2
+    (text_reads read_scalar reads_scalars read_block blocks_read (chars bytes) s.0 (is_text bytes u) s.1)
 
 -- if there is no stream, the bytes read as nothing
 pub nothing_read : (bytes : List ℕ) → stream_meaning (chars bytes) ≡ None → (events : List Event) → Reads (chars bytes) events → ⊥
@@ -55,7 +60,8 @@ ranges_read bytes events u r =
     subst (λ (n : ℕ). RangesInOrder 0 events n) to in_text
 
 -- so they are refused for their syntax
-pub syntax_refused : (bytes : List ℕ) (max : ℕ) (fault : ReadFault) → IsShortText bytes max → stream_meaning (chars bytes) ≡ None → IsSyntax fault → RefusesBytes bytes max fault
+pub syntax_refused : (bytes : List ℕ) (max : ℕ) (fault : ReadFault) → IsShortText bytes max
+    → stream_meaning (chars bytes) ≡ None → IsSyntax fault → RefusesBytes bytes max fault
 syntax_refused bytes max TooLong t h s = absurd s
 syntax_refused bytes max (NotUtf8 at) t h s = absurd s
 syntax_refused bytes max (Syntax line column why) t h s = (t, nothing_read bytes h)

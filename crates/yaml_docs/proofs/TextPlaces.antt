@@ -29,7 +29,8 @@ pub byte_len-chars : (bs : List ℕ) → IsUtf8 bs → byte_len (chars bs) ≡ l
 byte_len-chars bs u = let e = byte_len-rest bs 0 u (IsCharBoundary-start bs u) in omega (arith, e)
 
 -- what is between two places says how far they are apart
-pub spelled_end : (bs : List ℕ) (i j : ℕ) (xs : List ℕ) → IsUtf8 bs → IsCharBoundary bs i → IsCharBoundary bs j → rest bs i ≡ xs ++ rest bs j → j ≡ i + byte_len xs
+pub spelled_end : (bs : List ℕ) (i j : ℕ) (xs : List ℕ) → IsUtf8 bs → IsCharBoundary bs i → IsCharBoundary bs j
+    → rest bs i ≡ xs ++ rest bs j → j ≡ i + byte_len xs
 spelled_end bs i j xs u b d e =
     let h : byte_len (rest bs i) ≡ byte_len xs + byte_len (rest bs j) = ap byte_len e ∙ byte_len_joined xs (rest bs j) in
     omega (arith, h, byte_len-rest bs i u b, byte_len-rest bs j u d)
@@ -41,14 +42,16 @@ pub record StandsUpTo (bs : List ℕ) (i : ℕ) (xs after : List ℕ) (j : ℕ) 
   pub is : between bs i j ≡ xs
 
 -- the place after characters that are at a place
-pub place_after : (bs : List ℕ) (i : ℕ) (xs after : List ℕ) → IsUtf8 bs → IsCharBoundary bs i → rest bs i ≡ xs ++ after → StandsUpTo bs i xs after (i + byte_len xs)
+pub place_after : (bs : List ℕ) (i : ℕ) (xs after : List ℕ) → IsUtf8 bs → IsCharBoundary bs i
+    → rest bs i ≡ xs ++ after → StandsUpTo bs i xs after (i + byte_len xs)
 place_after bs i xs after u b e =
     let s : IsSplit bs i xs after (i + length (encodes xs)) = split_at bs i xs after u b e in
     let p : i + length (encodes xs) ≡ i + byte_len xs = ap (λ n. i + n) (sym (byte_len-encodes xs)) in
     subst (λ (j : ℕ). StandsUpTo bs i xs after j) p (record { boundary = s.boundary; leaves = s.spells_after; is = s.spells_prefix })
 
 -- the characters between two places, if they are there
-pub between_is : (bs : List ℕ) (i j : ℕ) (xs : List ℕ) → IsUtf8 bs → IsCharBoundary bs i → IsCharBoundary bs j → rest bs i ≡ xs ++ rest bs j → between bs i j ≡ xs
+pub between_is : (bs : List ℕ) (i j : ℕ) (xs : List ℕ) → IsUtf8 bs → IsCharBoundary bs i → IsCharBoundary bs j
+    → rest bs i ≡ xs ++ rest bs j → between bs i j ≡ xs
 between_is bs i j xs u b d e =
     let s : StandsUpTo bs i xs (rest bs j) (i + byte_len xs) = place_after bs i xs (rest bs j) u b e in
     let p : i + byte_len xs ≡ j = sym (spelled_end bs i j xs u b d e) in
@@ -87,7 +90,8 @@ IsAfterMark bs i = (0 < i) ⊎ (first order_mark (rest bs i) ≡ false)
 pub starts_between : (bs : List ℕ) (i j : ℕ) → IsUtf8 bs → i ≤ j → IsCharBoundary bs i → IsCharBoundary bs j → IsAfterMark bs i
     → line_starts bs j ≡ starts_line (line_starts bs i) (between bs i j)
 starts_between bs i j u l b d m =
-    let whole : between bs 0 j ≡ between bs 0 i ++ between bs i j = between-append bs 0 i j u (omega arith) l (IsCharBoundary-start bs u) b d in
+    let whole : between bs 0 j ≡ between bs 0 i ++ between bs i j =
+    between-append bs 0 i j u (omega arith) l (IsCharBoundary-start bs u) b d in
     let unmarked : (is_empty (between bs 0 i) ≡ false) ⊎ (first order_mark (between bs i j ++ rest bs j) ≡ false) =
     elim m as (λ _. (is_empty (between bs 0 i) ≡ false) ⊎ (first order_mark (between bs i j ++ rest bs j) ≡ false)) [
       | inl p ↦ inl (filled_before bs i u b p)

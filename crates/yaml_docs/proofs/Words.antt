@@ -23,16 +23,19 @@ begins_itself [] after = refl
 begins_itself (w ∷ ws) after = and_from _ _ (same_char w) (begins_itself ws after)
 
 -- The bytes begin with the word exactly where the characters do.
-pub word_begins : (bs word : List ℕ) (r : Bool) → IsUtf8 bs → list_all (λ c. nat_lt c 128) word ≡ true → (r ≡ true → bs ≡ word ++ drop (length word) bs)
+pub word_begins : (bs word : List ℕ) (r : Bool) → IsUtf8 bs → list_all (λ c. nat_lt c 128) word ≡ true
+    → (r ≡ true → bs ≡ word ++ drop (length word) bs)
     → ((after : List ℕ) → bs ≡ word ++ after → r ≡ true) → r ≡ begins word (chars bs)
 word_begins bs word r u a there back = elim (cases_Bool r) [
   | inl t ↦ (let e : chars bs ≡ word ++ chars (drop (length word) bs) =
-      ap chars (there t) ∙ (chars-append word (drop (length word) bs) (IsUtf8-from_ascii word ascii) ∙ ap (λ x. x ++ chars (drop (length word) bs)) (chars-IsAscii word ascii)) in
+      ap chars (there t) ∙ (chars-append word (drop (length word) bs) (IsUtf8-from_ascii word ascii)
+      ∙ ap (λ x. x ++ chars (drop (length word) bs)) (chars-IsAscii word ascii)) in
       t ∙ sym (ap (begins word) e ∙ begins_itself word (chars (drop (length word) bs))))
   | inr f ↦ elim (cases_Bool (begins word (chars bs))) [
     | inl b ↦ (let e : chars bs ≡ word ++ drop (length word) (chars bs) = begins_split word (chars bs) b in
         let bytes : bs ≡ word ++ encodes (drop (length word) (chars bs)) =
-        sym (encodes-chars bs u) ∙ (ap encodes e ∙ (encodes-append word (drop (length word) (chars bs)) ∙ ap (λ x. x ++ encodes (drop (length word) (chars bs))) (encodes-IsAscii word ascii))) in
+        sym (encodes-chars bs u) ∙ (ap encodes e ∙ (encodes-append word (drop (length word) (chars bs))
+        ∙ ap (λ x. x ++ encodes (drop (length word) (chars bs))) (encodes-IsAscii word ascii))) in
         absurd (false≢true (sym f ∙ back (encodes (drop (length word) (chars bs))) bytes)))
     | inr b ↦ f ∙ sym b
   ]

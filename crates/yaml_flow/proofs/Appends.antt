@@ -18,7 +18,8 @@ module _ (text : List ℕ) where
   appended_none es = record { more = []; is = sym (append-nil es); means = refl; borrows = All-nil (BorrowsPlain text) }
 
   -- one event more is appended
-  pub appended_one : (old new : EventList) (event : ListedEvent) (meant : Event) → new ≡ old ++ event ∷ [] → event_of event ≡ meant → BorrowsPlain text event
+  pub appended_one : (old new : EventList) (event : ListedEvent) (meant : Event) → new ≡ old ++ event ∷ []
+      → event_of event ≡ meant → BorrowsPlain text event
       → Appended text old new (meant ∷ [])
   appended_one old new event meant e m b = record {
     more = event ∷ [];
@@ -28,7 +29,8 @@ module _ (text : List ℕ) where
   }
 
   -- further events are appended
-  pub appended_then : (a b c : EventList) (one two : List Event) → Appended text a b one → Appended text b c two → Appended text a c (one ++ two)
+  pub appended_then : (a b c : EventList) (one two : List Event) → Appended text a b one → Appended text b c two
+      → Appended text a c (one ++ two)
   appended_then a b c one two h k = record {
     more = h.more ++ k.more;
     is = k.is ∙ (ap (λ es. es ++ k.more) h.is ∙ append_assoc a h.more k.more);
@@ -45,7 +47,8 @@ module _ (text : List ℕ) where
   appended_to old new newer one e h = record { more = h.more; is = e ∙ h.is; means = h.means; borrows = h.borrows }
 
   -- an event that is put before the later ones
-  pub appended_between : (a b c new : EventList) (one two : List Event) → Appended text a b one → Appended text b c two → new ≡ insert c (length b) MapStart
+  pub appended_between : (a b c new : EventList) (one two : List Event) → Appended text a b one
+      → Appended text b c two → new ≡ insert c (length b) MapStart
       → Appended text a new (one ++ (map_start ∷ two))
   appended_between a b c new one two h k e =
       let i : insert c (length b) MapStart ≡ b ++ (MapStart ∷ k.more) =
@@ -58,10 +61,12 @@ module _ (text : List ℕ) where
       })
     where
       inserted : (xs ys : EventList) → insert (xs ++ ys) (length xs) MapStart ≡ xs ++ (MapStart ∷ ys)
-      inserted xs ys = ap (λ zs. zs ++ (MapStart ∷ (drop (length xs) (xs ++ ys)))) (take-append_seam xs ys) ∙ ap (λ zs. xs ++ (MapStart ∷ zs)) (drop-append_seam xs ys)
+      inserted xs ys = ap (λ zs. zs ++ (MapStart ∷ (drop (length xs) (xs ++ ys)))) (take-append_seam xs ys)
+          ∙ ap (λ zs. xs ++ (MapStart ∷ zs)) (drop-append_seam xs ys)
 
 -- what is appended means these events
-pub appended_means : (text : List ℕ) (old new : EventList) (meant : List Event) → Appended text old new meant → events_of new ≡ events_of old ++ meant
+pub appended_means : (text : List ℕ) (old new : EventList) (meant : List Event) → Appended text old new meant
+    → events_of new ≡ events_of old ++ meant
 appended_means text old new meant h = ap events_of h.is ∙ (map-append event_of old h.more ∙ ap (λ es. events_of old ++ es) h.means)
 
 -- a list is its own prefix of full length

@@ -13,7 +13,8 @@ use Rattle.yaml_grammar.specs.Texts.{byte_len, starts_line}
 use Rattle.yaml_events.specs.declared.event.Event.TheVariants.{MapStart}
 use Rattle.yaml_events.specs.EventPlaces.{line_starts}
 use Rattle.yaml_recognizers.specs.Ends.{is_colon}
-use Rattle.yaml_recognizers.specs.FlowFrames.{FlowPart, first_node, asked_key, pair_value, Bracket, OpenFlow, close_with, entries_of, entry_of}
+use Rattle.yaml_recognizers.specs.FlowFrames.{FlowPart, first_node, asked_key, pair_value, Bracket, OpenFlow}
+use Rattle.yaml_recognizers.specs.FlowFrames.{close_with, entries_of, entry_of}
 use Rattle.yaml_recognizers.specs.FlowNodes.{key_is_short}
 use Rattle.yaml_recognizers.specs.Prefixes.{past}
 use Rattle.yaml_recognizers.specs.Gaps.{GapRead, read_gap}
@@ -27,11 +28,15 @@ use Rattle.yaml_flow.specs.declared.collection.Open.{Open}
 use Rattle.yaml_flow.specs.declared.collection.Part.TheVariants.{Value as ValuePart}
 use Rattle.yaml_flow.specs.FlowNodes.{Appended}
 use Rattle.yaml_scan.proofs.ByteSigns.{IsSign}
-use Rattle.yaml_flow.specs.Frames.{AtColon, AtNode, BeganPair, Collection, EntryRead, EventList, NoPair, NodeRead, PartFits, Passes, SameLine, bracket_prefix, ends_plain, entry_start, fits_single, frame_prefix, in_sequence, is_first, is_single, pair_end, pair_start, part_prefix, part_of}
+use Rattle.yaml_flow.specs.Frames.{AtColon, AtNode, BeganPair, Collection, EntryRead, EventList, NoPair, NodeRead}
+use Rattle.yaml_flow.specs.Frames.{PartFits, Passes, SameLine, bracket_prefix, ends_plain, entry_start, fits_single}
+use Rattle.yaml_flow.specs.Frames.{frame_prefix, in_sequence, is_first, is_single, pair_end, pair_start, part_prefix}
+use Rattle.yaml_flow.specs.Frames.{part_of}
 use Rattle.yaml_scan.specs.Gaps.{NoGap}
 use Rattle.yaml_flow.proofs.Appends.{appended_as, appended_between, appended_then, appended_to}
 use Rattle.yaml_flow.proofs.EntryEvents.{empty_length, entry_length, pair_events, with_colon}
-use Rattle.yaml_flow.proofs.FlowSteps.{Dead, ask_of, bol_of, dead, is_value, keyed, keyed_fits, keyed_refused, made_dead, plug_key, value_entry, waits_value}
+use Rattle.yaml_flow.proofs.FlowSteps.{Dead, ask_of, bol_of, dead, is_value, keyed, keyed_fits, keyed_refused}
+use Rattle.yaml_flow.proofs.FlowSteps.{made_dead, plug_key, value_entry, waits_value}
 use Rattle.yaml_flow.proofs.PairKeys.{fits_line, key_fits, left_out, no_value, value_given, value_left_out}
 use Rattle.yaml_flow.proofs.NodeSteps.{key_start, no_value_part, node_length, plugged, single_is}
 use Rattle.yaml_flow.proofs.Signs.{between_after}
@@ -39,7 +44,8 @@ use Rattle.yaml_flow.proofs.Signs.{between_after}
 -- ---- the parts of a frame
 
 -- the events before the key, once a single pair is begun
-pair_written : (in_seq : Bool) (part : FlowPart) (at : ℕ) → is_value part ≡ false → (in_seq && is_first (part_of part)) ≡ false → part_prefix in_seq part at ≡ pair_start in_seq
+pair_written : (in_seq : Bool) (part : FlowPart) (at : ℕ) → is_value part ≡ false
+    → (in_seq && is_first (part_of part)) ≡ false → part_prefix in_seq part at ≡ pair_start in_seq
 pair_written true (first_node bol) at v h = absurd (false≢true (sym h))
 pair_written false (first_node bol) at v h = refl
 pair_written in_seq (asked_key sep) at v h = refl
@@ -66,7 +72,8 @@ module _ (n : ℕ) (d : FlowContext) (text : List ℕ) where
   plug_dead b (first_node bol) f x h =
       ap (keyed n d b bol None f) (no_value n d (is_plain f) x (h.colon (is_plain f))) ∙ made_dead n d b bol None f absent x h
   plug_dead b (asked_key sep) f x h =
-      ap (keyed n d b false (Some sep) f) (no_value n d (is_plain f) x (h.colon (is_plain f))) ∙ made_dead n d b false (Some sep) f absent x h
+      ap (keyed n d b false (Some sep) f) (no_value n d (is_plain f) x (h.colon (is_plain f)))
+      ∙ made_dead n d b false (Some sep) f absent x h
   plug_dead b (pair_value ask bol key before after) f x h =
       ap (λ r. close_with b (on r (λ e t. entries_of n d b.in_seq e t))) (value_entry n d b.in_seq bol ask key before after f x)
       ∙ made_dead n d b bol ask key (given before after f) x h
@@ -81,10 +88,13 @@ module _ (n : ℕ) (d : FlowContext) (text : List ℕ) where
   -- ---- the `:` after a key
 
   -- the test of a single pair is of the text of the key and the gap
-  test_is : (line start end colon : ℕ) (key : Flow) → IsUtf8 text → start ≤ colon → IsCharBoundary text start → IsCharBoundary text colon → SameLine text line start colon
-      → found_at start key end → (gap : Option Sep) → gap_from end ≡ (gap, rest text colon) → fits_single text line start colon ≡ fits_line (flow_text key ++ gap_text (gap_from end).0)
+  test_is : (line start end colon : ℕ) (key : Flow) → IsUtf8 text → start ≤ colon → IsCharBoundary text start
+      → IsCharBoundary text colon → SameLine text line start colon
+      → found_at start key end → (gap : Option Sep) → gap_from end ≡ (gap, rest text colon)
+      → fits_single text line start colon ≡ fits_line (flow_text key ++ gap_text (gap_from end).0)
   test_is line start end colon key u l b c same found gap e =
-      let s : StandsFlow n d (line_starts text start) (rest text start) key (rest text end) = stands n d (line_starts text start) (rest text start) key (rest text end) found in
+      let s : StandsFlow n d (line_starts text start) (rest text start) key (rest text end) =
+      stands n d (line_starts text start) (rest text start) key (rest text end) found in
       let g = gap_sound n (one_line d) (rest text end) in
       let spells : rest text start ≡ (flow_text key ++ gap_text (gap_from end).0) ++ rest text colon =
       s.spells ∙ (ap (λ t. flow_text key ++ t) (g.0 ∙ ap (λ t. gap_text (gap_from end).0 ++ t) (ap (λ (r : GapRead). r.1) e))
@@ -93,10 +103,12 @@ module _ (n : ℕ) (d : FlowContext) (text : List ℕ) where
       between_after text start colon (flow_text key ++ gap_text (gap_from end).0) u l b c spells in
       ap (λ x. x && nat_le (length (between text start colon)) 1024) same ∙ ap fits_line is
 
-  colon_fits : (in_seq : Bool) (part : FlowPart) (key : Flow) (start end : ℕ) → is_value part ≡ false → PartFits n d text in_seq part start → widens flow_key d ≡ true
+  colon_fits : (in_seq : Bool) (part : FlowPart) (key : Flow) (start end : ℕ) → is_value part ≡ false
+      → PartFits n d text in_seq part start → widens flow_key d ≡ true
       → found_at start key end → is_colon d (is_plain key) (gap_from end).1 ≡ true
       → ((in_seq && is_first (part_of part)) ≡ true → fits_line (flow_text key ++ gap_text (gap_from end).0) ≡ true)
-      → (v : Value) (r : List ℕ) → flow_value_at n d (is_plain key) (rest text end) ≡ Some (v, r) → key_is_short n d in_seq (bol_of part) (ask_of part) key v r ≡ true
+      → (v : Value) (r : List ℕ) → flow_value_at n d (is_plain key) (rest text end) ≡ Some (v, r)
+      → key_is_short n d in_seq (bol_of part) (ask_of part) key v r ≡ true
   colon_fits true (first_node bol) key start end x p w found i h v r e =
       key_fits n d bol (rest text start) key (rest text end) v r w (ap (λ k. flow_node_at n d k (rest text start)) p ∙ found) i e ∙ h refl
   colon_fits false (first_node bol) key start end x p w found i h v r e = refl
@@ -104,8 +116,10 @@ module _ (n : ℕ) (d : FlowContext) (text : List ℕ) where
   colon_fits in_seq (pair_value ask bol k before after) key start end x p w found i h v r e = absurd (false≢true (sym x))
 
   -- a `:` after a node makes it a key
-  pub colon_read : (w : Collection) (top : Open) (node_end : NodeEnd) (line end colon : ℕ) (events new : EventList) → IsUtf8 text → IsCharBoundary text top.start → IsCharBoundary text end
-      → top.start ≤ end → widens flow_key d ≡ true → (top.part ≡ ValuePart → ⊥) → Passes n d text end colon → is_colon d (ends_plain node_end) (rest text colon) ≡ true
+  pub colon_read : (w : Collection) (top : Open) (node_end : NodeEnd) (line end colon : ℕ) (events new : EventList)
+      → IsUtf8 text → IsCharBoundary text top.start → IsCharBoundary text end
+      → top.start ≤ end → widens flow_key d ≡ true → (top.part ≡ ValuePart → ⊥) → Passes n d text end colon
+      → is_colon d (ends_plain node_end) (rest text colon) ≡ true
       → SameLine text line top.start colon → BeganPair text top line colon events new → NodeRead n d text w top node_end end events
       → AtColon n d text w (in_sequence top.kind) node_end colon new
   colon_read w top node_end line end colon events new u b c l wide p gap i same begun here =
@@ -113,8 +127,10 @@ module _ (n : ℕ) (d : FlowContext) (text : List ℕ) where
       let k : Bracket = o.bracket in
       let key : Flow = here.node in
       let v : is_value o.part ≡ false = no_value_part o.part (λ h. p (sym here.waits.keeps.part ∙ h)) in
-      let single : is_single top ≡ k.in_seq && is_first (part_of o.part) = single_is n d text top k.in_seq o.part here.waits.keeps.kind here.waits.keeps.part in
-      let start : top.start ≡ entry_start k w.start + byte_len (asked_text (ask_of o.part)) = sym here.waits.place ∙ key_start n d text o.part (entry_start k w.start) v in
+      let single : is_single top ≡ k.in_seq && is_first (part_of o.part) =
+      single_is n d text top k.in_seq o.part here.waits.keeps.kind here.waits.keeps.part in
+      let start : top.start ≡ entry_start k w.start + byte_len (asked_text (ask_of o.part)) = sym here.waits.place
+      ∙ key_start n d text o.part (entry_start k w.start) v in
       let long : top.start + byte_len (flow_text key) ≡ end = node_length n d text top.start end key u b c here.found in
       let sized = gap.length in
       let reach = gap.above in
@@ -134,25 +150,33 @@ module _ (n : ℕ) (d : FlowContext) (text : List ℕ) where
         passes = gap.reads;
         sign = i;
         place = omega (arith, start, long, sized);
-        fits = colon_fits k.in_seq o.part key top.start end v here.waits.fits wide here.found sign (λ h. sym test ∙ (begun.single (single ∙ h)).0);
+        fits = colon_fits k.in_seq o.part key top.start end v here.waits.fits wide here.found sign
+            (λ h. sym test ∙ (begun.single (single ∙ h)).0);
         written = appended_as text w.kept new _ _ (ap (λ x. bracket_prefix k w.start ++ (pair_start k.in_seq ++ flow_events key x)) start)
             (elim (cases_Bool (k.in_seq && is_first (part_of o.part))) [
-              | inl h ↦ appended_as text w.kept new _ _ (single_written k.in_seq o.part (bracket_prefix k w.start) (flow_events key top.start) (entry_start k w.start) h)
-                  (appended_between text w.kept here.before events new (frame_prefix o w.start) (flow_events key top.start) here.waits.written here.written
+              | inl h ↦ appended_as text w.kept new _ _
+                  (single_written k.in_seq o.part (bracket_prefix k w.start) (flow_events key top.start)
+                  (entry_start k w.start) h)
+                  (appended_between text w.kept here.before events new (frame_prefix o w.start)
+                  (flow_events key top.start) here.waits.written here.written
                   ((begun.single (single ∙ h)).1 ∙ ap (λ x. insert events x MapStart) (sym here.count)))
               | inr h ↦ appended_to text w.kept events new _ (begun.other (single ∙ h))
                   (appended_as text w.kept events _ _
                   (append_assoc (bracket_prefix k w.start) (part_prefix k.in_seq o.part (entry_start k w.start)) (flow_events key top.start)
-                  ∙ ap (λ es. bracket_prefix k w.start ++ (es ++ flow_events key top.start)) (pair_written k.in_seq o.part (entry_start k w.start) v h))
-                  (appended_then text w.kept here.before events (frame_prefix o w.start) (flow_events key top.start) here.waits.written here.written))
+                  ∙ ap (λ es. bracket_prefix k w.start ++ (es ++ flow_events key top.start))
+                  (pair_written k.in_seq o.part (entry_start k w.start) v h))
+                  (appended_then text w.kept here.before events (frame_prefix o w.start)
+                  (flow_events key top.start) here.waits.written here.written))
             ]);
         reads = plugged n d text w top node_end end events here ∙ plug_key n d o key (rest text end) v;
       }
 
   -- a key over lines, or a long one
-  key_refused : (b : Bracket) (part : FlowPart) (key : Flow) (start end : ℕ) → (b.in_seq && is_first (part_of part)) ≡ true → PartFits n d text b.in_seq part start
+  key_refused : (b : Bracket) (part : FlowPart) (key : Flow) (start end : ℕ)
+      → (b.in_seq && is_first (part_of part)) ≡ true → PartFits n d text b.in_seq part start
       → widens flow_key d ≡ true → found_at start key end → is_colon d (is_plain key) (gap_from end).1 ≡ true
-      → fits_line (flow_text key ++ gap_text (gap_from end).0) ≡ false → close_with b (on (entry_of n d b.in_seq part key (rest text end)) (λ e t. entries_of n d b.in_seq e t)) ≡ None
+      → fits_line (flow_text key ++ gap_text (gap_from end).0) ≡ false
+      → close_with b (on (entry_of n d b.in_seq part key (rest text end)) (λ e t. entries_of n d b.in_seq e t)) ≡ None
   key_refused b (first_node bol) key start end h p w found i f =
       let kind : b.in_seq ≡ true = (and_parts _ _ h).0 in
       keyed_refused n d b bol None key (flow_value_at n d (is_plain key) (rest text end))
@@ -162,7 +186,8 @@ module _ (n : ℕ) (d : FlowContext) (text : List ℕ) where
   key_refused b (pair_value ask bol k before after) key start end h p w found i f = absurd (false≢true (and_parts _ _ h).1)
 
   -- a `:` that may not be one makes the collection none
-  pub colon_refused : (w : Collection) (top : Open) (node_end : NodeEnd) (line end colon : ℕ) (events : EventList) → IsUtf8 text → IsCharBoundary text top.start
+  pub colon_refused : (w : Collection) (top : Open) (node_end : NodeEnd) (line end colon : ℕ) (events : EventList)
+      → IsUtf8 text → IsCharBoundary text top.start
       → top.start ≤ end → widens flow_key d ≡ true → Passes n d text end colon → is_colon d (ends_plain node_end) (rest text colon) ≡ true
       → SameLine text line top.start colon → NoPair text top line colon → NodeRead n d text w top node_end end events → w.reads ≡ None
   colon_refused w top node_end line end colon events u b l wide gap i same pair here =
@@ -170,7 +195,8 @@ module _ (n : ℕ) (d : FlowContext) (text : List ℕ) where
       let k : Bracket = o.bracket in
       let key : Flow = here.node in
       let reach = gap.above in
-      let single : is_single top ≡ k.in_seq && is_first (part_of o.part) = single_is n d text top k.in_seq o.part here.waits.keeps.kind here.waits.keeps.part in
+      let single : is_single top ≡ k.in_seq && is_first (part_of o.part) =
+      single_is n d text top k.in_seq o.part here.waits.keeps.kind here.waits.keeps.part in
       let sign : is_colon d (is_plain key) (gap_from end).1 ≡ true =
       ap (λ x. is_colon d x (gap_from end).1) here.plain ∙ (ap (λ (r : GapRead). is_colon d (ends_plain node_end) r.1) gap.reads ∙ i) in
       let test : fits_single text line top.start colon ≡ fits_line (flow_text key ++ gap_text (gap_from end).0) =
@@ -183,31 +209,41 @@ module _ (n : ℕ) (d : FlowContext) (text : List ℕ) where
   past_colon : (colon : ℕ) → IsSign text colon 58 → past (rest text colon) ≡ rest text (colon + 1)
   past_colon colon sign = ap past sign.splits
 
-  module _ (w : Collection) (in_seq : Bool) (key_end : NodeEnd) (colon : ℕ) (events : EventList) (here : AtColon n d text w in_seq key_end colon events) where
+  module _ (w : Collection) (in_seq : Bool) (key_end : NodeEnd) (colon : ℕ) (events : EventList)
+      (here : AtColon n d text w in_seq key_end colon events) where
     sign_there : is_colon d (is_plain here.key) (read_gap n (one_line d) here.follows).1 ≡ true
-    sign_there = ap (λ x. is_colon d x (read_gap n (one_line d) here.follows).1) here.plain ∙ (ap (λ (r : GapRead). is_colon d (ends_plain key_end) r.1) here.passes ∙ here.sign)
+    sign_there = ap (λ x. is_colon d x (read_gap n (one_line d) here.follows).1) here.plain
+        ∙ (ap (λ (r : GapRead). is_colon d (ends_plain key_end) r.1) here.passes ∙ here.sign)
 
     after_gap : IsSign text colon 58 → read_gap n (one_line d) (past (read_gap n (one_line d) here.follows).1) ≡ gap_from (colon + 1)
-    after_gap sign = ap (λ (r : GapRead). read_gap n (one_line d) (past r.1)) here.passes ∙ ap (read_gap n (one_line d)) (past_colon colon sign)
+    after_gap sign = ap (λ (r : GapRead). read_gap n (one_line d) (past r.1)) here.passes
+        ∙ ap (read_gap n (one_line d)) (past_colon colon sign)
 
     value_empty : IsSign text colon 58 → left_out (ends_plain key_end) (gap_from (colon + 1)) ≡ true
         → flow_value_at n d (is_plain here.key) here.follows ≡ Some (empty here.gap, rest text (colon + 1))
     value_empty sign h =
-        value_left_out n d (is_plain here.key) here.follows sign_there (ap (left_out (is_plain here.key)) (after_gap sign) ∙ (ap (λ x. left_out x (gap_from (colon + 1))) here.plain ∙ h))
-        ∙ (ap (λ (r : GapRead). Some (empty r.0, past r.1)) here.passes ∙ ap (λ (t : List ℕ). Some (empty here.gap, t)) (past_colon colon sign))
+        value_left_out n d (is_plain here.key) here.follows sign_there
+        (ap (left_out (is_plain here.key)) (after_gap sign) ∙ (ap (λ x. left_out x (gap_from (colon + 1))) here.plain ∙ h))
+        ∙ (ap (λ (r : GapRead). Some (empty r.0, past r.1)) here.passes
+        ∙ ap (λ (t : List ℕ). Some (empty here.gap, t)) (past_colon colon sign))
 
     value_node : IsSign text colon 58 → left_out (ends_plain key_end) (gap_from (colon + 1)) ≡ false
         → flow_value_at n d (is_plain here.key) here.follows
-        ≡ on (flow_node_at n d (starts_line false (gap_text (gap_from (colon + 1)).0)) (gap_from (colon + 1)).1) (λ f r. Some (given here.gap (gap_from (colon + 1)).0 f, r))
+        ≡ on (flow_node_at n d (starts_line false (gap_text (gap_from (colon + 1)).0)) (gap_from (colon + 1)).1)
+        (λ f r. Some (given here.gap (gap_from (colon + 1)).0 f, r))
     value_node sign h =
-        value_given n d (is_plain here.key) here.follows sign_there (ap (left_out (is_plain here.key)) (after_gap sign) ∙ (ap (λ x. left_out x (gap_from (colon + 1))) here.plain ∙ h))
-        ∙ (ap (λ (g : GapRead). on (flow_node_at n d (starts_line false (gap_text g.0)) g.1) (λ f r. Some (given (read_gap n (one_line d) here.follows).0 g.0 f, r))) (after_gap sign)
-        ∙ ap (λ (x : Option Sep). on (flow_node_at n d (starts_line false (gap_text (gap_from (colon + 1)).0)) (gap_from (colon + 1)).1) (λ f r. Some (given x (gap_from (colon + 1)).0 f, r)))
+        value_given n d (is_plain here.key) here.follows sign_there
+        (ap (left_out (is_plain here.key)) (after_gap sign) ∙ (ap (λ x. left_out x (gap_from (colon + 1))) here.plain ∙ h))
+        ∙ (ap (λ (g : GapRead). on (flow_node_at n d (starts_line false (gap_text g.0)) g.1)
+        (λ f r. Some (given (read_gap n (one_line d) here.follows).0 g.0 f, r))) (after_gap sign)
+        ∙ ap (λ (x : Option Sep). on (flow_node_at n d (starts_line false (gap_text (gap_from (colon + 1)).0))
+        (gap_from (colon + 1)).1) (λ f r. Some (given x (gap_from (colon + 1)).0 f, r)))
         (ap (λ (r : GapRead). r.0) here.passes))
 
     -- a `:` without a value ends the pair
     pub pair_without_value : (at : ℕ) (new : EventList) → IsSign text colon 58 → Passes n d text (colon + 1) at
-        → left_out (ends_plain key_end) (gap_from (colon + 1)) ≡ true → Appended text events new (omitted_at (colon + 1) ++ pair_end in_seq) → EntryRead n d text w in_seq at new
+        → left_out (ends_plain key_end) (gap_from (colon + 1)) ≡ true
+        → Appended text events new (omitted_at (colon + 1) ++ pair_end in_seq) → EntryRead n d text w in_seq at new
     pair_without_value at new sign gap h a =
         let k : Bracket = here.bracket in
         let placed = here.place in
@@ -225,27 +261,36 @@ module _ (n : ℕ) (d : FlowContext) (text : List ℕ) where
           passes = gap.reads;
           place = omega (arith, placed, wide, sized, more);
           written = appended_as text w.kept new _ _
-              (append_assoc (bracket_prefix k w.start) (pair_start k.in_seq ++ flow_events here.key key_at) (omitted_at (colon + 1) ++ pair_end k.in_seq)
-              ∙ (ap (λ x. bracket_prefix k w.start ++ ((pair_start k.in_seq ++ flow_events here.key key_at) ++ (omitted_at x ++ pair_end k.in_seq))) (sym place)
+              (append_assoc (bracket_prefix k w.start) (pair_start k.in_seq ++ flow_events here.key key_at)
+              (omitted_at (colon + 1) ++ pair_end k.in_seq)
+              ∙ (ap (λ x. bracket_prefix k w.start ++ ((pair_start k.in_seq ++ flow_events here.key key_at)
+              ++ (omitted_at x ++ pair_end k.in_seq))) (sym place)
               ∙ ap (λ es. bracket_prefix k w.start ++ es)
-              (sym (pair_events k.in_seq here.ask here.key (empty here.gap) (entry_start k w.start) (λ q. with_colon here.ask (empty here.gap) refl)))))
-              (appended_then text w.kept events new (bracket_prefix k w.start ++ (pair_start k.in_seq ++ flow_events here.key key_at)) (omitted_at (colon + 1) ++ pair_end k.in_seq) here.written
+              (sym (pair_events k.in_seq here.ask here.key (empty here.gap) (entry_start k w.start)
+              (λ q. with_colon here.ask (empty here.gap) refl)))))
+              (appended_then text w.kept events new (bracket_prefix k w.start
+              ++ (pair_start k.in_seq ++ flow_events here.key key_at))
+              (omitted_at (colon + 1) ++ pair_end k.in_seq) here.written
               (subst (λ (x : Bool). Appended text events new (omitted_at (colon + 1) ++ pair_end x)) (sym here.kind) a));
           reads = here.reads
               ∙ (ap (keyed n d k here.bol here.ask here.key) (value_empty sign h)
-              ∙ keyed_fits n d k here.bol here.ask here.key (empty here.gap) (rest text (colon + 1)) (here.fits (empty here.gap) (rest text (colon + 1)) (value_empty sign h)));
+              ∙ keyed_fits n d k here.bol here.ask here.key (empty here.gap) (rest text (colon + 1))
+              (here.fits (empty here.gap) (rest text (colon + 1)) (value_empty sign h)));
         }
 
     -- after a `:` a value is awaited
-    pub value_waits : (top : Open) (at : ℕ) → in_sequence top.kind ≡ in_seq → top.part ≡ ValuePart → line_starts text (colon + 1) ≡ false → IsSign text colon 58 → Passes n d text (colon + 1) at
+    pub value_waits : (top : Open) (at : ℕ) → in_sequence top.kind ≡ in_seq → top.part ≡ ValuePart
+        → line_starts text (colon + 1) ≡ false → IsSign text colon 58 → Passes n d text (colon + 1) at
         → left_out (ends_plain key_end) (gap_from (colon + 1)) ≡ false → AtNode n d text w top at events
     value_waits top at kind p starts sign gap h =
         let k : Bracket = here.bracket in
         let placed = here.place in
         let wide = gap.length in
-        let node : flow_value_at n d (is_plain here.key) here.follows ≡ on (flow_node_at n d (line_starts text at) (rest text at)) (λ f r. Some (given here.gap gap.gap f, r)) =
+        let node : flow_value_at n d (is_plain here.key) here.follows
+        ≡ on (flow_node_at n d (line_starts text at) (rest text at)) (λ f r. Some (given here.gap gap.gap f, r)) =
         value_node sign h
-        ∙ (ap (λ (g : GapRead). on (flow_node_at n d (starts_line false (gap_text g.0)) g.1) (λ f r. Some (given here.gap g.0 f, r))) gap.reads
+        ∙ (ap (λ (g : GapRead). on (flow_node_at n d (starts_line false (gap_text g.0)) g.1)
+        (λ f r. Some (given here.gap g.0 f, r))) gap.reads
         ∙ ap (λ (x : Bool). on (flow_node_at n d x (rest text at)) (λ f r. Some (given here.gap gap.gap f, r))) (gap.starts starts)) in
         record {
           frame = record { bracket = k; part = pair_value here.ask here.bol here.key here.gap gap.gap };
@@ -265,8 +310,10 @@ module _ (n : ℕ) (d : FlowContext) (text : List ℕ) where
         let h : Dead n d (gap_from (colon + 1)).1 = dead n d (rest text (colon + 1)) stop in
         elim (cases_Bool (left_out (ends_plain key_end) (gap_from (colon + 1)))) [
           | inl e ↦ here.reads
-              ∙ (ap (keyed n d k here.bol here.ask here.key) (value_empty sign e) ∙ made_dead n d k here.bol here.ask here.key (empty here.gap) (rest text (colon + 1)) h)
+              ∙ (ap (keyed n d k here.bol here.ask here.key) (value_empty sign e)
+              ∙ made_dead n d k here.bol here.ask here.key (empty here.gap) (rest text (colon + 1)) h)
           | inr e ↦ here.reads
               ∙ ap (keyed n d k here.bol here.ask here.key) (value_node sign e
-              ∙ ap (λ x. on x (λ f r. Some (given here.gap (gap_from (colon + 1)).0 f, r))) (h.node (starts_line false (gap_text (gap_from (colon + 1)).0))))
+              ∙ ap (λ x. on x (λ f r. Some (given here.gap (gap_from (colon + 1)).0 f, r)))
+              (h.node (starts_line false (gap_text (gap_from (colon + 1)).0))))
         ]

@@ -42,18 +42,23 @@ module _ (n : ℕ) (d : FlowContext) (text : List ℕ) where
       }
 
   -- a gap without a break stays on its line
-  pub gap_same_line : (line at : ℕ) (found : Gap) → IsUtf8 text → IsCharBoundary text at → IsGap n d text at found → found.is_over_lines ≡ false → LineMoves text line at line found.end
+  pub gap_same_line : (line at : ℕ) (found : Gap) → IsUtf8 text → IsCharBoundary text at → IsGap n d text at found
+      → found.is_over_lines ≡ false → LineMoves text line at line found.end
   gap_same_line line at found u b h e =
-      line_stays text line at found.end u h.above b h.boundary (unbroken_by found.is_over_lines (unbroken_between text at found.end) h.breaks e)
+      line_stays text line at found.end u h.above b h.boundary
+      (unbroken_by found.is_over_lines (unbroken_between text at found.end) h.breaks e)
 
   -- a gap with a break ends on a new line
-  pub gap_line : (line at : ℕ) (found : Gap) → IsUtf8 text → IsCharBoundary text at → IsGap n d text at found → found.is_over_lines ≡ true → LineMoves text line at found.end found.end
+  pub gap_line : (line at : ℕ) (found : Gap) → IsUtf8 text → IsCharBoundary text at → IsGap n d text at found
+      → found.is_over_lines ≡ true → LineMoves text line at found.end found.end
   gap_line line at found u b h e =
-      let broken : unbroken_between text at found.end ≡ false = broken_by found.is_over_lines (unbroken_between text at found.end) h.breaks e in
+      let broken : unbroken_between text at found.end ≡ false =
+      broken_by found.is_over_lines (unbroken_between text at found.end) h.breaks e in
       line_follows text line at found.end u (further at found.end h.above broken) b h.boundary broken
     where
       further : (i j : ℕ) → i ≤ j → unbroken_between text i j ≡ false → i < j
       further i j l e = elim (cases_lt i j) [
         | inl k ↦ k
-        | inr k ↦ (let same : j ≡ i = omega arith in absurd (false≢true (sym e ∙ (ap (λ x. unbroken_between text i x) same ∙ unbroken_here text i))))
+        | inr k ↦ (let same : j ≡ i = omega arith in
+            absurd (false≢true (sym e ∙ (ap (λ x. unbroken_between text i x) same ∙ unbroken_here text i))))
       ]

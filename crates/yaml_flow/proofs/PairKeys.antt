@@ -3,7 +3,8 @@ use Rattle.std.proofs.Common.{◌≡◌, ap, refl, subst, sym, ◌∙◌, ℕ, l
 use Rattle.std.specs.Prelude.{Bool, true, false, not, ◌&&◌, ◌||◌, nat_le, List, ◌∷◌, ◌++◌, Option, Some, None, is_some}
 use Rattle.std.proofs.lemmas.Bool.{and_from, cases_Bool, or_parts}
 use Rattle.std.proofs.Common.{append_assoc}
-use Rattle.yaml_grammar.specs.FlowNodes.{Flow, Value, absent, empty, given, before_colon, flow_text, has_colon, is_plain, short_key, value_text}
+use Rattle.yaml_grammar.specs.FlowNodes.{Flow, Value, absent, empty, given, before_colon, flow_text, has_colon}
+use Rattle.yaml_grammar.specs.FlowNodes.{is_plain, short_key, value_text}
 use Rattle.yaml_grammar.specs.FlowScalars.{FlowContext, flow_key, one_line, safe}
 use Rattle.yaml_grammar.specs.Separation.{Sep, gap_text}
 use Rattle.yaml_grammar.specs.Texts.{first, is_empty, starts_line}
@@ -29,7 +30,8 @@ use Rattle.yaml_recognizers.proofs.Flow.SinglePairs.{gap_before, single_pair_ask
 -- ---- the value after a node
 
 -- there is none
-pub no_value : (n : ℕ) (d : FlowContext) (after_plain : Bool) (text : List ℕ) → is_colon d after_plain (read_gap n (one_line d) text).1 ≡ false
+pub no_value : (n : ℕ) (d : FlowContext) (after_plain : Bool) (text : List ℕ)
+    → is_colon d after_plain (read_gap n (one_line d) text).1 ≡ false
     → flow_value_at n d after_plain text ≡ Some (absent, text)
 no_value n d after_plain text h = value_step read_scalar reads_scalars n d after_plain text ∙ rw h refl
 
@@ -38,21 +40,26 @@ abbrev pub left_out : Bool → GapRead → Bool
 left_out after_plain after = ends_entry after.1 || (after_plain && not (is_some after.0))
 
 -- a `:` without a value
-pub value_left_out : (n : ℕ) (d : FlowContext) (after_plain : Bool) (text : List ℕ) → is_colon d after_plain (read_gap n (one_line d) text).1 ≡ true
+pub value_left_out : (n : ℕ) (d : FlowContext) (after_plain : Bool) (text : List ℕ)
+    → is_colon d after_plain (read_gap n (one_line d) text).1 ≡ true
     → left_out after_plain (read_gap n (one_line d) (past (read_gap n (one_line d) text).1)) ≡ true
     → flow_value_at n d after_plain text ≡ Some (empty (read_gap n (one_line d) text).0, past (read_gap n (one_line d) text).1)
 value_left_out n d after_plain text h k = value_step read_scalar reads_scalars n d after_plain text ∙ rw (h, k) refl
 
 -- a `:` with a value
-pub value_given : (n : ℕ) (d : FlowContext) (after_plain : Bool) (text : List ℕ) → is_colon d after_plain (read_gap n (one_line d) text).1 ≡ true
+pub value_given : (n : ℕ) (d : FlowContext) (after_plain : Bool) (text : List ℕ)
+    → is_colon d after_plain (read_gap n (one_line d) text).1 ≡ true
     → left_out after_plain (read_gap n (one_line d) (past (read_gap n (one_line d) text).1)) ≡ false
     → flow_value_at n d after_plain text
-    ≡ on (flow_node_at n d (starts_line false (gap_text (read_gap n (one_line d) (past (read_gap n (one_line d) text).1)).0)) (read_gap n (one_line d) (past (read_gap n (one_line d) text).1)).1)
+    ≡ on (flow_node_at n d (starts_line false (gap_text
+    (read_gap n (one_line d) (past (read_gap n (one_line d) text).1)).0))
+    (read_gap n (one_line d) (past (read_gap n (one_line d) text).1)).1)
     (λ f rest. Some (given (read_gap n (one_line d) text).0 (read_gap n (one_line d) (past (read_gap n (one_line d) text).1)).0 f, rest))
 value_given n d after_plain text h k = value_step read_scalar reads_scalars n d after_plain text ∙ rw (h, k) refl
 
 -- a value whose `:` comes after this gap
-pub record ColonValue (n : ℕ) (d : FlowContext) (after_plain : Bool) (text : List ℕ) (gap : Option Sep) (v : Value) (rest : List ℕ) : Type 0 where
+pub record ColonValue (n : ℕ) (d : FlowContext) (after_plain : Bool) (text : List ℕ) (gap : Option Sep) (v : Value)
+    (rest : List ℕ) : Type 0 where
   pub spells : text ≡ value_text v ++ rest
   pub fits : canonical_value v n d (one_line d) after_plain rest ≡ true
   pub colon : has_colon v ≡ true
@@ -65,7 +72,8 @@ has_white false true h = sym h
 has_white false false h = refl
 
 -- what is read after a `:` is a value
-pub colon_value : (n : ℕ) (d : FlowContext) (after_plain : Bool) (text : List ℕ) (v : Value) (rest : List ℕ) → is_colon d after_plain (read_gap n (one_line d) text).1 ≡ true
+pub colon_value : (n : ℕ) (d : FlowContext) (after_plain : Bool) (text : List ℕ) (v : Value) (rest : List ℕ)
+    → is_colon d after_plain (read_gap n (one_line d) text).1 ≡ true
     → flow_value_at n d after_plain text ≡ Some (v, rest) → ColonValue n d after_plain text (read_gap n (one_line d) text).0 v rest
 colon_value n d after_plain text v rest i h =
     let b : GapRead = read_gap n (one_line d) text in
@@ -85,12 +93,16 @@ colon_value n d after_plain text v rest i h =
             white = refl;
             before = refl;
           }))
-      | inr r ↦ (let p = on_parts (flow_node_at n d (starts_line false (gap_text a.0)) a.1) _ _ (sym (value_given n d after_plain text i r) ∙ h) in
+      | inr r ↦ (let p = on_parts (flow_node_at n d (starts_line false (gap_text a.0)) a.1) _ _
+          (sym (value_given n d after_plain text i r) ∙ h) in
           let q = some_parts (given b.0 a.0 p.0) v p.1 rest p.3 in
-          let j : StandsFlow n d (starts_line false (gap_text a.0)) a.1 p.0 p.1 = stands n d (starts_line false (gap_text a.0)) a.1 p.0 p.1 p.2 in
+          let j : StandsFlow n d (starts_line false (gap_text a.0)) a.1 p.0 p.1 =
+          stands n d (starts_line false (gap_text a.0)) a.1 p.0 p.1 p.2 in
           let node : a.1 ≡ flow_text p.0 ++ rest = j.spells ∙ ap (λ (t : List ℕ). flow_text p.0 ++ t) q.1 in
-          let colon : b.1 ≡ 58 ∷ (gap_text a.0 ++ (flow_text p.0 ++ rest)) = c.0 ∙ (ap (λ (t : List ℕ). 58 ∷ t) g2.0 ∙ ap (λ (t : List ℕ). 58 ∷ (gap_text a.0 ++ t)) node) in
-          let regrouped : value_text (given b.0 a.0 p.0) ++ rest ≡ gap_text b.0 ++ (58 ∷ (gap_text a.0 ++ (flow_text p.0 ++ rest))) = simp append_assoc in
+          let colon : b.1 ≡ 58 ∷ (gap_text a.0 ++ (flow_text p.0 ++ rest)) = c.0
+          ∙ (ap (λ (t : List ℕ). 58 ∷ t) g2.0 ∙ ap (λ (t : List ℕ). 58 ∷ (gap_text a.0 ++ t)) node) in
+          let regrouped : value_text (given b.0 a.0 p.0) ++ rest
+          ≡ gap_text b.0 ++ (58 ∷ (gap_text a.0 ++ (flow_text p.0 ++ rest))) = simp append_assoc in
           subst (λ (x : Value). ColonValue n d after_plain text b.0 x rest) q.0 (record {
             spells = g.0 ∙ (ap (λ (t : List ℕ). gap_text b.0 ++ t) colon ∙ sym regrouped);
             fits = and_from _ _ (and_from _ _ (and_from _ _ (subst (λ (t : List ℕ). canonical_gap n (one_line d) b.0 t ≡ true) colon g.1)
@@ -117,16 +129,19 @@ turned true false false = refl
 turned false s g = refl
 
 -- a key fits if it is on one line and short
-pub key_fits : (n : ℕ) (d : FlowContext) (bol : Bool) (text : List ℕ) (key : Flow) (after : List ℕ) (v : Value) (rest : List ℕ) → widens flow_key d ≡ true
+pub key_fits : (n : ℕ) (d : FlowContext) (bol : Bool) (text : List ℕ) (key : Flow) (after : List ℕ) (v : Value)
+    (rest : List ℕ) → widens flow_key d ≡ true
     → flow_node_at n d bol text ≡ Some (key, after) → is_colon d (is_plain key) (read_gap n (one_line d) after).1 ≡ true
     → flow_value_at n d (is_plain key) after ≡ Some (v, rest)
     → key_is_short n d true bol None key v rest ≡ fits_line (flow_text key ++ gap_text (read_gap n (one_line d) after).0)
 key_fits n d bol text key after v rest w found i h =
-    let c : ColonValue n d (is_plain key) after (read_gap n (one_line d) after).0 v rest = colon_value n d (is_plain key) after v rest i h in
+    let c : ColonValue n d (is_plain key) after (read_gap n (one_line d) after).0 v rest =
+    colon_value n d (is_plain key) after v rest i h in
     let gap : Option Sep = (read_gap n (one_line d) after).0 in
     let rest_after : List ℕ = (read_gap n (one_line d) after).1 in
     let s : StandsFlow n d bol text key after = stands n d bol text key after found in
-    let canonical : canonical_flow key n d bol (value_text v ++ rest) ≡ true = subst (λ (t : List ℕ). canonical_flow key n d bol t ≡ true) c.spells s.canonical in
+    let canonical : canonical_flow key n d bol (value_text v ++ rest) ≡ true =
+    subst (λ (t : List ℕ). canonical_flow key n d bol t ≡ true) c.spells s.canonical in
     let g : (after ≡ gap_text gap ++ rest_after) × (canonical_gap n (one_line d) gap rest_after ≡ true) = gap_sound n (one_line d) after in
     let filled : is_empty rest_after ≡ false = ap is_empty (colon_parts d (is_plain key) rest_after i).0 in
     let key_line : on_one_line key ≡ unbroken (flow_text key) = flow_one_line key n d bol after s.canonical in

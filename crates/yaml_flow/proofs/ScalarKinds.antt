@@ -15,7 +15,8 @@ use Rattle.yaml_flow_scalars.specs.Standing.{ScalarAt, NoScalarAt}
 use Rattle.yaml_recognizers.specs.FlowScalars.{read_scalar}
 use Rattle.yaml_recognizers.specs.Prefixes.{past}
 use Rattle.yaml_recognizers.specs.PlainScalars.{read_plain, read_run, plain_lines_at}
-use Rattle.yaml_recognizers.specs.QuotedScalars.{double_closes, read_double, read_item, read_quoted, read_single, read_single_one, single_closes}
+use Rattle.yaml_recognizers.specs.QuotedScalars.{double_closes, read_double, read_item, read_quoted, read_single}
+use Rattle.yaml_recognizers.specs.QuotedScalars.{read_single_one, single_closes}
 use Rattle.yaml_recognizers.specs.Reading.{Read}
 use Rattle.yaml_recognizers.proofs.Scalars.FlowScalars.{complete, sound}
 use Rattle.yaml_recognizers.proofs.Basics.Prefixes.{head_is}
@@ -25,21 +26,24 @@ use Rattle.yaml_scan.specs.ScanPlaces.{unbroken_between}
 use Rattle.yaml_flow.specs.declared.scalar.FlowScalar.{FlowScalar}
 use Rattle.yaml_flow.specs.Scalars.{FlowScalarRead, scalar_event_at}
 
-double_head : (n : ℕ) (c : flow.FlowContext) (bol : Bool) (xs : List ℕ) (s : flow.Scalar) (after : List ℕ) → read_scalar n c bol (34 ∷ xs) ≡ Some (s, after)
+double_head : (n : ℕ) (c : flow.FlowContext) (bol : Bool) (xs : List ℕ) (s : flow.Scalar) (after : List ℕ)
+    → read_scalar n c bol (34 ∷ xs) ≡ Some (s, after)
     → flow.style_of s ≡ grammar.double_style
 unfolding read_scalar read_double
 double_head n c bol xs s after h =
     let p = on_parts (read_quoted read_item double_closes true n c xs) _ _ h in
     ap flow.style_of (sym (some_parts (flow.double p.0.0 p.0.1) s p.1 after p.3).0)
 
-single_head : (n : ℕ) (c : flow.FlowContext) (bol : Bool) (xs : List ℕ) (s : flow.Scalar) (after : List ℕ) → read_scalar n c bol (39 ∷ xs) ≡ Some (s, after)
+single_head : (n : ℕ) (c : flow.FlowContext) (bol : Bool) (xs : List ℕ) (s : flow.Scalar) (after : List ℕ)
+    → read_scalar n c bol (39 ∷ xs) ≡ Some (s, after)
     → flow.style_of s ≡ grammar.single_style
 unfolding read_scalar read_single
 single_head n c bol xs s after h =
     let p = on_parts (read_quoted read_single_one single_closes false n c xs) _ _ h in
     ap flow.style_of (sym (some_parts (flow.single p.0.0 p.0.1) s p.1 after p.3).0)
 
-plain_head : (n : ℕ) (c : flow.FlowContext) (bol : Bool) (text : List ℕ) (s : flow.Scalar) (after : List ℕ) → first (λ x. x == 34) text ≡ false → first (λ x. x == 39) text ≡ false
+plain_head : (n : ℕ) (c : flow.FlowContext) (bol : Bool) (text : List ℕ) (s : flow.Scalar) (after : List ℕ)
+    → first (λ x. x == 34) text ≡ false → first (λ x. x == 39) text ≡ false
     → read_scalar n c bol text ≡ Some (s, after) → flow.style_of s ≡ grammar.plain_style
 unfolding read_scalar read_plain
 plain_head n c bol [] s after h k e = absurd (none_some _ e)
@@ -58,32 +62,40 @@ plain_head n c bol (x ∷ xs) s after h k e = elim (chosen (x == 39) _ _ _ e) [
 module _ (n : ℕ) (c : flow.FlowContext) (text : List ℕ) (at : ℕ) where
   -- what is read here has this style
   abbrev pub reads_style : grammar.Style → Type 0
-  reads_style style = (s : flow.Scalar) (after : List ℕ) → read_scalar n c (line_starts text at) (rest text at) ≡ Some (s, after) → flow.style_of s ≡ style
+  reads_style style = (s : flow.Scalar) (after : List ℕ)
+      → read_scalar n c (line_starts text at) (rest text at) ≡ Some (s, after) → flow.style_of s ≡ style
 
   -- `"` starts a double-quoted scalar
   pub double_there : first (λ x. x == 34) (rest text at) ≡ true → reads_style grammar.double_style
-  double_there h s after e = double_head n c (line_starts text at) (past (rest text at)) s after (ap (read_scalar n c (line_starts text at)) (sym (head_is 34 (rest text at) h)) ∙ e)
+  double_there h s after e = double_head n c (line_starts text at) (past (rest text at)) s after
+      (ap (read_scalar n c (line_starts text at)) (sym (head_is 34 (rest text at) h)) ∙ e)
 
   -- `'` starts a single-quoted scalar
   pub single_there : first (λ x. x == 39) (rest text at) ≡ true → reads_style grammar.single_style
-  single_there h s after e = single_head n c (line_starts text at) (past (rest text at)) s after (ap (read_scalar n c (line_starts text at)) (sym (head_is 39 (rest text at) h)) ∙ e)
+  single_there h s after e = single_head n c (line_starts text at) (past (rest text at)) s after
+      (ap (read_scalar n c (line_starts text at)) (sym (head_is 39 (rest text at) h)) ∙ e)
 
   -- anything else starts a plain one
-  pub plain_there : first (λ x. x == 34) (rest text at) ≡ false → first (λ x. x == 39) (rest text at) ≡ false → reads_style grammar.plain_style
+  pub plain_there : first (λ x. x == 34) (rest text at) ≡ false → first (λ x. x == 39) (rest text at) ≡ false
+      → reads_style grammar.plain_style
   plain_there h k s after e = plain_head n c (line_starts text at) (rest text at) s after h k e
 
   -- where there is no scalar of the style, none is read
-  pub none_read : (style : grammar.Style) → reads_style style → NoScalarAt style n c text at → read_scalar n c (line_starts text at) (rest text at) ≡ None
+  pub none_read : (style : grammar.Style) → reads_style style → NoScalarAt style n c text at
+      → read_scalar n c (line_starts text at) (rest text at) ≡ None
   none_read style p h = by_read (read_scalar n c (line_starts text at) (rest text at)) refl
     where
       by_read : (r : Read flow.Scalar) → read_scalar n c (line_starts text at) (rest text at) ≡ r → r ≡ None
       by_read None e = refl
       by_read (Some r) e =
-          absurd (h r.0 r.1 (p r.0 r.1 e) (stands_whole n c (line_starts text at) (rest text at) r.0 r.1 (sound n c (line_starts text at) (rest text at) r.0 r.1 e)))
+          absurd (h r.0 r.1 (p r.0 r.1 e) (stands_whole n c (line_starts text at) (rest text at) r.0 r.1
+          (sound n c (line_starts text at) (rest text at) r.0 r.1 e)))
 
   -- a scalar that is found is read
-  pub scalar_read : (style : grammar.Style) (found : FlowScalar) → style_of found.style ≡ style → ScalarAt style n c text at (chars (cow_str_bytes found.value)) found.end
-      → line_starts text found.end ≡ false → BorrowsPlain text (scalar_event_at at found) → (IsBorrowedStr found.value → unbroken_between text at found.end ≡ true)
+  pub scalar_read : (style : grammar.Style) (found : FlowScalar) → style_of found.style ≡ style
+      → ScalarAt style n c text at (chars (cow_str_bytes found.value)) found.end
+      → line_starts text found.end ≡ false → BorrowsPlain text (scalar_event_at at found)
+      → (IsBorrowedStr found.value → unbroken_between text at found.end ≡ true)
       → FlowScalarRead n c text at found
   scalar_read style found p h l b u =
       let s = h.scalar in

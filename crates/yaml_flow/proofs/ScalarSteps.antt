@@ -30,7 +30,8 @@ plain_by_style (flow.double prefix more) = refl
 
 module _ (n : ℕ) (d : flow.FlowContext) (text : List ℕ) where
   -- a scalar without a bracket at its start is a flow node
-  pub scalar_found : (at end : ℕ) (s : flow.Scalar) → first (λ x. x == 91) (rest text at) ≡ false → first (λ x. x == 123) (rest text at) ≡ false
+  pub scalar_found : (at end : ℕ) (s : flow.Scalar) → first (λ x. x == 91) (rest text at) ≡ false
+      → first (λ x. x == 123) (rest text at) ≡ false
       → read_scalar n d (line_starts text at) (rest text at) ≡ Some (s, rest text end)
       → flow_node_at n d (line_starts text at) (rest text at) ≡ Some (scalar s, rest text end)
   scalar_found at end s h k e =
@@ -42,21 +43,27 @@ module _ (n : ℕ) (d : flow.FlowContext) (text : List ℕ) where
   scalar_missing at h k e = is_scalar n d (line_starts text at) (rest text at) h k ∙ ap (λ r. on r (λ x t. Some (scalar x, t))) e
 
   -- its event is appended
-  pub scalar_appended : (at : ℕ) (found : FlowScalar) (old new : EventList) → IsUtf8 text → IsCharBoundary text at → first (λ x. x == 91) (rest text at) ≡ false
-      → first (λ x. x == 123) (rest text at) ≡ false → (read : FlowScalarRead n d text at found) → new ≡ old ++ scalar_event_at at found ∷ []
+  pub scalar_appended : (at : ℕ) (found : FlowScalar) (old new : EventList) → IsUtf8 text → IsCharBoundary text at
+      → first (λ x. x == 91) (rest text at) ≡ false
+      → first (λ x. x == 123) (rest text at) ≡ false → (read : FlowScalarRead n d text at found)
+      → new ≡ old ++ scalar_event_at at found ∷ []
       → Appended text old new (flow_events (scalar read.scalar) at)
   scalar_appended at found old new u b h k read e =
       let long : at + byte_len (flow.scalar_text read.scalar) ≡ found.end =
       node_length n d text at found.end (scalar read.scalar) u b read.boundary (scalar_found at found.end read.scalar h k read.reads) in
-      appended_one text old new (scalar_event_at at found) (grammar.scalar_event (flow.style_of read.scalar) at (at + byte_len (flow.scalar_text read.scalar)) (flow.scalar_value read.scalar)) e
+      appended_one text old new (scalar_event_at at found)
+      (grammar.scalar_event (flow.style_of read.scalar) at (at + byte_len (flow.scalar_text read.scalar))
+      (flow.scalar_value read.scalar)) e
       (ap (λ x. grammar.scalar_event x at found.end (chars (cow_str_bytes found.value))) read.styled
       ∙ (ap (λ x. grammar.scalar_event (flow.style_of read.scalar) at x (chars (cow_str_bytes found.value))) (sym long)
       ∙ ap (λ x. grammar.scalar_event (flow.style_of read.scalar) at (at + byte_len (flow.scalar_text read.scalar)) x) read.means))
       read.borrows
 
   -- a flow scalar that is read, with its event appended, is a flow node that is read
-  pub scalar_node_read : (at end : ℕ) (found : FlowScalar) (old new : EventList) → IsUtf8 text → IsCharBoundary text at → first (λ x. x == 91) (rest text at) ≡ false
-      → first (λ x. x == 123) (rest text at) ≡ false → FlowScalarRead n d text at found → end ≡ found.end → new ≡ old ++ scalar_event_at at found ∷ []
+  pub scalar_node_read : (at end : ℕ) (found : FlowScalar) (old new : EventList) → IsUtf8 text
+      → IsCharBoundary text at → first (λ x. x == 91) (rest text at) ≡ false
+      → first (λ x. x == 123) (rest text at) ≡ false → FlowScalarRead n d text at found → end ≡ found.end
+      → new ≡ old ++ scalar_event_at at found ∷ []
       → FlowNodeRead n d text at end old new
   scalar_node_read at end found old new u b h k read e w = subst (λ x. FlowNodeRead n d text at x old new) (sym e) (record {
     above = read.above;
@@ -69,9 +76,12 @@ module _ (n : ℕ) (d : flow.FlowContext) (text : List ℕ) where
   })
 
   -- so it is the node of the entry
-  pub scalar_node : (w : Collection) (top : Open) (node_end : NodeEnd) (found : FlowScalar) (events new : EventList) → IsUtf8 text → IsCharBoundary text top.start
-      → first (λ x. x == 91) (rest text top.start) ≡ false → first (λ x. x == 123) (rest text top.start) ≡ false → top.before ≡ length events
-      → FlowScalarRead n d text top.start found → ends_plain node_end ≡ is_plain_style (style_of found.style) → new ≡ events ++ scalar_event_at top.start found ∷ []
+  pub scalar_node : (w : Collection) (top : Open) (node_end : NodeEnd) (found : FlowScalar) (events new : EventList)
+      → IsUtf8 text → IsCharBoundary text top.start
+      → first (λ x. x == 91) (rest text top.start) ≡ false → first (λ x. x == 123) (rest text top.start) ≡ false
+      → top.before ≡ length events
+      → FlowScalarRead n d text top.start found → ends_plain node_end ≡ is_plain_style (style_of found.style)
+      → new ≡ events ++ scalar_event_at top.start found ∷ []
       → AtNode n d text w top top.start events → NodeRead n d text w top node_end found.end new
   scalar_node w top node_end found events new u b h k count read p e here = record {
     before = events;

@@ -19,7 +19,8 @@ use Rattle.yaml_flow.specs.declared.collection.Open.{Open}
 use Rattle.yaml_flow.specs.declared.collection.Next.{Next}
 use Rattle.yaml_flow.specs.declared.collection.Next.TheVariants.{Entry, Node, AfterEntry, Closed}
 use Rattle.yaml_flow.specs.FlowNodes.{Appended}
-use Rattle.yaml_flow.specs.Frames.{Around, AtNode, Collection, EventList, Kept, LineMoves, NodeRead, Onward, Pushes, SameLine, Stack, Stands, Started, Waits, WholeRead, place_of}
+use Rattle.yaml_flow.specs.Frames.{Around, AtNode, Collection, EventList, Kept, LineMoves, NodeRead, Onward, Pushes}
+use Rattle.yaml_flow.specs.Frames.{SameLine, Stack, Stands, Started, Waits, WholeRead, place_of}
 use Rattle.yaml_flow.proofs.SameLines.{same_line_here}
 
 -- equal lists have the same last element, and are equal before it
@@ -65,17 +66,21 @@ module _ (n : ℕ) (d : FlowContext) (text : List ℕ) where
   stands_on w top (AfterEntry at) events h = (h.written.more, h.written.is)
   stands_on w top (Closed end) events h = (h.written.more, h.written.is)
 
-  stack_on : (whole : Collection) (around : List Collection) (opens : List Open) (w : Collection) → Stack n d text whole around opens w → Extends whole.kept w.kept
+  stack_on : (whole : Collection) (around : List Collection) (opens : List Open) (w : Collection)
+      → Stack n d text whole around opens w → Extends whole.kept w.kept
   stack_on whole [] opens w s = ([], ap (λ (x : Collection). x.kept) s.1 ∙ sym (append-nil whole.kept))
   stack_on whole (c ∷ cs) opens w s =
       extends_then whole.kept c.kept w.kept (stack_on whole cs s.0 c s.4) (s.3.waits.written.more, s.3.waits.written.is)
 
-  waits_on : (whole : Collection) (opens : List Open) (top : Open) (next : Next) (events : EventList) → Waits n d text whole opens top next events → Extends whole.kept events
+  waits_on : (whole : Collection) (opens : List Open) (top : Open) (next : Next) (events : EventList)
+      → Waits n d text whole opens top next events → Extends whole.kept events
   waits_on whole opens top next events w =
-      extends_then whole.kept w.inner.kept events (stack_on whole w.around opens w.inner w.stack) (stands_on w.inner top next events w.stands)
+      extends_then whole.kept w.inner.kept events (stack_on whole w.around opens w.inner w.stack)
+      (stands_on w.inner top next events w.stands)
 
   -- the events before the whole collection stay
-  pub prefix_stays : (whole : Collection) (opens : List Open) (top : Open) (next : Next) (events new : EventList) (k : ℕ) → Waits n d text whole opens top next events
+  pub prefix_stays : (whole : Collection) (opens : List Open) (top : Open) (next : Next) (events new : EventList)
+      (k : ℕ) → Waits n d text whole opens top next events
       → Kept k events new → Kept k whole.kept new
   prefix_stays whole opens top next events new k w h =
       let e = waits_on whole opens top next events w in
@@ -86,7 +91,8 @@ module _ (n : ℕ) (d : FlowContext) (text : List ℕ) where
   -- ---- a refusal
 
   -- no bracket is open yet
-  pub stack_none : (whole : Collection) (around : List Collection) (opens : List Open) (w : Collection) → Stack n d text whole around opens w → w.reads ≡ None → whole.reads ≡ None
+  pub stack_none : (whole : Collection) (around : List Collection) (opens : List Open) (w : Collection)
+      → Stack n d text whole around opens w → w.reads ≡ None → whole.reads ≡ None
   stack_none whole [] opens w s e = ap (λ (x : Collection). x.reads) (sym s.1) ∙ e
   stack_none whole (c ∷ cs) opens w s e =
       stack_none whole cs s.0 c s.4
@@ -104,9 +110,12 @@ module _ (n : ℕ) (d : FlowContext) (text : List ℕ) where
     pub count : frame.before ≤ length events
     pub kept : length whole.kept ≤ frame.before
 
-  popped_from : (whole : Collection) (around : List Collection) (w : Collection) (opens prefix : List Open) (frame : Open) (end : ℕ) (events : EventList)
-      → Stack n d text whole around opens w → WholeRead n d text w end events → opens ≡ prefix ++ frame ∷ [] → Popped whole prefix frame end events
-  popped_from whole [] w opens prefix frame end events s r e = absurd (omega (arith, ap length (sym s.0 ∙ e), length-append prefix (frame ∷ [])))
+  popped_from : (whole : Collection) (around : List Collection) (w : Collection) (opens prefix : List Open)
+      (frame : Open) (end : ℕ) (events : EventList)
+      → Stack n d text whole around opens w → WholeRead n d text w end events → opens ≡ prefix ++ frame ∷ []
+      → Popped whole prefix frame end events
+  popped_from whole [] w opens prefix frame end events s r e =
+      absurd (omega (arith, ap length (sym s.0 ∙ e), length-append prefix (frame ∷ [])))
   popped_from whole (c ∷ cs) w opens prefix frame end events s r e =
       let both = snoc_same s.0 prefix s.1 frame (sym s.2 ∙ e) in
       let a : Around n d text w frame c = subst (λ (x : Open). Around n d text w x c) both.1 s.3 in
@@ -135,19 +144,22 @@ module _ (n : ℕ) (d : FlowContext) (text : List ℕ) where
       }
 
   -- the innermost bracket is closed, and the one around it goes on
-  pub popped : (whole : Collection) (opens prefix : List Open) (top frame : Open) (next : Next) (end : ℕ) (events : EventList) → Waits n d text whole opens top next events
+  pub popped : (whole : Collection) (opens prefix : List Open) (top frame : Open) (next : Next) (end : ℕ)
+      (events : EventList) → Waits n d text whole opens top next events
       → next ≡ Closed end → opens ≡ prefix ++ frame ∷ [] → Popped whole prefix frame end events
   popped whole opens prefix top frame next end events w e p =
       let v : Waits n d text whole opens top (Closed end) events = subst (λ x. Waits n d text whole opens top x events) e w in
       popped_from whole v.around v.inner opens prefix frame end events v.stack v.stands p
 
-  whole_from : (whole : Collection) (around : List Collection) (w : Collection) (opens : List Open) (end : ℕ) (events : EventList) → Stack n d text whole around opens w
+  whole_from : (whole : Collection) (around : List Collection) (w : Collection) (opens : List Open) (end : ℕ)
+      (events : EventList) → Stack n d text whole around opens w
       → WholeRead n d text w end events → length opens ≡ 0 → WholeRead n d text whole end events
   whole_from whole [] w opens end events s r l = subst (λ (x : Collection). WholeRead n d text x end events) s.1 r
   whole_from whole (c ∷ cs) w opens end events s r l = absurd (omega (arith, ap length s.2, length-append s.0 (s.1 ∷ []), l))
 
   -- the last bracket is closed, and the node is read
-  pub whole_read : (whole : Collection) (opens : List Open) (top : Open) (next : Next) (end : ℕ) (events : EventList) → Waits n d text whole opens top next events
+  pub whole_read : (whole : Collection) (opens : List Open) (top : Open) (next : Next) (end : ℕ) (events : EventList)
+      → Waits n d text whole opens top next events
       → next ≡ Closed end → length opens ≡ 0 → WholeRead n d text whole end events
   whole_read whole opens top next end events w e l =
       let v : Waits n d text whole opens top (Closed end) events = subst (λ x. Waits n d text whole opens top x events) e w in
@@ -160,13 +172,19 @@ pub onward_from : (text : List ℕ) (at further : ℕ) (next : Next) → at ≤ 
 onward_from text at further next l o = let m = o.above in record { boundary = o.boundary; above = omega arith; within = o.within }
 
 -- the frames' places, once the reader has moved
-pub starts_move : (text : List ℕ) (old at new to : ℕ) (opens : List Open) → at ≤ to → LineMoves text old at new to → All (Started text old at) opens → All (Started text new to) opens
+pub starts_move : (text : List ℕ) (old at new to : ℕ) (opens : List Open) → at ≤ to → LineMoves text old at new to
+    → All (Started text old at) opens → All (Started text new to) opens
 starts_move text old at new to opens l m a =
     All-weaker (Started text old at) (Started text new to)
-    (λ top s. let k = s.above in record { boundary = s.boundary; above = omega arith; same_line = m.tells top.start s.boundary s.above s.same_line }) opens a
+    (λ top s. let k = s.above in record {
+      boundary = s.boundary;
+      above = omega arith;
+      same_line = m.tells top.start s.boundary s.above s.same_line;
+    }) opens a
 
 -- and one more frame, or none
-pub starts_push : (text : List ℕ) (line at : ℕ) (opens more : List Open) → IsCharBoundary text at → line ≤ at → Pushes opens at more → All (Started text line at) opens
+pub starts_push : (text : List ℕ) (line at : ℕ) (opens more : List Open) → IsCharBoundary text at → line ≤ at
+    → Pushes opens at more → All (Started text line at) opens
     → All (Started text line at) more
 starts_push text line at opens more b l (inl e) a = All-same (Started text line at) more opens e a
 starts_push text line at opens more b l (inr p) a =
@@ -179,14 +197,16 @@ starts_push text line at opens more b l (inr p) a =
     }))
 
 -- the brackets that stay open keep their lines
-pub starts_pop : (text : List ℕ) (line at : ℕ) (opens prefix : List Open) (frame : Open) → opens ≡ prefix ++ frame ∷ [] → All (Started text line at) opens
+pub starts_pop : (text : List ℕ) (line at : ℕ) (opens prefix : List Open) (frame : Open)
+    → opens ≡ prefix ++ frame ∷ [] → All (Started text line at) opens
     → All (Started text line at) prefix × Started text line at frame
 starts_pop text line at opens prefix frame e a = All-pop (Started text line at) opens prefix (Some frame) e a
 
 -- ---- one turn of the loop
 
 -- what the loop keeps
-pub record Reading (n : ℕ) (d : FlowContext) (text : List ℕ) (from : ℕ) (whole : Collection) (opens : List Open) (top : Open) (next : Next) (events : EventList) (line : ℕ) : Type 0 where
+pub record Reading (n : ℕ) (d : FlowContext) (text : List ℕ) (from : ℕ) (whole : Collection) (opens : List Open)
+    (top : Open) (next : Next) (events : EventList) (line : ℕ) : Type 0 where
   pub waits : Waits n d text whole opens top next events
   pub onward : Onward text (from + 1) next
   pub within : line ≤ place_of next

@@ -1,5 +1,6 @@
 -- How far the scanner of flow collections is: what is read, what is still to be read, and the events so far.
-use Rattle.std.specs.Prelude.{◌≡◌, ℕ, ◌+◌, ◌-◌, ◌*◌, ◌≤◌, ◌==◌, Bool, true, false, ◌&&◌, nat_le, nat_lt, List, [], ◌∷◌, ◌++◌, length, take, insert, Option, Some, is_some}
+use Rattle.std.specs.Prelude.{◌≡◌, ℕ, ◌+◌, ◌-◌, ◌*◌, ◌≤◌, ◌==◌, Bool, true, false, ◌&&◌, nat_le, nat_lt, List, []}
+use Rattle.std.specs.Prelude.{◌∷◌, ◌++◌, length, take, insert, Option, Some, is_some}
 use Rattle.std.specs.Str.{IsCharBoundary}
 use Rattle.yaml_chars.specs.Places.{rest, between}
 use Rattle.yaml_grammar.specs.Events.{Event, seq_start, seq_end, map_start, map_end}
@@ -11,7 +12,8 @@ use Rattle.yaml_grammar.specs.Texts.{byte_len, starts_line}
 use Rattle.yaml_events.specs.declared.event.Event.{Event as ListedEvent}
 use Rattle.yaml_events.specs.EventPlaces.{line_starts}
 use Rattle.yaml_recognizers.specs.Ends.{is_colon}
-use Rattle.yaml_recognizers.specs.FlowFrames.{FlowPart, first_node, asked_key, pair_value, Bracket, OpenFlow, closer, close_with, entries_of, plug}
+use Rattle.yaml_recognizers.specs.FlowFrames.{FlowPart, first_node, asked_key, pair_value, Bracket, OpenFlow, closer}
+use Rattle.yaml_recognizers.specs.FlowFrames.{close_with, entries_of, plug}
 use Rattle.yaml_recognizers.specs.FlowNodes.{key_is_short, entry_if_short}
 use Rattle.yaml_recognizers.specs.Gaps.{read_gap}
 use Rattle.yaml_recognizers.specs.Reading.{Read, on}

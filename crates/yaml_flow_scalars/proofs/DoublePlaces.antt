@@ -1,5 +1,7 @@
 -- What the bytes of a text say of the characters there, for the scanner of double-quoted scalars.
-use Rattle.std.proofs.Common.{◌≡◌, ℕ, suc, ◌+◌, ◌-◌, ◌*◌, ◌^◌, ◌<◌, ◌≤◌, Bool, true, false, ◌&&◌, List, [], ◌∷◌, ◌++◌, refl, ap, sym, ◌∙◌, subst, arith, length, inl, inr, get_or, take, drop, length-append, length-take, Some, None}
+use Rattle.std.proofs.Common.{◌≡◌, ℕ, suc, ◌+◌, ◌-◌, ◌*◌, ◌^◌, ◌<◌, ◌≤◌, Bool, true, false, ◌&&◌, List, [], ◌∷◌, ◌++◌}
+use Rattle.std.proofs.Common.{refl, ap, sym, ◌∙◌, subst, arith, length, inl, inr, get_or, take, drop, length-append}
+use Rattle.std.proofs.Common.{length-take, Some, None}
 use Rattle.std.specs.Prelude.{◌==◌, IfSome, IfNone, Option, is_some, codes, if◌then◌else◌}
 use lib.Utf8.{low_scalar}
 use Rattle.std.specs.Char.{IsScalar, OutOfScalarRange, len_utf8}
@@ -16,7 +18,8 @@ use Rattle.yaml_chars.proofs.Places.{char_at, rest-ascii, rest-end, rest-between
 use Rattle.yaml_chars.proofs.Runs.{IsBlind, test-char_at}
 use Rattle.std.specs.List.{list_all}
 use Rattle.yaml_grammar.specs.Texts.{first}
-use Rattle.yaml_grammar.specs.FlowScalars.{escape, number as counted, hex_digit, digit_of, hex_value, digits_after, quoted_char_fits, escaped_char}
+use Rattle.yaml_grammar.specs.FlowScalars.{escape, number as counted, hex_digit, digit_of, hex_value, digits_after}
+use Rattle.yaml_grammar.specs.FlowScalars.{quoted_char_fits, escaped_char}
 use Rattle.yaml_recognizers.specs.QuotedScalars.{read_item, read_number}
 use Rattle.yaml_recognizers.proofs.Basics.Breaks.{break_some}
 use Rattle.yaml_recognizers.specs.Comments.{read_break}
@@ -63,7 +66,8 @@ pub after_byte : (bs : List ℕ) (i k : ℕ) → IsUtf8 bs → i < length bs →
 after_byte bs i k u l e a = IsCharBoundary-after_ascii bs i u l (omega arith)
 
 -- what a test of a byte at a place says
-pub stands : (text : List ℕ) (i k : ℕ) (b : Bool) → IsUtf8 text → IsCharBoundary text i → k < 128 → b ≡ first (is_sign k) (rest text i) → b ≡ true
+pub stands : (text : List ℕ) (i k : ℕ) (b : Bool) → IsUtf8 text → IsCharBoundary text i → k < 128
+    → b ≡ first (is_sign k) (rest text i) → b ≡ true
     → (i < length text) × (get_or text i 0 ≡ k)
 stands text i k b u d a h e =
     let sign = sign_there text i k u d a (sym h ∙ e) in
@@ -71,12 +75,14 @@ stands text i k b u d a h e =
     (prefix.within, prefix.byte)
 
 -- no such sign is at the place
-pub stands_not : (text : List ℕ) (i k : ℕ) (b : Bool) → IsUtf8 text → k < 128 → b ≡ first (is_sign k) (rest text i) → b ≡ false → i < length text → get_or text i 0 ≡ k → ⊥
+pub stands_not : (text : List ℕ) (i k : ℕ) (b : Bool) → IsUtf8 text → k < 128 → b ≡ first (is_sign k) (rest text i)
+    → b ≡ false → i < length text → get_or text i 0 ≡ k → ⊥
 stands_not text i k b u a h e l q =
     false≢true (sym e ∙ (h ∙ (ap (first (is_sign k)) (byte_read text i k u l q a) ∙ eq-eqb k k refl)))
 
 -- a break is at the place if one is found
-pub break_there : (text : List ℕ) (at : ℕ) (r : Option ℕ) → IfSome r (IsBreak text at) → IfNone r (read_break (rest text at) ≡ None) → is_some r ≡ first line_break (rest text at)
+pub break_there : (text : List ℕ) (at : ℕ) (r : Option ℕ) → IfSome r (IsBreak text at)
+    → IfNone r (read_break (rest text at) ≡ None) → is_some r ≡ first line_break (rest text at)
 break_there text at (Some end) h n = sym (ap is_some h.reads) ∙ break_some (rest text at)
 break_there text at None h n = sym (ap is_some n) ∙ break_some (rest text at)
 
@@ -134,7 +140,8 @@ digits_none bs at b =
     }
 
 -- one digit more is read
-pub digits_more : (bs : List ℕ) (at end number d : ℕ) → IsUtf8 bs → IsCharBoundary bs at → DigitsTo bs at end number → end < length bs → IsDigit (get_or bs end 0) d
+pub digits_more : (bs : List ℕ) (at end number d : ℕ) → IsUtf8 bs → IsCharBoundary bs at → DigitsTo bs at end number
+    → end < length bs → IsDigit (get_or bs end 0) d
     → DigitsTo bs at (end + 1) (number * 16 + d)
 digits_more bs at end number d u b h l digit =
     let c = get_or bs end 0 in
@@ -148,39 +155,47 @@ digits_more bs at end number d u b h l digit =
     record {
       above = omega arith;
       boundary = IsCharBoundary-after_ascii bs end u l low;
-      digits = ap (list_all hex_digit) longer ∙ (every-append hex_digit (between bs at end) (c ∷ []) ∙ and_from _ _ h.digits (and_from _ _ digit.allowed refl));
+      digits = ap (list_all hex_digit) longer ∙ (every-append hex_digit (between bs at end) (c ∷ [])
+          ∙ and_from _ _ h.digits (and_from _ _ digit.allowed refl));
       long = ap length longer ∙ (length-append (between bs at end) (c ∷ []) ∙ omega arith);
       value = ap (hex_value 0) longer ∙ (hex_value-append 0 c (between bs at end) ∙ omega (arith, h.value, digit.means));
       fits = subst (λ k. number * 16 + d < 16 ^ k) (sym size) (omega (arith, pow_more 16 (end - at), digit.means));
     }
 
 -- all digits are read
-pub digits_all : (bs : List ℕ) (at count number : ℕ) → IsUtf8 bs → IsCharBoundary bs at → DigitsTo bs at (at + count) number → IsNumberAt bs at count number
+pub digits_all : (bs : List ℕ) (at count number : ℕ) → IsUtf8 bs → IsCharBoundary bs at
+    → DigitsTo bs at (at + count) number → IsNumberAt bs at count number
 digits_all bs at count number u b h =
     let ds = between bs at (at + count) in
     let split : rest bs at ≡ ds ++ rest bs (at + count) = rest-between bs at (at + count) u h.above b h.boundary in
     let long : length ds ≡ count = h.long ∙ omega arith in
-    let prefix : take count (rest bs at) ≡ ds = ap (take count) split ∙ (ap (λ k. take k (ds ++ rest bs (at + count))) (sym long) ∙ take-append_seam ds (rest bs (at + count))) in
+    let prefix : take count (rest bs at) ≡ ds = ap (take count) split
+    ∙ (ap (λ k. take k (ds ++ rest bs (at + count))) (sym long) ∙ take-append_seam ds (rest bs (at + count))) in
     record {
-      digits = ap (λ (t : List ℕ). (length t == count) && list_all hex_digit t) prefix ∙ and_from _ _ (eq-eqb (length ds) count long) h.digits;
+      digits = ap (λ (t : List ℕ). (length t == count) && list_all hex_digit t) prefix
+          ∙ and_from _ _ (eq-eqb (length ds) count long) h.digits;
       boundary = h.boundary;
-      after = ap (drop count) split ∙ (ap (λ k. drop k (ds ++ rest bs (at + count))) (sym long) ∙ drop-append_seam ds (rest bs (at + count)));
+      after = ap (drop count) split ∙ (ap (λ k. drop k (ds ++ rest bs (at + count))) (sym long)
+          ∙ drop-append_seam ds (rest bs (at + count)));
       value = ap (hex_value 0) prefix ∙ h.value;
     }
 
 -- where the text ends too early
-pub digits_end : (bs : List ℕ) (at end count number : ℕ) → IsUtf8 bs → IsCharBoundary bs at → DigitsTo bs at end number → end - at < count → length bs ≤ end
+pub digits_end : (bs : List ℕ) (at end count number : ℕ) → IsUtf8 bs → IsCharBoundary bs at
+    → DigitsTo bs at end number → end - at < count → length bs ≤ end
     → digits_at bs at count ≡ false
 digits_end bs at end count number u b h l past =
     let ds = between bs at end in
     let split : rest bs at ≡ ds ++ rest bs end = rest-between bs at end u h.above b h.boundary in
-    let size : length (rest bs at) ≡ end - at = ap length split ∙ (length-append ds (rest bs end) ∙ omega (arith, h.long, ap length (rest-end bs end past))) in
+    let size : length (rest bs at) ≡ end - at = ap length split
+    ∙ (length-append ds (rest bs end) ∙ omega (arith, h.long, ap length (rest-end bs end past))) in
     let digits : List ℕ = take count (rest bs at) in
     let other : length digits ≡ count → ⊥ = λ e. omega (arith, length-take count (rest bs at)) in
     and_left (length digits == count) (list_all hex_digit digits) (ne_eqb (length digits) count other)
 
 -- where another byte is among them
-pub digits_broken : (bs : List ℕ) (at end count number : ℕ) → IsUtf8 bs → IsCharBoundary bs at → DigitsTo bs at end number → end - at < count → end < length bs
+pub digits_broken : (bs : List ℕ) (at end count number : ℕ) → IsUtf8 bs → IsCharBoundary bs at
+    → DigitsTo bs at end number → end - at < count → end < length bs
     → hex_digit (get_or bs end 0) ≡ false → digits_at bs at count ≡ false
 digits_broken bs at end count number u b h l inside other =
     let ds = between bs at end in
@@ -192,9 +207,11 @@ digits_broken bs at end count number u b h l inside other =
     let long = h.long in
     let more : count ≡ length ds + suc (count - (end - at) - 1) = omega arith in
     let digits : List ℕ = take count (rest bs at) in
-    let prefix : digits ≡ ds ++ c ∷ take (count - (end - at) - 1) cs = ap (take count) split ∙ (ap (λ k. take k (ds ++ c ∷ cs)) more ∙ take-append-add ds (c ∷ cs) (suc (count - (end - at) - 1))) in
+    let prefix : digits ≡ ds ++ c ∷ take (count - (end - at) - 1) cs = ap (take count) split
+    ∙ (ap (λ k. take k (ds ++ c ∷ cs)) more ∙ take-append-add ds (c ∷ cs) (suc (count - (end - at) - 1))) in
     and_right (length digits == count) (list_all hex_digit digits)
-    (ap (list_all hex_digit) prefix ∙ (every-append hex_digit ds (c ∷ take (count - (end - at) - 1) cs) ∙ and_right _ _ (and_left _ _ none)))
+    (ap (list_all hex_digit) prefix ∙ (every-append hex_digit ds (c ∷ take (count - (end - at) - 1) cs)
+    ∙ and_right _ _ (and_left _ _ none)))
 
 -- ---- escapes
 
@@ -212,7 +229,8 @@ counted_none b k h e = elim (cases_Bool (is_in b (codes "xuU"))) [
 ]
 
 -- an escape with digits has as many as its sign says
-pub counted_some : (b k : ℕ) → k ≡ (if is_in b (codes "xuU") then digits_after b else 0) → (k ≡ 0 → ⊥) → (is_in b (codes "xuU") ≡ true) × (k ≡ digits_after b)
+pub counted_some : (b k : ℕ) → k ≡ (if is_in b (codes "xuU") then digits_after b else 0) → (k ≡ 0 → ⊥)
+    → (is_in b (codes "xuU") ≡ true) × (k ≡ digits_after b)
 counted_some b k h e = elim (cases_Bool (is_in b (codes "xuU"))) [
   | inl y ↦ (y, h ∙ cond-true _ _ _ y)
   | inr n ↦ absurd (e (h ∙ cond-false _ _ _ n))
@@ -257,22 +275,29 @@ module _ (bs : List ℕ) (at : ℕ) (u : IsUtf8 bs) (l : at < length bs) (e : ge
         let there = char_at bs (at + 1) u (after_byte bs at 92 u l e (omega arith)) m in
         let c : ℕ = there.0 in
         let cs : List ℕ = rest bs (at + 1 + len_utf8 c) in
-        let uncounted : is_in c (codes "xuU") ≡ false = test-char_at (λ x. is_in x (codes "xuU")) bs (at + 1) c blind-counted u there.1 ∙ (ap (λ x. is_in x (codes "xuU")) is ∙ n) in
-        let none : quoted_char_fits (escape c) ≡ false = test-char_at (λ x. quoted_char_fits (escape x)) bs (at + 1) c blind-escape u there.1 ∙ (ap (λ x. quoted_char_fits (escape x)) is ∙ f) in
+        let uncounted : is_in c (codes "xuU") ≡ false =
+        test-char_at (λ x. is_in x (codes "xuU")) bs (at + 1) c blind-counted u there.1
+        ∙ (ap (λ x. is_in x (codes "xuU")) is ∙ n) in
+        let none : quoted_char_fits (escape c) ≡ false =
+        test-char_at (λ x. quoted_char_fits (escape x)) bs (at + 1) c blind-escape u there.1
+        ∙ (ap (λ x. quoted_char_fits (escape x)) is ∙ f) in
         ap read_item (after ∙ ap (λ (t : List ℕ). 92 ∷ t) there.1.splits)
-        ∙ (cond-false (is_in c (codes "xuU")) (read_number c cs) _ uncounted ∙ cond-false (quoted_char_fits (escape c)) (Some (escape c, cs)) None none)
+        ∙ (cond-false (is_in c (codes "xuU")) (read_number c cs) _ uncounted
+        ∙ cond-false (quoted_char_fits (escape c)) (Some (escape c, cs)) None none)
 
     -- where digits come after it
     module _ (y : is_in b (codes "xuU") ≡ true) (k : ℕ) (long : k ≡ digits_after b) where
       digits : List ℕ
       digits = take k (rest bs (at + 1 + 1))
 
-      number_read : read_item (rest bs at) ≡ (if quoted_char_fits (counted b digits) then Some (counted b digits, drop k (rest bs (at + 1 + 1))) else None)
+      number_read : read_item (rest bs at) ≡ (if quoted_char_fits (counted b digits)
+          then Some (counted b digits, drop k (rest bs (at + 1 + 1))) else None)
       unfolding read_item digits
       number_read =
           ap read_item (signed (counted_is_ascii b y)).0
           ∙ (cond-true (is_in b (codes "xuU")) (read_number b (rest bs (at + 1 + 1))) _ y
-          ∙ ap (λ j. let ds = take j (rest bs (at + 1 + 1)) in if quoted_char_fits (counted b ds) then Some (counted b ds, drop j (rest bs (at + 1 + 1))) else None) (sym long))
+          ∙ ap (λ j. let ds = take j (rest bs (at + 1 + 1)) in
+          if quoted_char_fits (counted b ds) then Some (counted b ds, drop j (rest bs (at + 1 + 1))) else None) (sym long))
 
       refused : quoted_char_fits (counted b digits) ≡ false → NoEscapeAt bs at
       refused f = number_read ∙ cond-false _ _ _ f
@@ -280,7 +305,8 @@ module _ (bs : List ℕ) (at : ℕ) (u : IsUtf8 bs) (l : at < length bs) (e : ge
       -- without enough digits there is no escape
       pub no_number : digits_at bs (at + 1 + 1) k ≡ false → NoEscapeAt bs at
       unfolding digits
-      no_number f = refused (no_digits (is_in b (codes "xuU")) (length digits == digits_after b) (list_all hex_digit digits) (code_point (hex_value 0 digits))
+      no_number f = refused (no_digits (is_in b (codes "xuU")) (length digits == digits_after b)
+          (list_all hex_digit digits) (code_point (hex_value 0 digits))
           (ap (λ j. (length digits == j) && list_all hex_digit digits) (sym long) ∙ f))
         where
           no_digits : (s t h p : Bool) → t && h ≡ false → s && t && h && p ≡ false

@@ -1,9 +1,11 @@
 -- Folds: from the places that the code finds to what the recognizer of joins reads.
 use Rattle.std.proofs.Common.{◌≡◌, ◌<◌, ◌≤◌, ◌⊎◌, ◌∙◌, sym, ap, append_assoc, subst, refl, inl, inr, arith}
-use Rattle.std.specs.Prelude.{ℕ, zero, suc, ◌+◌, ◌-◌, Bool, true, false, cond, not, ◌&&◌, ◌||◌, ◌==◌, is_some, List, [], ◌∷◌, ◌++◌, length, Some, None}
+use Rattle.std.specs.Prelude.{ℕ, zero, suc, ◌+◌, ◌-◌, Bool, true, false, cond, not, ◌&&◌, ◌||◌, ◌==◌, is_some, List}
+use Rattle.std.specs.Prelude.{[], ◌∷◌, ◌++◌, length, Some, None}
 use Rattle.std.specs.List.{list_all}
 use Rattle.std.specs.Str.{IsUtf8, IsCharBoundary}
-use Rattle.std.proofs.lemmas.Bool.{and_from, and_left, and_parts, and_right, or_left, or_right, or_from, cases_Bool, cases_lt, cond_both, cond-false, false≢true, not_from_false}
+use Rattle.std.proofs.lemmas.Bool.{and_from, and_left, and_parts, and_right, or_left, or_right, or_from, cases_Bool}
+use Rattle.std.proofs.lemmas.Bool.{cases_lt, cond_both, cond-false, false≢true, not_from_false}
 use Rattle.std.proofs.lemmas.List.{drop_more}
 use Rattle.std.proofs.lemmas.List.Sums.{list_all-from_AllPass}
 use Rattle.yaml_chars.specs.Classes.{line_break, space, white}
@@ -60,20 +62,23 @@ begins_short (suc n) zero [] l h = refl
 begins_short (suc n) zero (c ∷ cs) l h = and_left (c == 32) (begins (spaces n) cs) h
 begins_short (suc n) (suc k) text l h = begins_short n k text (omega arith) h
 
-take_while_spaced : (k : ℕ) (text : List ℕ) → (take_while white (spaces k ++ text) ≡ spaces k ++ take_while white text) × (drop_while white (spaces k ++ text) ≡ drop_while white text)
+take_while_spaced : (k : ℕ) (text : List ℕ) → (take_while white (spaces k ++ text)
+    ≡ spaces k ++ take_while white text) × (drop_while white (spaces k ++ text) ≡ drop_while white text)
 take_while_spaced zero text = (refl, refl)
 take_while_spaced (suc k) text = let more = take_while_spaced k text in (ap (λ xs. 32 ∷ xs) more.0, more.1)
 
 take_while_unspaced : (text : List ℕ) → first space text ≡ false → first space (take_while white text) ≡ false
 take_while_unspaced [] h = refl
-take_while_unspaced (c ∷ cs) h = cond_both (white c) (c ∷ take_while white cs) [] (λ (t : List ℕ). first space t ≡ false) (λ _. h) (λ _. refl)
+take_while_unspaced (c ∷ cs) h = cond_both (white c) (c ∷ take_while white cs) []
+    (λ (t : List ℕ). first space t ≡ false) (λ _. h) (λ _. refl)
 
 no_white_taken : (text : List ℕ) → first white text ≡ false → (take_while white text ≡ []) × (drop_while white text ≡ text)
 no_white_taken [] h = (refl, refl)
 no_white_taken (c ∷ cs) h = (rw h refl, rw h refl)
 
 -- white that begins with none is no space
-every_space_short : (k : ℕ) (text : List ℕ) → first white text ≡ true → first space text ≡ false → list_all space (spaces k ++ take_while white text) ≡ false
+every_space_short : (k : ℕ) (text : List ℕ) → first white text ≡ true → first space text ≡ false
+    → list_all space (spaces k ++ take_while white text) ≡ false
 every_space_short zero [] w h = absurd (false≢true w)
 every_space_short zero (c ∷ cs) w h = rw w (and_left (space c) (list_all space (take_while white cs)) h)
 every_space_short (suc k) text w h = every_space_short k text w h
@@ -82,8 +87,10 @@ every_space_nil : (k : ℕ) → list_all space (spaces k ++ []) ≡ true
 every_space_nil zero = refl
 every_space_nil (suc k) = every_space_nil k
 
-empty_there : (n : ℕ) (text : List ℕ) (stop : Break) (after : List ℕ) → begins (spaces n) (take_while white text) || list_all space (take_while white text) ≡ true
-    → read_break (drop_while white text) ≡ Some (stop, after) → read_empty n text ≡ Some (record { blank = take_while white text; stop = stop }, after)
+empty_there : (n : ℕ) (text : List ℕ) (stop : Break) (after : List ℕ)
+    → begins (spaces n) (take_while white text) || list_all space (take_while white text) ≡ true
+    → read_break (drop_while white text) ≡ Some (stop, after)
+    → read_empty n text ≡ Some (record { blank = take_while white text; stop = stop }, after)
 unfolding read_empty
 empty_there n text stop after h e = rw (h, e) refl
 
@@ -95,7 +102,8 @@ empty_unbroken n text e = rw e (both (begins (spaces n) (take_while white text) 
     both true = refl
     both false = refl
 
-empty_unindented : (n : ℕ) (text : List ℕ) → begins (spaces n) (take_while white text) || list_all space (take_while white text) ≡ false → read_empty n text ≡ None
+empty_unindented : (n : ℕ) (text : List ℕ) → begins (spaces n) (take_while white text)
+    || list_all space (take_while white text) ≡ false → read_empty n text ≡ None
 unfolding read_empty
 empty_unindented n text h = cond-false _ _ _ h
 
@@ -107,12 +115,14 @@ break_unwhite text stop after e = broken text (sym (break_some text) ∙ ap (λ 
     broken (c ∷ cs) h = line_break_no_white c h
 
 -- what comes after all spaces at a place
-spaced_to : (text : List ℕ) (at end : ℕ) → IsUtf8 text → IsCharBoundary text at → AreSpaces text at end → rest text at ≡ spaces (end - at) ++ rest text end
+spaced_to : (text : List ℕ) (at end : ℕ) → IsUtf8 text → IsCharBoundary text at → AreSpaces text at end
+    → rest text at ≡ spaces (end - at) ++ rest text end
 spaced_to text at end u b s =
     let above = s.above in
     let within = s.boundary.0 in
     let all : at + (end - at) ≡ end = omega arith in
-    (spaces_there text at (end - at) u b (omega arith) (λ k from to. s.spaces k from (omega arith))).0 ∙ ap (λ x. spaces (end - at) ++ rest text x) all
+    (spaces_there text at (end - at) u b (omega arith) (λ k from to. s.spaces k from (omega arith))).0
+    ∙ ap (λ x. spaces (end - at) ++ rest text x) all
 
 -- the first n of some spaces
 spaces_split : (n k : ℕ) (text : List ℕ) → n ≤ k → spaces k ++ text ≡ spaces n ++ (spaces (k - n) ++ text)
@@ -126,13 +136,16 @@ spaces_split (suc n) (suc k) text l =
 record Prefixes (n : ℕ) (line after : List ℕ) (indented : Bool) : Type 0 where
   indent : indents n (take_while white line) ≡ indented
   skips : indented ≡ true → drop_while white line ≡ after
-  empty : (stop : Break) (later : List ℕ) → read_break after ≡ Some (stop, later) → (e : FlowEmptyLine) × (read_empty n line ≡ Some (e, later))
+  empty : (stop : Break) (later : List ℕ) → read_break after ≡ Some (stop, later)
+      → (e : FlowEmptyLine) × (read_empty n line ≡ Some (e, later))
   no_empty : read_break after ≡ None → read_empty n line ≡ None
 
-indented_prefix : (n : ℕ) (blank after : List ℕ) → list_all white blank ≡ true → first white after ≡ false → Prefixes n (spaces n ++ (blank ++ after)) after true
+indented_prefix : (n : ℕ) (blank after : List ℕ) → list_all white blank ≡ true → first white after ≡ false
+    → Prefixes n (spaces n ++ (blank ++ after)) after true
 indented_prefix n blank after w f =
     let line : List ℕ = spaces n ++ (blank ++ after) in
-    let t : take_while white line ≡ spaces n ++ blank = (take_while_spaced n (blank ++ after)).0 ∙ ap (λ xs. spaces n ++ xs) (take_while_all white blank after w f) in
+    let t : take_while white line ≡ spaces n ++ blank = (take_while_spaced n (blank ++ after)).0
+    ∙ ap (λ xs. spaces n ++ xs) (take_while_all white blank after w f) in
     let d : drop_while white line ≡ after = (take_while_spaced n (blank ++ after)).1 ∙ drop_while_all white blank after w f in
     let deep : begins (spaces n) (take_while white line) ≡ true = ap (begins (spaces n)) t ∙ begins_spaced n blank in
     record {
@@ -147,26 +160,33 @@ short_prefix n k after l f =
     let line : List ℕ = spaces k ++ after in
     let t : take_while white line ≡ spaces k ++ take_while white after = (take_while_spaced k after).0 in
     let d : drop_while white line ≡ drop_while white after = (take_while_spaced k after).1 in
-    let few : begins (spaces n) (take_while white line) ≡ false = ap (begins (spaces n)) t ∙ begins_short n k (take_while white after) l (take_while_unspaced after f) in
+    let few : begins (spaces n) (take_while white line) ≡ false = ap (begins (spaces n)) t
+    ∙ begins_short n k (take_while white after) l (take_while_unspaced after f) in
     record {
       indent = and_right _ _ few;
       skips = λ h. absurd (false≢true h);
       empty = λ stop later e.
-          (let none = no_white_taken after (break_unwhite after stop later e) in
-          (_, empty_there n line stop later (or_right _ _ (ap (list_all space) (t ∙ ap (λ xs. spaces k ++ xs) none.0) ∙ every_space_nil k)) (ap read_break (d ∙ none.1) ∙ e)));
+          (let none = no_white_taken after (break_unwhite after stop later e) in (
+            _,
+            empty_there n line stop later (or_right _ _
+                (ap (list_all space) (t ∙ ap (λ xs. spaces k ++ xs) none.0) ∙ every_space_nil k))
+                (ap read_break (d ∙ none.1) ∙ e),
+          ));
       no_empty = λ e. elim (cases_Bool (first white after)) [
         | inl w ↦ empty_unindented n line (or_from _ _ few (ap (list_all space) t ∙ every_space_short k after w f))
         | inr w ↦ empty_unbroken n line (ap read_break (d ∙ (no_white_taken after w).1) ∙ e)
       ];
     }
 
-prefix_is : (n : ℕ) (text : List ℕ) (at end : ℕ) (indented : Bool) → at ≤ end → IsCharBoundary text end → Prefixes n (rest text at) (rest text end) indented
+prefix_is : (n : ℕ) (text : List ℕ) (at end : ℕ) (indented : Bool) → at ≤ end → IsCharBoundary text end
+    → Prefixes n (rest text at) (rest text end) indented
     → IsPrefix n text at end indented
 prefix_is n text at end indented above boundary f =
     record { above = above; boundary = boundary; indent = f.indent; skips = f.skips; empty = f.empty; no_empty = f.no_empty }
 
 -- a line with enough spaces is indented
-pub prefix_indented : (n : ℕ) (text : List ℕ) (at margin end : ℕ) → IsUtf8 text → IsCharBoundary text at → AreSpaces text at margin → n ≤ margin - at → IsRun white text margin end
+pub prefix_indented : (n : ℕ) (text : List ℕ) (at margin end : ℕ) → IsUtf8 text → IsCharBoundary text at
+    → AreSpaces text at margin → n ≤ margin - at → IsRun white text margin end
     → IsPrefix n text at end true
 prefix_indented n text at margin end u b s l r =
     let below = s.above in
@@ -179,12 +199,15 @@ prefix_indented n text at margin end u b s l r =
     ∙ (ap (λ xs. spaces (margin - at) ++ xs) (rest-between text margin end u above s.boundary r.boundary)
     ∙ (spaces_split n (margin - at) (held ++ after) l ∙ ap (λ xs. spaces n ++ xs) (sym (append_assoc more held after)))) in
     prefix_is n text at end true (omega arith) r.boundary (subst (λ (t : List ℕ). Prefixes n t after true) (sym split)
-    (indented_prefix n (more ++ held) after (every_spaced (margin - at - n) held (run_every white text margin end r)) (run_first white text margin end blind-white u r)))
+    (indented_prefix n (more ++ held) after (every_spaced (margin - at - n) held (run_every white text margin end r))
+    (run_first white text margin end blind-white u r)))
 
 -- a line with too few is not
-pub prefix_short : (n : ℕ) (text : List ℕ) (at margin : ℕ) → IsUtf8 text → IsCharBoundary text at → AreSpaces text at margin → margin - at < n → IsPrefix n text at margin false
+pub prefix_short : (n : ℕ) (text : List ℕ) (at margin : ℕ) → IsUtf8 text → IsCharBoundary text at
+    → AreSpaces text at margin → margin - at < n → IsPrefix n text at margin false
 prefix_short n text at margin u b s l =
-    prefix_is n text at margin false s.above s.boundary (subst (λ (t : List ℕ). Prefixes n t (rest text margin) false) (sym (spaced_to text at margin u b s))
+    prefix_is n text at margin false s.above s.boundary
+    (subst (λ (t : List ℕ). Prefixes n t (rest text margin) false) (sym (spaced_to text at margin u b s))
     (short_prefix n (margin - at) (rest text margin) l s.stop))
 
 -- ---- the lines of a fold
@@ -220,7 +243,8 @@ length-more [] e = refl
 length-more (x ∷ xs) e = let more : length (xs ++ e ∷ []) ≡ length xs + 1 = length-more xs e in omega arith
 
 -- and goes on over an empty line
-pub folding_goes_on : (n : ℕ) (text : List ℕ) (at line empties prefix next : ℕ) (indented : Bool) → Folding n text at line empties → IsPrefix n text line prefix indented
+pub folding_goes_on : (n : ℕ) (text : List ℕ) (at line empties prefix next : ℕ) (indented : Bool)
+    → Folding n text at line empties → IsPrefix n text line prefix indented
     → IsBreak text prefix next → Folding n text at next (empties + 1)
 folding_goes_on n text at line empties prefix next indented g f b =
     let found = f.empty b.break (rest text next) b.reads in
@@ -239,7 +263,8 @@ folding_goes_on n text at line empties prefix next indented g f b =
     }
 
 -- where no break comes after the line's white the start of the next line is read there
-last_line : (n : ℕ) (text : List ℕ) (at line empties prefix : ℕ) (indented : Bool) → (g : Folding n text at line empties) → IsPrefix n text line prefix indented
+last_line : (n : ℕ) (text : List ℕ) (at line empties prefix : ℕ) (indented : Bool)
+    → (g : Folding n text at line empties) → IsPrefix n text line prefix indented
     → read_break (rest text prefix) ≡ None → (escaped : Bool) (blank : List ℕ)
     → after_blank escaped n blank (rest text at) ≡ with_lead escaped n blank g.stop (g.lines, rest text line)
 last_line n text at line empties prefix indented g f h escaped blank =
@@ -247,7 +272,8 @@ last_line n text at line empties prefix indented g f h escaped blank =
     ∙ ap (with_lead escaped n blank g.stop) (passed_all n g.start g.lines (rest text line) g.passed (f.no_empty h))
 
 -- before a line that is indented it is a fold
-pub fold_there : (n : ℕ) (text : List ℕ) (at line empties prefix : ℕ) (indented : Bool) → Folding n text at line empties → IsPrefix n text line prefix indented
+pub fold_there : (n : ℕ) (text : List ℕ) (at line empties prefix : ℕ) (indented : Bool)
+    → Folding n text at line empties → IsPrefix n text line prefix indented
     → read_break (rest text prefix) ≡ None → indented ≡ true → marker (rest text line) ≡ false → IsFold n text at empties prefix
 fold_there n text at line empties prefix indented g f h i m =
     let above = g.above in
@@ -260,13 +286,23 @@ fold_there n text at line empties prefix indented g f h i m =
       found = λ escaped blank.
           (last_line n text at line empties prefix indented g f h escaped blank
           ∙ (step_lead escaped n blank g.stop g.lines (rest text line) (and_from _ _ (f.indent ∙ i) (not_from_false _ m))
-          ∙ ap (λ (t : List ℕ). Some (record { escaped = escaped; blank = blank; stop = g.stop; empties = g.lines; lead = lead }, t)) (f.skips i)));
+          ∙ ap (λ (t : List ℕ). Some (
+            record {
+              escaped = escaped;
+              blank = blank;
+              stop = g.stop;
+              empties = g.lines;
+              lead = lead;
+            },
+            t,
+          )) (f.skips i)));
       escapes = λ escaped blank. refl;
       counts = λ escaped blank. g.count;
     }
 
 -- before another line it is none
-pub no_fold_there : (n : ℕ) (text : List ℕ) (at line empties prefix : ℕ) (indented : Bool) → Folding n text at line empties → IsPrefix n text line prefix indented
+pub no_fold_there : (n : ℕ) (text : List ℕ) (at line empties prefix : ℕ) (indented : Bool)
+    → Folding n text at line empties → IsPrefix n text line prefix indented
     → read_break (rest text prefix) ≡ None → (indented ≡ false) ⊎ (marker (rest text line) ≡ true) → NoFold n text at
 no_fold_there n text at line empties prefix indented g f h w = λ escaped blank.
     last_line n text at line empties prefix indented g f h escaped blank
@@ -278,7 +314,8 @@ no_fold_there n text at line empties prefix indented g f h w = λ escaped blank.
 -- ---- after a fold
 
 -- what is read as a join is followed by no break: all empty lines belong to it
-join_solid : (escaped : Bool) (n : ℕ) (blank text : List ℕ) (j : Join) (after : List ℕ) → after_blank escaped n blank text ≡ Some (j, after) → at_break after ≡ false
+join_solid : (escaped : Bool) (n : ℕ) (blank text : List ℕ) (j : Join) (after : List ℕ)
+    → after_blank escaped n blank text ≡ Some (j, after) → at_break after ≡ false
 unfolding after_blank
 join_solid escaped n blank text j after e =
     let p = on_parts (read_break text) (λ stop t. with_lead escaped n blank stop (all_of (read_empty n) t)) (j, after) e in
@@ -293,7 +330,8 @@ join_solid escaped n blank text j after e =
       | inr q ↦ absurd (none_some _ q.1)
     ]
   where
-    never : (t : List ℕ) → begins (spaces n) (take_while white t) ≡ true → (r : Read Break) → read_break (drop_while white t) ≡ r → read_empty n t ≡ None → read_break (drop_while white t) ≡ None
+    never : (t : List ℕ) → begins (spaces n) (take_while white t) ≡ true → (r : Read Break)
+        → read_break (drop_while white t) ≡ r → read_empty n t ≡ None → read_break (drop_while white t) ≡ None
     never t deep None e none = e
     never t deep (Some r) e none = absurd (none_some _ (sym none ∙ empty_there n t r.0 r.1 (or_left _ _ deep) e))
 

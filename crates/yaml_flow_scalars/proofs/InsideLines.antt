@@ -11,7 +11,11 @@ use Rattle.yaml_chars.specs.Places.{rest, between}
 use Rattle.yaml_chars.proofs.Places.{between-append, rest-between}
 use Rattle.yaml_events.specs.EventPlaces.{line_starts, without_mark}
 use Rattle.yaml_grammar.specs.Events.{Style}
-use Rattle.yaml_grammar.specs.FlowScalars.{FlowContext, outer, inner, block_key, flow_key, Line, Scalar, plain, single, double, ends, plain_next, plain_run, plain_line, plain_more, plain_lines, plain_kind, plain_text, single_text, quoted_char_text, line_text, lines_text, join_text, flow_empties_text, lines_after, scalar_text, scalar_fits}
+use Rattle.yaml_grammar.specs.FlowScalars.{FlowContext, outer, inner, block_key, flow_key, Line, Scalar, plain}
+use Rattle.yaml_grammar.specs.FlowScalars.{single, double, ends, plain_next, plain_run, plain_line, plain_more}
+use Rattle.yaml_grammar.specs.FlowScalars.{plain_lines, plain_kind, plain_text, single_text, quoted_char_text}
+use Rattle.yaml_grammar.specs.FlowScalars.{line_text, lines_text, join_text, flow_empties_text, lines_after}
+use Rattle.yaml_grammar.specs.FlowScalars.{scalar_text, scalar_fits}
 use Rattle.yaml_grammar.specs.Texts.{starts_line}
 use Rattle.yaml_recognizers.proofs.Scalars.PlainScalars.{plain_texts}
 use Rattle.yaml_flow_scalars.specs.Standing.{ScalarAt}
@@ -39,7 +43,8 @@ next_inked flow_key before x after h = grind (arith, nat_tests)
 first_inked : (x : ℕ) → ns x ≡ true → inked x ≡ true
 first_inked x h = grind (arith, nat_tests)
 
-last_inked : (c : FlowContext) (before x : ℕ) (after : List ℕ) → (white x || plain_next c before x after) && not (white x) ≡ true → inked x ≡ true
+last_inked : (c : FlowContext) (before x : ℕ) (after : List ℕ)
+    → (white x || plain_next c before x after) && not (white x) ≡ true → inked x ≡ true
 last_inked c before x after h = by_cases (white x) (plain_next c before x after) h (next_inked c before x after)
   where
     by_cases : (w p : Bool) → (w || p) && not w ≡ true → (p ≡ true → inked x ≡ true) → inked x ≡ true
@@ -61,18 +66,22 @@ more_ends c [] after h = absurd (false≢true h)
 more_ends c (x ∷ xs) after h = run_ends c 32 x xs after (and_parts _ _ h).1
 
 line_text_ends : (l : Line ℕ) → ends inked l.held ≡ true → ends inked (line_text plain_text l) ≡ true
-line_text_ends l h = ends_after inked (join_text l ++ flow_empties_text l.empties ++ l.lead) (flat_map plain_text l.held) (rw (plain_texts l.held) h)
+line_text_ends l h = ends_after inked (join_text l ++ flow_empties_text l.empties ++ l.lead)
+    (flat_map plain_text l.held) (rw (plain_texts l.held) h)
 
-lines_end : (n : ℕ) (c : FlowContext) (before : List ℕ) (l : Line ℕ) (ls : List (Line ℕ)) (after : List ℕ) → plain_lines n c before (l ∷ ls) after ≡ true
+lines_end : (n : ℕ) (c : FlowContext) (before : List ℕ) (l : Line ℕ) (ls : List (Line ℕ)) (after : List ℕ)
+    → plain_lines n c before (l ∷ ls) after ≡ true
     → ends inked (flat_map (line_text plain_text) (l ∷ ls)) ≡ true
 lines_end n c before l [] after h =
     let p = and_parts _ _ h in
     let q = and_parts _ _ p.0 in
     rw (append-nil (line_text plain_text l)) (line_text_ends l (more_ends c l.held (lines_after plain_kind [] after) q.1))
 lines_end n c before l (m ∷ ms) after h =
-    ends_after inked (line_text plain_text l) (flat_map (line_text plain_text) (m ∷ ms)) (lines_end n c l.held m ms after (and_parts _ _ h).1)
+    ends_after inked (line_text plain_text l) (flat_map (line_text plain_text) (m ∷ ms))
+    (lines_end n c l.held m ms after (and_parts _ _ h).1)
 
-scalar_ends : (s : Scalar) (n : ℕ) (c : FlowContext) (bol : Bool) (after : List ℕ) → scalar_fits n c bol s after ≡ true → ends inked (scalar_text s) ≡ true
+scalar_ends : (s : Scalar) (n : ℕ) (c : FlowContext) (bol : Bool) (after : List ℕ)
+    → scalar_fits n c bol s after ≡ true → ends inked (scalar_text s) ≡ true
 scalar_ends (plain prefix []) n c bol after h =
     let p = and_parts _ _ h in
     let q = and_parts _ _ p.0 in
@@ -83,7 +92,8 @@ scalar_ends (plain prefix (l ∷ ls)) n c bol after h =
     let q = and_parts _ _ p.0 in
     ends_after inked (flat_map plain_text prefix) (flat_map (line_text plain_text) (l ∷ ls)) (lines_end n c prefix l ls after q.1)
 scalar_ends (single prefix more) n c bol after h = ends_after inked (codes "'" ++ lines_text single_text prefix more) (codes "'") refl
-scalar_ends (double prefix more) n c bol after h = ends_after inked (codes "\"" ++ lines_text quoted_char_text prefix more) (codes "\"") refl
+scalar_ends (double prefix more) n c bol after h =
+    ends_after inked (codes "\"" ++ lines_text quoted_char_text prefix more) (codes "\"") refl
 
 -- ---- no line starts after it
 
@@ -103,23 +113,27 @@ no_line bol (x ∷ y ∷ ys) h = no_line (line_break x) (y ∷ ys) h
 no_line_marked : (xs : List ℕ) → ends inked xs ≡ true → starts_line true (without_mark xs) ≡ false
 no_line_marked [] h = absurd (false≢true h)
 no_line_marked (x ∷ xs) h =
-    cond_both (x == 0xfeff) xs (x ∷ xs) (λ (t : List ℕ). starts_line true t ≡ false) (λ e. past_mark x xs e h) (λ _. no_line true (x ∷ xs) h)
+    cond_both (x == 0xfeff) xs (x ∷ xs) (λ (t : List ℕ). starts_line true t ≡ false) (λ e. past_mark x xs e h)
+    (λ _. no_line true (x ∷ xs) h)
   where
     past_mark : (x : ℕ) (xs : List ℕ) → (x == 0xfeff) ≡ true → ends inked (x ∷ xs) ≡ true → starts_line true xs ≡ false
     past_mark x [] e h = absurd (false≢true (sym (inked_parts x h).1 ∙ e))
     past_mark x (y ∷ ys) e h = no_line true (y ∷ ys) h
 
 -- a scalar ends with a character that is no break
-pub ends_inside_line : (style : Style) (n : ℕ) (c : FlowContext) (text : List ℕ) (at : ℕ) (value : List ℕ) (end : ℕ) → IsUtf8 text → IsCharBoundary text at
+pub ends_inside_line : (style : Style) (n : ℕ) (c : FlowContext) (text : List ℕ) (at : ℕ) (value : List ℕ) (end : ℕ)
+    → IsUtf8 text → IsCharBoundary text at
     → ScalarAt style n c text at value end → line_starts text end ≡ false
 ends_inside_line style n c text at value end u b s =
     let above = s.above in
     let stands = s.scalar.stands in
     let there : Scalar = s.scalar.scalar in
     let spelled : between text at end ≡ scalar_text there =
-    append_cancel_right (between text at end) (scalar_text there) (rest text end) (sym (rest-between text at end u (omega arith) b s.boundary) ∙ stands.spells) in
+    append_cancel_right (between text at end) (scalar_text there) (rest text end)
+    (sym (rest-between text at end u (omega arith) b s.boundary) ∙ stands.spells) in
     let whole : between text 0 end ≡ between text 0 at ++ scalar_text there =
-    between-append text 0 at end u (omega arith) (omega arith) (IsCharBoundary-start text u) b s.boundary ∙ ap (λ t. between text 0 at ++ t) spelled in
+    between-append text 0 at end u (omega arith) (omega arith) (IsCharBoundary-start text u) b s.boundary
+    ∙ ap (λ t. between text 0 at ++ t) spelled in
     ap (λ t. starts_line true (without_mark t)) whole
     ∙ no_line_marked (between text 0 at ++ scalar_text there)
     (ends_after inked (between text 0 at) (scalar_text there) (scalar_ends there n c (line_starts text at) (rest text end) stands.fits))

@@ -34,15 +34,19 @@ first_is_ns c x xs h = (and_parts (ns x) _ h).0
 
 -- what the recognizer of plain scalars reads is there
 read_stands : (n : ℕ) (c : FlowContext) (bol : Bool) (text prefix : List ℕ) (more : List (Line ℕ)) (after value : List ℕ)
-    → read_plain n c bol text ≡ Some (plain prefix more, after) → prefix ++ flat_map (line_value char_value) more ≡ value → IsScalar n c bol text plain_style value after
+    → read_plain n c bol text ≡ Some (plain prefix more, after)
+    → prefix ++ flat_map (line_value char_value) more ≡ value → IsScalar n c bol text plain_style value after
 read_stands n c bol text prefix more after value e v =
-    let stands : Stands n c bol text (plain prefix more) after = sound_is (Stands n c bol text) (read_plain n c bol text) (plain prefix more, after) (plain_sound n c bol text) e in
+    let stands : Stands n c bol text (plain prefix more) after =
+    sound_is (Stands n c bol text) (read_plain n c bol text) (plain prefix more, after) (plain_sound n c bol text) e in
     subst (λ t. IsScalar n c bol text plain_style t after) (ap (λ t. t ++ flat_map (line_value char_value) more) (values_are prefix) ∙ v)
     (is_scalar n c bol text (plain prefix more) after (complete n c bol text (plain prefix more) after stands))
 
-module _ (n : ℕ) (c : FlowContext) (text : List ℕ) (at after end : ℕ) (u : IsUtf8 text) (b : IsCharBoundary text at) (begins : BeginsPlain c text at after)
+module _ (n : ℕ) (c : FlowContext) (text : List ℕ) (at after end : ℕ) (u : IsUtf8 text) (b : IsCharBoundary text at)
+    (begins : BeginsPlain c text at after)
     (run : IsPlainRun c true text after end) where
-  first_line_read : read_plain n c (line_starts text at) (rest text at) ≡ with_lines (begins.character ∷ between text after end) (plain_lines_at n c (rest text end))
+  first_line_read : read_plain n c (line_starts text at) (rest text at)
+      ≡ with_lines (begins.character ∷ between text after end) (plain_lines_at n c (rest text end))
   first_line_read =
       let x : ℕ = begins.character in
       let xs : List ℕ = rest text after in
@@ -50,7 +54,8 @@ module _ (n : ℕ) (c : FlowContext) (text : List ℕ) (at after end : ℕ) (u :
       let fits = and_parts (no_marker (line_starts text at) (x ∷ xs)) (plain_first c x xs) begins.begins in
       let reads : read_run c x xs ≡ held = run.reads x (first_is_ns c x xs fits.1) in
       let left : drop (length held) xs ≡ rest text end =
-      ap (drop (length held)) (rest-between text after end u run.above begins.boundary run.boundary) ∙ drop-append_seam held (rest text end) in
+      ap (drop (length held)) (rest-between text after end u run.above begins.boundary run.boundary)
+      ∙ drop-append_seam held (rest text end) in
       ap (read_plain n c (line_starts text at)) begins.splits
       ∙ (step_begin n c (line_starts text at) x xs begins.begins
       ∙ (ap (λ r. with_lines (x ∷ r) (plain_lines_at n c (drop (length r) xs))) reads
@@ -68,12 +73,15 @@ module _ (n : ℕ) (c : FlowContext) (text : List ℕ) (at after end : ℕ) (u :
   pub first_line_unbroken : list_all no_break (between text at end) ≡ true
   first_line_unbroken =
       let x : ℕ = begins.character in
-      let black : ns x ≡ true = first_is_ns c x (rest text after) (and_parts (no_marker (line_starts text at) (x ∷ rest text after)) (plain_first c x (rest text after)) begins.begins).1 in
+      let black : ns x ≡ true = first_is_ns c x (rest text after)
+      (and_parts (no_marker (line_starts text at) (x ∷ rest text after))
+      (plain_first c x (rest text after)) begins.begins).1 in
       ap (list_all no_break) (sym first_line_text)
       ∙ and_from _ _ (ns_unbroken x black) (ap (list_all no_break) (sym (run.reads x black)) ∙ run_unbroken c x (rest text after))
 
   -- its first line goes up to the place `end`, and the further ones up to another
-  pub plain_found : (last : ℕ) (value : List ℕ) → end ≤ last → IsCharBoundary text last → (plain_lines_at n c (rest text end)).1 ≡ rest text last
+  pub plain_found : (last : ℕ) (value : List ℕ) → end ≤ last → IsCharBoundary text last
+      → (plain_lines_at n c (rest text end)).1 ≡ rest text last
       → between text at end ++ lines_value n c text end ≡ value → ScalarAt plain_style n c text at value last
   plain_found last value l d left v =
       let above = begins.above in
@@ -95,7 +103,8 @@ unfolding read_plain
 read_none n c bol [] h = refl
 read_none n c bol (x ∷ xs) h = no_begin n c bol x xs h
 
-plain_reads : (n : ℕ) (c : FlowContext) (bol : Bool) (text prefix : List ℕ) (more : List (Line ℕ)) (after : List ℕ) → Stands n c bol text (plain prefix more) after
+plain_reads : (n : ℕ) (c : FlowContext) (bol : Bool) (text prefix : List ℕ) (more : List (Line ℕ)) (after : List ℕ)
+    → Stands n c bol text (plain prefix more) after
     → read_plain n c bol text ≡ Some (plain prefix more, after)
 unfolding scalar_ends
 plain_reads n c bol text prefix more after h = ap (read_plain n c bol) h.spells ∙ plain_read n c bol prefix more after h.fits h.ends
@@ -104,14 +113,16 @@ plain_reads n c bol text prefix more after h = ap (read_plain n c bol) h.spells 
 pub plain_missing : (n : ℕ) (c : FlowContext) (text : List ℕ) (at : ℕ) → NoPlainBegins c text at → NoScalarAt plain_style n c text at
 plain_missing n c text at h (plain prefix more) after e stands =
     none_some (plain prefix more, after) (sym (read_none n c (line_starts text at) (rest text at) h)
-    ∙ plain_reads n c (line_starts text at) (rest text at) prefix more after (whole_stands n c (line_starts text at) (rest text at) (plain prefix more) after stands))
+    ∙ plain_reads n c (line_starts text at) (rest text at) prefix more after
+    (whole_stands n c (line_starts text at) (rest text at) (plain prefix more) after stands))
 plain_missing n c text at h (single prefix more) after e stands = cc
 plain_missing n c text at h (double prefix more) after e stands = cc
 
 -- ---- memory
 
 -- before a further line is a break
-pub line_breaks : (n : ℕ) (c : FlowContext) (text : List ℕ) (at end empties start stop last : ℕ) → at ≤ end → IsNextLine n c text end empties start stop → stop ≤ last → last ≤ length text
+pub line_breaks : (n : ℕ) (c : FlowContext) (text : List ℕ) (at end empties start stop last : ℕ) → at ≤ end
+    → IsNextLine n c text end empties start stop → stop ≤ last → last ≤ length text
     → NoBreak (slice_range text at last) → ⊥
 line_breaks n c text at end empties start stop last l next m within none =
     let after = next.after in
@@ -120,5 +131,6 @@ line_breaks n c text at end empties start stop last l next m within none =
     let k : ℕ = next.stop - at in
     let size : k < length (slice_range text at last) = omega (arith, length-take (last - at) (drop at text), length-drop at text) in
     let there : get_or (slice_range text at last) k 0 ≡ slice_index text next.stop =
-    get_or-take (last - at) (drop at text) k 0 (omega arith) ∙ (get_or-drop at text k 0 ∙ ap (λ x. get_or text x 0) (let e : at + k ≡ next.stop = omega arith in e)) in
+    get_or-take (last - at) (drop at text) k 0 (omega arith)
+    ∙ (get_or-drop at text k 0 ∙ ap (λ x. get_or text x 0) (let e : at + k ≡ next.stop = omega arith in e)) in
     false≢true (sym (not-true (line_break (get_or (slice_range text at last) k 0)) (none k 0 size)) ∙ (ap line_break there ∙ next.breaks))

@@ -37,17 +37,21 @@ join_at n text at blank_end u b run =
     let f = run_first white text at blank_end blind-white u run in
     let split = rest-between text at blank_end u run.above b run.boundary in
     ap (λ t. after_blank false n (take_while white t) (drop_while white t)) split
-    ∙ (ap (λ t. after_blank false n t (drop_while white (between text at blank_end ++ rest text blank_end))) (take_while_all white (between text at blank_end) (rest text blank_end) w f)
+    ∙ (ap (λ t. after_blank false n t (drop_while white (between text at blank_end ++ rest text blank_end)))
+    (take_while_all white (between text at blank_end) (rest text blank_end) w f)
     ∙ ap (after_blank false n (between text at blank_end)) (drop_while_all white (between text at blank_end) (rest text blank_end) w f))
 
 -- a break is where a fold begins
-break_of_fold : (n : ℕ) (text : List ℕ) (at empties next : ℕ) → IsUtf8 text → IsCharBoundary text at → IsFold n text at empties next → line_break (slice_index text at) ≡ true
+break_of_fold : (n : ℕ) (text : List ℕ) (at empties next : ℕ) → IsUtf8 text → IsCharBoundary text at
+    → IsFold n text at empties next → line_break (slice_index text at) ≡ true
 break_of_fold n text at empties next u b fold = elim (cases_Bool (line_break (slice_index text at))) [
   | inl e ↦ e
   | inr e ↦ (let above = fold.above in
       let inside = fold.boundary.0 in
-      let none : first line_break (rest text at) ≡ false = first-rest line_break text at blind-line_break u b ∙ (ap (first line_break) (drop_more text at 0 (omega arith)) ∙ e) in
-      absurd (none_some (fold.join false [], rest text next) (sym (no_break false n [] (rest text at) (unbroken (rest text at) none)) ∙ fold.found false [])))
+      let none : first line_break (rest text at) ≡ false = first-rest line_break text at blind-line_break u b
+      ∙ (ap (first line_break) (drop_more text at 0 (omega arith)) ∙ e) in
+      absurd (none_some (fold.join false [], rest text next)
+      (sym (no_break false n [] (rest text at) (unbroken (rest text at) none)) ∙ fold.found false [])))
 ]
 
 -- ---- a further line
@@ -57,12 +61,14 @@ pub values_are : (xs : List ℕ) → values char_value xs ≡ xs
 values_are [] = refl
 values_are (x ∷ xs) = ap (λ ys. x ∷ ys) (values_are xs)
 
-line_means : (j : Join) (empties : ℕ) (held : List ℕ) → j.escaped ≡ false → length j.empties ≡ empties → line_value char_value (line_of j held) ≡ folded_break empties ++ held
+line_means : (j : Join) (empties : ℕ) (held : List ℕ) → j.escaped ≡ false → length j.empties ≡ empties
+    → line_value char_value (line_of j held) ≡ folded_break empties ++ held
 line_means j empties held e k =
     ap (λ b. cond b (line_feeds (length j.empties)) (folded_break (length j.empties)) ++ values char_value held) e
     ∙ (ap (λ m. folded_break m ++ values char_value held) k ∙ ap (λ t. folded_break empties ++ t) (values_are held))
 
-module _ (n : ℕ) (c : FlowContext) (text : List ℕ) (at blank_end : ℕ) (u : IsUtf8 text) (b : IsCharBoundary text at) (run : IsRun white text at blank_end) where
+module _ (n : ℕ) (c : FlowContext) (text : List ℕ) (at blank_end : ℕ) (u : IsUtf8 text) (b : IsCharBoundary text at)
+    (run : IsRun white text at blank_end) where
   -- without a fold there is no further line
   pub no_fold_no_line : NoFold n text blank_end → NoNextLine n c text at
   no_fold_no_line none =
@@ -70,17 +76,20 @@ module _ (n : ℕ) (c : FlowContext) (text : List ℕ) (at blank_end : ℕ) (u :
       (join_at n text at blank_end u b run ∙ none false (between text at blank_end)))
 
   module _ (empties next end : ℕ) (fold : IsFold n text blank_end empties next) (held : IsPlainRun c false text next end) where
-    line_read : read_plain_line n c (rest text at) ≡ with_run (fold.join false (between text at blank_end)) (rest text next) (between text next end)
+    line_read : read_plain_line n c (rest text at)
+        ≡ with_run (fold.join false (between text at blank_end)) (rest text next) (between text next end)
     line_read =
         let j : Join = fold.join false (between text at blank_end) in
-        line_after_join n c (rest text at) j (rest text next) (join_at n text at blank_end u b run ∙ fold.found false (between text at blank_end))
+        line_after_join n c (rest text at) j (rest text next)
+        (join_at n text at blank_end u b run ∙ fold.found false (between text at blank_end))
         ∙ ap (with_run j (rest text next)) (held.reads 32 refl)
 
     -- nor if it holds nothing
     pub empty_no_line : end ≡ next → NoNextLine n c text at
     empty_no_line e =
         no_more_lines n c (rest text at)
-        (line_read ∙ ap (with_run (fold.join false (between text at blank_end)) (rest text next)) (ap (between text next) e ∙ between-nil text next))
+        (line_read ∙ ap (with_run (fold.join false (between text at blank_end)) (rest text next))
+        (ap (between text next) e ∙ between-nil text next))
 
     -- else there is one
     pub next_line_is : one_line c ≡ false → next < end → IsNextLine n c text at empties next end
@@ -89,10 +98,12 @@ module _ (n : ℕ) (c : FlowContext) (text : List ℕ) (at blank_end : ℕ) (u :
         let j : Join = fold.join false blank in
         let inside : List ℕ = between text next end in
         let left : drop (length inside) (rest text next) ≡ rest text end =
-        ap (drop (length inside)) (rest-between text next end u held.above fold.boundary held.boundary) ∙ drop-append_seam inside (rest text end) in
+        ap (drop (length inside)) (rest-between text next end u held.above fold.boundary held.boundary)
+        ∙ drop-append_seam inside (rest text end) in
         let found : read_plain_line n c (rest text at) ≡ Some (line_of j inside, rest text end) =
         line_read
-        ∙ (cond-false (is_empty inside) None (Some (line_of j inside, drop (length inside) (rest text next))) (between_some text next end u l fold.boundary held.boundary)
+        ∙ (cond-false (is_empty inside) None (Some (line_of j inside, drop (length inside) (rest text next)))
+        (between_some text next end u l fold.boundary held.boundary)
         ∙ ap (λ t. Some (line_of j inside, t)) left) in
         record {
           stop = blank_end;
@@ -118,7 +129,8 @@ pub lines_step : (n : ℕ) (c : FlowContext) (text : List ℕ) (at empties start
     → (lines_value n c text at ≡ (folded_break empties ++ between text start end) ++ lines_value n c text end)
     × ((plain_lines_at n c (rest text at)).1 ≡ (plain_lines_at n c (rest text end)).1)
 lines_step n c text at empties start end next = (
-  ap (λ (found : List (Line ℕ) × List ℕ). flat_map (line_value char_value) found.0) next.found ∙ ap (λ t. t ++ lines_value n c text end) next.means,
+  ap (λ (found : List (Line ℕ) × List ℕ). flat_map (line_value char_value) found.0) next.found
+      ∙ ap (λ t. t ++ lines_value n c text end) next.means,
   ap (λ (found : List (Line ℕ) × List ℕ). found.1) next.found,
 )
 
@@ -142,8 +154,10 @@ chars-folded_break zero = chars-IsAscii (folded_break 0) (λ i. below_ascii 1 32
 chars-folded_break (suc k) = chars-IsAscii (folded_break (suc k)) (λ i. below_ascii (suc k) 10 i (omega arith))
 
 -- a fold, and what its line holds
-pub line_pushed : (text value longer longest piece : List ℕ) (empties start end : ℕ) → IsUtf8 value → IsUtf8 longer → longer ≡ value ++ folded_break empties
-    → longest ≡ longer ++ piece → piece ≡ slice_range text start end → chars longest ≡ chars value ++ (folded_break empties ++ between text start end)
+pub line_pushed : (text value longer longest piece : List ℕ) (empties start end : ℕ) → IsUtf8 value → IsUtf8 longer
+    → longer ≡ value ++ folded_break empties
+    → longest ≡ longer ++ piece → piece ≡ slice_range text start end
+    → chars longest ≡ chars value ++ (folded_break empties ++ between text start end)
 line_pushed text value longer longest piece empties start end u v e f g =
     ap chars f
     ∙ (chars-append longer piece v
@@ -154,7 +168,8 @@ line_pushed text value longer longest piece empties start end u v e f g =
     ∙ ap (λ t. chars value ++ (folded_break empties ++ chars t)) g)))))
 
 -- the value so far, with what is left, before a further line
-pub line_next : (n : ℕ) (c : FlowContext) (text whole so_far longest line : List ℕ) (at empties start end : ℕ) → IsNextLine n c text at empties start end
+pub line_next : (n : ℕ) (c : FlowContext) (text whole so_far longest line : List ℕ) (at empties start end : ℕ)
+    → IsNextLine n c text at empties start end
     → whole ≡ so_far ++ line ++ lines_value n c text at → longest ≡ so_far ++ line
     → whole ≡ longest ++ (folded_break empties ++ between text start end) ++ lines_value n c text end
 line_next n c text whole so_far longest line at empties start end next e f =

@@ -78,7 +78,8 @@ some_after [] ys h = h
 some_after (x ∷ xs) ys h = refl
 
 -- a run goes on after white
-over_white : (c : FlowContext) (before : ℕ) (blank tail : List ℕ) → list_all white blank ≡ true → is_empty (read_run c (last_of before blank) tail) ≡ false
+over_white : (c : FlowContext) (before : ℕ) (blank tail : List ℕ) → list_all white blank ≡ true
+    → is_empty (read_run c (last_of before blank) tail) ≡ false
     → read_run c before (blank ++ tail) ≡ blank ++ read_run c (last_of before blank) tail
 unfolding last_of
 over_white c before [] tail w h = refl
@@ -88,7 +89,8 @@ over_white c before (x ∷ xs) tail w h =
     step_white c before x (xs ++ tail) p.0 (ap is_empty more ∙ some_after xs (read_run c (last_of x xs) tail) h) ∙ ap (λ t. x ∷ t) more
 
 -- or ends before it
-none_over_white : (c : FlowContext) (before : ℕ) (blank tail : List ℕ) → list_all white blank ≡ true → read_run c (last_of before blank) tail ≡ [] → read_run c before (blank ++ tail) ≡ []
+none_over_white : (c : FlowContext) (before : ℕ) (blank tail : List ℕ) → list_all white blank ≡ true
+    → read_run c (last_of before blank) tail ≡ [] → read_run c before (blank ++ tail) ≡ []
 unfolding last_of
 none_over_white c before [] tail w h = h
 none_over_white c before (x ∷ xs) tail w h =
@@ -115,14 +117,16 @@ after_white before (x ∷ xs) w =
     none true = refl
     none false = refl
 
-no_run_here : (c : FlowContext) (before : ℕ) (text : List ℕ) → goes_on_plain c before text ≡ false → first white text ≡ false → read_run c before text ≡ []
+no_run_here : (c : FlowContext) (before : ℕ) (text : List ℕ) → goes_on_plain c before text ≡ false
+    → first white text ≡ false → read_run c before text ≡ []
 no_run_here c before [] h w = no_run_at_end c before
 no_run_here c before (x ∷ xs) h w = no_run c before x xs h w
 
 -- ---- at places
 
 -- between two different places there is something
-pub between_some : (text : List ℕ) (i j : ℕ) → IsUtf8 text → i < j → IsCharBoundary text i → IsCharBoundary text j → is_empty (between text i j) ≡ false
+pub between_some : (text : List ℕ) (i j : ℕ) → IsUtf8 text → i < j → IsCharBoundary text i → IsCharBoundary text j
+    → is_empty (between text i j) ≡ false
 between_some text i j u l b d = some (between text i j) (encodes-between text i j u (omega arith) b d)
   where
     some : (xs : List ℕ) → encodes xs ≡ slice_range text i j → is_empty xs ≡ false
@@ -130,42 +134,51 @@ between_some text i j u l b d = some (between text i j) (encodes-between text i 
     some (x ∷ xs) e = refl
 
 -- a piece of one character
-pub one_piece : (c : FlowContext) (black : Bool) (text : List ℕ) (at end x : ℕ) → IsUtf8 text → IsCharBoundary text at → at < end → IsCharBoundary text end
-    → rest text at ≡ x ∷ rest text end → ((before : ℕ) → ns before ≡ black → plain_next c before x (rest text end) ≡ true) → IsPlainPiece c black text at end
+pub one_piece : (c : FlowContext) (black : Bool) (text : List ℕ) (at end x : ℕ) → IsUtf8 text → IsCharBoundary text at
+    → at < end → IsCharBoundary text end
+    → rest text at ≡ x ∷ rest text end → ((before : ℕ) → ns before ≡ black
+    → plain_next c before x (rest text end) ≡ true) → IsPlainPiece c black text at end
 one_piece c black text at end x u b l d e h =
-    let one : between text at end ≡ x ∷ [] = append_cancel_right (between text at end) (x ∷ []) (rest text end) (sym (rest-between text at end u (omega arith) b d) ∙ e) in
+    let one : between text at end ≡ x ∷ [] = append_cancel_right (between text at end) (x ∷ []) (rest text end)
+    (sym (rest-between text at end u (omega arith) b d) ∙ e) in
     record {
       above = l;
       boundary = d;
       goes_on = λ before last p q.
-          ap (read_run c before) e ∙ (one_goes_on c before last x (rest text end) (h before p) q ∙ ap (λ t. t ++ read_run c last (rest text end)) (sym one));
+          ap (read_run c before) e ∙ (one_goes_on c before last x (rest text end) (h before p) q
+          ∙ ap (λ t. t ++ read_run c last (rest text end)) (sym one));
     }
 
 -- What a run from one place reads up to another, and goes on to read there. It begins after a character that is no
 -- white, if black.
 abbrev pub GoesOn : FlowContext → Bool → Bool → List ℕ → ℕ → ℕ → Type 0
 GoesOn c black black_after text from end =
-    (before last : ℕ) → ns before ≡ black → ns last ≡ black_after → read_run c before (rest text from) ≡ between text from end ++ read_run c last (rest text end)
+    (before last : ℕ) → ns before ≡ black → ns last ≡ black_after
+    → read_run c before (rest text from) ≡ between text from end ++ read_run c last (rest text end)
 
 -- a run goes on from where it starts
 pub goes_from : (c : FlowContext) (black : Bool) (text : List ℕ) (from : ℕ) → GoesOn c black black text from from
 goes_from c black text from before last e f =
     run_by_ns c before last (rest text from) (e ∙ sym f) ∙ ap (λ t. t ++ read_run c last (rest text from)) (sym (between-nil text from))
 
-empty_between : (text : List ℕ) (i j : ℕ) → IsUtf8 text → i ≤ j → IsCharBoundary text i → IsCharBoundary text j → is_empty (between text i j) ≡ (j == i)
+empty_between : (text : List ℕ) (i j : ℕ) → IsUtf8 text → i ≤ j → IsCharBoundary text i → IsCharBoundary text j
+    → is_empty (between text i j) ≡ (j == i)
 empty_between text i j u l b d = elim (cases_lt i j) [
   | inl k ↦ between_some text i j u k b d ∙ sym (let e : (j == i) ≡ false = grind (arith, nat_tests) in e)
   | inr k ↦ (let e : j ≡ i = omega arith in
-      ap (λ k. is_empty (between text i k)) e ∙ (ap is_empty (between-nil text i) ∙ sym (let f : (j == i) ≡ true = grind (arith, nat_tests) in f)))
+      ap (λ k. is_empty (between text i k)) e ∙ (ap is_empty (between-nil text i)
+      ∙ sym (let f : (j == i) ≡ true = grind (arith, nat_tests) in f)))
 ]
 
-module _ (c : FlowContext) (black black_after : Bool) (text : List ℕ) (from end place : ℕ) (u : IsUtf8 text) (start : IsCharBoundary text from) (b : IsCharBoundary text end)
+module _ (c : FlowContext) (black black_after : Bool) (text : List ℕ) (from end place : ℕ) (u : IsUtf8 text)
+    (start : IsCharBoundary text from) (b : IsCharBoundary text end)
     (l : from ≤ end) (goes : GoesOn c black black_after text from end) (run : IsRun white text end place) where
   -- after the white before the place
   at_place : (middle : ℕ) → ns middle ≡ black_after → ns (last_of middle (between text end place)) ≡ (black_after && (place == end))
   at_place middle m =
       after_white middle (between text end place) (run_every white text end place run)
-      ∙ (ap (λ p. p && is_empty (between text end place)) m ∙ ap (λ p. black_after && p) (empty_between text end place u run.above b run.boundary))
+      ∙ (ap (λ p. p && is_empty (between text end place)) m
+      ∙ ap (λ p. black_after && p) (empty_between text end place u run.above b run.boundary))
 
   -- a piece more is read
   pub piece_more : (next : ℕ) → IsPlainPiece c (black_after && (place == end)) text place next → GoesOn c black true text from next
@@ -176,7 +189,8 @@ module _ (c : FlowContext) (black black_after : Bool) (text : List ℕ) (from en
       let blank : List ℕ = between text end place in
       let held : List ℕ = between text place next in
       let after : List ℕ = read_run c last (rest text next) in
-      let here : read_run c (last_of m.0 blank) (rest text place) ≡ held ++ after = piece.goes_on (last_of m.0 blank) last (at_place m.0 m.1) f in
+      let here : read_run c (last_of m.0 blank) (rest text place) ≡ held ++ after =
+      piece.goes_on (last_of m.0 blank) last (at_place m.0 m.1) f in
       let some : is_empty (read_run c (last_of m.0 blank) (rest text place)) ≡ false =
       ap is_empty here ∙ some_before held after (between_some text place next u past run.boundary piece.boundary) in
       let whole : between text from next ≡ between text from end ++ (blank ++ held) =
@@ -204,9 +218,11 @@ module _ (c : FlowContext) (black black_after : Bool) (text : List ℕ) (from en
         let m = before_of black_after in
         let blank : List ℕ = between text end place in
         let here : read_run c (last_of m.0 blank) (rest text place) ≡ [] =
-        no_run_here c (last_of m.0 blank) (rest text place) (none (last_of m.0 blank) (at_place m.0 m.1)) (run_first white text end place blind-white u run) in
+        no_run_here c (last_of m.0 blank) (rest text place) (none (last_of m.0 blank) (at_place m.0 m.1))
+        (run_first white text end place blind-white u run) in
         goes before m.0 e m.1
         ∙ (ap (λ t. between text from end ++ t)
-        (ap (read_run c m.0) (rest-between text end place u run.above b run.boundary) ∙ none_over_white c m.0 blank (rest text place) (run_every white text end place run) here)
+        (ap (read_run c m.0) (rest-between text end place u run.above b run.boundary)
+        ∙ none_over_white c m.0 blank (rest text place) (run_every white text end place run) here)
         ∙ append-nil (between text from end));
   }

@@ -1,6 +1,7 @@
 -- Runs, quotes and folds between single quotes, from the places that the code finds to what is read there.
 use Rattle.std.proofs.Common.{◌≡◌, ◌<◌, ◌≤◌, ◌∙◌, sym, ap, subst, refl, inl, inr, arith, append_assoc, length-drop}
-use Rattle.std.specs.Prelude.{ℕ, zero, suc, ◌+◌, ◌-◌, Bool, true, false, is_some, List, [], ◌∷◌, ◌++◌, length, Some, None, slice_index, slice_range, drop}
+use Rattle.std.specs.Prelude.{ℕ, zero, suc, ◌+◌, ◌-◌, Bool, true, false, is_some, List, [], ◌∷◌, ◌++◌, length, Some}
+use Rattle.std.specs.Prelude.{None, slice_index, slice_range, drop}
 use Rattle.std.specs.List.{AllPass, list_all}
 use Rattle.std.specs.Str.{IsAscii, IsUtf8, IsCharBoundary, chars}
 use Rattle.std.proofs.lemmas.Bool.{cases_Bool, cases_lt, and_from, and_parts, cond-false, eqb-true, false≢true, not_from_true, or_right}
@@ -31,7 +32,8 @@ use Rattle.yaml_flow_scalars.specs.Standing.{NoScalarAt, ScalarAt}
 use Rattle.yaml_flow_scalars.specs.SingleScalars.{content, is_unchanged, read_inside, IsInside, NoFoldIn}
 use Rattle.yaml_scan.proofs.ByteRuns.{first-rest}
 use Rattle.yaml_flow_scalars.proofs.FoldSteps.{fold_solid, run_every, run_first}
-use Rattle.yaml_flow_scalars.proofs.SingleSteps.{inside_close, inside_control, inside_fold, inside_no_fold, inside_pair, with_prefix-append, with_prefix-nil}
+use Rattle.yaml_flow_scalars.proofs.SingleSteps.{inside_close, inside_control, inside_fold, inside_no_fold}
+use Rattle.yaml_flow_scalars.proofs.SingleSteps.{inside_pair, with_prefix-append, with_prefix-nil}
 
 -- the test for a quote doesn't distinguish characters from 128 on
 pub blind-quote : IsBlind quote
@@ -44,7 +46,8 @@ blind-content c h l = grind (arith, nat_tests)
 -- ---- quotes and breaks at a place
 
 -- an ASCII character that passes a test is at the place
-first_at : (p : ℕ → Bool) (bs : List ℕ) (i : ℕ) → IsBlind p → IsUtf8 bs → IsCharBoundary bs i → first p (rest bs i) ≡ true → (i < length bs) × (p (slice_index bs i) ≡ true)
+first_at : (p : ℕ → Bool) (bs : List ℕ) (i : ℕ) → IsBlind p → IsUtf8 bs → IsCharBoundary bs i
+    → first p (rest bs i) ≡ true → (i < length bs) × (p (slice_index bs i) ≡ true)
 first_at p bs i blind u b h = elim (cases_lt i (length bs)) [
   | inl l ↦ (l, sym (ap (first p) (drop_more bs i 0 l)) ∙ (sym (first-rest p bs i blind u b) ∙ h))
   | inr past ↦ absurd (false≢true (sym (first-rest p bs i blind u b ∙ ap (first p) (drop_all i bs past)) ∙ h))
@@ -64,12 +67,18 @@ quote_at bs i u b h =
     let within : i < length bs = there.0 in
     let byte : slice_index bs i ≡ 39 = eqb-true (slice_index bs i) 39 there.1 in
     let ascii : slice_index bs i < 128 = omega arith in
-    record { within = within; byte = byte; next = IsCharBoundary-after_ascii bs i u within ascii; splits = rest-ascii bs i u within ascii ∙ ap (λ x. x ∷ rest bs (i + 1)) byte }
+    record {
+      within = within;
+      byte = byte;
+      next = IsCharBoundary-after_ascii bs i u within ascii;
+      splits = rest-ascii bs i u within ascii ∙ ap (λ x. x ∷ rest bs (i + 1)) byte;
+    }
 
 fold_breaks : (n : ℕ) (text : List ℕ) (at empties next : ℕ) → IsFold n text at empties next → first line_break (rest text at) ≡ true
 unfolding after_blank
 fold_breaks n text at empties next f =
-    let p = on_parts (read_break (rest text at)) (λ stop t. with_lead false n [] stop (all_of (read_empty n) t)) (f.join false [], rest text next) (f.found false []) in
+    let p = on_parts (read_break (rest text at)) (λ stop t. with_lead false n [] stop (all_of (read_empty n) t))
+    (f.join false [], rest text next) (f.found false []) in
     sym (break_some (rest text at)) ∙ ap (λ (r : Read _). is_some r) p.2
 
 -- ---- what is read, by runs
@@ -84,15 +93,18 @@ pub record Running (n : ℕ) (c : FlowContext) (text : List ℕ) (start place en
   pub reads : read_inside n c (rest text start) ≡ with_prefix (chars value) (read_inside n c (rest text place))
 
 -- a run of characters goes on
-pub running : (n : ℕ) (c : FlowContext) (text : List ℕ) (start place end : ℕ) (value : List ℕ) → IsUtf8 text → IsUtf8 value → IsCharBoundary text place
-    → read_inside n c (rest text start) ≡ with_prefix (chars value) (read_inside n c (rest text place)) → IsRun content text place end → Running n c text start place end value
+pub running : (n : ℕ) (c : FlowContext) (text : List ℕ) (start place end : ℕ) (value : List ℕ) → IsUtf8 text
+    → IsUtf8 value → IsCharBoundary text place
+    → read_inside n c (rest text start) ≡ with_prefix (chars value) (read_inside n c (rest text place))
+    → IsRun content text place end → Running n c text start place end value
 running n c text start place end value u v b reads r =
     record { utf8 = u; value_utf8 = v; boundary = b; run = r; reads = reads }
 
 -- nothing is read yet
 pub begun : (n : ℕ) (c : FlowContext) (text : List ℕ) (start : ℕ) (value : List ℕ) → value ≡ []
     → read_inside n c (rest text start) ≡ with_prefix (chars value) (read_inside n c (rest text start))
-begun n c text start value e = sym (ap (λ v. with_prefix v (read_inside n c (rest text start))) (ap chars e ∙ chars-nil) ∙ with_prefix-nil (read_inside n c (rest text start)))
+begun n c text start value e = sym (ap (λ v. with_prefix v (read_inside n c (rest text start)))
+    (ap chars e ∙ chars-nil) ∙ with_prefix-nil (read_inside n c (rest text start)))
 
 every_append : (p : ℕ → Bool) (xs ys : List ℕ) → list_all p (xs ++ ys) ≡ true → (list_all p xs ≡ true) × (list_all p ys ≡ true)
 every_append p [] ys h = (refl, h)
@@ -125,8 +137,10 @@ module _ (n : ℕ) (c : FlowContext) (text : List ℕ) (start place end : ℕ) (
   more_value piece new e = ap chars e ∙ chars-append value piece s.value_utf8
 
   -- a pair of quotes
-  pub goes_past_pair : (new : List ℕ) → first quote (rest text end) ≡ true → first quote (rest text (end + 1)) ≡ true → new ≡ value ++ slice_range text place (end + 1)
-      → (read_inside n c (rest text start) ≡ with_prefix (chars new) (read_inside n c (rest text (end + 2)))) × IsCharBoundary text (end + 2)
+  pub goes_past_pair : (new : List ℕ) → first quote (rest text end) ≡ true → first quote (rest text (end + 1)) ≡ true
+      → new ≡ value ++ slice_range text place (end + 1)
+      → (read_inside n c (rest text start) ≡ with_prefix (chars new) (read_inside n c (rest text (end + 2))))
+      × IsCharBoundary text (end + 2)
   goes_past_pair new q r e =
       let one = quote_at text end s.utf8 s.run.boundary q in
       let two = quote_at text (end + 1) s.utf8 one.next r in
@@ -139,25 +153,32 @@ module _ (n : ℕ) (c : FlowContext) (text : List ℕ) (start place end : ℕ) (
       here ∙ ap (λ ys. xs ++ ys) (one.splits ∙ ap (λ ys. 39 ∷ ys) (two.splits ∙ ap (λ i. 39 ∷ rest text i) next)) in
       let piece : between text place (end + 1) ≡ xs ++ 39 ∷ [] =
       between-push_ascii text place end s.utf8 above s.boundary one.within (omega arith) ∙ ap (λ x. xs ++ x ∷ []) byte in
-      let read : read_inside n c (rest text place) ≡ with_prefix (xs ++ 39 ∷ []) (read_inside n c t) = ap (read_inside n c) whole ∙ inside_pair n c xs t content_here in
-      let same : chars value ++ (xs ++ 39 ∷ []) ≡ chars new = sym (more_value (slice_range text place (end + 1)) new e ∙ ap (λ ys. chars value ++ ys) piece) in (
-        s.reads ∙ (ap (with_prefix (chars value)) read ∙ (with_prefix-append (chars value) (xs ++ 39 ∷ []) (read_inside n c t) ∙ ap (λ v. with_prefix v (read_inside n c t)) same)),
+      let read : read_inside n c (rest text place) ≡ with_prefix (xs ++ 39 ∷ []) (read_inside n c t) =
+      ap (read_inside n c) whole ∙ inside_pair n c xs t content_here in
+      let same : chars value ++ (xs ++ 39 ∷ []) ≡ chars new =
+      sym (more_value (slice_range text place (end + 1)) new e ∙ ap (λ ys. chars value ++ ys) piece) in (
+        s.reads ∙ (ap (with_prefix (chars value)) read
+            ∙ (with_prefix-append (chars value) (xs ++ 39 ∷ []) (read_inside n c t)
+            ∙ ap (λ v. with_prefix v (read_inside n c t)) same)),
         subst (λ i. IsCharBoundary text i) next two.next,
       )
 
   -- the closing quote
-  pub reads_to_close : (new : List ℕ) → start ≤ place → first quote (rest text end) ≡ true → first quote (rest text (end + 1)) ≡ false → new ≡ value ++ slice_range text place end
+  pub reads_to_close : (new : List ℕ) → start ≤ place → first quote (rest text end) ≡ true
+      → first quote (rest text (end + 1)) ≡ false → new ≡ value ++ slice_range text place end
       → IsInside n c text start (chars new) (end + 1)
   reads_to_close new l q r e =
       let one = quote_at text end s.utf8 s.run.boundary q in
       let above = s.run.above in
       let xs : List ℕ = between text place end in
       let whole : rest text place ≡ xs ++ (39 ∷ rest text (end + 1)) = here ∙ ap (λ ys. xs ++ ys) one.splits in
-      let read : read_inside n c (rest text place) ≡ Some (xs, rest text (end + 1)) = ap (read_inside n c) whole ∙ inside_close n c xs (rest text (end + 1)) content_here r in
+      let read : read_inside n c (rest text place) ≡ Some (xs, rest text (end + 1)) = ap (read_inside n c) whole
+      ∙ inside_close n c xs (rest text (end + 1)) content_here r in
       record {
         above = omega arith;
         boundary = one.next;
-        reads = s.reads ∙ (ap (with_prefix (chars value)) read ∙ ap (λ (v : List ℕ). Some (v, rest text (end + 1))) (sym (more_value (slice_range text place end) new e)));
+        reads = s.reads ∙ (ap (with_prefix (chars value)) read
+            ∙ ap (λ (v : List ℕ). Some (v, rest text (end + 1))) (sym (more_value (slice_range text place end) new e)));
       }
 
   -- ---- folds
@@ -167,7 +188,8 @@ module _ (n : ℕ) (c : FlowContext) (text : List ℕ) (start place end : ℕ) (
     split = between-append text place kept end s.utf8 w.above w.below s.boundary w.boundary s.run.boundary
 
     kept_content : list_all content (between text place kept) ≡ true
-    kept_content = (every_append content (between text place kept) (between text kept end) (ap (list_all content) (sym split) ∙ content_here)).0
+    kept_content = (every_append content (between text place kept) (between text kept end)
+        (ap (list_all content) (sym split) ∙ content_here)).0
 
     whole : rest text place ≡ between text place kept ++ (between text kept end ++ rest text end)
     whole = here ∙ (ap (λ xs. xs ++ rest text end) split ∙ append_assoc (between text place kept) (between text kept end) (rest text end))
@@ -184,55 +206,69 @@ module _ (n : ℕ) (c : FlowContext) (text : List ℕ) (start place end : ℕ) (
         let folded : join_value j ≡ folded_break empties = join_folds j empties (f.escapes false blank) (f.counts false blank) in
         let read : read_inside n c (rest text place) ≡ with_prefix (xs ++ folded_break empties) r =
         ap (read_inside n c) whole
-        ∙ (inside_fold n c blank (rest text end) w.blank (fold_breaks n text end empties next f) xs j (rest text next) kept_content w.black k (f.found false blank) (fold_solid n text end empties next f)
+        ∙ (inside_fold n c blank (rest text end) w.blank (fold_breaks n text end empties next f) xs j
+        (rest text next) kept_content w.black k (f.found false blank) (fold_solid n text end empties next f)
         ∙ ap (λ ys. with_prefix (xs ++ ys) r) folded) in
         let means : chars later ≡ chars value ++ (xs ++ folded_break empties) =
-        ap chars g ∙ (chars-append new (folded_break empties) v ∙ (ap (λ ys. ys ++ chars (folded_break empties)) (more_value (slice_range text place kept) new e)
-        ∙ (ap (λ ys. (chars value ++ xs) ++ ys) (chars-IsAscii (folded_break empties) (folded_ascii empties)) ∙ append_assoc (chars value) xs (folded_break empties)))) in
-        s.reads ∙ (ap (with_prefix (chars value)) read ∙ (with_prefix-append (chars value) (xs ++ folded_break empties) r ∙ ap (λ ys. with_prefix ys r) (sym means)))
+        ap chars g ∙ (chars-append new (folded_break empties) v
+        ∙ (ap (λ ys. ys ++ chars (folded_break empties)) (more_value (slice_range text place kept) new e)
+        ∙ (ap (λ ys. (chars value ++ xs) ++ ys) (chars-IsAscii (folded_break empties) (folded_ascii empties))
+        ∙ append_assoc (chars value) xs (folded_break empties)))) in
+        s.reads ∙ (ap (with_prefix (chars value)) read
+        ∙ (with_prefix-append (chars value) (xs ++ folded_break empties) r ∙ ap (λ ys. with_prefix ys r) (sym means)))
 
     -- without a quote or a fold there is no value
     pub reads_none : first quote (rest text end) ≡ false → NoFoldIn n c text end → read_inside n c (rest text start) ≡ None
     reads_none q h =
         let none : read_inside n c (rest text place) ≡ None = elim (cases_Bool (first line_break (rest text end))) [
-          | inl b ↦ ap (read_inside n c) whole ∙ inside_no_fold n c (between text kept end) (rest text end) w.blank b (between text place kept) kept_content w.black (elim h [
-            | inl k ↦ inl k
-            | inr none ↦ inr (none false (between text kept end))
-          ])
-          | inr b ↦ ap (read_inside n c) here ∙ inside_control n c (between text place end) (rest text end) content_here (run_first content text place end blind-content s.utf8 s.run) q b
+          | inl b ↦ ap (read_inside n c) whole ∙ inside_no_fold n c (between text kept end) (rest text end) w.blank b
+              (between text place kept) kept_content w.black (elim h [
+                | inl k ↦ inl k
+                | inr none ↦ inr (none false (between text kept end))
+              ])
+          | inr b ↦ ap (read_inside n c) here ∙ inside_control n c (between text place end)
+              (rest text end) content_here (run_first content text place end blind-content s.utf8 s.run) q b
         ] in
         s.reads ∙ ap (with_prefix (chars value)) none
 
 -- the closing quote ends the first run
-pub reads_at_once : (n : ℕ) (c : FlowContext) (text : List ℕ) (start end : ℕ) (piece : List ℕ) → IsUtf8 text → IsCharBoundary text start → IsRun content text start end
-    → first quote (rest text end) ≡ true → first quote (rest text (end + 1)) ≡ false → piece ≡ slice_range text start end → IsInside n c text start (chars piece) (end + 1)
+pub reads_at_once : (n : ℕ) (c : FlowContext) (text : List ℕ) (start end : ℕ) (piece : List ℕ) → IsUtf8 text
+    → IsCharBoundary text start → IsRun content text start end
+    → first quote (rest text end) ≡ true → first quote (rest text (end + 1)) ≡ false
+    → piece ≡ slice_range text start end → IsInside n c text start (chars piece) (end + 1)
 reads_at_once n c text start end piece u b r q none e =
-    let s : Running n c text start start end [] = record { utf8 = u; value_utf8 = ([], (refl, refl)); boundary = b; run = r; reads = begun n c text start [] refl } in
+    let s : Running n c text start start end [] =
+    record { utf8 = u; value_utf8 = ([], (refl, refl)); boundary = b; run = r; reads = begun n c text start [] refl } in
     reads_to_close n c text start start end [] s piece (omega arith) q none e
 
 -- ---- what is borrowed
 
 -- a byte that is there is none of those that are unchanged
-pub changed_before : (text : List ℕ) (start place end : ℕ) → (k : ℕ) × (start ≤ k) × (k < place) × (is_unchanged (slice_index text k) ≡ false) → place ≤ end → end ≤ length text
+pub changed_before : (text : List ℕ) (start place end : ℕ)
+    → (k : ℕ) × (start ≤ k) × (k < place) × (is_unchanged (slice_index text k) ≡ false) → place ≤ end → end ≤ length text
     → AllPass is_unchanged (slice_range text start end) → ⊥
 changed_before text start place end there l within all =
     let k = there.0 in
     let above : start ≤ k = there.1 in
     let below : k < place = there.2 in
     let inside : k - start < end - start = omega arith in
-    let size : k - start < length (slice_range text start end) = omega (arith, length-take (end - start) (drop start text), length-drop start text) in
+    let size : k - start < length (slice_range text start end) =
+    omega (arith, length-take (end - start) (drop start text), length-drop start text) in
     let place_of : start + (k - start) ≡ k = omega arith in
     let same : slice_index (slice_range text start end) (k - start) ≡ slice_index text k =
-    get_or-take (end - start) (drop start text) (k - start) 0 inside ∙ (get_or-drop start text (k - start) 0 ∙ ap (λ i. slice_index text i) place_of) in
+    get_or-take (end - start) (drop start text) (k - start) 0 inside
+    ∙ (get_or-drop start text (k - start) 0 ∙ ap (λ i. slice_index text i) place_of) in
     false≢true (sym there.3 ∙ (ap is_unchanged (sym same) ∙ all (k - start) 0 size))
 
 -- a quote, and a break, is one of them
-pub quote_changed : (text : List ℕ) (start end place : ℕ) → IsUtf8 text → IsCharBoundary text end → first quote (rest text end) ≡ true → start ≤ end → end < place
+pub quote_changed : (text : List ℕ) (start end place : ℕ) → IsUtf8 text → IsCharBoundary text end
+    → first quote (rest text end) ≡ true → start ≤ end → end < place
     → (k : ℕ) × (start ≤ k) × (k < place) × (is_unchanged (slice_index text k) ≡ false)
 quote_changed text start end place u b q l m = (end, l, m, ap is_unchanged (quote_at text end u b q).byte)
 
 -- a value with a fold is not the text
-pub fold_changed : (n : ℕ) (text : List ℕ) (start end empties next : ℕ) → IsUtf8 text → IsCharBoundary text end → IsFold n text end empties next → start ≤ end
+pub fold_changed : (n : ℕ) (text : List ℕ) (start end empties next : ℕ) → IsUtf8 text → IsCharBoundary text end
+    → IsFold n text end empties next → start ≤ end
     → (k : ℕ) × (start ≤ k) × (k < next) × (is_unchanged (slice_index text k) ≡ false)
 fold_changed n text start end empties next u b f l =
     let there = first_at line_break text end blind-line_break u b (fold_breaks n text end empties next f) in
@@ -243,22 +279,26 @@ fold_changed n text start end empties next u b f l =
 -- after its opening quote
 module _ (n : ℕ) (c : FlowContext) (text : List ℕ) (at : ℕ) (u : IsUtf8 text) (b : IsCharBoundary text at) where
   -- a value that is read is that of a whole scalar
-  pub single_found : (value : List ℕ) (end : ℕ) → first quote (rest text at) ≡ true → IsInside n c text (at + 1) value end → ScalarAt single_style n c text at value end
+  pub single_found : (value : List ℕ) (end : ℕ) → first quote (rest text at) ≡ true
+      → IsInside n c text (at + 1) value end → ScalarAt single_style n c text at value end
   unfolding read_scalar read_single
   single_found value end q i =
       let one = quote_at text at u b q in
       let inside : List ℕ = rest text (at + 1) in
-      let p = on_parts (read_quoted read_single_one single_closes false n c inside) (λ found t. Some (flow_fold char_value found.0 found.1, t)) (value, rest text end) i.reads in
+      let p = on_parts (read_quoted read_single_one single_closes false n c inside)
+      (λ found t. Some (flow_fold char_value found.0 found.1, t)) (value, rest text end) i.reads in
       let same = some_parts _ _ _ _ p.3 in
       let s : Scalar = single p.0.0 p.0.1 in
       let read : read_scalar n c (line_starts text at) (rest text at) ≡ Some (s, rest text end) =
       ap (read_scalar n c (line_starts text at)) one.splits
-      ∙ (ap (λ (r : Read (List ℕ × List (Line ℕ))). on r (λ found t. Some (single found.0 found.1, t))) p.2 ∙ ap (λ (t : List ℕ). Some (s, t)) same.1) in
+      ∙ (ap (λ (r : Read (List ℕ × List (Line ℕ))). on r (λ found t. Some (single found.0 found.1, t))) p.2
+      ∙ ap (λ (t : List ℕ). Some (s, t)) same.1) in
       let above = i.above in
       record {
         above = omega arith;
         boundary = i.boundary;
-        scalar = subst (λ v. IsScalar n c (line_starts text at) (rest text at) single_style v (rest text end)) same.0 (is_scalar n c (line_starts text at) (rest text at) s (rest text end) read);
+        scalar = subst (λ v. IsScalar n c (line_starts text at) (rest text at) single_style v (rest text end)) same.0
+            (is_scalar n c (line_starts text at) (rest text at) s (rest text end) read);
       }
 
   -- if none is read, no scalar is there
@@ -267,9 +307,11 @@ module _ (n : ℕ) (c : FlowContext) (text : List ℕ) (at : ℕ) (u : IsUtf8 te
   no_single q e =
       let one = quote_at text at u b q in
       let inside : List ℕ = rest text (at + 1) in
-      let none : read_quoted read_single_one single_closes false n c inside ≡ None = nothing (read_quoted read_single_one single_closes false n c inside) e in
+      let none : read_quoted read_single_one single_closes false n c inside ≡ None =
+      nothing (read_quoted read_single_one single_closes false n c inside) e in
       let read : read_scalar n c (line_starts text at) (rest text at) ≡ None =
-      ap (read_scalar n c (line_starts text at)) one.splits ∙ ap (λ (r : Read (List ℕ × List (Line ℕ))). on r (λ found t. Some (single found.0 found.1, t))) none in
+      ap (read_scalar n c (line_starts text at)) one.splits
+      ∙ ap (λ (r : Read (List ℕ × List (Line ℕ))). on r (λ found t. Some (single found.0 found.1, t))) none in
       λ s after styled stands. no_scalar n c (line_starts text at) (rest text at) read s after stands
     where
       nothing : (r : Read (List ℕ × List (Line ℕ))) → quoted_value char_value r ≡ None → r ≡ None

@@ -16,7 +16,9 @@ use Rattle.yaml_recognizers.proofs.Basics.Blanks.{white_at_break}
 use Rattle.yaml_recognizers.proofs.Basics.Breaks.{unbroken}
 use Rattle.yaml_recognizers.proofs.Basics.Prefixes.{drop_while_all, take_while_all}
 use Rattle.yaml_recognizers.proofs.Scalars.JoinSteps.{no_break}
-use Rattle.yaml_recognizers.proofs.Scalars.QuotedSteps.{after_close, after_fault, after_thing, step_close, step_fault, step_join, step_key, step_thing, step_things, value_of_join, value_of_thing, value_of_things}
+use Rattle.yaml_recognizers.proofs.Scalars.QuotedSteps.{after_close, after_fault, after_thing, step_close, step_fault}
+use Rattle.yaml_recognizers.proofs.Scalars.QuotedSteps.{step_join, step_key, step_thing, step_things, value_of_join}
+use Rattle.yaml_recognizers.proofs.Scalars.QuotedSteps.{value_of_thing, value_of_things}
 use Rattle.yaml_recognizers.proofs.Scalars.SingleScalars.{single_readable}
 use Rattle.yaml_flow_scalars.specs.SingleScalars.{content, read_inside}
 
@@ -28,7 +30,8 @@ content_spelled [] h = refl
 content_spelled (x ∷ xs) h =
     let p = and_parts (content x) (list_all content xs) h in
     let q : quote x ≡ false = not-true _ (and_parts (nb_json x) (not (quote x)) p.0).1 in
-    ap (λ (t : List ℕ). t ++ flat_map single_text xs) (cond-false (quote x) (codes "''") (x ∷ []) q) ∙ ap (λ ys. x ∷ ys) (content_spelled xs p.1)
+    ap (λ (t : List ℕ). t ++ flat_map single_text xs) (cond-false (quote x) (codes "''") (x ∷ []) q)
+    ∙ ap (λ ys. x ∷ ys) (content_spelled xs p.1)
 
 content_held : (xs : List ℕ) → list_all content xs ≡ true → list_all nb_json xs ≡ true
 content_held [] h = refl
@@ -70,22 +73,26 @@ module _ (n : ℕ) (c : FlowContext) where
   -- ---- a run of characters that mean themselves
 
   -- a run of characters is read
-  pub inside_run : (xs t : List ℕ) → list_all content xs ≡ true → (ends white xs ≡ true → at_break t ≡ false) → read_inside n c (xs ++ t) ≡ with_prefix xs (read_inside n c t)
+  pub inside_run : (xs t : List ℕ) → list_all content xs ≡ true → (ends white xs ≡ true → at_break t ≡ false)
+      → read_inside n c (xs ++ t) ≡ with_prefix xs (read_inside n c t)
   inside_run xs t h f =
       let r : Read (List ℕ × List (Line ℕ)) = read_quoted read_single_one single_closes false n c t in
       ap (λ (text : List ℕ). read_inside n c (text ++ t)) (sym (content_spelled xs h))
-      ∙ (ap (quoted_value char_value) (step_things single_kind nb_json false read_single_one single_readable single_closes n c xs t (content_held xs h) f)
+      ∙ (ap (quoted_value char_value) (step_things single_kind nb_json false read_single_one single_readable
+      single_closes n c xs t (content_held xs h) f)
       ∙ (value_of_things char_value xs r ∙ ap (λ ys. with_prefix ys (quoted_value char_value r)) (values_same xs)))
 
   -- ---- quotes
 
   -- two quotes are one
-  pub inside_pair : (xs t : List ℕ) → list_all content xs ≡ true → read_inside n c (xs ++ (39 ∷ 39 ∷ t)) ≡ with_prefix (xs ++ 39 ∷ []) (read_inside n c t)
+  pub inside_pair : (xs t : List ℕ) → list_all content xs ≡ true
+      → read_inside n c (xs ++ (39 ∷ 39 ∷ t)) ≡ with_prefix (xs ++ 39 ∷ []) (read_inside n c t)
   unfolding read_held read_single_one
   inside_pair xs t h =
       let r : Read (List ℕ × List (Line ℕ)) = read_quoted read_single_one single_closes false n c t in
       let pair : read_inside n c (39 ∷ 39 ∷ t) ≡ with_prefix (39 ∷ []) (read_inside n c t) =
-      ap (quoted_value char_value) (step_thing single_kind nb_json false read_single_one single_readable single_closes n c (39 ∷ 39 ∷ t) 39 t refl) ∙ value_of_thing char_value 39 r in
+      ap (quoted_value char_value) (step_thing single_kind nb_json false read_single_one single_readable single_closes
+      n c (39 ∷ 39 ∷ t) 39 t refl) ∙ value_of_thing char_value 39 r in
       inside_run xs (39 ∷ 39 ∷ t) h (λ _. refl) ∙ (ap (with_prefix xs) pair ∙ with_prefix-append xs (39 ∷ []) (read_inside n c t))
 
   -- one quote ends the value
@@ -95,7 +102,8 @@ module _ (n : ℕ) (c : FlowContext) where
       let held : read_held read_single_one (39 ∷ t) ≡ None = cond-false (first quote t) (Some (39, _)) None q in
       let closes : single_closes (39 ∷ t) ≡ true = ap not q in
       let closed : read_inside n c (39 ∷ t) ≡ Some ([], t) =
-      ap (quoted_value char_value) (step_close single_kind nb_json false read_single_one single_readable single_closes n c (39 ∷ t) held refl closes) in
+      ap (quoted_value char_value) (step_close single_kind nb_json false read_single_one single_readable single_closes
+      n c (39 ∷ t) held refl closes) in
       inside_run xs (39 ∷ t) h (λ _. refl) ∙ (ap (with_prefix xs) closed ∙ ap (λ (v : List ℕ). Some (v, t)) (append-nil xs))
 
   -- ---- folds
@@ -105,7 +113,8 @@ module _ (n : ℕ) (c : FlowContext) where
   no_join text h = no_break false n (take_while white text) (drop_while white text) (unbroken (drop_while white text) h)
 
   -- after a fold all goes on as in a line
-  after_join : (text : List ℕ) → at_break text ≡ false → read_after_join read_single_one single_closes false n c text ≡ read_quoted read_single_one single_closes false n c text
+  after_join : (text : List ℕ) → at_break text ≡ false
+      → read_after_join read_single_one single_closes false n c text ≡ read_quoted read_single_one single_closes false n c text
   after_join text h = by_held (read_held read_single_one text) refl
     where
       by_held : (r : Read ℕ) → read_held read_single_one text ≡ r
@@ -146,39 +155,48 @@ module _ (n : ℕ) (c : FlowContext) where
     inside_fold xs j t h e k f s =
         let r : Read (List ℕ × List (Line ℕ)) = read_quoted read_single_one single_closes false n c t in
         let folded : read_inside n c (blank ++ text) ≡ with_prefix (join_value j) (read_inside n c t) =
-        ap (quoted_value char_value) (step_join single_kind nb_json false read_single_one single_readable single_closes n c (blank ++ text) j t (none_held (blank ++ text) broken) k (join_there ∙ f)
+        ap (quoted_value char_value) (step_join single_kind nb_json false read_single_one single_readable
+        single_closes n c (blank ++ text) j t (none_held (blank ++ text) broken) k (join_there ∙ f)
         ∙ ap (with_join j) (after_join t s)) ∙ value_of_join char_value j r in
         inside_run xs (blank ++ text) h (λ i. absurd (false≢true (sym e ∙ i)))
         ∙ (ap (with_prefix xs) folded ∙ with_prefix-append xs (join_value j) (read_inside n c t))
 
     -- without a fold there is no value
-    pub inside_no_fold : (xs : List ℕ) → list_all content xs ≡ true → ends white xs ≡ false → (one_line c ≡ true) ⊎ (after_blank false n blank text ≡ None)
+    pub inside_no_fold : (xs : List ℕ) → list_all content xs ≡ true → ends white xs ≡ false
+        → (one_line c ≡ true) ⊎ (after_blank false n blank text ≡ None)
         → read_inside n c (xs ++ (blank ++ text)) ≡ None
     inside_no_fold xs h e w =
         let held : read_held read_single_one (blank ++ text) ≡ None = none_held (blank ++ text) broken in
         let opened : single_closes (blank ++ text) ≡ false = open_at_break (blank ++ text) broken in
         let none : read_quoted read_single_one single_closes false n c (blank ++ text) ≡ None = elim w [
           | inl k ↦ step_key single_kind nb_json false read_single_one single_readable single_closes n c (blank ++ text) held k opened
-          | inr j ↦ step_fault single_kind nb_json false read_single_one single_readable single_closes n c (blank ++ text) held (join_there ∙ j) opened
+          | inr j ↦ step_fault single_kind nb_json false read_single_one single_readable single_closes n c
+              (blank ++ text) held (join_there ∙ j) opened
         ] in
-        inside_run xs (blank ++ text) h (λ i. absurd (false≢true (sym e ∙ i))) ∙ ap (λ (r : Read (List ℕ × List (Line ℕ))). with_prefix xs (quoted_value char_value r)) none
+        inside_run xs (blank ++ text) h (λ i. absurd (false≢true (sym e ∙ i)))
+        ∙ ap (λ (r : Read (List ℕ × List (Line ℕ))). with_prefix xs (quoted_value char_value r)) none
 
   -- ---- a character that isn't allowed, or the end of the text
 
-  refused : (text : List ℕ) → first nb_json text ≡ false → first line_break text ≡ false → read_quoted read_single_one single_closes false n c text ≡ None
+  refused : (text : List ℕ) → first nb_json text ≡ false → first line_break text ≡ false
+      → read_quoted read_single_one single_closes false n c text ≡ None
   unfolding read_held read_single_one single_closes
   refused [] h b = step_fault single_kind nb_json false read_single_one single_readable single_closes n c [] refl (no_join [] refl) refl
   refused (x ∷ xs) h b =
       let no_white : white x ≡ false = grind (arith, nat_tests) in
       let no_quote : quote x ≡ false = grind (arith, nat_tests) in
       let apart : at_break (x ∷ xs) ≡ false = rw no_white b in
-      step_fault single_kind nb_json false read_single_one single_readable single_closes n c (x ∷ xs) (rw (apart, no_quote, h) refl) (no_join (x ∷ xs) apart) (and_left _ _ no_quote)
+      step_fault single_kind nb_json false read_single_one single_readable single_closes n c (x ∷ xs)
+      (rw (apart, no_quote, h) refl) (no_join (x ∷ xs) apart) (and_left _ _ no_quote)
 
   -- nor at a character that isn't allowed
-  pub inside_control : (xs text : List ℕ) → list_all content xs ≡ true → first content text ≡ false → first quote text ≡ false → first line_break text ≡ false
+  pub inside_control : (xs text : List ℕ) → list_all content xs ≡ true → first content text ≡ false
+      → first quote text ≡ false → first line_break text ≡ false
       → read_inside n c (xs ++ text) ≡ None
   inside_control xs text h f q b =
-      inside_run xs text h (λ _. apart text f q b) ∙ ap (λ (r : Read (List ℕ × List (Line ℕ))). with_prefix xs (quoted_value char_value r)) (refused text (control text f q) b)
+      inside_run xs text h (λ _. apart text f q b)
+      ∙ ap (λ (r : Read (List ℕ × List (Line ℕ))). with_prefix xs (quoted_value char_value r))
+      (refused text (control text f q) b)
     where
       control : (t : List ℕ) → first content t ≡ false → first quote t ≡ false → first nb_json t ≡ false
       control [] f q = refl

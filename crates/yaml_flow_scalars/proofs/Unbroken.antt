@@ -33,7 +33,8 @@ run_unbroken c before [] = refl
 run_unbroken c before (x ∷ xs) =
     let more : List ℕ = read_run c x xs in
     cond_both (plain_next c before x xs || (white x && not (is_empty more))) (x ∷ more) [] (λ (t : List ℕ). list_all no_break t ≡ true)
-    (λ h. and_from _ _ (by_cases (plain_next c before x xs) (white x) (not (is_empty more)) h (λ p. not_from_false _ (plain_unbroken c before x xs p)) (white_unbroken x)) (run_unbroken c x xs)) (λ _. refl)
+    (λ h. and_from _ _ (by_cases (plain_next c before x xs) (white x) (not (is_empty more)) h
+    (λ p. not_from_false _ (plain_unbroken c before x xs p)) (white_unbroken x)) (run_unbroken c x xs)) (λ _. refl)
   where
     by_cases : (p w b : Bool) → p || (w && b) ≡ true → (p ≡ true → no_break x ≡ true) → (w ≡ true → no_break x ≡ true) → no_break x ≡ true
     by_cases true w b h f g = f refl
@@ -51,8 +52,10 @@ every_pushed p [] x h k = and_from _ _ k refl
 every_pushed p (y ∷ ys) x h k = let r = and_parts _ _ h in and_from _ _ r.0 (every_pushed p ys x r.1 k)
 
 -- a run up to a quote, and the quote
-pub run_closed_unbroken : (test : ℕ → Bool) (text : List ℕ) (start end quote : ℕ) → IsUtf8 text → IsCharBoundary text start → ((x : ℕ) → test x ≡ true → no_break x ≡ true)
-    → IsRun test text start end → end < length text → slice_index text end ≡ quote → quote < 128 → no_break quote ≡ true → list_all no_break (between text start (end + 1)) ≡ true
+pub run_closed_unbroken : (test : ℕ → Bool) (text : List ℕ) (start end quote : ℕ) → IsUtf8 text
+    → IsCharBoundary text start → ((x : ℕ) → test x ≡ true → no_break x ≡ true)
+    → IsRun test text start end → end < length text → slice_index text end ≡ quote → quote < 128
+    → no_break quote ≡ true → list_all no_break (between text start (end + 1)) ≡ true
 run_closed_unbroken test text start end quote u b f run l e low q =
     let inside : list_all no_break (between text start end) ≡ true =
     every_weaker test no_break (between text start end) f (list_all-from_AllPass test (between text start end) run.passes) in
@@ -61,7 +64,8 @@ run_closed_unbroken test text start end quote u b f run l e low q =
     ∙ every_pushed no_break (between text start end) (slice_index text end) inside (ap no_break e ∙ q)
 
 -- a quote before it
-pub opened_unbroken : (text : List ℕ) (at end quote : ℕ) → IsUtf8 text → at < end → IsCharBoundary text end → slice_index text at ≡ quote → quote < 128 → no_break quote ≡ true
+pub opened_unbroken : (text : List ℕ) (at end quote : ℕ) → IsUtf8 text → at < end → IsCharBoundary text end
+    → slice_index text at ≡ quote → quote < 128 → no_break quote ≡ true
     → list_all no_break (between text (at + 1) end) ≡ true → list_all no_break (between text at end) ≡ true
 opened_unbroken text at end quote u l b e low q h =
     ap (list_all no_break) (between-ascii text at end u l b (omega arith)) ∙ and_from _ _ (ap no_break e ∙ q) h

@@ -4,7 +4,9 @@ use Rattle.std.specs.Char.{IsScalar}
 use Rattle.std.specs.Str.{IsCharBoundary, chars}
 use Rattle.yaml_chars.specs.Places.{rest}
 use Rattle.std.specs.List.{list_all}
-use Rattle.yaml_grammar.specs.FlowScalars.{FlowContext, QuotedChar, raw, escape, hex_digit, digit_of, hex_value, quoted_char_fits, quoted_char_value, escaped_char, line_feeds, folded_break}
+use Rattle.yaml_grammar.specs.FlowScalars.{FlowContext, QuotedChar, raw, escape, hex_digit, digit_of, hex_value}
+use Rattle.yaml_grammar.specs.FlowScalars.{quoted_char_fits, quoted_char_value, escaped_char, line_feeds}
+use Rattle.yaml_grammar.specs.FlowScalars.{folded_break}
 use Rattle.yaml_recognizers.specs.Reading.{Read}
 use Rattle.yaml_recognizers.specs.Joins.{after_blank, read_join}
 use Rattle.yaml_recognizers.specs.QuotedScalars.{read_held, read_quoted, read_item, double_closes}

@@ -1,5 +1,6 @@
 -- A JSON array of texts, from one of its places on.
-use Rattle.std.proofs.Common.{◌≡◌, ℕ, Bool, true, false, nat_lt, List, [], ◌∷◌, ◌++◌, length, length-append, codes, encode_utf8_all, refl, sym, ap, ◌∙◌, append_assoc, arith}
+use Rattle.std.proofs.Common.{◌≡◌, ℕ, Bool, true, false, nat_lt, List, [], ◌∷◌, ◌++◌, length, length-append, codes}
+use Rattle.std.proofs.Common.{encode_utf8_all, refl, sym, ap, ◌∙◌, append_assoc, arith}
 use Rattle.std.proofs.lemmas.Bool.{ne_eqb, ltb-true}
 use Rattle.std.proofs.lemmas.Str.{encodes-append, encodes-IsAscii}
 use Rattle.std.specs.Str.{chars}
@@ -28,10 +29,12 @@ fresh-all bytes values none =
     ap (λ bs. bs ++ encode_utf8_all (array_rest (is_fresh bs) values)) none ∙ ap encode_utf8_all (rest-all values)
 
 -- the bytes after one text more are not none
-pushed-filled : (a b string : List ℕ) (lead : ℕ) → b ≡ (a ++ encode_utf8_all (lead ∷ [])) ++ encode_utf8_all (34 ∷ string) → is_fresh b ≡ false
+pushed-filled : (a b string : List ℕ) (lead : ℕ)
+    → b ≡ (a ++ encode_utf8_all (lead ∷ [])) ++ encode_utf8_all (34 ∷ string) → is_fresh b ≡ false
 pushed-filled a b string lead e =
     let prefix = a ++ encode_utf8_all (lead ∷ []) in
-    let quote : encode_utf8_all (34 ∷ []) ≡ 34 ∷ [] = encodes-IsAscii (34 ∷ []) (every-IsAscii (λ b. nat_lt b 128) (λ b below. ltb-true b 128 below) (34 ∷ []) refl) in
+    let quote : encode_utf8_all (34 ∷ []) ≡ 34 ∷ [] =
+    encodes-IsAscii (34 ∷ []) (every-IsAscii (λ b. nat_lt b 128) (λ b below. ltb-true b 128 below) (34 ∷ []) refl) in
     let split = encodes-append (34 ∷ []) string ∙ ap (λ q. q ++ encode_utf8_all string) quote in
     let whole : b ≡ prefix ++ (34 ∷ encode_utf8_all string) = e ∙ ap (λ x. prefix ++ x) split in
     ne_eqb (length b) 0 (λ zero. omega (arith, zero, ap length whole, length-append prefix (34 ∷ encode_utf8_all string)))

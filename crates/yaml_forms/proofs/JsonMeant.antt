@@ -11,8 +11,12 @@ use Rattle.yaml_grammar.specs.FlowScalars.{quoted_char_value, values}
 use Rattle.yaml_grammar.specs.FlowNodes.{Flow, flow_text, flow_events, Entry, entry_events, entries_events}
 use Rattle.yaml_grammar.specs.Events.{Event, as_document, document_end, seq_start, seq_end, map_start, map_end}
 use Rattle.yaml_grammar.specs.Streams.{stream_events}
-use Rattle.yaml_grammar.specs.Trees.{Tree, text, sequence, mapping, Elements, no_element, element, Members, no_member, member, Shape, scalar_of, seq_from, seq_to, map_from, map_to, document_from, document_to, shape, shapes, tree_shapes, elements_shapes, members_shapes, IsTextTree, AreTextElements, AreTextMembers, IsTreeOf}
-use Rattle.yaml_forms.proofs.JsonPresented.{items_of_text, string_flow, element_entry, member_entry, json_flow, elements_from, members_from, presentation_of}
+use Rattle.yaml_grammar.specs.Trees.{Tree, text, sequence, mapping, Elements, no_element, element, Members, no_member}
+use Rattle.yaml_grammar.specs.Trees.{member, Shape, scalar_of, seq_from, seq_to, map_from, map_to, document_from}
+use Rattle.yaml_grammar.specs.Trees.{document_to, shape, shapes, tree_shapes, elements_shapes, members_shapes}
+use Rattle.yaml_grammar.specs.Trees.{IsTextTree, AreTextElements, AreTextMembers, IsTreeOf}
+use Rattle.yaml_forms.proofs.JsonPresented.{items_of_text, string_flow, element_entry, member_entry, json_flow}
+use Rattle.yaml_forms.proofs.JsonPresented.{elements_from, members_from, presentation_of}
 use Rattle.yaml_forms.proofs.JsonCharacters.{json_quotes}
 
 -- the shapes of events, joined, are the shapes of each, joined
@@ -32,7 +36,8 @@ string_meant value t = append-nil _ ∙ same value t
   where
     same : (cs : List ℕ) → IsText cs → values quoted_char_value (items_of_text cs) ≡ cs
     same [] t = refl
-    same (c ∷ cs) t = let p : (code_point c ≡ true) × (list_all code_point cs ≡ true) = and_parts _ _ t in rw ((json_quotes c p.0).1, same cs p.1)
+    same (c ∷ cs) t = let p : (code_point c ≡ true) × (list_all code_point cs ≡ true) = and_parts _ _ t in
+        rw ((json_quotes c p.0).1, same cs p.1)
 
 -- a string has the shape of its text
 string_shape : (value : List ℕ) (at : ℕ) → IsText value → shapes (flow_events (string_flow value) at) ≡ scalar_of value ∷ []
@@ -41,11 +46,13 @@ string_shape value at t = ap (λ v. scalar_of v ∷ []) (string_meant value t)
 -- ---- trees
 
 -- a sequence has the shapes of its elements between start and end
-pub sequence_meant : (events : List Event) (s : List Shape) → shapes events ≡ s → shapes (seq_start ∷ (events ++ seq_end ∷ [])) ≡ seq_from ∷ (s ++ seq_to ∷ [])
+pub sequence_meant : (events : List Event) (s : List Shape) → shapes events ≡ s
+    → shapes (seq_start ∷ (events ++ seq_end ∷ [])) ≡ seq_from ∷ (s ++ seq_to ∷ [])
 sequence_meant events s e = rw (shapes_joined events (seq_end ∷ []), e)
 
 -- a mapping has the shapes of its members between start and end
-pub mapping_meant : (events : List Event) (s : List Shape) → shapes events ≡ s → shapes (map_start ∷ (events ++ map_end ∷ [])) ≡ map_from ∷ (s ++ map_to ∷ [])
+pub mapping_meant : (events : List Event) (s : List Shape) → shapes events ≡ s
+    → shapes (map_start ∷ (events ++ map_end ∷ [])) ≡ map_from ∷ (s ++ map_to ∷ [])
 mapping_meant events s e = rw (shapes_joined events (map_end ∷ []), e)
 
 -- the entry has these shapes wherever it is
@@ -53,10 +60,12 @@ abbrev Means : Bool → Entry → List Shape → Type 0
 Means in_seq e s = (at : ℕ) → shapes (entry_events e in_seq at) ≡ s
 
 -- a member means its key and its value
-member_meant : (key : List ℕ) (f : Flow) (s : List Shape) → IsText key → ((at : ℕ) → shapes (flow_events f at) ≡ s) → Means false (member_entry key f) (scalar_of key ∷ s)
+member_meant : (key : List ℕ) (f : Flow) (s : List Shape) → IsText key → ((at : ℕ) → shapes (flow_events f at) ≡ s)
+    → Means false (member_entry key f) (scalar_of key ∷ s)
 member_meant key f s h g =
     λ at. let after : ℕ = at + 0 + byte_len (flow_text (string_flow key)) in
-    both_meant (flow_events (string_flow key) (at + 0)) (flow_events f (after + 0 + 1 + 0)) (scalar_of key ∷ []) s (string_shape key (at + 0) h) (g (after + 0 + 1 + 0))
+    both_meant (flow_events (string_flow key) (at + 0)) (flow_events f (after + 0 + 1 + 0)) (scalar_of key ∷ []) s
+    (string_shape key (at + 0) h) (g (after + 0 + 1 + 0))
 
 mutual
   -- a tree means itself
@@ -91,4 +100,5 @@ mutual
 pub presentation_meant : (line_end : List LineEnd) (t : Tree) → IsTextTree t → IsTreeOf (stream_events (presentation_of line_end t)) t
 presentation_meant line_end t h =
     ap shapes (append-nil (as_document (flow_events (json_flow t) 0)))
-    ∙ ap (λ x. document_from ∷ x) (both_meant (flow_events (json_flow t) 0) (document_end ∷ []) (tree_shapes t) (document_to ∷ []) (tree_meant t 0 h) refl)
+    ∙ ap (λ x. document_from ∷ x) (both_meant (flow_events (json_flow t) 0) (document_end ∷ []) (tree_shapes t)
+    (document_to ∷ []) (tree_meant t 0 h) refl)

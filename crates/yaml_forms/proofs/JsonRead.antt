@@ -24,7 +24,14 @@ json_presented t h =
     record {
       text = json_is_text t h;
       events = stream_events (presentation_of [] t);
-      reads = record { presentation = presentation_of [] t; presents = record { fits = presentation_fits [] t refl h; spells = presentation_spelled [] t ∙ append-nil (json_text t) }; means = refl };
+      reads = record {
+        presentation = presentation_of [] t;
+        presents = record {
+          fits = presentation_fits [] t refl h;
+          spells = presentation_spelled [] t ∙ append-nil (json_text t);
+        };
+        means = refl;
+      };
       tree = presentation_meant [] t h;
     }
 
@@ -34,7 +41,14 @@ json_line_presented t h =
     record {
       text = joined (json_text t) (10 ∷ []) (json_is_text t h) refl;
       events = stream_events (presentation_of (feed ∷ []) t);
-      reads = record { presentation = presentation_of (feed ∷ []) t; presents = record { fits = presentation_fits (feed ∷ []) t refl h; spells = presentation_spelled (feed ∷ []) t }; means = refl };
+      reads = record {
+        presentation = presentation_of (feed ∷ []) t;
+        presents = record {
+          fits = presentation_fits (feed ∷ []) t refl h;
+          spells = presentation_spelled (feed ∷ []) t;
+        };
+        means = refl;
+      };
       tree = presentation_meant (feed ∷ []) t h;
     }
 

@@ -9,7 +9,8 @@ use Rattle.yaml_grammar.specs.Trees.{Tree, text, sequence, mapping, Elements, no
 use Rattle.yaml_grammar.specs.Streams.{stream_text}
 use Rattle.yaml_grammar.specs.Style.{shown, hex, letter_escape}
 use Rattle.yaml_forms.specs.Json.{has_letter, json_char, json_chars, json_string, json_member, json_text, more_elements, more_members}
-use Rattle.yaml_forms.proofs.JsonPresented.{item_of, items_of_text, string_flow, element_entry, member_entry, json_flow, elements_from, members_from, presentation_of}
+use Rattle.yaml_forms.proofs.JsonPresented.{item_of, items_of_text, string_flow, element_entry, member_entry}
+use Rattle.yaml_forms.proofs.JsonPresented.{json_flow, elements_from, members_from, presentation_of}
 
 -- ---- strings
 
@@ -62,7 +63,8 @@ mutual
   flow_spelled (mapping no_member) = refl
   flow_spelled (mapping (member key t ms)) =
       ap (λ x. 123 ∷ (x ++ (125 ∷ [])))
-      (members_spelled (member_entry key (json_flow t)) ms ∙ ap (λ x. x ++ more_members ms) (member_spelled key (json_flow t) (json_text t) (flow_spelled t)))
+      (members_spelled (member_entry key (json_flow t)) ms
+      ∙ ap (λ x. x ++ more_members ms) (member_spelled key (json_flow t) (json_text t) (flow_spelled t)))
 
   -- a first element and further ones are spelled with commas between them
   elements_spelled : (one : Entry) (ts : Elements) → entries_text (elements_from one ts) ≡ entry_text one ++ more_elements ts
@@ -78,8 +80,10 @@ mutual
   members_spelled one (member key t ms) =
       comma_joined (entry_text one) (entries_text (members_from (member_entry key (json_flow t)) ms))
       ∙ ap (λ x. entry_text one ++ (44 ∷ x))
-      (members_spelled (member_entry key (json_flow t)) ms ∙ ap (λ x. x ++ more_members ms) (member_spelled key (json_flow t) (json_text t) (flow_spelled t)))
+      (members_spelled (member_entry key (json_flow t)) ms
+      ∙ ap (λ x. x ++ more_members ms) (member_spelled key (json_flow t) (json_text t) (flow_spelled t)))
 
 -- the presentation of a tree spells its JSON text and the end of its line
-pub presentation_spelled : (line_end : List LineEnd) (t : Tree) → stream_text (presentation_of line_end t) ≡ json_text t ++ comments_text line_end
+pub presentation_spelled : (line_end : List LineEnd) (t : Tree)
+    → stream_text (presentation_of line_end t) ≡ json_text t ++ comments_text line_end
 presentation_spelled line_end t = append-nil _ ∙ ap (λ x. x ++ comments_text line_end) (flow_spelled t)

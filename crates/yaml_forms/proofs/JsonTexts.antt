@@ -3,7 +3,8 @@ use Rattle.std.proofs.Common.{refl}
 use Rattle.std.specs.Prelude.{ℕ, List, [], ◌∷◌, ◌++◌}
 use Rattle.std.proofs.lemmas.Bool.{and_from}
 use Rattle.yaml_grammar.specs.Texts.{IsText}
-use Rattle.yaml_grammar.specs.Trees.{Tree, text, sequence, mapping, Elements, no_element, element, Members, no_member, member, IsTextTree, AreTextElements, AreTextMembers}
+use Rattle.yaml_grammar.specs.Trees.{Tree, text, sequence, mapping, Elements, no_element, element, Members, no_member}
+use Rattle.yaml_grammar.specs.Trees.{member, IsTextTree, AreTextElements, AreTextMembers}
 use Rattle.yaml_forms.specs.Json.{json_string, json_member, json_text, more_elements, more_members}
 use Rattle.yaml_forms.proofs.JsonCharacters.{joined, string_text}
 
@@ -17,12 +18,14 @@ mutual
   json_is_text (text value) h = string_text value h
   json_is_text (sequence no_element) h = refl
   json_is_text (sequence (element t ts)) h =
-      and_from _ _ refl (joined (json_text t ++ more_elements ts) (93 ∷ []) (joined (json_text t) (more_elements ts) (json_is_text t h.0) (elements_text ts h.1)) refl)
+      and_from _ _ refl (joined (json_text t ++ more_elements ts) (93 ∷ [])
+      (joined (json_text t) (more_elements ts) (json_is_text t h.0) (elements_text ts h.1)) refl)
   json_is_text (mapping no_member) h = refl
   json_is_text (mapping (member key t ms)) h =
       and_from _ _ refl
       (joined (json_member key (json_text t) ++ more_members ms) (125 ∷ [])
-      (joined (json_member key (json_text t)) (more_members ms) (member_text key (json_text t) h.0 (json_is_text t h.1)) (members_text ms h.2)) refl)
+      (joined (json_member key (json_text t)) (more_members ms)
+      (member_text key (json_text t) h.0 (json_is_text t h.1)) (members_text ms h.2)) refl)
 
   -- further elements are a text
   elements_text : (ts : Elements) → AreTextElements ts → IsText (more_elements ts)
@@ -33,4 +36,5 @@ mutual
   members_text : (ms : Members) → AreTextMembers ms → IsText (more_members ms)
   members_text no_member h = refl
   members_text (member key t ms) h =
-      and_from _ _ refl (joined (json_member key (json_text t)) (more_members ms) (member_text key (json_text t) h.0 (json_is_text t h.1)) (members_text ms h.2))
+      and_from _ _ refl (joined (json_member key (json_text t)) (more_members ms)
+      (member_text key (json_text t) h.0 (json_is_text t h.1)) (members_text ms h.2))

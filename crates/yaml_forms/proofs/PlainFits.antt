@@ -1,17 +1,23 @@
 -- The presentation of a tree in the plain form fits.
 use Rattle.std.proofs.Common.{◌≡◌, refl, ◌∙◌, ap, inl, inr, arith, ◌≤◌}
-use Rattle.std.specs.Prelude.{ℕ, zero, suc, ◌+◌, Bool, true, false, cond, not, ◌&&◌, ◌||◌, ◌==◌, List, [], ◌∷◌, ◌++◌, codes, length, flat_map}
+use Rattle.std.specs.Prelude.{ℕ, zero, suc, ◌+◌, Bool, true, false, cond, not, ◌&&◌, ◌||◌, ◌==◌, List, [], ◌∷◌, ◌++◌}
+use Rattle.std.specs.Prelude.{codes, length, flat_map}
 use Rattle.std.specs.List.{list_all}
 use Rattle.std.proofs.lemmas.List.{append-nil}
-use Rattle.std.proofs.lemmas.Bool.{and_parts, and_from, or_left, or_right, or_cases, or_parts, not-true, le-leb, ltb-false, eqb-true, agree_below_at, not_from_false, false≢true}
+use Rattle.std.proofs.lemmas.Bool.{and_parts, and_from, or_left, or_right, or_cases, or_parts, not-true, le-leb}
+use Rattle.std.proofs.lemmas.Bool.{ltb-false, eqb-true, agree_below_at, not_from_false, false≢true}
 use Rattle.yaml_chars.specs.Classes.{ns, white, is_in, indicator, line_break}
 use Rattle.yaml_grammar.specs.Texts.{IsText, first, spaces, starts_line, marker}
 use Rattle.yaml_grammar.specs.Separation.{Sep, sep_text, sep_fits, inline}
-use Rattle.yaml_grammar.specs.FlowScalars.{FlowContext, outer, block_key, safe, plain, plain_text as plain_char, lines_text, plain_first, plain_run}
+use Rattle.yaml_grammar.specs.FlowScalars.{FlowContext, outer, block_key, safe, plain, plain_text as plain_char}
+use Rattle.yaml_grammar.specs.FlowScalars.{lines_text, plain_first, plain_run}
 use Rattle.yaml_grammar.specs.FlowNodes.{scalar, flow_text, flow_fits, short_key}
-use Rattle.yaml_grammar.specs.BlockNodes.{Node, flow, node_text, node_fits, items_text, items_fit, Indented, indented_text, indented_fits, node, Pair, pair_text, pair_fits, pairs_text, pairs_fit, asked, keyed}
+use Rattle.yaml_grammar.specs.BlockNodes.{Node, flow, node_text, node_fits, items_text, items_fit, Indented}
+use Rattle.yaml_grammar.specs.BlockNodes.{indented_text, indented_fits, node, Pair, pair_text, pair_fits, pairs_text}
+use Rattle.yaml_grammar.specs.BlockNodes.{pairs_fit, asked, keyed}
 use Rattle.yaml_grammar.specs.Streams.{fits}
-use Rattle.yaml_grammar.specs.Trees.{Tree, text, sequence, mapping, Elements, no_element, element, Members, no_member, member, IsTextTree, AreTextElements, AreTextMembers}
+use Rattle.yaml_grammar.specs.Trees.{Tree, text, sequence, mapping, Elements, no_element, element, Members, no_member}
+use Rattle.yaml_grammar.specs.Trees.{member, IsTextTree, AreTextElements, AreTextMembers}
 use Rattle.yaml_grammar.specs.Style.{plain_in_style, letter, in_double_quotes, key_text, long_key, key_lines}
 use Rattle.yaml_recognizers.proofs.OneStyle.Presented.{feed, one_space, word_flow, scalar_node, pair_of}
 use Rattle.yaml_recognizers.proofs.OneStyle.Spelled.{pair_spelled, word_flow_spelled, two_more}
@@ -34,11 +40,13 @@ may_begin x = ns x && (not (indicator x) || (x == 45)) && not (white x)
 
 -- a character of such a scalar may be within a plain one
 run_tells : (x : ℕ) → typed_char x ≡ true → in_run x ≡ true
-run_tells x h = after_not (typed_char x) (in_run x) (agree_below_at (λ y. not (typed_char y) || in_run y) (λ y. true) 128 x refl (typed_low x h)) h
+run_tells x h = after_not (typed_char x) (in_run x)
+    (agree_below_at (λ y. not (typed_char y) || in_run y) (λ y. true) 128 x refl (typed_low x h)) h
 
 -- and it may begin one, if it is a dash before something safe
 begin_tells : (x : ℕ) → typed_char x ≡ true → may_begin x ≡ true
-begin_tells x h = after_not (typed_char x) (may_begin x) (agree_below_at (λ y. not (typed_char y) || may_begin y) (λ y. true) 128 x refl (typed_low x h)) h
+begin_tells x h = after_not (typed_char x) (may_begin x)
+    (agree_below_at (λ y. not (typed_char y) || may_begin y) (λ y. true) 128 x refl (typed_low x h)) h
 
 -- a plain scalar on one line spells its characters
 word_spelled : (value : List ℕ) → lines_text plain_char value [] ≡ value
@@ -49,15 +57,18 @@ word_spelled value = append-nil _ ∙ same value
     same (c ∷ cs) = ap (λ t. c ∷ t) (same cs)
 
 -- the rest of such a scalar fits as a run of a plain one
-run_fits : (c : FlowContext) (prev : ℕ) (xs after : List ℕ) → Wide c → white prev ≡ false → list_all typed_char xs ≡ true → plain_run c prev xs after ≡ true
+run_fits : (c : FlowContext) (prev : ℕ) (xs after : List ℕ) → Wide c → white prev ≡ false
+    → list_all typed_char xs ≡ true → plain_run c prev xs after ≡ true
 run_fits c prev [] after w p h = not_from_false _ p
 run_fits c prev (x ∷ xs) after w p h =
     let q : (typed_char x ≡ true) × (list_all typed_char xs ≡ true) = and_parts _ _ h in
     let r : (ns x && not (is_in x (codes ":#")) ≡ true) × (not (white x) ≡ true) = and_parts _ _ (run_tells x q.0) in
-    and_from _ _ (or_right (white x) _ (or_left _ _ (or_left _ _ (ap (λ b. b && not (is_in x (codes ":#"))) (w x) ∙ r.0)))) (run_fits c x xs after w (not-true _ r.1) q.1)
+    and_from _ _ (or_right (white x) _ (or_left _ _
+    (or_left _ _ (ap (λ b. b && not (is_in x (codes ":#"))) (w x) ∙ r.0)))) (run_fits c x xs after w (not-true _ r.1) q.1)
 
 -- two signs that are no two dashes and no two points begin no marker
-two_signs : (x y z : ℕ) (rest : List ℕ) → not (x == 45) || not (y == 45) ≡ true → not (x == 46) || not (y == 46) ≡ true → marker (x ∷ y ∷ z ∷ rest) ≡ false
+two_signs : (x y z : ℕ) (rest : List ℕ) → not (x == 45) || not (y == 45) ≡ true
+    → not (x == 46) || not (y == 46) ≡ true → marker (x ∷ y ∷ z ∷ rest) ≡ false
 two_signs x y z rest d e = by (x == 45) (y == 45) (x == 46) (y == 46) refl refl refl refl d e
   where
     by : (a b u v : Bool) → (x == 45) ≡ a → (y == 45) ≡ b → (x == 46) ≡ u → (y == 46) ≡ v → not a || not b ≡ true → not u || not v ≡ true
@@ -71,7 +82,8 @@ two_signs x y z rest d e = by (x == 45) (y == 45) (x == 46) (y == 46) refl refl 
     by true true u v p q r t i j = absurd (false≢true i)
 
 -- a text has no marker if what comes after a dash is no dash, and after a point no point
-unmarked : (x : ℕ) (xs rest : List ℕ) → not (x == 45) || first (λ y. not (y == 45)) xs ≡ true → not (x == 46) || first (λ y. not (y == 46)) xs ≡ true
+unmarked : (x : ℕ) (xs rest : List ℕ) → not (x == 45) || first (λ y. not (y == 45)) xs ≡ true
+    → not (x == 46) || first (λ y. not (y == 46)) xs ≡ true
     → marker (x ∷ (xs ++ rest)) ≡ false
 unmarked x [] rest d e = unmarked_alone x rest (not-true _ (alone (x == 45) d)) (not-true _ (alone (x == 46) e))
   where
@@ -95,7 +107,8 @@ first_fits c x xs after w h k d =
     let q : (ns x ≡ true) × (not (indicator x) || (x == 45) ≡ true) = and_parts _ _ p.0 in
     and_from _ _ q.0 (elim (or_cases (not (indicator x)) (x == 45) q.1) [
       | inl plain_sign ↦ or_left _ _ plain_sign
-      | inr dash ↦ or_right (not (indicator x)) _ (and_from _ _ (ap (λ y. is_in y (codes "?:-")) (eqb-true x 45 dash)) (next_safe xs k (after_dash dash)))
+      | inr dash ↦ or_right (not (indicator x)) _
+          (and_from _ _ (ap (λ y. is_in y (codes "?:-")) (eqb-true x 45 dash)) (next_safe xs k (after_dash dash)))
     ])
   where
     after_dash : (x == 45) ≡ true → first (λ y. not (y == 45)) xs ≡ true
@@ -106,30 +119,39 @@ first_fits c x xs after w h k d =
     next_safe (y ∷ ys) a b = w y ∙ (and_parts _ _ (and_parts _ _ (run_tells y (and_parts _ _ a).0)).0).0
 
 -- such a scalar begins no marker
-spelled_unmarked : (x : ℕ) (xs after : List ℕ) → not (x == 45) || first (λ y. not (y == 45)) xs ≡ true → not (x == 46) || first (λ y. not (y == 46)) xs ≡ true
+spelled_unmarked : (x : ℕ) (xs after : List ℕ) → not (x == 45) || first (λ y. not (y == 45)) xs ≡ true
+    → not (x == 46) || first (λ y. not (y == 46)) xs ≡ true
     → marker (lines_text plain_char (x ∷ xs) [] ++ after) ≡ false
 spelled_unmarked x xs after d e = ap (λ t. marker (t ++ after)) (word_spelled (x ∷ xs)) ∙ unmarked x xs after d e
 
 -- such a scalar fits as a plain one
-typed_fits : (value : List ℕ) (n : ℕ) (c : FlowContext) (bol : Bool) (after : List ℕ) → Wide c → is_typed value ≡ true → flow_fits (scalar (plain value [])) n c bol after ≡ true
+typed_fits : (value : List ℕ) (n : ℕ) (c : FlowContext) (bol : Bool) (after : List ℕ) → Wide c → is_typed value ≡ true
+    → flow_fits (scalar (plain value [])) n c bol after ≡ true
 typed_fits value n c bol after w h = by value (typed_shaped value h)
   where
     by : (cs : List ℕ) → typed_shape cs ≡ true → flow_fits (scalar (plain cs [])) n c bol after ≡ true
     by [] s = absurd (false≢true s)
     by (x ∷ xs) s =
-        let p : (typed_char x && list_all typed_char xs && (not (x == 45) || first (λ y. not (y == 45)) xs) ≡ true) × (not (x == 46) || first (λ y. not (y == 46)) xs ≡ true) = and_parts _ _ s in
-        let q : (typed_char x && list_all typed_char xs ≡ true) × (not (x == 45) || first (λ y. not (y == 45)) xs ≡ true) = and_parts _ _ p.0 in
+        let p : (typed_char x && list_all typed_char xs && (not (x == 45) || first (λ y. not (y == 45)) xs) ≡ true)
+        × (not (x == 46) || first (λ y. not (y == 46)) xs ≡ true) = and_parts _ _ s in
+        let q : (typed_char x && list_all typed_char xs ≡ true)
+        × (not (x == 45) || first (λ y. not (y == 45)) xs ≡ true) = and_parts _ _ p.0 in
         let r : (typed_char x ≡ true) × (list_all typed_char xs ≡ true) = and_parts _ _ q.0 in
         let solid : white x ≡ false = not-true _ (and_parts _ _ (begin_tells x r.0)).1 in
-        and_from _ _ (and_from _ _ (and_from _ _ (no_marker_there bol (lines_text plain_char (x ∷ xs) [] ++ after) (spelled_unmarked x xs after q.1 p.1)) (and_from _ _ (first_fits c x xs after w r.0 r.1 q.1) (run_fits c x xs after w solid r.1))) refl) refl
+        and_from _ _ (and_from _ _ (and_from _ _ (no_marker_there bol (lines_text plain_char (x ∷ xs) [] ++ after)
+        (spelled_unmarked x xs after q.1 p.1)) (and_from _ _ (first_fits c x xs after w r.0 r.1 q.1)
+        (run_fits c x xs after w solid r.1))) refl) refl
 
 -- a value fits as a node
 value_node_fits : (sep : Sep) (i m : ℕ) (shallow bol : Bool) (value after : List ℕ) → m ≤ i + 2 → IsText value
-    → ((rest : List ℕ) → sep_fits m false bol sep rest ≡ true) → Below i after → node_fits (value_node sep (i + 2) value) m shallow bol after ≡ true
+    → ((rest : List ℕ) → sep_fits m false bol sep rest ≡ true) → Below i after
+    → node_fits (value_node sep (i + 2) value) m shallow bol after ≡ true
 value_node_fits sep i m shallow bol value after l t s b = by (is_typed value) refl
   where
-    by : (b : Bool) → is_typed value ≡ b → node_fits (cond b (flow sep (scalar (plain value [])) (feed ∷ [])) (scalar_node sep (i + 2) value)) m shallow bol after ≡ true
-    by true e = and_from _ _ (and_from _ _ (s (flow_text (scalar (plain value [])) ++ (10 ∷ after))) (typed_fits value m outer (starts_line bol (sep_text sep)) (10 ∷ after) (λ x. refl) e)) refl
+    by : (b : Bool) → is_typed value ≡ b → node_fits
+        (cond b (flow sep (scalar (plain value [])) (feed ∷ [])) (scalar_node sep (i + 2) value)) m shallow bol after ≡ true
+    by true e = and_from _ _ (and_from _ _ (s (flow_text (scalar (plain value [])) ++ (10 ∷ after)))
+        (typed_fits value m outer (starts_line bol (sep_text sep)) (10 ∷ after) (λ x. refl) e)) refl
     by false e = scalar_node_fits sep i m shallow bol value after l t s b
 
 -- ---- what comes after
@@ -172,7 +194,8 @@ key_begins : (i : ℕ) (key : List ℕ) → first solid (key_lines i key) ≡ tr
 key_begins i key = by (long_key key) (plain_in_style key) refl
   where
     by : (l p : Bool) → plain_in_style key ≡ p
-        → first solid (cond l (codes "? " ++ key_text key ++ codes "\n" ++ spaces i ++ codes ":") (cond p key (in_double_quotes key) ++ codes ":")) ≡ true
+        → first solid (cond l (codes "? " ++ key_text key ++ codes "\n" ++ spaces i ++ codes ":")
+        (cond p key (in_double_quotes key) ++ codes ":")) ≡ true
     by true p e = refl
     by false true e = first_joined solid key _ (letter_solid key (and_parts _ _ (and_parts _ _ (and_parts _ _ e).0).0).0)
     by false false e = refl
@@ -182,22 +205,30 @@ pair_begins : (key : List ℕ) (value : Node) (i : ℕ) → first solid (pair_te
 pair_begins key value i = rw (pair_spelled key value i) (first_joined solid (key_lines i key) (node_text value) (key_begins i key))
 
 -- and so do pairs
-pairs_begin : (one : Pair) (ms : Members) (i : ℕ) → first solid (pair_text one i) ≡ true → first solid (pairs_text (pairs_from one ms i) i) ≡ true
+pairs_begin : (one : Pair) (ms : Members) (i : ℕ) → first solid (pair_text one i) ≡ true
+    → first solid (pairs_text (pairs_from one ms i) i) ≡ true
 pairs_begin one no_member i h = h
-pairs_begin one (member key t ms) i h = first_joined solid (pair_text one i ++ spaces i) _ (first_joined solid (pair_text one i) (spaces i) h)
+pairs_begin one (member key t ms) i h = first_joined solid (pair_text one i ++ spaces i) _
+    (first_joined solid (pair_text one i) (spaces i) h)
 
 -- a pair fits, if its value does
-pair_of_fits : (key : List ℕ) (value : Node) (i : ℕ) (bol : Bool) (after : List ℕ) → IsText key → node_fits value (suc i) true false after ≡ true
+pair_of_fits : (key : List ℕ) (value : Node) (i : ℕ) (bol : Bool) (after : List ℕ) → IsText key
+    → node_fits value (suc i) true false after ≡ true
     → pair_fits (pair_of key value) i bol after ≡ true
 pair_of_fits key value i bol after t h = by (long_key key) refl
   where
-    by : (b : Bool) → long_key key ≡ b → pair_fits (cond b (asked (node (flow one_space (word_flow key) (feed ∷ []))) (node value)) (keyed (word_flow key) [] value)) i bol after ≡ true
-    by true e = and_from _ _ (and_from _ _ refl (and_from _ _ (and_from _ _ refl (word_flow_fits key (suc i) outer false (10 ∷ (spaces i ++ (58 ∷ (node_text value ++ after)))) (λ x. refl) t)) refl)) h
+    by : (b : Bool) → long_key key ≡ b → pair_fits
+        (cond b (asked (node (flow one_space (word_flow key) (feed ∷ []))) (node value))
+        (keyed (word_flow key) [] value)) i bol after ≡ true
+    by true e = and_from _ _ (and_from _ _ refl
+        (and_from _ _ (and_from _ _ refl (word_flow_fits key (suc i) outer false
+        (10 ∷ (spaces i ++ (58 ∷ (node_text value ++ after)))) (λ x. refl) t)) refl)) h
     by false e =
         let long : length (key_text key) ≤ 1000 = ltb-false 1000 (length (key_text key)) e in
         let same : flow_text (word_flow key) ++ [] ≡ key_text key = append-nil _ ∙ word_flow_spelled key in
         let short : short_key (word_flow key) [] ≡ true = rw same (le-leb (length (key_text key)) 1024 (omega (arith, long))) in
-        and_from _ _ (and_from _ _ (and_from _ _ (word_flow_fits key 0 block_key bol (58 ∷ (node_text value ++ after)) (λ x. refl) t) refl) short) h
+        and_from _ _ (and_from _ _ (and_from _ _ (word_flow_fits key 0 block_key bol (58 ∷ (node_text value ++ after))
+        (λ x. refl) t) refl) short) h
 
 -- ---- trees
 
@@ -211,11 +242,13 @@ mutual
   element_fits (text value) i after h b = value_node_fits one_space i (suc i) false false value after (omega arith) h (λ rest. refl) b
   element_fits (sequence no_element) i after h b = refl
   element_fits (sequence (element t ts)) i after h b =
-      rw (two_more i) (elements_fit (element_of t (i + 2)) ts (i + 2) after (apart t (i + 2)) (λ rest c. element_fits t (i + 2) rest h.0 c) h.1 (below_more i after b))
+      rw (two_more i) (elements_fit (element_of t (i + 2)) ts (i + 2) after (apart t (i + 2))
+      (λ rest c. element_fits t (i + 2) rest h.0 c) h.1 (below_more i after b))
   element_fits (mapping no_member) i after h b = refl
   element_fits (mapping (member key t ms)) i after h b =
       rw (two_more i) (members_fit (pair_of key (value_of t (i + 2))) ms (i + 2) false after
-      (λ bol rest c. pair_of_fits key (value_of t (i + 2)) (i + 2) bol rest h.0 (value_fits t (i + 2) rest h.1 c)) h.2 (below_more i after b))
+      (λ bol rest c. pair_of_fits key (value_of t (i + 2)) (i + 2) bol rest h.0 (value_fits t (i + 2) rest h.1 c)) h.2
+      (below_more i after b))
 
   -- a value fits after the `:` of its key
   value_fits : (t : Tree) (i : ℕ) (after : List ℕ) → IsTextTree t → Below i after → node_fits (value_of t i) (suc i) true false after ≡ true
@@ -223,16 +256,20 @@ mutual
   value_fits (sequence no_element) i after h b = refl
   value_fits (sequence (element t ts)) i after h b =
       and_from _ _ (and_from _ _ refl (le-leb (suc i) (suc (i + 2)) (omega arith)))
-      (elements_fit (element_of t (i + 2)) ts (i + 2) after (apart t (i + 2)) (λ rest c. element_fits t (i + 2) rest h.0 c) h.1 (below_more i after b))
+      (elements_fit (element_of t (i + 2)) ts (i + 2) after (apart t (i + 2))
+      (λ rest c. element_fits t (i + 2) rest h.0 c) h.1 (below_more i after b))
   value_fits (mapping no_member) i after h b = refl
   value_fits (mapping (member key t ms)) i after h b =
       and_from _ _ (and_from _ _ refl (le-leb (suc i) (i + 2) (omega arith)))
       (members_fit (pair_of key (value_of t (i + 2))) ms (i + 2) (i + 2 == 0) after
-      (λ bol rest c. pair_of_fits key (value_of t (i + 2)) (i + 2) bol rest h.0 (value_fits t (i + 2) rest h.1 c)) h.2 (below_more i after b))
+      (λ bol rest c. pair_of_fits key (value_of t (i + 2)) (i + 2) bol rest h.0 (value_fits t (i + 2) rest h.1 c)) h.2
+      (below_more i after b))
 
   -- elements fit after a first one that does
-  elements_fit : (one : Indented) (ts : Elements) (i : ℕ) (after : List ℕ) → ((rest : List ℕ) → not (first ns (indented_text one i ++ rest)) ≡ true)
-      → ((rest : List ℕ) → Below i rest → indented_fits one i false rest ≡ true) → AreTextElements ts → Below i after → items_fit (items_from one ts i) i after ≡ true
+  elements_fit : (one : Indented) (ts : Elements) (i : ℕ) (after : List ℕ)
+      → ((rest : List ℕ) → not (first ns (indented_text one i ++ rest)) ≡ true)
+      → ((rest : List ℕ) → Below i rest → indented_fits one i false rest ≡ true) → AreTextElements ts → Below i after
+      → items_fit (items_from one ts i) i after ≡ true
   elements_fit one no_element i after a f h b = and_from _ _ (a after) (f after b)
   elements_fit one (element t ts) i after a f h b =
       let rest : List ℕ = spaces i ++ (items_text (items_from (element_of t i) ts i) i ++ after) in
@@ -240,24 +277,30 @@ mutual
       (elements_fit (element_of t i) ts i after (apart t i) (λ r c. element_fits t i r h.0 c) h.1 b)
 
   -- members fit after a first one that does
-  members_fit : (one : Pair) (ms : Members) (i : ℕ) (bol : Bool) (after : List ℕ) → ((start : Bool) (rest : List ℕ) → Below i rest → pair_fits one i start rest ≡ true)
+  members_fit : (one : Pair) (ms : Members) (i : ℕ) (bol : Bool) (after : List ℕ)
+      → ((start : Bool) (rest : List ℕ) → Below i rest → pair_fits one i start rest ≡ true)
       → AreTextMembers ms → Below i after → pairs_fit (pairs_from one ms i) i bol after ≡ true
   members_fit one no_member i bol after f h b = f bol after b
   members_fit one (member key t ms) i bol after f h b =
       let rest : List ℕ = spaces i ++ (pairs_text (pairs_from (pair_of key (value_of t i)) ms i) i ++ after) in
-      and_from _ _ (f bol rest (below_solid i _ (first_joined solid (pairs_text (pairs_from (pair_of key (value_of t i)) ms i) i) after (pairs_begin (pair_of key (value_of t i)) ms i (pair_begins key (value_of t i) i)))))
-      (members_fit (pair_of key (value_of t i)) ms i (i == 0) after (λ start r c. pair_of_fits key (value_of t i) i start r h.0 (value_fits t i r h.1 c)) h.2 b)
+      and_from _ _ (f bol rest (below_solid i _ (first_joined solid
+      (pairs_text (pairs_from (pair_of key (value_of t i)) ms i) i) after
+      (pairs_begin (pair_of key (value_of t i)) ms i (pair_begins key (value_of t i) i)))))
+      (members_fit (pair_of key (value_of t i)) ms i (i == 0) after
+      (λ start r c. pair_of_fits key (value_of t i) i start r h.0 (value_fits t i r h.1 c)) h.2 b)
 
 -- a whole tree fits
 top_fits : (t : Tree) → IsTextTree t → node_fits (top_node t) 0 false true [] ≡ true
 top_fits (text value) h = value_node_fits (inline []) 0 0 false true value [] (omega arith) h (λ rest. refl) (omega arith, refl)
 top_fits (sequence no_element) h = refl
 top_fits (sequence (element t ts)) h =
-    and_from _ _ (and_from _ _ refl refl) (elements_fit (element_of t 0) ts 0 [] (apart t 0) (λ rest c. element_fits t 0 rest h.0 c) h.1 (omega arith, refl))
+    and_from _ _ (and_from _ _ refl refl) (elements_fit (element_of t 0) ts 0 [] (apart t 0)
+    (λ rest c. element_fits t 0 rest h.0 c) h.1 (omega arith, refl))
 top_fits (mapping no_member) h = refl
 top_fits (mapping (member key t ms)) h =
     and_from _ _ (and_from _ _ refl refl)
-    (members_fit (pair_of key (value_of t 0)) ms 0 true [] (λ bol rest c. pair_of_fits key (value_of t 0) 0 bol rest h.0 (value_fits t 0 rest h.1 c)) h.2 (omega arith, refl))
+    (members_fit (pair_of key (value_of t 0)) ms 0 true []
+    (λ bol rest c. pair_of_fits key (value_of t 0) 0 bol rest h.0 (value_fits t 0 rest h.1 c)) h.2 (omega arith, refl))
 
 -- the presentation of a tree fits
 pub presentation_fits : (t : Tree) → IsTextTree t → fits (presentation_of t) ≡ true

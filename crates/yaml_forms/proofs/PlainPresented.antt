@@ -3,7 +3,8 @@ use Rattle.std.specs.Prelude.{ℕ, ◌+◌, false, List, [], ◌∷◌, Some, if
 use Rattle.yaml_grammar.specs.Separation.{Sep, inline}
 use Rattle.yaml_grammar.specs.FlowScalars.{plain}
 use Rattle.yaml_grammar.specs.FlowNodes.{scalar}
-use Rattle.yaml_grammar.specs.BlockNodes.{Node, flow, items, pairs, Items, item, item_and, Pairs, pair, pair_and, Pair, Indented, compact_items, compact_pairs, node}
+use Rattle.yaml_grammar.specs.BlockNodes.{Node, flow, items, pairs, Items, item, item_and, Pairs, pair, pair_and}
+use Rattle.yaml_grammar.specs.BlockNodes.{Pair, Indented, compact_items, compact_pairs, node}
 use Rattle.yaml_grammar.specs.Streams.{Stream, bare}
 use Rattle.yaml_grammar.specs.Trees.{Tree, text, sequence, mapping, Elements, no_element, element, Members, no_member, member}
 use Rattle.yaml_recognizers.proofs.OneStyle.Presented.{feed, one_space, scalar_node, pair_of, empty_sequence, empty_mapping}

@@ -18,7 +18,11 @@ plain_presented t h =
     record {
       text = plain_is_text t h;
       events = stream_events (presentation_of t);
-      reads = record { presentation = presentation_of t; presents = record { fits = presentation_fits t h; spells = presentation_spelled t }; means = refl };
+      reads = record {
+        presentation = presentation_of t;
+        presents = record { fits = presentation_fits t h; spells = presentation_spelled t };
+        means = refl;
+      };
       tree = presentation_meant t h;
     }
 

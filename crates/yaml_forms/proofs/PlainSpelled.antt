@@ -51,10 +51,16 @@ mutual
   pub element_spelled : (t : Tree) (i : ℕ) → indented_text (element_of t i) i ≡ 32 ∷ lines_after_dash t i
   element_spelled (text value) i = value_after_space i value
   element_spelled (sequence no_element) i = refl
-  element_spelled (sequence (element t ts)) i = rw (two_more i, elements_spelled (element_of t (i + 2)) ts (i + 2), element_spelled t (i + 2))
+  element_spelled (sequence (element t ts)) i =
+      rw (two_more i, elements_spelled (element_of t (i + 2)) ts (i + 2), element_spelled t (i + 2))
   element_spelled (mapping no_member) i = refl
   element_spelled (mapping (member key t ms)) i =
-      rw (two_more i, members_spelled (pair_of key (value_of t (i + 2))) ms (i + 2), pair_spelled key (value_of t (i + 2)) (i + 2), value_is_spelled t (i + 2))
+      rw (
+        two_more i,
+        members_spelled (pair_of key (value_of t (i + 2))) ms (i + 2),
+        pair_spelled key (value_of t (i + 2)) (i + 2),
+        value_is_spelled t (i + 2),
+      )
 
   -- a value is spelled as the one style writes it after the `:` of its key
   value_is_spelled : (t : Tree) (i : ℕ) → node_text (value_of t i) ≡ value_at t i
@@ -63,18 +69,25 @@ mutual
   value_is_spelled (sequence (element t ts)) i = rw (elements_spelled (element_of t (i + 2)) ts (i + 2), element_spelled t (i + 2))
   value_is_spelled (mapping no_member) i = refl
   value_is_spelled (mapping (member key t ms)) i =
-      rw (members_spelled (pair_of key (value_of t (i + 2))) ms (i + 2), pair_spelled key (value_of t (i + 2)) (i + 2), value_is_spelled t (i + 2))
+      rw (
+        members_spelled (pair_of key (value_of t (i + 2))) ms (i + 2),
+        pair_spelled key (value_of t (i + 2)) (i + 2),
+        value_is_spelled t (i + 2),
+      )
 
   -- a first element and further ones are spelled as the one style writes them
-  elements_spelled : (one : Indented) (ts : Elements) (i : ℕ) → items_text (items_from one ts i) i ≡ 45 ∷ (indented_text one i ++ elements_after ts i)
+  elements_spelled : (one : Indented) (ts : Elements) (i : ℕ)
+      → items_text (items_from one ts i) i ≡ 45 ∷ (indented_text one i ++ elements_after ts i)
   elements_spelled one no_element i = ap (λ x. 45 ∷ x) (sym (append-nil _))
-  elements_spelled one (element t ts) i = rw (elements_spelled (element_of t i) ts i, element_spelled t i) (ap (λ x. 45 ∷ x) (item_joined (indented_text one i) (spaces i) (lines_after_dash t i) (elements_after ts i)))
+  elements_spelled one (element t ts) i = rw (elements_spelled (element_of t i) ts i, element_spelled t i)
+      (ap (λ x. 45 ∷ x) (item_joined (indented_text one i) (spaces i) (lines_after_dash t i) (elements_after ts i)))
 
   -- a first member and further ones are spelled as the one style writes them
   members_spelled : (one : Pair) (ms : Members) (i : ℕ) → pairs_text (pairs_from one ms i) i ≡ pair_text one i ++ members_after ms i
   members_spelled one no_member i = sym (append-nil _)
   members_spelled one (member key t ms) i =
-      rw (members_spelled (pair_of key (value_of t i)) ms i, pair_spelled key (value_of t i) i, value_is_spelled t i) (pair_joined (pair_text one i) (spaces i) (key_lines i key) (value_at t i) (members_after ms i))
+      rw (members_spelled (pair_of key (value_of t i)) ms i, pair_spelled key (value_of t i) i, value_is_spelled t i)
+      (pair_joined (pair_text one i) (spaces i) (key_lines i key) (value_at t i) (members_after ms i))
 
 -- a node at the top spells the tree's text
 top_spelled : (t : Tree) → node_text (top_node t) ≡ plain_text t

@@ -1,5 +1,6 @@
 -- What the scalars are that the core schema resolves to something other than a text: ASCII, and fit to stand plain.
-use Rattle.std.proofs.Common.{◌≡◌, ℕ, ◌<◌, Bool, true, false, not, ◌&&◌, ◌||◌, ◌==◌, cond, List, [], ◌∷◌, codes, IsUtf8, refl, sym, ap, ◌∙◌, inl, inr, arith}
+use Rattle.std.proofs.Common.{◌≡◌, ℕ, ◌<◌, Bool, true, false, not, ◌&&◌, ◌||◌, ◌==◌, cond, List, [], ◌∷◌, codes}
+use Rattle.std.proofs.Common.{IsUtf8, refl, sym, ap, ◌∙◌, inl, inr, arith}
 use Rattle.std.specs.List.{list_all}
 use Rattle.std.specs.Str.{chars}
 use Rattle.std.proofs.lemmas.Bool.{and_parts, and_from, or_cases, or_left, or_right, eqb-true, false≢true}
@@ -10,7 +11,8 @@ use Rattle.yaml_grammar.specs.FlowScalars.{hex_digit}
 use Rattle.yaml_grammar.specs.Style.{letter, is_among}
 use Rattle.yaml_data.proofs.CharacterLemmas.{same_text-true, every-IsAscii, chars-same}
 use Rattle.std.proofs.lemmas.Str.{chars-IsAscii}
-use Rattle.yaml_forms.specs.CoreScalars.{null_words, truth_words, float_words, digit, octal_digit, digits, after_sign, after_digits, exponent, fraction, unsigned, based, based_number, is_typed}
+use Rattle.yaml_forms.specs.CoreScalars.{null_words, truth_words, float_words, digit, octal_digit, digits, after_sign}
+use Rattle.yaml_forms.specs.CoreScalars.{after_digits, exponent, fraction, unsigned, based, based_number, is_typed}
 
 -- a character of such a scalar
 abbrev pub typed_char : ℕ → Bool
@@ -78,7 +80,8 @@ after_digits_typed : (cs : List ℕ) → AllTyped (after_digits cs) → AllTyped
 after_digits_typed [] h = refl
 after_digits_typed (c ∷ cs) h = by (digit c) refl (after_digits_typed cs) h
   where
-    by : (b : Bool) → digit c ≡ b → (AllTyped (after_digits cs) → AllTyped cs) → AllTyped (cond b (after_digits cs) (c ∷ cs)) → AllTyped (c ∷ cs)
+    by : (b : Bool) → digit c ≡ b → (AllTyped (after_digits cs) → AllTyped cs)
+        → AllTyped (cond b (after_digits cs) (c ∷ cs)) → AllTyped (c ∷ cs)
     by true e more k = and_from _ _ (digit_typed c e) (more k)
     by false e more k = k
 
@@ -139,7 +142,8 @@ number_of : (cs : List ℕ) → unsigned cs ≡ true → Number cs
 number_of [] h = absurd (false≢true h)
 number_of (c ∷ cs) h = by (c == 46) refl h
   where
-    by : (b : Bool) → (c == 46) ≡ b → cond b (first digit cs && exponent (after_digits cs)) (digit c && fraction (after_digits cs)) ≡ true → Number (c ∷ cs)
+    by : (b : Bool) → (c == 46) ≡ b → cond b (first digit cs && exponent (after_digits cs))
+        (digit c && fraction (after_digits cs)) ≡ true → Number (c ∷ cs)
     by true e k =
         let p : (first digit cs ≡ true) × (exponent (after_digits cs) ≡ true) = and_parts _ _ k in
         let rest : AllTyped cs = after_digits_typed cs (exponent_typed (after_digits cs) p.1) in
@@ -147,7 +151,8 @@ number_of (c ∷ cs) h = by (c == 46) refl h
         let other : not (c == 45) ≡ true = ap (λ x. not (x == 45)) (eqb-true c 46 e) in
         record {
           typed = and_from _ _ here rest;
-          shape = and_from _ _ (and_from _ _ (and_from _ _ here rest) (or_left _ _ other)) (or_right (not (c == 46)) _ (digits_no_point cs p.0));
+          shape = and_from _ _ (and_from _ _ (and_from _ _ here rest) (or_left _ _ other))
+              (or_right (not (c == 46)) _ (digits_no_point cs p.0));
           begins = other;
         }
     by false e k =
@@ -173,7 +178,8 @@ signed_shape (c ∷ cs) h = by (is_in c (codes "-+")) refl h
     by : (b : Bool) → is_in c (codes "-+") ≡ b → unsigned (cond b cs (c ∷ cs)) ≡ true → typed_shape (c ∷ cs) ≡ true
     by true e k =
         let n : Number cs = number_of cs k in
-        and_from _ _ (and_from _ _ (and_from _ _ (sign_typed c e) n.typed) (or_right (not (c == 45)) _ n.begins)) (or_left _ _ (sign_no_point c e))
+        and_from _ _ (and_from _ _ (and_from _ _ (sign_typed c e) n.typed) (or_right (not (c == 45)) _ n.begins))
+        (or_left _ _ (sign_no_point c e))
     by false e k = (number_of (c ∷ cs) k).shape
 
 -- a number of the base 8 or 16, after its 0
@@ -198,19 +204,20 @@ based_shape (c ∷ cs) h =
 
 -- each such scalar has this shape
 pub typed_shaped : (cs : List ℕ) → is_typed cs ≡ true → typed_shape cs ≡ true
-typed_shaped cs h = elim (or_cases (is_among cs null_words || is_among cs truth_words || is_among cs float_words || based_number cs) (unsigned (after_sign cs)) h) [
-  | inr n ↦ signed_shape cs n
-  | inl a ↦ elim (or_cases (is_among cs null_words || is_among cs truth_words || is_among cs float_words) (based_number cs) a) [
-    | inr n ↦ based_shape cs n
-    | inl b ↦ elim (or_cases (is_among cs null_words || is_among cs truth_words) (is_among cs float_words) b) [
-      | inr i ↦ among_holds typed_shape cs float_words refl i
-      | inl d ↦ elim (or_cases (is_among cs null_words) (is_among cs truth_words) d) [
-        | inl i ↦ among_holds typed_shape cs null_words refl i
-        | inr i ↦ among_holds typed_shape cs truth_words refl i
+typed_shaped cs h = elim (or_cases (is_among cs null_words || is_among cs truth_words || is_among cs float_words
+    || based_number cs) (unsigned (after_sign cs)) h) [
+      | inr n ↦ signed_shape cs n
+      | inl a ↦ elim (or_cases (is_among cs null_words || is_among cs truth_words || is_among cs float_words) (based_number cs) a) [
+        | inr n ↦ based_shape cs n
+        | inl b ↦ elim (or_cases (is_among cs null_words || is_among cs truth_words) (is_among cs float_words) b) [
+          | inr i ↦ among_holds typed_shape cs float_words refl i
+          | inl d ↦ elim (or_cases (is_among cs null_words) (is_among cs truth_words) d) [
+            | inl i ↦ among_holds typed_shape cs null_words refl i
+            | inr i ↦ among_holds typed_shape cs truth_words refl i
+          ]
+        ]
       ]
     ]
-  ]
-]
 
 -- ---- ASCII
 

@@ -14,9 +14,13 @@ use Rattle.yaml_grammar.specs.Separation.{lf, LineEnd, Sep, inline, lines}
 use Rattle.yaml_grammar.specs.FlowScalars.{QuotedChar, raw, escape, FlowEmptyLine, Line, plain, double}
 use Rattle.yaml_grammar.specs.FlowNodes.{Flow, scalar, seq, Entries, last, next, Entry, entry, absent, given}
 use Rattle.yaml_grammar.specs.BlockScalars.{Chomping, clip, keep, Header, BlockEmptyLine, TextLine, BlockScalar}
-use Rattle.yaml_grammar.specs.BlockNodes.{Node, block, flow, items, pairs, item, item_and, Pairs, pair, pair_and, Pair, keyed, keyed_alone, compact_pairs, node, omitted}
-use Rattle.yaml_grammar.specs.Events.{Event, document_start, document_end, seq_start, seq_end, map_start, map_end, scalar_event, plain_style, double_style, literal_style, folded_style, omitted_style}
-use Rattle.yaml_grammar.specs.Streams.{content, nothing, bare, explicit, yaml_1_1, directed, suffixes, line, Stream, stream_text, fits, stream_events}
+use Rattle.yaml_grammar.specs.BlockNodes.{Node, block, flow, items, pairs, item, item_and, Pairs, pair, pair_and}
+use Rattle.yaml_grammar.specs.BlockNodes.{Pair, keyed, keyed_alone, compact_pairs, node, omitted}
+use Rattle.yaml_grammar.specs.Events.{Event, document_start, document_end, seq_start, seq_end, map_start, map_end}
+use Rattle.yaml_grammar.specs.Events.{scalar_event, plain_style, double_style, literal_style, folded_style}
+use Rattle.yaml_grammar.specs.Events.{omitted_style}
+use Rattle.yaml_grammar.specs.Streams.{content, nothing, bare, explicit, yaml_1_1, directed, suffixes, line, Stream}
+use Rattle.yaml_grammar.specs.Streams.{stream_text, fits, stream_events}
 use Rattle.yaml_grammar.specs.Trees.{Tree, text, sequence, mapping, Elements, no_element, element, no_member, member, IsTreeOf}
 use Rattle.yaml_grammar.specs.Style.{style_text}
 
@@ -147,7 +151,8 @@ plain_over_lines =
       source = codes "k: a\n  b\n\n  c\n";
       presentation = top_mapping (pair (simple (codes "k") (on_line (scalar (plain (codes "a") further_lines)))));
       events =
-          document_start ∷ map_start ∷ scalar_event plain_style 0 1 (codes "k") ∷ scalar_event plain_style 3 13 (codes "a b\nc") ∷ map_end ∷ document_end ∷ [];
+          document_start ∷ map_start ∷ scalar_event plain_style 0 1 (codes "k") ∷ scalar_event plain_style 3 13
+          (codes "a b\nc") ∷ map_end ∷ document_end ∷ [];
       tree = mapping (member (codes "k") (text (codes "a b\nc")) no_member);
       styled = codes "k: |-\n  a b\n  c\n";
     }
@@ -184,7 +189,8 @@ dash_after_key =
       source = codes "a:\n- b\n";
       presentation = top_mapping (pair (simple (codes "a") (items (newline ∷ []) 0 (item (node (on_line (word (codes "b"))))))));
       events =
-          document_start ∷ map_start ∷ scalar_event plain_style 0 1 (codes "a") ∷ seq_start ∷ scalar_event plain_style 5 6 (codes "b") ∷ seq_end ∷ map_end
+          document_start ∷ map_start ∷ scalar_event plain_style 0 1 (codes "a") ∷ seq_start
+          ∷ scalar_event plain_style 5 6 (codes "b") ∷ seq_end ∷ map_end
           ∷ document_end ∷ [];
       tree = mapping (member (codes "a") (sequence (element (text (codes "b")) no_element)) no_member);
       styled = codes "a:\n  - b\n";
@@ -204,7 +210,8 @@ dash_after_key_holds = record { spells = refl; fits = refl; means = refl; tree =
 --   e
 
 abbrev folded_lines : List TextLine
-folded_lines = text_line (codes "a") [] ∷ text_line (codes "b") (empty_line ∷ []) ∷ text_line (codes "c") [] ∷ text_line (codes " d") [] ∷ text_line (codes "e") [] ∷ []
+folded_lines = text_line (codes "a") [] ∷ text_line (codes "b") (empty_line ∷ []) ∷ text_line (codes "c") []
+    ∷ text_line (codes " d") [] ∷ text_line (codes "e") [] ∷ []
 
 abbrev folded : Example
 folded =
@@ -244,7 +251,8 @@ kept =
       source = codes "k: |+\n  a\n\n...\n";
       presentation = kept_document;
       events =
-          document_start ∷ map_start ∷ scalar_event plain_style 0 1 (codes "k") ∷ scalar_event literal_style 3 11 (codes "a\n\n") ∷ map_end ∷ document_end ∷ [];
+          document_start ∷ map_start ∷ scalar_event plain_style 0 1 (codes "k") ∷ scalar_event literal_style 3 11
+          (codes "a\n\n") ∷ map_end ∷ document_end ∷ [];
       tree = mapping (member (codes "k") (text (codes "a\n\n")) no_member);
       styled = codes "k: |+\n  a\n\n";
     }
@@ -295,7 +303,8 @@ flow_over_lines =
       source = codes "a: [\n  b\n ]\n";
       presentation = flow_value 1;
       events =
-          document_start ∷ map_start ∷ scalar_event plain_style 0 1 (codes "a") ∷ seq_start ∷ scalar_event plain_style 7 8 (codes "b") ∷ seq_end ∷ map_end
+          document_start ∷ map_start ∷ scalar_event plain_style 0 1 (codes "a") ∷ seq_start
+          ∷ scalar_event plain_style 7 8 (codes "b") ∷ seq_end ∷ map_end
           ∷ document_end ∷ [];
       tree = mapping (member (codes "a") (sequence (element (text (codes "b")) no_element)) no_member);
       styled = codes "a:\n  - b\n";
@@ -324,7 +333,8 @@ longest_key =
       source = letters 1024 ++ codes ": v\n";
       presentation = key_of_letters 1024;
       events =
-          document_start ∷ map_start ∷ scalar_event plain_style 0 1024 (letters 1024) ∷ scalar_event plain_style 1026 1027 (codes "v") ∷ map_end ∷ document_end ∷ [];
+          document_start ∷ map_start ∷ scalar_event plain_style 0 1024 (letters 1024)
+          ∷ scalar_event plain_style 1026 1027 (codes "v") ∷ map_end ∷ document_end ∷ [];
       tree = mapping (member (letters 1024) (text (codes "v")) no_member);
       styled = codes "? \"" ++ letters 1024 ++ codes "\"\n: v\n";
     }
@@ -359,8 +369,10 @@ usual =
       source = codes "a:\n- b\n- c: 1\n  d: null\n";
       presentation = top_mapping (pair (simple (codes "a") usual_sequence));
       events =
-          document_start ∷ map_start ∷ scalar_event plain_style 0 1 (codes "a") ∷ seq_start ∷ scalar_event plain_style 5 6 (codes "b") ∷ map_start
-          ∷ scalar_event plain_style 9 10 (codes "c") ∷ scalar_event plain_style 12 13 (codes "1") ∷ scalar_event plain_style 16 17 (codes "d")
+          document_start ∷ map_start ∷ scalar_event plain_style 0 1 (codes "a") ∷ seq_start
+          ∷ scalar_event plain_style 5 6 (codes "b") ∷ map_start
+          ∷ scalar_event plain_style 9 10 (codes "c") ∷ scalar_event plain_style 12 13 (codes "1")
+          ∷ scalar_event plain_style 16 17 (codes "d")
           ∷ scalar_event plain_style 19 23 (codes "null") ∷ map_end ∷ seq_end ∷ map_end ∷ document_end ∷ [];
       tree = mapping (member (codes "a") (sequence usual_elements) no_member);
       styled = codes "a:\n  - b\n  - c: \"1\"\n    d: \"null\"\n";
@@ -382,9 +394,15 @@ abbrev marked : Example
 marked =
     record {
       source = 0xfeff ∷ codes "%YAML 1.1\n---\na: yes\n";
-      presentation = record { mark = true; prefix = []; document = Some (directed (spaces 1) yaml_1_1 (newline ∷ []) (content after_version)); parts = [] };
+      presentation = record {
+        mark = true;
+        prefix = [];
+        document = Some (directed (spaces 1) yaml_1_1 (newline ∷ []) (content after_version));
+        parts = [];
+      };
       events =
-          document_start ∷ map_start ∷ scalar_event plain_style 17 18 (codes "a") ∷ scalar_event plain_style 20 23 (codes "yes") ∷ map_end ∷ document_end ∷ [];
+          document_start ∷ map_start ∷ scalar_event plain_style 17 18 (codes "a") ∷ scalar_event plain_style 20 23
+          (codes "yes") ∷ map_end ∷ document_end ∷ [];
       tree = mapping (member (codes "a") (text (codes "yes")) no_member);
       styled = codes "a: \"yes\"\n";
     }
@@ -524,7 +542,8 @@ colon_at_the_end_read :
     Read
     (top_mapping (pair (keyed_alone (word (codes "a")) [] [])))
     (codes "a:")
-    (document_start ∷ map_start ∷ scalar_event plain_style 0 1 (codes "a") ∷ scalar_event omitted_style 2 2 [] ∷ map_end ∷ document_end ∷ [])
+    (document_start ∷ map_start ∷ scalar_event plain_style 0 1 (codes "a") ∷ scalar_event omitted_style 2 2 []
+    ∷ map_end ∷ document_end ∷ [])
 colon_at_the_end_read = record { spells = refl; fits = refl; means = refl }
 
 -- After a plain key's `:` whitespace comes before its value; without whitespace the `:` is text.
@@ -547,7 +566,8 @@ no_white_before_value_read = record { spells = refl; fits = refl; means = refl }
 abbrev key_alone : List LineEnd → Pair
 key_alone comments = keyed_alone (word (codes "a")) [] comments
 
-mapping_under_key_refused : Refused (top_mapping (pair (simple (codes "a") (pairs (newline ∷ []) 0 (pair (key_alone [])))))) (codes "a:\na:")
+mapping_under_key_refused : Refused (top_mapping
+    (pair (simple (codes "a") (pairs (newline ∷ []) 0 (pair (key_alone [])))))) (codes "a:\na:")
 mapping_under_key_refused = record { spells = refl; fits = refl }
 
 mapping_goes_on_read :
@@ -574,7 +594,8 @@ sequence_goes_on_read = record { spells = refl; fits = refl; means = refl }
 
 abbrev below_dash : ℕ → Stream
 below_dash before_text =
-    stream_of (items [] 0 (item_and (node (flow (lines (newline ∷ []) (spaces before_text)) (word (codes "a")) (newline ∷ []))) (item (omitted []))))
+    stream_of (items [] 0 (item_and (node (flow (lines (newline ∷ []) (spaces before_text)) (word (codes "a"))
+    (newline ∷ []))) (item (omitted []))))
 
 text_under_dash_refused : Refused (below_dash 0) (codes "-\na\n-")
 text_under_dash_refused = record { spells = refl; fits = refl }
@@ -583,5 +604,6 @@ text_deeper_than_dash_read :
     Read
     (below_dash 1)
     (codes "-\n a\n-")
-    (document_start ∷ seq_start ∷ scalar_event plain_style 3 4 (codes "a") ∷ scalar_event omitted_style 6 6 [] ∷ seq_end ∷ document_end ∷ [])
+    (document_start ∷ seq_start ∷ scalar_event plain_style 3 4 (codes "a") ∷ scalar_event omitted_style 6 6 []
+    ∷ seq_end ∷ document_end ∷ [])
 text_deeper_than_dash_read = record { spells = refl; fits = refl; means = refl }

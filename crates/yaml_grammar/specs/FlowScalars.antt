@@ -1,8 +1,13 @@
 -- Flow scalars: plain, single-quoted and double-quoted (YAML 1.2.2, 6.5 and 7.3, and the contexts of 4.2 and 7.4).
 -- The number n is the least number of spaces at the start of a further line.
-use Rattle.std.specs.Prelude.{ℕ, zero, suc, ◌+◌, ◌-◌, ◌*◌, Bool, true, false, not, ◌&&◌, ◌||◌, nat_lt, ◌==◌, List, [], ◌∷◌, ◌++◌, length, replicate, codes, flat_map, if◌then◌else◌}
+use Rattle.std.specs.Prelude.{ℕ, zero, suc, ◌+◌, ◌-◌, ◌*◌, Bool, true, false, not, ◌&&◌, ◌||◌, nat_lt, ◌==◌, List, []}
+use Rattle.std.specs.Prelude.{◌∷◌, ◌++◌, length, replicate, codes, flat_map, if◌then◌else◌}
 use Rattle.std.specs.List.{list_all}
-use Rattle.yaml_chars.specs.Signs.{null, bell, backspace, tab, line_feed, vertical_tab, form_feed, carriage_return, escape_char, space_char, number_sign, single_quote, digit_zero, colon, capital_l, capital_n, capital_p, backslash, low_line, small_a, small_b, small_e, small_f, small_n, small_r, small_t, small_u, small_v, small_x, next_line, no_break_space, line_separator, paragraph_separator}
+use Rattle.yaml_chars.specs.Signs.{null, bell, backspace, tab, line_feed, vertical_tab, form_feed, carriage_return}
+use Rattle.yaml_chars.specs.Signs.{escape_char, space_char, number_sign, single_quote, digit_zero, colon, capital_l}
+use Rattle.yaml_chars.specs.Signs.{capital_n, capital_p, backslash, low_line, small_a, small_b, small_e, small_f}
+use Rattle.yaml_chars.specs.Signs.{small_n, small_r, small_t, small_u, small_v, small_x, next_line, no_break_space}
+use Rattle.yaml_chars.specs.Signs.{line_separator, paragraph_separator}
 use Rattle.yaml_chars.specs.Classes.{in_range, is_in, code_point, white, space, nb_json, ns, indicator, flow_indicator}
 use Rattle.yaml_grammar.specs.Texts.{is_empty, first, begins, spaces, byte_len, no_marker}
 use Rattle.yaml_grammar.specs.Separation.{Break, break_text, break_fits, indents}

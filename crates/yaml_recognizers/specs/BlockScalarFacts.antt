@@ -1,7 +1,9 @@
 -- What a scanner of block scalars says in terms of the grammar, over lists: some presentation is at the start of the
 -- text, and each one there means the same and ends at the same place.
 use Rattle.std.specs.Prelude.{◌≡◌, ℕ, Bool, true, List, [], ◌∷◌, ◌++◌, Option}
-use Rattle.yaml_grammar.specs.BlockScalars.{Chomping, Header, Body, BlockScalar, header_text, body_text, block_text, bare_block_text, header_fits, body_fits, block_fits, block_events, block_value, TextLine, between_lines, trailing_line_feeds}
+use Rattle.yaml_grammar.specs.BlockScalars.{Chomping, Header, Body, BlockScalar, header_text, body_text, block_text}
+use Rattle.yaml_grammar.specs.BlockScalars.{bare_block_text, header_fits, body_fits, block_fits, block_events}
+use Rattle.yaml_grammar.specs.BlockScalars.{block_value, TextLine, between_lines, trailing_line_feeds}
 
 -- ---- the header
 

@@ -1,8 +1,11 @@
 -- The recognizer of block scalars (YAML 1.2.2, 8.1): the header, the indentation, the lines, and the comments after
 -- them.
-use Rattle.std.specs.Prelude.{Bool, List, None, Option, Some, [], drop, false, if◌then◌else◌, is_some, length, max, nat_le, nat_lt, suc, true, zero, ℕ, ◌&&◌, ◌+◌, ◌-◌, ◌==◌, ◌∷◌}
+use Rattle.std.specs.Prelude.{Bool, List, None, Option, Some, [], drop, false, if◌then◌else◌, is_some, length, max}
+use Rattle.std.specs.Prelude.{nat_le, nat_lt, suc, true, zero, ℕ, ◌&&◌, ◌+◌, ◌-◌, ◌==◌, ◌∷◌}
 use Rattle.yaml_chars.specs.Classes.{in_range, nb}
-use Rattle.yaml_grammar.specs.BlockScalars.{BlockScalar, Body, Chomping, BlockEmptyLine, Header, TextLine, clip, goes_on, keep, last_spaces, past_spaces, sets_none, spaces_before, strip, widest}
+use Rattle.yaml_grammar.specs.BlockScalars.{BlockScalar, Body, Chomping, BlockEmptyLine, Header, TextLine, clip}
+use Rattle.yaml_grammar.specs.BlockScalars.{goes_on, keep, last_spaces, past_spaces, sets_none, spaces_before, strip}
+use Rattle.yaml_grammar.specs.BlockScalars.{widest}
 use Rattle.yaml_grammar.specs.Separation.{Break, LineEnd}
 use Rattle.yaml_grammar.specs.Texts.{first}
 use Rattle.yaml_recognizers.specs.CanonicalComments.{hash, is_line_end}

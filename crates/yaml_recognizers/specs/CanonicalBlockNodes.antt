@@ -7,7 +7,10 @@ use Rattle.yaml_grammar.specs.Separation.{comments_text, sep_text}
 use Rattle.yaml_grammar.specs.FlowScalars.{outer, block_key}
 use Rattle.yaml_grammar.specs.FlowNodes.{flow_text, short_key}
 use Rattle.yaml_grammar.specs.BlockScalars.{block_text}
-use Rattle.yaml_grammar.specs.BlockNodes.{Node, block, flow, items, pairs, Items, item, item_and, Pairs, pair, pair_and, Pair, asked, asked_alone, keyed, keyed_alone, Indented, compact_items, compact_pairs, node, omitted, node_text, items_text, pairs_text, indented_text, is_omitted}
+use Rattle.yaml_grammar.specs.BlockNodes.{Node, block, flow, items, pairs, Items, item, item_and, Pairs, pair}
+use Rattle.yaml_grammar.specs.BlockNodes.{pair_and, Pair, asked, asked_alone, keyed, keyed_alone, Indented}
+use Rattle.yaml_grammar.specs.BlockNodes.{compact_items, compact_pairs, node, omitted, node_text, items_text}
+use Rattle.yaml_grammar.specs.BlockNodes.{pairs_text, indented_text, is_omitted}
 use Rattle.yaml_recognizers.specs.CanonicalComments.{canonical_comments, canonical_sep}
 use Rattle.yaml_recognizers.specs.CanonicalFlowNodes.{canonical_flow}
 use Rattle.yaml_recognizers.specs.CanonicalBlockScalars.{canonical_block}

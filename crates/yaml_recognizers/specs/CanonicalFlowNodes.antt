@@ -3,7 +3,9 @@ use Rattle.std.specs.Prelude.{ℕ, Bool, true, false, not, ◌&&◌, ◌||◌, L
 use Rattle.yaml_grammar.specs.Texts.{first, starts_line}
 use Rattle.yaml_grammar.specs.Separation.{gap_text}
 use Rattle.yaml_grammar.specs.FlowScalars.{FlowContext, flow_key, in_flow, one_line, safe, scalar_fits}
-use Rattle.yaml_grammar.specs.FlowNodes.{Flow, scalar, seq, map, Entries, none, last, next, Entry, entry, Value, absent, empty, given, flow_text, entries_text, value_text, is_plain, before_colon, single_pair, short_key}
+use Rattle.yaml_grammar.specs.FlowNodes.{Flow, scalar, seq, map, Entries, none, last, next, Entry, entry, Value}
+use Rattle.yaml_grammar.specs.FlowNodes.{absent, empty, given, flow_text, entries_text, value_text, is_plain}
+use Rattle.yaml_grammar.specs.FlowNodes.{before_colon, single_pair, short_key}
 use Rattle.yaml_recognizers.specs.CanonicalComments.{canonical_gap}
 
 abbrev mutual

@@ -7,7 +7,8 @@ use Rattle.yaml_grammar.specs.Texts.{is_empty, byte_len, marker, starts_line}
 use Rattle.yaml_grammar.specs.Separation.{LineEnd, line_end_text, comment_line_fits}
 use Rattle.yaml_grammar.specs.BlockNodes.{node_text}
 use Rattle.yaml_grammar.specs.Events.{Event}
-use Rattle.yaml_grammar.specs.Streams.{Explicit, content, nothing, Document, bare, explicit, directed, explicit_text, document_text, document_events, suffix_text, mark_text}
+use Rattle.yaml_grammar.specs.Streams.{Explicit, content, nothing, Document, bare, explicit, directed, explicit_text}
+use Rattle.yaml_grammar.specs.Streams.{document_text, document_events, suffix_text, mark_text}
 use Rattle.yaml_recognizers.specs.CanonicalComments.{is_line_end, canonical_comments}
 use Rattle.yaml_recognizers.specs.CanonicalBlockNodes.{canonical_node}
 

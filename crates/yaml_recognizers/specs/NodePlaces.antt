@@ -1,12 +1,20 @@
 -- The nodes of a presentation, each with its place in the text and what is around it. The places count bytes, as ranges
 -- do. Numbers, contexts and bol are those of the grammar's conditions.
-use Rattle.std.specs.Prelude.{◌≡◌, ℕ, suc, ◌+◌, Bool, true, false, ◌==◌, List, [], ◌∷◌, ◌++◌, Option, Some, None, is_some, flat_map, codes, if◌then◌else◌}
+use Rattle.std.specs.Prelude.{◌≡◌, ℕ, suc, ◌+◌, Bool, true, false, ◌==◌, List, [], ◌∷◌, ◌++◌, Option, Some, None}
+use Rattle.std.specs.Prelude.{is_some, flat_map, codes, if◌then◌else◌}
 use Rattle.yaml_grammar.specs.Texts.{byte_len, optional, spaces, starts_line}
 use Rattle.yaml_grammar.specs.Separation.{comments_text, gap_text, sep_text}
 use Rattle.yaml_grammar.specs.FlowScalars.{FlowContext, outer, block_key, flow_key, in_flow}
-use Rattle.yaml_grammar.specs.FlowNodes.{Flow, scalar, seq, map, Entries, none, last, next, Entry, entry, Value, absent, empty, given, asked_text, single_pair, flow_text, entries_text, entry_text, value_text}
-use Rattle.yaml_grammar.specs.BlockNodes.{Node, block, flow, items, pairs, Items, item, item_and, Pairs, pair, pair_and, Pair, asked, asked_alone, keyed, keyed_alone, Indented, compact_items, compact_pairs, node, omitted, node_text, items_text, pairs_text, pair_text, indented_text}
-use Rattle.yaml_grammar.specs.Streams.{Explicit, content, nothing, Document, bare, explicit, directed, Part, suffixes, line, further, Stream, directive_text, document_text, mark_text, suffix_text, part_text, parts_text}
+use Rattle.yaml_grammar.specs.FlowNodes.{Flow, scalar, seq, map, Entries, none, last, next, Entry, entry, Value}
+use Rattle.yaml_grammar.specs.FlowNodes.{absent, empty, given, asked_text, single_pair, flow_text, entries_text}
+use Rattle.yaml_grammar.specs.FlowNodes.{entry_text, value_text}
+use Rattle.yaml_grammar.specs.BlockNodes.{Node, block, flow, items, pairs, Items, item, item_and, Pairs, pair}
+use Rattle.yaml_grammar.specs.BlockNodes.{pair_and, Pair, asked, asked_alone, keyed, keyed_alone, Indented}
+use Rattle.yaml_grammar.specs.BlockNodes.{compact_items, compact_pairs, node, omitted, node_text, items_text}
+use Rattle.yaml_grammar.specs.BlockNodes.{pairs_text, pair_text, indented_text}
+use Rattle.yaml_grammar.specs.Streams.{Explicit, content, nothing, Document, bare, explicit, directed, Part, suffixes}
+use Rattle.yaml_grammar.specs.Streams.{line, further, Stream, directive_text, document_text, mark_text, suffix_text}
+use Rattle.yaml_grammar.specs.Streams.{part_text, parts_text}
 use Rattle.yaml_recognizers.specs.StandingNodes.{FlowNodeStands, BlockNodeStands}
 
 -- A flow node at n in a context, or a block node at m. Here bol says whether a line starts at its place, and `after`

@@ -2,7 +2,8 @@
 use Rattle.std.specs.Prelude.{ℕ, Bool, true, false, not, ◌&&◌, ◌||◌, ◌==◌, List, [], ◌∷◌, take, drop, Some, None, codes, if◌then◌else◌}
 use Rattle.yaml_chars.specs.Classes.{is_in, nb_json}
 use Rattle.yaml_grammar.specs.Texts.{is_empty, first}
-use Rattle.yaml_grammar.specs.FlowScalars.{FlowContext, one_line, QuotedChar, raw, escape, number, Line, Scalar, single, double, digits_after, quoted_char_fits}
+use Rattle.yaml_grammar.specs.FlowScalars.{FlowContext, one_line, QuotedChar, raw, escape, number, Line, Scalar}
+use Rattle.yaml_grammar.specs.FlowScalars.{single, double, digits_after, quoted_char_fits}
 use Rattle.yaml_chars.specs.Signs.{backslash, double_quote, single_quote}
 use Rattle.yaml_recognizers.specs.Prefixes.{past}
 use Rattle.yaml_recognizers.specs.Reading.{Read, on}

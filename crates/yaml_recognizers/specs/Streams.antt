@@ -1,6 +1,7 @@
 -- The recognizer of streams (YAML 1.2.2, 6.8 and chapter 9), over one of a document's node: node_at takes whether the
 -- node is at the start of a line.
-use Rattle.std.specs.Prelude.{ℕ, zero, suc, Bool, true, false, ◌&&◌, ◌==◌, List, [], ◌∷◌, length, drop, Option, Some, None, codes, if◌then◌else◌}
+use Rattle.std.specs.Prelude.{ℕ, zero, suc, Bool, true, false, ◌&&◌, ◌==◌, List, [], ◌∷◌, length, drop, Option, Some}
+use Rattle.std.specs.Prelude.{None, codes, if◌then◌else◌}
 use Rattle.yaml_chars.specs.Classes.{white}
 use Rattle.yaml_grammar.specs.Texts.{is_empty, first, begins, ends_word, starts_line}
 use Rattle.yaml_grammar.specs.Separation.{LineEnd}

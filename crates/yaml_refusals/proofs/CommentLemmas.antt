@@ -2,19 +2,23 @@
 use Rattle.std.proofs.Common.{Bor, ◌≡◌, ◌≢◌, ℕ, ◌<◌, ◌≤◌, List, [], ◌∷◌, Some, None, length, refl, subst, sym, inl, inr, arith, ⊎_elim}
 use Rattle.std.specs.Prelude.{◌⊎◌, slice_index, Option}
 use Rattle.std.proofs.lemmas.Bool.{cases_lt}
-use Rattle.yaml_grammar.specs.Events.{Event, Style, plain_style, single_style, double_style, literal_style, folded_style, omitted_style, document_start, document_end, seq_start, seq_end, map_start, map_end, scalar_event}
+use Rattle.yaml_grammar.specs.Events.{Event, Style, plain_style, single_style, double_style, literal_style}
+use Rattle.yaml_grammar.specs.Events.{folded_style, omitted_style, document_start, document_end, seq_start, seq_end}
+use Rattle.yaml_grammar.specs.Events.{map_start, map_end, scalar_event}
 use Rattle.yaml_events.specs.Meant.{event_ref_of}
 use Rattle.yaml_events.specs.declared.event.EventRef.{EventRef}
 use Rattle.yaml_events.specs.declared.event.EventRef.TheVariants as ref
 use Rattle.yaml_events.specs.declared.event.Span.{Span}
 use Rattle.yaml_events.specs.declared.event.Style as declared
 use Rattle.yaml_recognizers.specs.Ranges.{RangesInOrder}
-use Rattle.yaml_refusals.specs.Comments.{HasNoMark, IsComment, IsFirstComment, IsFirstMark, IsLineEnd, IsOnHeader, IsOneLine, IsOutside, IsTextStart}
+use Rattle.yaml_refusals.specs.Comments.{HasNoMark, IsComment, IsFirstComment, IsFirstMark, IsLineEnd, IsOnHeader}
+use Rattle.yaml_refusals.specs.Comments.{IsOneLine, IsOutside, IsTextStart}
 
 -- ---- one scalar
 
 -- its text begins within its range
-pub text_within : (bytes : List ℕ) (style : Style) (start end at : ℕ) → start ≤ end → IsTextStart bytes style start end at → (start ≤ at) × (at ≤ end)
+pub text_within : (bytes : List ℕ) (style : Style) (start end at : ℕ) → start ≤ end
+    → IsTextStart bytes style start end at → (start ≤ at) × (at ≤ end)
 text_within bytes literal_style start end at ordered is = (is.after, is.within)
 text_within bytes folded_style start end at ordered is = (is.after, is.within)
 text_within bytes plain_style start end at ordered is = (omega arith, omega arith)
@@ -43,11 +47,13 @@ header_ended bytes start end text at is after within mark line =
     let break : (slice_index bytes text ≡ 10) ⊎ (slice_index bytes text ≡ 13) = is.ends (omega arith) in
     ⊎_elim
     (λ passed. (let none = line text is.after passed in ⊎_elim none.0 none.1 break))
-    (λ reached. (let same : text ≡ at = omega arith in let here = subst (λ k. slice_index bytes k ≡ 35) (sym same) mark in ⊎_elim (λ lf. omega arith) (λ cr. omega arith) break))
+    (λ reached. (let same : text ≡ at = omega arith in
+    let here = subst (λ k. slice_index bytes k ≡ 35) (sym same) mark in ⊎_elim (λ lf. omega arith) (λ cr. omega arith) break))
     (cases_lt text at)
 
 -- a `#` that is no part of the scalar, and not before its text, is behind it
-pub behind_scalar : (bytes : List ℕ) (style : Style) (start end text at : ℕ) → start ≤ end → IsTextStart bytes style start end text → text ≤ at
+pub behind_scalar : (bytes : List ℕ) (style : Style) (start end text at : ℕ) → start ≤ end
+    → IsTextStart bytes style start end text → text ≤ at
     → slice_index bytes at ≡ 35 → (at < start) ⊎ (end ≤ at) ⊎ IsOnHeader bytes style start at → end ≤ at
 behind_scalar bytes style start end text at ordered is after mark (inl before) =
     let within = text_within bytes style start end text ordered is in omega (arith, within.0)
@@ -113,7 +119,8 @@ found_first bytes all from to at rest searched found within outside = (
   λ other is. ⊎_elim (λ before. absurd (found.3 other (searched.past other is) before is.mark)) (λ after. after) (cases_lt other at),
 )
 
-module _ (bytes : List ℕ) (all : List Event) (from : ℕ) (left : List Event) (searched : Searched bytes all from left) (style : Style) (start end : ℕ)
+module _ (bytes : List ℕ) (all : List Event) (from : ℕ) (left : List Event) (searched : Searched bytes all from left)
+    (style : Style) (start end : ℕ)
     (value : List ℕ) (more : List Event) (split : left ≡ scalar_event style start end value ∷ more) where
   at_scalar : Searched bytes all from (scalar_event style start end value ∷ more)
   at_scalar = subst (λ es. Searched bytes all from es) split searched
@@ -178,7 +185,8 @@ other_passed bytes all from left more ref.MapEnd other split searched =
 other_passed bytes all from left more (ref.Scalar style span value) other split searched = absurd (other style span value refl)
 
 -- behind the last scalar
-pub searched_all : (bytes : List ℕ) (all : List Event) (from : ℕ) (rest : List Event) (found : Option ℕ) → rest ≡ [] → Searched bytes all from rest
+pub searched_all : (bytes : List ℕ) (all : List Event) (from : ℕ) (rest : List Event) (found : Option ℕ) → rest ≡ []
+    → Searched bytes all from rest
     → IsFirstMark bytes from (length bytes) found → IsFirstComment bytes all found
 searched_all bytes all from rest (Some at) ended searched is =
     found_first bytes all from (length bytes) at rest searched is is.1 (subst (λ es. IsOutside bytes at es) (sym ended) tt)

@@ -1,5 +1,7 @@
 -- What is between two places: breaks, and how many characters.
-use Rattle.std.proofs.Common.{◌≡◌, ℕ, ◌+◌, ◌-◌, ◌*◌, ◌<◌, ◌≤◌, Bool, true, false, List, [], ◌∷◌, ◌++◌, refl, ap, sym, ◌∙◌, arith, length, get_or, length-append, length-take, length-drop, drop, slice_range, inl, inr}
+use Rattle.std.proofs.Common.{◌≡◌, ℕ, ◌+◌, ◌-◌, ◌*◌, ◌<◌, ◌≤◌, Bool, true, false, List, [], ◌∷◌, ◌++◌, refl, ap, sym}
+use Rattle.std.proofs.Common.{◌∙◌, arith, length, get_or, length-append, length-take, length-drop, drop, slice_range}
+use Rattle.std.proofs.Common.{inl, inr}
 use Rattle.std.specs.Prelude.{not, ◌&&◌, nat_le, nat_lt, ◌/◌}
 use lib.Utf8.{encodes, encode}
 use Rattle.std.specs.Str.{IsUtf8, IsCharBoundary}
@@ -26,7 +28,8 @@ broken (z ∷ zs) ys x h = ap (λ b. no_break z && b) (broken zs ys x h) ∙ and
     and_false false = refl
 
 -- a byte of a break between two places is a break among the characters there
-pub break_between : (bs : List ℕ) (i j k : ℕ) → IsUtf8 bs → IsCharBoundary bs i → IsCharBoundary bs j → i ≤ k → k < j → line_break (get_or bs k 0) ≡ true
+pub break_between : (bs : List ℕ) (i j k : ℕ) → IsUtf8 bs → IsCharBoundary bs i → IsCharBoundary bs j → i ≤ k → k < j
+    → line_break (get_or bs k 0) ≡ true
     → true ≡ not (unbroken_between bs i j)
 break_between bs i j k u b d l m h =
     let low : get_or bs k 0 < 128 = grind (arith, nat_tests) in
@@ -37,7 +40,8 @@ break_between bs i j k u b d l m h =
     sym (ap (λ t. not (list_all no_break t)) split ∙ ap not (broken (between bs i k) (between bs (k + 1) j) (get_or bs k 0) h))
 
 -- without such a byte there is no break among them
-pub no_break_between : (bs : List ℕ) (i j : ℕ) → IsUtf8 bs → IsCharBoundary bs i → IsCharBoundary bs j → i ≤ j → ((k : ℕ) → i ≤ k → k < j → line_break (get_or bs k 0) ≡ false)
+pub no_break_between : (bs : List ℕ) (i j : ℕ) → IsUtf8 bs → IsCharBoundary bs i → IsCharBoundary bs j → i ≤ j
+    → ((k : ℕ) → i ≤ k → k < j → line_break (get_or bs k 0) ≡ false)
     → false ≡ not (unbroken_between bs i j)
 no_break_between bs i j u b d l h =
     sym (ap not (test-between no_break bs i j blind-no_break u l b d (λ k from to. ap not (h k from to))))
@@ -47,11 +51,13 @@ pub is_line_break : (x : ℕ) → no_break x ≡ false → line_break x ≡ true
 is_line_break x h = not-false (line_break x) h
 
 -- whether the first byte of a break is before the second place
-pub break_before : (bs : List ℕ) (i j end : ℕ) → IsUtf8 bs → IsCharBoundary bs i → IsCharBoundary bs j → i ≤ j → ArePassed no_break bs i end → (end < j → line_break (get_or bs end 0) ≡ true)
+pub break_before : (bs : List ℕ) (i j end : ℕ) → IsUtf8 bs → IsCharBoundary bs i → IsCharBoundary bs j → i ≤ j
+    → ArePassed no_break bs i end → (end < j → line_break (get_or bs end 0) ≡ true)
     → nat_lt end j ≡ not (unbroken_between bs i j)
 break_before bs i j end u b d l h stop = elim (cases_lt end j) [
   | inl before ↦ lt-ltb end j before ∙ break_between bs i j end u b d h.above before (stop before)
-  | inr after ↦ not_before end j after ∙ no_break_between bs i j u b d l (λ k from to. not-true (line_break (get_or bs k 0)) (h.passes k from (omega arith)))
+  | inr after ↦ not_before end j after ∙ no_break_between bs i j u b d l
+      (λ k from to. not-true (line_break (get_or bs k 0)) (h.passes k from (omega arith)))
 ]
   where
     not_before : (m n : ℕ) → n ≤ m → nat_lt m n ≡ false

@@ -1,5 +1,6 @@
 -- Breaks, by the bytes at a place.
-use Rattle.std.proofs.Common.{◌≡◌, ℕ, ◌+◌, ◌<◌, ◌≤◌, true, false, List, [], ◌∷◌, Some, None, refl, ap, sym, ◌∙◌, arith, length, inl, inr, get_or}
+use Rattle.std.proofs.Common.{◌≡◌, ℕ, ◌+◌, ◌<◌, ◌≤◌, true, false, List, [], ◌∷◌, Some, None, refl, ap, sym, ◌∙◌}
+use Rattle.std.proofs.Common.{arith, length, inl, inr, get_or}
 use Rattle.std.specs.Prelude.{◌==◌}
 use Rattle.std.specs.Str.{IsUtf8, IsCharBoundary}
 use Rattle.std.proofs.lemmas.Bool.{cases_Bool, cond-false, ne_eqb}
@@ -27,7 +28,8 @@ no_break_byte : (b : ℕ) → (b ≡ 10 → ⊥) → (b ≡ 13 → ⊥) → line
 no_break_byte b f r = grind (arith, nat_tests)
 
 -- a byte that is neither LF nor CR starts no break
-pub break_none : (bs : List ℕ) (i : ℕ) → IsUtf8 bs → IsCharBoundary bs i → i < length bs → (get_or bs i 0 ≡ 10 → ⊥) → (get_or bs i 0 ≡ 13 → ⊥) → read_break (rest bs i) ≡ None
+pub break_none : (bs : List ℕ) (i : ℕ) → IsUtf8 bs → IsCharBoundary bs i → i < length bs → (get_or bs i 0 ≡ 10 → ⊥)
+    → (get_or bs i 0 ≡ 13 → ⊥) → read_break (rest bs i) ≡ None
 break_none bs i u b l f r = unbroken (rest bs i) (first_there line_break bs i blind-line_break u b l ∙ no_break_byte (get_or bs i 0) f r)
 
 -- an LF is a break
@@ -41,10 +43,16 @@ cr_alone [] h = refl
 cr_alone (c ∷ cs) h = cond-false (c == 10) (cr_lf, cs) (cr, c ∷ cs) h
 
 -- a CR that no LF follows is a break
-pub break_cr : (bs : List ℕ) (i : ℕ) → IsUtf8 bs → i < length bs → get_or bs i 0 ≡ 13 → first (λ c. c == 10) (rest bs (i + 1)) ≡ false → IsBreak bs i (i + 1)
+pub break_cr : (bs : List ℕ) (i : ℕ) → IsUtf8 bs → i < length bs → get_or bs i 0 ≡ 13
+    → first (λ c. c == 10) (rest bs (i + 1)) ≡ false → IsBreak bs i (i + 1)
 break_cr bs i u l e alone =
     let there = ascii_prefix bs i 13 u l (omega arith) e in
-    record { above = omega arith; boundary = there.1; break = cr; reads = ap read_break there.0 ∙ ap (λ x. Some x) (cr_alone (rest bs (i + 1)) alone) }
+    record {
+      above = omega arith;
+      boundary = there.1;
+      break = cr;
+      reads = ap read_break there.0 ∙ ap (λ x. Some x) (cr_alone (rest bs (i + 1)) alone);
+    }
 
 blind-feed : IsBlind (λ c. c == 10)
 blind-feed c h l = grind (arith, nat_tests)
@@ -54,13 +62,15 @@ pub break_cr_end : (bs : List ℕ) (i : ℕ) → IsUtf8 bs → i < length bs →
 break_cr_end bs i u l e past = break_cr bs i u l e (first_at_end (λ c. c == 10) bs (i + 1) past)
 
 -- a CR before another byte than LF is a break
-pub break_cr_other : (bs : List ℕ) (i : ℕ) → IsUtf8 bs → i + 1 < length bs → get_or bs i 0 ≡ 13 → (get_or bs (i + 1) 0 ≡ 10 → ⊥) → IsBreak bs i (i + 1)
+pub break_cr_other : (bs : List ℕ) (i : ℕ) → IsUtf8 bs → i + 1 < length bs → get_or bs i 0 ≡ 13
+    → (get_or bs (i + 1) 0 ≡ 10 → ⊥) → IsBreak bs i (i + 1)
 break_cr_other bs i u l e other =
     let there = ascii_prefix bs i 13 u (omega arith) (omega arith) e in
     break_cr bs i u (omega arith) e (first_there (λ c. c == 10) bs (i + 1) blind-feed u there.1 l ∙ ne_eqb (get_or bs (i + 1) 0) 10 other)
 
 -- CR LF is one break
-pub break_cr_lf : (bs : List ℕ) (i : ℕ) → IsUtf8 bs → i + 1 < length bs → get_or bs i 0 ≡ 13 → get_or bs (i + 1) 0 ≡ 10 → IsBreak bs i (i + 1 + 1)
+pub break_cr_lf : (bs : List ℕ) (i : ℕ) → IsUtf8 bs → i + 1 < length bs → get_or bs i 0 ≡ 13
+    → get_or bs (i + 1) 0 ≡ 10 → IsBreak bs i (i + 1 + 1)
 break_cr_lf bs i u l e f =
     let there = ascii_prefix bs i 13 u (omega arith) (omega arith) e in
     let next = ascii_prefix bs (i + 1) 10 u l (omega arith) f in
@@ -82,7 +92,13 @@ break_stops (c ∷ cs) b after e = stop_by_break c cs ∙ ap (λ (r : Read Break
 pub stop_at_break : (bs : List ℕ) (i j : ℕ) → IsBreak bs i j → IsStop bs i true j
 stop_at_break bs i j h =
     let above = h.above in
-    record { above = omega arith; boundary = h.boundary; stop = Some h.break; reads = break_stops (rest bs i) h.break (rest bs j) h.reads; is_break = refl }
+    record {
+      above = omega arith;
+      boundary = h.boundary;
+      stop = Some h.break;
+      reads = break_stops (rest bs i) h.break (rest bs j) h.reads;
+      is_break = refl;
+    }
 
 -- the end of the text is a stop
 pub stop_at_end : (bs : List ℕ) (i : ℕ) → IsCharBoundary bs i → length bs ≤ i → IsStop bs i false i
@@ -95,7 +111,8 @@ no_stop [] n e = absurd (n refl)
 no_stop (c ∷ cs) n e = stop_by_break c cs ∙ ap (λ (r : Read Break). on r (λ b r. Some (Some b, r))) e
 
 -- without a break before the end there is no stop
-pub stop_none : (bs : List ℕ) (i : ℕ) → IsUtf8 bs → IsCharBoundary bs i → i < length bs → read_break (rest bs i) ≡ None → read_stop (rest bs i) ≡ None
+pub stop_none : (bs : List ℕ) (i : ℕ) → IsUtf8 bs → IsCharBoundary bs i → i < length bs
+    → read_break (rest bs i) ≡ None → read_stop (rest bs i) ≡ None
 stop_none bs i u b l e =
     let there = char_at bs i u b l in
     no_stop (rest bs i) (λ z. let none : [] ≡ there.0 ∷ rest bs (i + len_utf8 there.0) = sym z ∙ there.1.splits in cc) e

@@ -1,5 +1,6 @@
 -- The first character at a place, and runs of characters from there on, by the bytes.
-use Rattle.std.proofs.Common.{◌≡◌, ℕ, zero, suc, ◌+◌, ◌-◌, ◌<◌, ◌≤◌, Bool, true, false, List, [], ◌∷◌, ◌++◌, refl, ap, sym, ◌∙◌, subst, arith, length, inl, inr, get_or, drop, append_assoc, append-nil}
+use Rattle.std.proofs.Common.{◌≡◌, ℕ, zero, suc, ◌+◌, ◌-◌, ◌<◌, ◌≤◌, Bool, true, false, List, [], ◌∷◌, ◌++◌, refl, ap}
+use Rattle.std.proofs.Common.{sym, ◌∙◌, subst, arith, length, inl, inr, get_or, drop, append_assoc, append-nil}
 use Rattle.std.specs.Prelude.{nat_lt}
 use Rattle.std.specs.List.{list_all}
 use Rattle.std.specs.Str.{IsUtf8, IsCharBoundary}
@@ -23,7 +24,8 @@ use Rattle.yaml_scan.specs.ScanPlaces.{AreSpaces, AreTaken, IsNb}
 -- ---- the first character
 
 -- a test of the first character from a place on is that of the byte there
-pub first_there : (test : ℕ → Bool) (bs : List ℕ) (i : ℕ) → IsBlind test → IsUtf8 bs → IsCharBoundary bs i → i < length bs → first test (rest bs i) ≡ test (get_or bs i 0)
+pub first_there : (test : ℕ → Bool) (bs : List ℕ) (i : ℕ) → IsBlind test → IsUtf8 bs → IsCharBoundary bs i
+    → i < length bs → first test (rest bs i) ≡ test (get_or bs i 0)
 first_there test bs i blind u b l =
     let there = char_at bs i u b l in
     ap (first test) there.1.splits ∙ test-char_at test bs i there.0 blind u there.1
@@ -33,7 +35,8 @@ pub first_at_end : (test : ℕ → Bool) (bs : List ℕ) (i : ℕ) → length bs
 first_at_end test bs i l = ap (first test) (rest-end bs i l)
 
 -- a blind test of the first byte is one of the first character
-pub first-rest : (test : ℕ → Bool) (bs : List ℕ) (i : ℕ) → IsBlind test → IsUtf8 bs → IsCharBoundary bs i → first test (rest bs i) ≡ first test (drop i bs)
+pub first-rest : (test : ℕ → Bool) (bs : List ℕ) (i : ℕ) → IsBlind test → IsUtf8 bs → IsCharBoundary bs i
+    → first test (rest bs i) ≡ first test (drop i bs)
 first-rest test bs i blind u b = elim (cases_lt i (length bs)) [
   | inl l ↦ first_there test bs i blind u b l ∙ sym (ap (first test) (drop_more bs i 0 l))
   | inr past ↦ first_at_end test bs i past ∙ sym (ap (first test) (drop_all i bs past))
@@ -47,7 +50,8 @@ pub record IsAsciiAt (bs : List ℕ) (i c : ℕ) (after : List ℕ) : Type 0 whe
   pub leaves : after ≡ rest bs (i + 1)
 
 -- the first character from a place on, if it is ASCII, is the byte there
-pub ascii_at_beginning : (bs : List ℕ) (i c : ℕ) (after : List ℕ) → IsUtf8 bs → IsCharBoundary bs i → c < 128 → rest bs i ≡ c ∷ after → IsAsciiAt bs i c after
+pub ascii_at_beginning : (bs : List ℕ) (i c : ℕ) (after : List ℕ) → IsUtf8 bs → IsCharBoundary bs i → c < 128
+    → rest bs i ≡ c ∷ after → IsAsciiAt bs i c after
 ascii_at_beginning bs i c after u b a e = elim (cases_lt i (length bs)) [
   | inl l ↦ (let there = char_at bs i u b l in
       let prefix : there.0 ∷ rest bs (i + len_utf8 there.0) ≡ c ∷ after = sym there.1.splits ∙ e in
@@ -63,7 +67,8 @@ ascii_at_beginning bs i c after u b a e = elim (cases_lt i (length bs)) [
 ]
 
 -- an ASCII byte is the character before it
-pub ascii_prefix : (bs : List ℕ) (i c : ℕ) → IsUtf8 bs → i < length bs → c < 128 → get_or bs i 0 ≡ c → (rest bs i ≡ c ∷ rest bs (i + 1)) × IsCharBoundary bs (i + 1)
+pub ascii_prefix : (bs : List ℕ) (i c : ℕ) → IsUtf8 bs → i < length bs → c < 128 → get_or bs i 0 ≡ c
+    → (rest bs i ≡ c ∷ rest bs (i + 1)) × IsCharBoundary bs (i + 1)
 ascii_prefix bs i c u l a e =
     let low : get_or bs i 0 < 128 = omega arith in
     (rest-ascii bs i u l low ∙ ap (λ x. x ∷ rest bs (i + 1)) e, IsCharBoundary-after_ascii bs i u l low)
@@ -72,7 +77,8 @@ ascii_prefix bs i c u l a e =
 
 -- one word for a test of all characters means the other
 
-stops : (test : ℕ → Bool) (bs : List ℕ) (i j : ℕ) → IsBlind test → IsUtf8 bs → IsRun test bs i j → (cs : List ℕ) → rest bs j ≡ cs → first test cs ≡ false
+stops : (test : ℕ → Bool) (bs : List ℕ) (i j : ℕ) → IsBlind test → IsUtf8 bs → IsRun test bs i j → (cs : List ℕ)
+    → rest bs j ≡ cs → first test cs ≡ false
 stops test bs i j blind u run [] e = refl
 stops test bs i j blind u run (c ∷ cs) e = run_stops test bs i j c cs blind u run e
 
@@ -94,7 +100,8 @@ take_while_is test bs i j blind u b l within passes stop =
 -- ---- spaces
 
 -- so many bytes that are spaces
-pub spaces_there : (bs : List ℕ) (i k : ℕ) → IsUtf8 bs → IsCharBoundary bs i → i + k ≤ length bs → ((j : ℕ) → i ≤ j → j < i + k → get_or bs j 0 ≡ 32)
+pub spaces_there : (bs : List ℕ) (i k : ℕ) → IsUtf8 bs → IsCharBoundary bs i → i + k ≤ length bs
+    → ((j : ℕ) → i ≤ j → j < i + k → get_or bs j 0 ≡ 32)
     → (rest bs i ≡ spaces k ++ rest bs (i + k)) × IsCharBoundary bs (i + k)
 spaces_there bs i zero u b l h =
     let e : i ≡ i + 0 = omega arith in (ap (rest bs) e, subst (λ x. IsCharBoundary bs x) e b)
@@ -127,11 +134,13 @@ spaces_are bs i j u b l within h stop =
     }
 
 -- the same, of bytes that were passed
-pub spaces_passed_are : (bs : List ℕ) (i j : ℕ) → IsUtf8 bs → IsCharBoundary bs i → ArePassed space bs i j → (j < length bs → space (get_or bs j 0) ≡ false) → AreSpaces bs i j
+pub spaces_passed_are : (bs : List ℕ) (i j : ℕ) → IsUtf8 bs → IsCharBoundary bs i → ArePassed space bs i j
+    → (j < length bs → space (get_or bs j 0) ≡ false) → AreSpaces bs i j
 spaces_passed_are bs i j u b h stop = spaces_are bs i j u b h.above h.within h.passes stop
 
 -- after the first q of them
-pub spaces_dropped_at : (bs : List ℕ) (i j q : ℕ) → IsUtf8 bs → IsCharBoundary bs i → AreSpaces bs i j → q ≤ j - i → (drop q (rest bs i) ≡ rest bs (i + q)) × IsCharBoundary bs (i + q)
+pub spaces_dropped_at : (bs : List ℕ) (i j q : ℕ) → IsUtf8 bs → IsCharBoundary bs i → AreSpaces bs i j → q ≤ j - i
+    → (drop q (rest bs i) ≡ rest bs (i + q)) × IsCharBoundary bs (i + q)
 spaces_dropped_at bs i j q u b h l =
     let there = spaces_there bs i q u b (let below = h.boundary.0 in omega arith) (λ k from to. h.spaces k from (omega arith)) in
     (ap (drop q) there.0 ∙ spaces_dropped q (rest bs (i + q)), there.1)
@@ -141,7 +150,8 @@ spaces_dropped_at bs i j q u b h l =
 -- a byte that is nb is a character that is nb
 pub nb_by_byte : (bs : List ℕ) (i : ℕ) → IsUtf8 bs → i < length bs → line_ascii (get_or bs i 0) ≡ true → IsNb bs i (i + 1)
 nb_by_byte bs i u l h =
-    let parts : (nat_lt (get_or bs i 0) 128 ≡ true) × (nb (get_or bs i 0) ≡ true) = and_parts (nat_lt (get_or bs i 0) 128) (nb (get_or bs i 0)) h in
+    let parts : (nat_lt (get_or bs i 0) 128 ≡ true) × (nb (get_or bs i 0) ≡ true) =
+    and_parts (nat_lt (get_or bs i 0) 128) (nb (get_or bs i 0)) h in
     let low : get_or bs i 0 < 128 = is_below (get_or bs i 0) parts.0 in
     let there = ascii_prefix bs i (get_or bs i 0) u l low refl in
     record { above = omega arith; boundary = there.1; char = get_or bs i 0; splits = there.0; fits = parts.1 }
@@ -158,24 +168,34 @@ pub record AreTakenSoFar (bs : List ℕ) (i j : ℕ) : Type 0 where
 
 -- nothing is taken yet
 pub take_while_none : (bs : List ℕ) (i : ℕ) → IsCharBoundary bs i → AreTakenSoFar bs i i
-take_while_none bs i b = record { above = omega arith; boundary = b; takes = ap (λ x. x ++ take_while nb (rest bs i)) (sym (between-nil bs i)); leaves = refl }
+take_while_none bs i b = record {
+  above = omega arith;
+  boundary = b;
+  takes = ap (λ x. x ++ take_while nb (rest bs i)) (sym (between-nil bs i));
+  leaves = refl;
+}
 
-take_while_prefix : (c : ℕ) (cs : List ℕ) → nb c ≡ true → (take_while nb (c ∷ cs) ≡ c ∷ take_while nb cs) × (drop_while nb (c ∷ cs) ≡ drop_while nb cs)
+take_while_prefix : (c : ℕ) (cs : List ℕ) → nb c ≡ true
+    → (take_while nb (c ∷ cs) ≡ c ∷ take_while nb cs) × (drop_while nb (c ∷ cs) ≡ drop_while nb cs)
 take_while_prefix c cs h = (cond-true (nb c) (c ∷ take_while nb cs) [] h, cond-true (nb c) (drop_while nb cs) (c ∷ cs) h)
 
 -- one character more is taken
-pub take_while_more : (bs : List ℕ) (i j k : ℕ) → IsUtf8 bs → IsCharBoundary bs i → AreTakenSoFar bs i j → IsNb bs j k → AreTakenSoFar bs i k
+pub take_while_more : (bs : List ℕ) (i j k : ℕ) → IsUtf8 bs → IsCharBoundary bs i → AreTakenSoFar bs i j → IsNb bs j k
+    → AreTakenSoFar bs i k
 take_while_more bs i j k u b h n =
     let above = h.above in
     let further = n.above in
     let step = take_while_prefix n.char (rest bs k) n.fits in
-    let one : between bs j k ≡ n.char ∷ [] = append_cancel_right (between bs j k) (n.char ∷ []) (rest bs k) (sym (rest-between bs j k u (omega arith) h.boundary n.boundary) ∙ n.splits) in
-    let joined : between bs i k ≡ between bs i j ++ n.char ∷ [] = between-append bs i j k u above (omega arith) b h.boundary n.boundary ∙ ap (λ x. between bs i j ++ x) one in
+    let one : between bs j k ≡ n.char ∷ [] = append_cancel_right (between bs j k) (n.char ∷ []) (rest bs k)
+    (sym (rest-between bs j k u (omega arith) h.boundary n.boundary) ∙ n.splits) in
+    let joined : between bs i k ≡ between bs i j ++ n.char ∷ [] =
+    between-append bs i j k u above (omega arith) b h.boundary n.boundary ∙ ap (λ x. between bs i j ++ x) one in
     record {
       above = omega arith;
       boundary = n.boundary;
       takes = h.takes ∙ ap (λ x. between bs i j ++ x) (ap (take_while nb) n.splits ∙ step.0)
-          ∙ sym (append_assoc (between bs i j) (n.char ∷ []) (take_while nb (rest bs k))) ∙ ap (λ x. x ++ take_while nb (rest bs k)) (sym joined);
+          ∙ sym (append_assoc (between bs i j) (n.char ∷ []) (take_while nb (rest bs k)))
+          ∙ ap (λ x. x ++ take_while nb (rest bs k)) (sym joined);
       leaves = h.leaves ∙ ap (drop_while nb) n.splits ∙ step.1;
     }
 

@@ -1,5 +1,6 @@
 -- Signs and markers, by the bytes at a place.
-use Rattle.std.proofs.Common.{◌≡◌, ℕ, ◌+◌, ◌<◌, ◌≤◌, Bool, true, false, List, [], ◌∷◌, refl, ap, sym, ◌∙◌, subst, arith, length, inl, inr, get_or}
+use Rattle.std.proofs.Common.{◌≡◌, ℕ, ◌+◌, ◌<◌, ◌≤◌, Bool, true, false, List, [], ◌∷◌, refl, ap, sym, ◌∙◌, subst}
+use Rattle.std.proofs.Common.{arith, length, inl, inr, get_or}
 use Rattle.std.specs.Prelude.{not, ◌&&◌, ◌||◌, ◌==◌, nat_lt}
 use Rattle.std.specs.Char.{len_utf8}
 use Rattle.std.specs.Str.{IsUtf8, IsCharBoundary}
@@ -55,7 +56,8 @@ head_passes x [] h = absurd (false≢true h)
 head_passes x (c ∷ cs) h = (cs, ap (λ y. y ∷ cs) (eqb-true c x h))
 
 -- the sign that starts the rest is at the place
-pub sign_there : (bs : List ℕ) (at x : ℕ) → IsUtf8 bs → IsCharBoundary bs at → x < 128 → first (is_sign x) (rest bs at) ≡ true → IsSign bs at x
+pub sign_there : (bs : List ℕ) (at x : ℕ) → IsUtf8 bs → IsCharBoundary bs at → x < 128
+    → first (is_sign x) (rest bs at) ≡ true → IsSign bs at x
 sign_there bs at x u b a h =
     let prefix = head_passes x (rest bs at) h in
     let there = ascii_at_beginning bs at x prefix.0 u b a prefix.1 in
@@ -105,7 +107,11 @@ mark_signed s (a ∷ b ∷ []) h =
     let p = and_parts (begins (s ∷ s ∷ s ∷ []) (a ∷ b ∷ [])) _ h in
     absurd (false≢true (and_parts (b == s) false (and_parts (a == s) ((b == s) && false) p.0).1).1)
 mark_signed s (a ∷ b ∷ c ∷ after) h =
-    record { after = after; spells = three_same a b c s after (and_parts (begins (s ∷ s ∷ s ∷ []) (a ∷ b ∷ c ∷ after)) (ends_word after) h).0 }
+    record {
+      after = after;
+      spells = three_same a b c s after
+          (and_parts (begins (s ∷ s ∷ s ∷ []) (a ∷ b ∷ c ∷ after)) (ends_word after) h).0;
+    }
 
 marker_signs : (bs : List ℕ) (i s : ℕ) → s < 128 → IsUtf8 bs → IsCharBoundary bs i → marker_of s (rest bs i) ≡ true → AreMarkerSigns bs i s
 marker_signs bs i s a u b h =
@@ -114,7 +120,12 @@ marker_signs bs i s a u b h =
     let two = ascii_at_beginning bs (i + 1) s (s ∷ m.after) u one.boundary a (sym one.leaves) in
     let three = ascii_at_beginning bs (i + 1 + 1) s m.after u two.boundary a (sym two.leaves) in
     let e : i + 1 + 1 ≡ i + 2 = omega arith in
-    record { within = let l = three.within in omega arith; one = one.byte; two = two.byte; three = ap (λ x. get_or bs x 0) (sym e) ∙ three.byte }
+    record {
+      within = let l = three.within in omega arith;
+      one = one.byte;
+      two = two.byte;
+      three = ap (λ x. get_or bs x 0) (sym e) ∙ three.byte;
+    }
 
 -- the sign of a marker is ASCII
 pub ascii_mark : (m : Marker) → sign_of m < 128
@@ -122,7 +133,8 @@ ascii_mark DirectivesEnd = omega arith
 ascii_mark DocumentEnd = omega arith
 
 -- without three signs there is no marker
-pub marker_false : (bs : List ℕ) (i s : ℕ) → s < 128 → IsUtf8 bs → IsCharBoundary bs i → (AreMarkerSigns bs i s → ⊥) → false ≡ marker_of s (rest bs i)
+pub marker_false : (bs : List ℕ) (i s : ℕ) → s < 128 → IsUtf8 bs → IsCharBoundary bs i → (AreMarkerSigns bs i s → ⊥)
+    → false ≡ marker_of s (rest bs i)
 marker_false bs i s a u b h = elim (cases_Bool (marker_of s (rest bs i))) [
   | inl e ↦ absurd (h (marker_signs bs i s a u b e))
   | inr e ↦ sym e
@@ -132,7 +144,8 @@ signed_mark : (s : ℕ) (after : List ℕ) → marker_of s (s ∷ s ∷ s ∷ af
 signed_mark s after = rw (same s) refl
 
 -- with three signs there is a marker if the word ends there
-pub marker_by_signs : (bs : List ℕ) (i s : ℕ) → s < 128 → IsUtf8 bs → AreMarkerSigns bs i s → (marker_of s (rest bs i) ≡ ends_word (rest bs (i + 3))) × IsCharBoundary bs (i + 3)
+pub marker_by_signs : (bs : List ℕ) (i s : ℕ) → s < 128 → IsUtf8 bs → AreMarkerSigns bs i s
+    → (marker_of s (rest bs i) ≡ ends_word (rest bs (i + 3))) × IsCharBoundary bs (i + 3)
 marker_by_signs bs i s a u h =
     let within = h.within in
     let one = ascii_prefix bs i s u (omega arith) a h.one in
@@ -140,7 +153,8 @@ marker_by_signs bs i s a u h =
     let three = ascii_prefix bs (i + 2) s u (omega arith) a h.three in
     let e : i + 1 + 1 ≡ i + 2 = omega arith in
     let f : i + 2 + 1 ≡ i + 3 = omega arith in
-    let whole : rest bs i ≡ s ∷ s ∷ s ∷ rest bs (i + 3) = one.0 ∙ ap (λ x. s ∷ x) (two.0 ∙ ap (λ x. s ∷ x) (ap (rest bs) e ∙ three.0 ∙ ap (λ x. s ∷ rest bs x) f)) in
+    let whole : rest bs i ≡ s ∷ s ∷ s ∷ rest bs (i + 3) = one.0
+    ∙ ap (λ x. s ∷ x) (two.0 ∙ ap (λ x. s ∷ x) (ap (rest bs) e ∙ three.0 ∙ ap (λ x. s ∷ rest bs x) f)) in
     (ap (marker_of s) whole ∙ signed_mark s (rest bs (i + 3)), subst (λ x. IsCharBoundary bs x) f three.1)
 
 -- at the end a word ends
@@ -152,7 +166,8 @@ ends_first [] n = absurd (n refl)
 ends_first (c ∷ cs) n = refl
 
 -- before the end, the next byte decides whether a word ends
-pub word_ends_by : (bs : List ℕ) (i : ℕ) → IsUtf8 bs → IsCharBoundary bs i → i < length bs → ends_word (rest bs i) ≡ ends_word_byte (get_or bs i 0)
+pub word_ends_by : (bs : List ℕ) (i : ℕ) → IsUtf8 bs → IsCharBoundary bs i → i < length bs
+    → ends_word (rest bs i) ≡ ends_word_byte (get_or bs i 0)
 word_ends_by bs i u b l =
     let there = char_at bs i u b l in
     ends_first (rest bs i) (λ z. let none : [] ≡ there.0 ∷ rest bs (i + len_utf8 there.0) = sym z ∙ there.1.splits in cc)
@@ -172,4 +187,5 @@ marker_either (a ∷ b ∷ []) = sym (neither_of (a == 45) (b == 45) (a == 46) (
   where
     neither_of : (p q r s : Bool) → ((p && (q && false)) && true) || ((r && (s && false)) && true) ≡ false
     neither_of p q r s = grind arith
-marker_either (a ∷ b ∷ c ∷ cs) = either ((a == 45) && ((b == 45) && ((c == 45) && true))) ((a == 46) && ((b == 46) && ((c == 46) && true))) (ends_word cs)
+marker_either (a ∷ b ∷ c ∷ cs) = either ((a == 45) && ((b == 45) && ((c == 45) && true)))
+    ((a == 46) && ((b == 46) && ((c == 46) && true))) (ends_word cs)

@@ -1,5 +1,6 @@
 -- The table of classes holds what the classes say: 256 closed facts for each class, at once.
-use Rattle.std.proofs.Common.{◌≡◌, ℕ, ◌<◌, Bool, false, not, nat_eq, bit_and, ◌≤◌, inl, inr, List, refl, sym, ap, ◌∙◌, arith, get_or, length, map, true}
+use Rattle.std.proofs.Common.{◌≡◌, ℕ, ◌<◌, Bool, false, not, nat_eq, bit_and, ◌≤◌, inl, inr, List, refl, sym, ap, ◌∙◌}
+use Rattle.std.proofs.Common.{arith, get_or, length, map, true}
 use Rattle.std.specs.List.{range_with_len}
 use Rattle.std.proofs.lemmas.Bool.{cases_lt}
 use Rattle.std.proofs.lemmas.Bool.Decides.{nat_tests}
@@ -71,7 +72,8 @@ pub passed_none : (test : ℕ → Bool) (bytes : List ℕ) (at : ℕ) → at ≤
 passed_none test bytes at l = record { above = omega arith; within = l; passes = λ k from to. absurd (omega arith) }
 
 -- bytes passed, and then more
-pub passed_joined : (test : ℕ → Bool) (bytes : List ℕ) (i j k : ℕ) → ArePassed test bytes i j → ArePassed test bytes j k → ArePassed test bytes i k
+pub passed_joined : (test : ℕ → Bool) (bytes : List ℕ) (i j k : ℕ) → ArePassed test bytes i j
+    → ArePassed test bytes j k → ArePassed test bytes i k
 passed_joined test bytes i j k h g =
     let above = h.above in
     let further = g.above in

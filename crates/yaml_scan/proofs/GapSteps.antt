@@ -1,5 +1,6 @@
 -- Gaps at places, by what is there.
-use Rattle.std.proofs.Common.{◌≡◌, ℕ, zero, suc, ◌+◌, ◌-◌, ◌<◌, ◌≤◌, Bool, true, false, List, [], ◌∷◌, ◌++◌, Option, Some, None, refl, ap, sym, ◌∙◌, subst, arith, length, inl, inr}
+use Rattle.std.proofs.Common.{◌≡◌, ℕ, zero, suc, ◌+◌, ◌-◌, ◌<◌, ◌≤◌, Bool, true, false, List, [], ◌∷◌, ◌++◌, Option}
+use Rattle.std.proofs.Common.{Some, None, refl, ap, sym, ◌∙◌, subst, arith, length, inl, inr}
 use Rattle.std.specs.Prelude.{not, ◌&&◌, ◌||◌, ◌==◌, nat_le, nat_lt, is_some, cond}
 use Rattle.std.specs.Str.{IsUtf8, IsCharBoundary}
 use Rattle.std.specs.Char.{len_utf8}
@@ -12,7 +13,8 @@ use Rattle.yaml_chars.specs.Places.{rest, between}
 use Rattle.yaml_chars.proofs.Places.{between-nil, char_at, rest-between, rest-end, same_place}
 use Rattle.yaml_grammar.specs.BlockScalars.{spaces_before}
 use Rattle.yaml_grammar.specs.FlowScalars.{FlowContext, one_line}
-use Rattle.yaml_grammar.specs.Separation.{Break, LineEnd, Sep, break_text, comment_fits, comment_text, cr, cr_lf, gap_text, indents, inline, lf, lines}
+use Rattle.yaml_grammar.specs.Separation.{Break, LineEnd, Sep, break_text, comment_fits, comment_text, cr, cr_lf}
+use Rattle.yaml_grammar.specs.Separation.{gap_text, indents, inline, lf, lines}
 use Rattle.std.specs.List.{list_all}
 use Rattle.yaml_grammar.specs.Texts.{begins, first, is_empty, optional, spaces, starts_line}
 use Rattle.yaml_recognizers.specs.CanonicalComments.{hash, is_line_end, stops}
@@ -58,7 +60,8 @@ record IsInline (bs : List ℕ) (i j : ℕ) (blank : List ℕ) : Type 0 where
   spells : gap_text gap ≡ blank
   one_line : gap_on_one_line gap ≡ true
 
-inline_is : (bs : List ℕ) (i j : ℕ) (blank : List ℕ) → IsUtf8 bs → i ≤ j → IsCharBoundary bs i → IsCharBoundary bs j → rest bs i ≡ blank ++ rest bs j → (i ≡ j → blank ≡ []) → IsInline bs i j blank
+inline_is : (bs : List ℕ) (i j : ℕ) (blank : List ℕ) → IsUtf8 bs → i ≤ j → IsCharBoundary bs i → IsCharBoundary bs j
+    → rest bs i ≡ blank ++ rest bs j → (i ≡ j → blank ≡ []) → IsInline bs i j blank
 inline_is bs i j [] u l b d e n =
     let same : i ≡ j = same_place bs i j u b d e in
     record { gap = None; reads = refl; some = none i j same; spells = refl; one_line = refl }
@@ -78,15 +81,18 @@ inline_is bs i j (c ∷ cs) u l b d e n = record {
 
 -- whitespace on a line is a gap
 pub inline_gap_is : (n : ℕ) (d : FlowContext) (bs : List ℕ) (i j : ℕ) → IsUtf8 bs → IsCharBoundary bs i → AreTaken white bs i j
-    → read_gap n (one_line d) (rest bs i) ≡ inline_gap (take_while white (rest bs i)) (drop_while white (rest bs i)) → IsGap n d bs i (record { end = j; is_over_lines = false })
+    → read_gap n (one_line d) (rest bs i) ≡ inline_gap (take_while white (rest bs i)) (drop_while white (rest bs i))
+    → IsGap n d bs i (record { end = j; is_over_lines = false })
 inline_gap_is n d bs i j u b w reads =
     let found : IsInline bs i j (between bs i j) =
-    inline_is bs i j (between bs i j) u w.above b w.boundary (rest-between bs i j u w.above b w.boundary) (λ e. ap (between bs i) (sym e) ∙ between-nil bs i) in
+    inline_is bs i j (between bs i j) u w.above b w.boundary (rest-between bs i j u w.above b w.boundary)
+    (λ e. ap (between bs i) (sym e) ∙ between-nil bs i) in
     record {
       above = w.above;
       boundary = w.boundary;
       gap = found.gap;
-      reads = reads ∙ (ap (λ t. inline_gap t (drop_while white (rest bs i))) w.takes ∙ (ap (inline_gap (between bs i j)) w.leaves ∙ found.reads));
+      reads = reads ∙ (ap (λ t. inline_gap t (drop_while white (rest bs i))) w.takes
+          ∙ (ap (inline_gap (between bs i j)) w.leaves ∙ found.reads));
       some = found.some;
       starts = λ h. ap (starts_line false) found.spells ∙ starts_on bs i j u w.above b w.boundary h;
       over_lines = sym (ap not found.one_line);
@@ -94,7 +100,8 @@ inline_gap_is n d bs i j u b w reads =
     }
 
 -- in a key a gap is whitespace on the line
-pub reads_in_key : (n : ℕ) (d : FlowContext) (text : List ℕ) → one_line d ≡ true → read_gap n (one_line d) text ≡ inline_gap (take_while white text) (drop_while white text)
+pub reads_in_key : (n : ℕ) (d : FlowContext) (text : List ℕ) → one_line d ≡ true
+    → read_gap n (one_line d) text ≡ inline_gap (take_while white text) (drop_while white text)
 reads_in_key n d text h = ap (λ k. read_gap n k text) h
 
 -- if the line doesn't end, a gap is whitespace on it
@@ -103,11 +110,13 @@ pub reads_on_line : (n : ℕ) (d : FlowContext) (text : List ℕ) → one_line d
 reads_on_line n d text h e = ap (λ k. read_gap n k text) h ∙ inline_step n text e
 
 -- something solid follows the white space
-pub reads_before_solid : (n : ℕ) (d : FlowContext) (bs : List ℕ) (i j : ℕ) → IsUtf8 bs → IsCharBoundary bs i → AreTaken white bs i j → first solid (rest bs j) ≡ true → one_line d ≡ false
+pub reads_before_solid : (n : ℕ) (d : FlowContext) (bs : List ℕ) (i j : ℕ) → IsUtf8 bs → IsCharBoundary bs i
+    → AreTaken white bs i j → first solid (rest bs j) ≡ true → one_line d ≡ false
     → read_gap n (one_line d) (rest bs i) ≡ inline_gap (take_while white (rest bs i)) (drop_while white (rest bs i))
 reads_before_solid n d bs i j u b w s h =
     reads_on_line n d (rest bs i) h
-    (ap (read_line_end false) (rest-between bs i j u w.above b w.boundary) ∙ solid_no_line false (between bs i j) (rest bs j) (take_while_white bs i j w) s)
+    (ap (read_line_end false) (rest-between bs i j u w.above b w.boundary)
+    ∙ solid_no_line false (between bs i j) (rest bs j) (take_while_white bs i j w) s)
 
 -- nothing solid is white
 white_stops : (text : List ℕ) → first solid text ≡ true → (take_while white text ≡ []) × (drop_while white text ≡ text)
@@ -126,7 +135,8 @@ no_white_taken bs i b h =
     record { above = omega arith; boundary = b; takes = stop.0 ∙ sym (between-nil bs i); leaves = stop.1 }
 
 -- a space before something solid is all that is taken
-pub space_taken : (bs : List ℕ) (i : ℕ) → IsUtf8 bs → IsCharBoundary bs i → IsCharBoundary bs (i + 1) → rest bs i ≡ 32 ∷ rest bs (i + 1) → first solid (rest bs (i + 1)) ≡ true
+pub space_taken : (bs : List ℕ) (i : ℕ) → IsUtf8 bs → IsCharBoundary bs i → IsCharBoundary bs (i + 1)
+    → rest bs i ≡ 32 ∷ rest bs (i + 1) → first solid (rest bs (i + 1)) ≡ true
     → AreTaken white bs i (i + 1)
 space_taken bs i u b d e h =
     let stop = white_stops (rest bs (i + 1)) h in
@@ -140,9 +150,11 @@ space_taken bs i u b d e h =
     }
 
 -- where something solid follows whitespace, the line does not end
-pub solid_no_end : (bs : List ℕ) (i j : ℕ) → IsUtf8 bs → IsCharBoundary bs i → AreTaken white bs i j → first solid (rest bs j) ≡ true → read_line_end false (rest bs i) ≡ None
+pub solid_no_end : (bs : List ℕ) (i j : ℕ) → IsUtf8 bs → IsCharBoundary bs i → AreTaken white bs i j
+    → first solid (rest bs j) ≡ true → read_line_end false (rest bs i) ≡ None
 solid_no_end bs i j u b w s =
-    ap (read_line_end false) (rest-between bs i j u w.above b w.boundary) ∙ solid_no_line false (between bs i j) (rest bs j) (take_while_white bs i j w) s
+    ap (read_line_end false) (rest-between bs i j u w.above b w.boundary)
+    ∙ solid_no_line false (between bs i j) (rest bs j) (take_while_white bs i j w) s
 
 -- and the text does not
 pub solid_within : (bs : List ℕ) (i j : ℕ) → AreTaken white bs i j → first solid (rest bs j) ≡ true → i < length bs
@@ -152,7 +164,8 @@ solid_within bs i j w s = elim (cases_lt j (length bs)) [
 ]
 
 -- whitespace before something solid is a gap, in a key or not
-pub short_gap_is : (n : ℕ) (d : FlowContext) (bs : List ℕ) (i j : ℕ) → IsUtf8 bs → IsCharBoundary bs i → AreTaken white bs i j → first solid (rest bs j) ≡ true
+pub short_gap_is : (n : ℕ) (d : FlowContext) (bs : List ℕ) (i j : ℕ) → IsUtf8 bs → IsCharBoundary bs i
+    → AreTaken white bs i j → first solid (rest bs j) ≡ true
     → IsGap n d bs i (record { end = j; is_over_lines = false })
 short_gap_is n d bs i j u b w s = inline_gap_is n d bs i j u b w (elim (cases_Bool (one_line d)) [
   | inl key ↦ reads_in_key n d (rest bs i) key
@@ -190,7 +203,8 @@ indented (suc n) (c ∷ cs) = elim (cases_Bool (c == 32)) [
 pub indents_by_spaces : (n : ℕ) (text : List ℕ) → indents n (take_while white text) ≡ nat_le n (spaces_before text)
 indents_by_spaces n text = ap (λ b. b && begins (spaces n) (take_while white text)) (take_while_every white text) ∙ indented n text
 
-spaces_left : (bs : List ℕ) (i j : ℕ) → IsUtf8 bs → AreSpaces bs i j → (after : List ℕ) → rest bs j ≡ after → drop_while white (rest bs i) ≡ drop_while white after
+spaces_left : (bs : List ℕ) (i j : ℕ) → IsUtf8 bs → AreSpaces bs i j → (after : List ℕ) → rest bs j ≡ after
+    → drop_while white (rest bs i) ≡ drop_while white after
 spaces_left bs i j u h after e = ap (drop_while white) (spaces_split_at bs i j h ∙ ap (λ t. spaces (j - i) ++ t) e) ∙ past (j - i) after
   where
     past : (k : ℕ) (t : List ℕ) → drop_while white (spaces k ++ t) ≡ drop_while white t
@@ -198,30 +212,36 @@ spaces_left bs i j u h after e = ap (drop_while white) (spaces_split_at bs i j h
     past (suc k) t = past k t
 
 -- at the end of the text there is no gap over lines
-pub text_used_up : (n : ℕ) (bs : List ℕ) (at : ℕ) (line : Line) → IsUtf8 bs → IsSolidLine true bs at line → length bs ≤ line.first → NoLinesGap n bs at
+pub text_used_up : (n : ℕ) (bs : List ℕ) (at : ℕ) (line : Line) → IsUtf8 bs → IsSolidLine true bs at line
+    → length bs ≤ line.first → NoLinesGap n bs at
 text_used_up n bs at line u h l =
     let none : drop_while white (rest bs line.start) ≡ [] = spaces_left bs line.start line.first u h.spaces [] (rest-end bs line.first l) in
     inr (h.leaves ∙ white_line (rest bs line.start) h.solid none)
 
 -- before a line with too few spaces there is no gap over lines
-pub few_spaces : (n : ℕ) (bs : List ℕ) (at : ℕ) (line : Line) → IsSolidLine true bs at line → line.first - line.start < n → NoLinesGap n bs at
+pub few_spaces : (n : ℕ) (bs : List ℕ) (at : ℕ) (line : Line) → IsSolidLine true bs at line
+    → line.first - line.start < n → NoLinesGap n bs at
 few_spaces n bs at line h l =
     let s = h.spaces in
-    inl (ap (λ t. indents n (take_while white t)) h.leaves ∙ (indents_by_spaces n (rest bs line.start) ∙ (ap (nat_le n) s.counts ∙ lt-leb n (line.first - line.start) l)))
+    inl (ap (λ t. indents n (take_while white t)) h.leaves
+    ∙ (indents_by_spaces n (rest bs line.start) ∙ (ap (nat_le n) s.counts ∙ lt-leb n (line.first - line.start) l)))
 
 -- before a line with enough spaces there is a gap over lines
-pub lines_gap_is : (n : ℕ) (bs : List ℕ) (at : ℕ) (line : Line) (end : ℕ) → IsUtf8 bs → IsSolidLine true bs at line → line.first < length bs → n ≤ line.first - line.start
+pub lines_gap_is : (n : ℕ) (bs : List ℕ) (at : ℕ) (line : Line) (end : ℕ) → IsUtf8 bs → IsSolidLine true bs at line
+    → line.first < length bs → n ≤ line.first - line.start
     → AreTaken white bs line.first end → IsLinesGap n bs at (record { end = end; is_over_lines = true })
 lines_gap_is n bs at line end u h l m w =
     let s = h.spaces in
     let a = h.above in
     let b = s.above in
     let c = w.above in
-    let leaves : drop_while white (rest bs line.start) ≡ rest bs end = spaces_left bs line.start line.first u s (rest bs line.first) refl ∙ w.leaves in
+    let leaves : drop_while white (rest bs line.start) ≡ rest bs end =
+    spaces_left bs line.start line.first u s (rest bs line.first) refl ∙ w.leaves in
     record {
       above = omega arith;
       boundary = w.boundary;
-      indent = ap (λ t. indents n (take_while white t)) h.leaves ∙ (indents_by_spaces n (rest bs line.start) ∙ (ap (nat_le n) s.counts ∙ le-leb n (line.first - line.start) m));
+      indent = ap (λ t. indents n (take_while white t)) h.leaves
+          ∙ (indents_by_spaces n (rest bs line.start) ∙ (ap (nat_le n) s.counts ∙ le-leb n (line.first - line.start) m));
       leaves = ap (drop_while white) h.leaves ∙ leaves;
       filled = more (rest bs end) leaves;
       over_lines = refl;
@@ -236,18 +256,23 @@ lines_gap_is n bs at line end u h l m w =
 
 -- ---- a gap over lines
 
-lines_read : (n : ℕ) (d : FlowContext) (text : List ℕ) (e : LineEnd) (after : List ℕ) → one_line d ≡ false → read_line_end false text ≡ Some (e, after)
-    → read_gap n (one_line d) text ≡ lines_gap n text (e ∷ (all_comments true after).0) (take_while white (all_comments true after).1) (drop_while white (all_comments true after).1)
+lines_read : (n : ℕ) (d : FlowContext) (text : List ℕ) (e : LineEnd) (after : List ℕ) → one_line d ≡ false
+    → read_line_end false text ≡ Some (e, after)
+    → read_gap n (one_line d) text ≡ lines_gap n text (e ∷ (all_comments true after).0)
+    (take_while white (all_comments true after).1) (drop_while white (all_comments true after).1)
 lines_read n d text e after h r = ap (λ k. read_gap n k text) h ∙ gap_step n text e after r
 
-lines_found : (n : ℕ) (text : List ℕ) (es : List LineEnd) (lead after : List ℕ) → indents n lead ≡ true → lines_gap n text es lead after ≡ (Some (lines es lead), after)
+lines_found : (n : ℕ) (text : List ℕ) (es : List LineEnd) (lead after : List ℕ) → indents n lead ≡ true
+    → lines_gap n text es lead after ≡ (Some (lines es lead), after)
 lines_found n text es lead after h = rw h refl
 
-lines_none : (n : ℕ) (text : List ℕ) (es : List LineEnd) (lead after : List ℕ) → indents n lead ≡ false → lines_gap n text es lead after ≡ (None, text)
+lines_none : (n : ℕ) (text : List ℕ) (es : List LineEnd) (lead after : List ℕ) → indents n lead ≡ false
+    → lines_gap n text es lead after ≡ (None, text)
 lines_none n text es lead after h = rw h refl
 
 -- a gap over lines is a gap
-pub gap_over_lines_is : (n : ℕ) (d : FlowContext) (bs : List ℕ) (i j : ℕ) (gap : Gap) → IsUtf8 bs → IsCharBoundary bs i → one_line d ≡ false → IsLineEnd false bs i j → IsLinesGap n bs j gap
+pub gap_over_lines_is : (n : ℕ) (d : FlowContext) (bs : List ℕ) (i j : ℕ) (gap : Gap) → IsUtf8 bs
+    → IsCharBoundary bs i → one_line d ≡ false → IsLineEnd false bs i j → IsLinesGap n bs j gap
     → IsGap n d bs i gap
 gap_over_lines_is n d bs i j gap u b k e h =
     let first_end = e.above in
@@ -257,10 +282,13 @@ gap_over_lines_is n d bs i j gap u b k e h =
     let sep : Option Sep = Some (lines (e.line_end ∷ more) lead) in
     let reads : read_gap n (one_line d) (rest bs i) ≡ (sep, rest bs gap.end) =
     lines_read n d (rest bs i) e.line_end (rest bs j) k e.reads
-    ∙ (lines_found n (rest bs i) (e.line_end ∷ more) lead (drop_while white (after_comments bs j)) h.indent ∙ ap (λ t. (sep, t)) h.leaves) in
-    let sound : GapOf n (one_line d) (rest bs i) (sep, rest bs gap.end) = subst (GapOf n (one_line d) (rest bs i)) reads (gap_sound n (one_line d) (rest bs i)) in
+    ∙ (lines_found n (rest bs i) (e.line_end ∷ more) lead (drop_while white (after_comments bs j)) h.indent
+    ∙ ap (λ t. (sep, t)) h.leaves) in
+    let sound : GapOf n (one_line d) (rest bs i) (sep, rest bs gap.end) =
+    subst (GapOf n (one_line d) (rest bs i)) reads (gap_sound n (one_line d) (rest bs i)) in
     let spelled : gap_text sep ≡ between bs i gap.end =
-    append_cancel_right (gap_text sep) (between bs i gap.end) (rest bs gap.end) (sym sound.0 ∙ rest-between bs i gap.end u (omega arith) b h.boundary) in
+    append_cancel_right (gap_text sep) (between bs i gap.end) (rest bs gap.end)
+    (sym sound.0 ∙ rest-between bs i gap.end u (omega arith) b h.boundary) in
     record {
       above = omega arith;
       boundary = h.boundary;
@@ -276,7 +304,8 @@ gap_over_lines_is n d bs i j gap u b k e h =
 blank_char : ℕ → Bool
 blank_char x = white x || line_break x
 
-line_prefix : (blank : List ℕ) (comment : Option (List ℕ)) (stop : Option Break) (after : List ℕ) → list_all white blank ≡ true → comment_fits (not (is_empty blank)) comment ≡ true
+line_prefix : (blank : List ℕ) (comment : Option (List ℕ)) (stop : Option Break) (after : List ℕ)
+    → list_all white blank ≡ true → comment_fits (not (is_empty blank)) comment ≡ true
     → not (is_empty ((blank ++ optional comment_text comment) ++ optional break_text stop)) ≡ true
     → first blank_char (blank ++ (optional comment_text comment ++ (optional break_text stop ++ after))) ≡ true
 unfolding blank_char
@@ -292,27 +321,34 @@ unfolding blank_char
 prefix_of [] h = absurd (false≢true h)
 prefix_of (x ∷ xs) h = (x, xs, refl, h)
 
-blank_prefix : (text : List ℕ) (e : LineEnd) (after : List ℕ) → read_line_end false text ≡ Some (e, after) → (x : ℕ) × (xs : List ℕ) × (text ≡ x ∷ xs) × (white x || line_break x ≡ true)
+blank_prefix : (text : List ℕ) (e : LineEnd) (after : List ℕ) → read_line_end false text ≡ Some (e, after)
+    → (x : ℕ) × (xs : List ℕ) × (text ≡ x ∷ xs) × (white x || line_break x ≡ true)
 blank_prefix text e after r =
     let sound : LineOf false text e after = sound_is (LineOf false text) (read_line_end false text) (e, after) (line_sound false text) r in
     let p = line_parts false e after sound.1 in
-    prefix_of text (ap (first blank_char) (sound.0 ∙ line_regrouped e after) ∙ line_prefix e.blank e.comment e.stop after p.blank_white p.comment_fit p.some)
+    prefix_of text (ap (first blank_char) (sound.0 ∙ line_regrouped e after)
+    ∙ line_prefix e.blank e.comment e.stop after p.blank_white p.comment_fit p.some)
 
-few_gap : (n : ℕ) (d : FlowContext) (bs : List ℕ) (i j : ℕ) → one_line d ≡ false → IsLineEnd false bs i j → indents n (take_while white (after_comments bs j)) ≡ false → NoGap n d (rest bs i)
+few_gap : (n : ℕ) (d : FlowContext) (bs : List ℕ) (i j : ℕ) → one_line d ≡ false → IsLineEnd false bs i j
+    → indents n (take_while white (after_comments bs j)) ≡ false → NoGap n d (rest bs i)
 few_gap n d bs i j k e few =
     let prefix = blank_prefix (rest bs i) e.line_end (rest bs j) e.reads in
     stuck prefix.0 prefix.1 prefix.2 prefix.3
     (lines_read n d (rest bs i) e.line_end (rest bs j) k e.reads
-    ∙ lines_none n (rest bs i) (e.line_end ∷ (all_comments true (rest bs j)).0) (take_while white (after_comments bs j)) (drop_while white (after_comments bs j)) few)
+    ∙ lines_none n (rest bs i) (e.line_end ∷ (all_comments true (rest bs j)).0)
+    (take_while white (after_comments bs j)) (drop_while white (after_comments bs j)) few)
 
 -- if a line ends and there is no gap over lines, there is none
-pub no_gap : (n : ℕ) (d : FlowContext) (bs : List ℕ) (i j : ℕ) → one_line d ≡ false → IsLineEnd false bs i j → NoLinesGap n bs j → NoGap n d (rest bs i)
+pub no_gap : (n : ℕ) (d : FlowContext) (bs : List ℕ) (i j : ℕ) → one_line d ≡ false → IsLineEnd false bs i j
+    → NoLinesGap n bs j → NoGap n d (rest bs i)
 no_gap n d bs i j k e (inl few) = few_gap n d bs i j k e few
 no_gap n d bs i j k e (inr ended) = elim (cases_Bool (indents n (take_while white (after_comments bs j)))) [
   | inr few ↦ few_gap n d bs i j k e few
-  | inl many ↦ (let sep : Option Sep = Some (lines (e.line_end ∷ (all_comments true (rest bs j)).0) (take_while white (after_comments bs j))) in
+  | inl many ↦ (let sep : Option Sep = Some (lines (e.line_end ∷ (all_comments true (rest bs j)).0)
+      (take_while white (after_comments bs j))) in
       used_up sep
       (lines_read n d (rest bs i) e.line_end (rest bs j) k e.reads
-      ∙ (lines_found n (rest bs i) (e.line_end ∷ (all_comments true (rest bs j)).0) (take_while white (after_comments bs j)) (drop_while white (after_comments bs j)) many
+      ∙ (lines_found n (rest bs i) (e.line_end ∷ (all_comments true (rest bs j)).0)
+      (take_while white (after_comments bs j)) (drop_while white (after_comments bs j)) many
       ∙ ap (λ t. (sep, drop_while white t)) ended)))
 ]

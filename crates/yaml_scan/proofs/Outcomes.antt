@@ -26,7 +26,8 @@ err_so (Ok x) P Q f h = h
 err_so (Err e) P Q f h = f e h
 
 -- a callee's fault is returned as it is
-pub fault_passed : {T : Type 0} (r : Result T ScanFault) (fault : ScanFault) (P Q : Type 0) → (P → Q) → Refuses fault P → (y : ScanFault) × (r ≡ Err y) × (y ≡ fault)
+pub fault_passed : {T : Type 0} (r : Result T ScanFault) (fault : ScanFault) (P Q : Type 0) → (P → Q)
+    → Refuses fault P → (y : ScanFault) × (r ≡ Err y) × (y ≡ fault)
     → IfErr r (λ f. Refuses f Q)
 fault_passed {T} r fault P Q f h w =
     let M : Result T ScanFault → Type 0 = λ x. IfErr x (λ y. Refuses y Q) in
@@ -39,7 +40,8 @@ fault_kept (At at why) other P Q k f h = refuses other Q (f h)
 fault_kept OutOfMemory other P Q k f h = subst (λ (x : ScanFault). Refuses x Q) (sym (k refl)) tt
 
 -- a callee's result that is returned as it is
-pub faults_so : {T : Type 0} (r : Result T ScanFault) (P Q : Type 0) → (P → Q) → IfErr r (λ fault. Refuses fault P) → IfErr r (λ fault. Refuses fault Q)
+pub faults_so : {T : Type 0} (r : Result T ScanFault) (P Q : Type 0) → (P → Q) → IfErr r (λ fault. Refuses fault P)
+    → IfErr r (λ fault. Refuses fault Q)
 faults_so r P Q f h = err_so r (λ fault. Refuses fault P) (λ fault. Refuses fault Q) (λ fault. refuses_so fault P Q f) h
 
 -- what holds of a Some may be made weaker

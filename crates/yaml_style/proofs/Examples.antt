@@ -45,7 +45,8 @@ no_text : lines [] ≡ []
 no_text = refl
 
 -- NEL, LS and PS are no breaks
-other_separators : lines (codes "# a" ++ next_line ∷ line_separator ∷ paragraph_separator ∷ codes "b\n") ≡ (codes "# a" ++ next_line ∷ line_separator ∷ paragraph_separator ∷ codes "b\n") ∷ []
+other_separators : lines (codes "# a" ++ next_line ∷ line_separator ∷ paragraph_separator ∷ codes "b\n")
+    ≡ (codes "# a" ++ next_line ∷ line_separator ∷ paragraph_separator ∷ codes "b\n") ∷ []
 other_separators = refl
 
 separator_at_the_end : findings (codes "# a" ++ next_line ∷ codes "\na: b\n") (codes "a: b\n") ≡ on NotInStyle 1 ∷ []
@@ -60,11 +61,13 @@ long_line : findings (codes "# " ++ replicate 119 233 ++ codes "\na: b\n") (code
 long_line = refl
 
 -- the break is not counted
-longest_line_with_cr_lf : findings (codes "# " ++ replicate 118 233 ++ codes "\r\na: b\n") (codes "a: b\n") ≡ on LineEnd 1 ∷ on NotInStyle 1 ∷ []
+longest_line_with_cr_lf : findings (codes "# " ++ replicate 118 233 ++ codes "\r\na: b\n") (codes "a: b\n")
+    ≡ on LineEnd 1 ∷ on NotInStyle 1 ∷ []
 longest_line_with_cr_lf = refl
 
 -- a byte order mark is a character of its line
-mark_in_a_long_line : findings (byte_order_mark ∷ codes "# " ++ replicate 118 233 ++ codes "\na: b\n") (codes "a: b\n") ≡ on LongLine 1 ∷ on NotInStyle 1 ∷ []
+mark_in_a_long_line : findings (byte_order_mark ∷ codes "# " ++ replicate 118 233 ++ codes "\na: b\n")
+    (codes "a: b\n") ≡ on LongLine 1 ∷ on NotInStyle 1 ∷ []
 mark_in_a_long_line = refl
 
 -- ---- S4

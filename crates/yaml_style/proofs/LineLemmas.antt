@@ -1,5 +1,6 @@
 -- Where the first line of a text ends.
-use Rattle.std.proofs.Common.{◌≡◌, ◌≢◌, ℕ, suc, ◌<◌, inl, inr, Bool, true, false, not, ◌&&◌, ◌||◌, ◌==◌, List, [], ◌∷◌, ◌++◌, Some, length, slice_get, refl, ap, sym, ◌∙◌, arith, append-nil}
+use Rattle.std.proofs.Common.{◌≡◌, ◌≢◌, ℕ, suc, ◌<◌, inl, inr, Bool, true, false, not, ◌&&◌, ◌||◌, ◌==◌, List, []}
+use Rattle.std.proofs.Common.{◌∷◌, ◌++◌, Some, length, slice_get, refl, ap, sym, ◌∙◌, arith, append-nil}
 use Rattle.std.specs.List.{list_all}
 use Rattle.std.proofs.lemmas.Bool.{and_parts, eqb-true, cases_Bool}
 use Rattle.std.proofs.lemmas.List.Sums.{list_all-from_AllPass}
@@ -51,7 +52,8 @@ has_break tail len after (cr e alone size) =
 
 -- ---- a line without a break before it
 
-lines_after : (prefix tail l : List ℕ) (ls : List (List ℕ)) → list_all no_break prefix ≡ true → lines tail ≡ l ∷ ls → lines (prefix ++ tail) ≡ (prefix ++ l) ∷ ls
+lines_after : (prefix tail l : List ℕ) (ls : List (List ℕ)) → list_all no_break prefix ≡ true → lines tail ≡ l ∷ ls
+    → lines (prefix ++ tail) ≡ (prefix ++ l) ∷ ls
 lines_after [] tail l ls h e = e
 lines_after (c ∷ cs) tail l ls h e =
     let both = and_parts (no_break c) (list_all no_break cs) h in
@@ -115,7 +117,8 @@ last_line text none some =
     }
 
 -- a break more is counted
-pub one_more_break : (prefix tail brk after : List ℕ) → NoBreak prefix → HasBreak tail brk after → breaks (prefix ++ tail) ≡ suc (breaks after)
+pub one_more_break : (prefix tail brk after : List ℕ) → NoBreak prefix → HasBreak tail brk after
+    → breaks (prefix ++ tail) ≡ suc (breaks after)
 one_more_break prefix tail brk after none is = breaks_after prefix tail (list_all-from_AllPass no_break prefix none) ∙ is.breaks
 
 -- without one there is none to count

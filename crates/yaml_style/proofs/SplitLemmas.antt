@@ -1,5 +1,6 @@
 -- The first line of a text, by the place of its break in the bytes.
-use Rattle.std.proofs.Common.{◌≡◌, ℕ, suc, ◌+◌, ◌<◌, ◌≤◌, List, [], ◌∷◌, ◌++◌, length, refl, ap, sym, ◌∙◌, subst, arith, ◌==◌, true, false, inl, inr}
+use Rattle.std.proofs.Common.{◌≡◌, ℕ, suc, ◌+◌, ◌<◌, ◌≤◌, List, [], ◌∷◌, ◌++◌, length, refl, ap, sym, ◌∙◌, subst}
+use Rattle.std.proofs.Common.{arith, ◌==◌, true, false, inl, inr}
 use lib.Utf8.{encodes}
 use Rattle.std.specs.Str.{chars, IsUtf8}
 use Rattle.std.proofs.lemmas.List.{append_cancel_right}
@@ -23,10 +24,15 @@ is_split text start len utf8 ends =
     let prefix = between text 0 start in
     let after = rest text (start + len) in
     let found = has_break (rest text start) len after ends.break in
-    let whole : chars text ≡ prefix ++ rest text start = rest-between text 0 start utf8 (omega arith) (IsCharBoundary-start text utf8) ends.end in
-    let tail : rest text start ≡ between text start (start + len) ++ after = rest-between text start (start + len) utf8 (omega arith) ends.end ends.next in
-    let same : found.0 ≡ between text start (start + len) = append_cancel_right found.0 (between text start (start + len)) after (sym found.1.text ∙ tail) in
-    let line : IsFirstLine (chars text) prefix found.0 after = subst (λ t. IsFirstLine t prefix found.0 after) (sym whole) (first_line prefix (rest text start) found.0 after ends.line found.1) in
+    let whole : chars text ≡ prefix ++ rest text start =
+    rest-between text 0 start utf8 (omega arith) (IsCharBoundary-start text utf8) ends.end in
+    let tail : rest text start ≡ between text start (start + len) ++ after =
+    rest-between text start (start + len) utf8 (omega arith) ends.end ends.next in
+    let same : found.0 ≡ between text start (start + len) =
+    append_cancel_right found.0 (between text start (start + len)) after (sym found.1.text ∙ tail) in
+    let line : IsFirstLine (chars text) prefix found.0 after =
+    subst (λ t. IsFirstLine t prefix found.0 after) (sym whole)
+    (first_line prefix (rest text start) found.0 after ends.line found.1) in
     record {
       line = subst (λ brk. IsFirstLine (chars text) prefix brk after) same line;
       count = ap breaks whole ∙ one_more_break prefix (rest text start) found.0 after ends.line found.1;
@@ -70,5 +76,6 @@ no_chars [] e = refl
 no_chars (c ∷ cs) e = cc
 
 -- the line that a text is, without a break
-pub is_last : (text : List ℕ) → IsUtf8 text → NoBreak (rest text 0) → 0 < length text → IsFirstLine (chars text) (chars text) (chars []) (chars [])
+pub is_last : (text : List ℕ) → IsUtf8 text → NoBreak (rest text 0) → 0 < length text
+    → IsFirstLine (chars text) (chars text) (chars []) (chars [])
 is_last text utf8 none some = rw chars-nil (last_line (chars text) none (some_chars text utf8 some))

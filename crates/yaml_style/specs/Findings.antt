@@ -1,5 +1,6 @@
 -- What is found in a text: each rule, and the findings in order.
-use Rattle.std.specs.Prelude.{ℕ, suc, Bool, true, false, not, ◌==◌, nat_lt, List, [], ◌∷◌, ◌++◌, length, codes, if◌then◌else◌, Option, Some, None}
+use Rattle.std.specs.Prelude.{ℕ, suc, Bool, true, false, not, ◌==◌, nat_lt, List, [], ◌∷◌, ◌++◌, length, codes}
+use Rattle.std.specs.Prelude.{if◌then◌else◌, Option, Some, None}
 use Rattle.std.specs.List.{insert, position_or_len}
 use Rattle.yaml_chars.specs.Classes.{white}
 use Rattle.yaml_chars.specs.Signs.{line_feed}

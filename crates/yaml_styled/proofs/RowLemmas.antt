@@ -9,7 +9,8 @@ use Rattle.yaml_data.specs.TextBytes.{text_bytes}
 use Rattle.yaml_data.specs.declared.text.Text.{Text}
 use Rattle.yaml_data.proofs.SeenLemmas.{join_elements, join_members}
 use Rattle.yaml_data.proofs.TextLemmas.{IsUtf8-text_bytes}
-use Rattle.yaml_writer.specs.Sizes.{indented, elements_indented, elements_after_indented, indented_key_lines, members_indented, members_after_indented, value_indented, is_filled}
+use Rattle.yaml_writer.specs.Sizes.{indented, elements_indented, elements_after_indented, indented_key_lines}
+use Rattle.yaml_writer.specs.Sizes.{members_indented, members_after_indented, value_indented, is_filled}
 use Rattle.yaml_styled.specs.Taking.{Took, took_none, took_both}
 use Rattle.yaml_styled.specs.Parts.{lines_of, AreElements, AreMembers, IsRead}
 use Rattle.yaml_styled.specs.Sounds.{SoundElements, SoundMembers}

@@ -7,7 +7,9 @@ use Rattle.std.proofs.Math.Utf8.{scalar, scalars, scalar_cases}
 use Rattle.std.specs.Str.{chars, IsUtf8}
 use Rattle.std.specs.List.{list_all}
 use Rattle.yaml_grammar.specs.Texts.{IsText}
-use Rattle.yaml_grammar.specs.Trees.{Tree, text, sequence, mapping, Elements, no_element, element, Members, no_member, member, depth, elements_depth, members_depth, distinct, elements_distinct, members_distinct, has_key}
+use Rattle.yaml_grammar.specs.Trees.{Tree, text, sequence, mapping, Elements, no_element, element, Members, no_member}
+use Rattle.yaml_grammar.specs.Trees.{member, depth, elements_depth, members_depth, distinct, elements_distinct}
+use Rattle.yaml_grammar.specs.Trees.{members_distinct, has_key}
 use Rattle.yaml_chars.specs.Classes.{code_point}
 use Rattle.yaml_data.specs.Keys.{keys_differ, values_distinct}
 use Rattle.yaml_data.proofs.SeenLemmas.{join_elements, join_members}

@@ -1,5 +1,6 @@
 -- The size of what was read, from its bytes and its lines.
-use Rattle.std.proofs.Common.{◌≡◌, ℕ, ◌+◌, ◌-◌, ◌*◌, ◌≤◌, true, false, List, ◌++◌, length, encode_utf8_all, refl, sym, ap, ◌∙◌, length-append, arith}
+use Rattle.std.proofs.Common.{◌≡◌, ℕ, ◌+◌, ◌-◌, ◌*◌, ◌≤◌, true, false, List, ◌++◌, length, encode_utf8_all, refl, sym}
+use Rattle.std.proofs.Common.{ap, ◌∙◌, length-append, arith}
 use Rattle.std.proofs.lemmas.Nat.{mul-le}
 use Rattle.yaml_grammar.specs.Texts.{byte_len}
 use Rattle.yaml_grammar.specs.Trees.{Tree, text, sequence, mapping, no_element, element, no_member, member}
@@ -29,7 +30,8 @@ without whole rest margin i n bytes taken grows = omega (arith, taken, grows)
 margin_of : (t : Tree) (i n : ℕ) (before rest : List ℕ) → GoesOn before (value_at t i) rest → value_indented t ≡ n
     → length before - length rest - i * n ≡ byte_len (value_at t 0)
 margin_of t i n before rest goes lines =
-    without (length before) (length rest) (byte_len (value_at t 0)) i n (byte_len (value_at t i)) (bytes_taken before rest (value_at t i) goes)
+    without (length before) (length rest) (byte_len (value_at t 0)) i n (byte_len (value_at t i))
+    (bytes_taken before rest (value_at t i) goes)
     (value_law t i ∙ ap (λ k. byte_len (value_at t 0) + i * k) lines)
 
 -- of a value beside its key

@@ -2,7 +2,9 @@
 use Rattle.std.proofs.Common.{◌≡◌, Bool, List, Option, Some, None, Result, MatchResult, sym, ap, subst, ◌∙◌}
 use Rattle.std.proofs.lemmas.Result.{MatchResult-weaker}
 use Rattle.yaml_events.specs.declared.read_fault.ReadFault.{ReadFault}
-use Rattle.yaml_events.specs.declared.read_fault.ReadFault.TheVariants.{TooLong, NotUtf8, Syntax, Documents, KeyNotText, KeyTwice, TooDeep, LargeInStyle, OutOfMemory}
+use Rattle.yaml_events.specs.declared.read_fault.ReadFault.TheVariants.{TooLong, NotUtf8, Syntax, Documents}
+use Rattle.yaml_events.specs.declared.read_fault.ReadFault.TheVariants.{KeyNotText, KeyTwice, TooDeep, LargeInStyle}
+use Rattle.yaml_events.specs.declared.read_fault.ReadFault.TheVariants.{OutOfMemory}
 use Rattle.yaml_grammar.specs.Trees.{Shape}
 use Rattle.yaml_tree.specs.Building.{HasNone}
 use Rattle.yaml_tree.specs.Frames.{Frame, step}
@@ -11,11 +13,13 @@ use Rattle.yaml_tree.specs.OpenParts.{Keeps, KeepsNext}
 use Rattle.yaml_tree.proofs.KeptLemmas.{Stepped, IsInner, inner_stepped, inner_none}
 
 -- what a step has done, from what it does to what is kept
-pub took : (keep : Keep) (held : List Frame) (now b : Bool) (o : Option (List Frame)) → Stepped keep held b o → now ≡ b → KeepsNext keep held now o
+pub took : (keep : Keep) (held : List Frame) (now b : Bool) (o : Option (List Frame)) → Stepped keep held b o
+    → now ≡ b → KeepsNext keep held now o
 took keep held now b o s e = record { parts = s.parts; are = s.are; keeps = record { frames = s.frames; differ = e ∙ s.distinct } }
 
 -- a fault that is right where the first is `None` is right where the second is
-pub has_none : {A B : Type 0} (o : Option A) (p : Option B) → (o ≡ None → p ≡ None) → (fault : ReadFault) → HasNone o fault → HasNone p fault
+pub has_none : {A B : Type 0} (o : Option A) (p : Option B) → (o ≡ None → p ≡ None) → (fault : ReadFault)
+    → HasNone o fault → HasNone p fault
 has_none o p none KeyNotText h = none h
 has_none o p none OutOfMemory h = tt
 has_none o p none TooLong h = absurd h
@@ -27,7 +31,8 @@ has_none o p none TooDeep h = absurd h
 has_none o p none LargeInStyle h = absurd h
 
 -- an event that neither is a scalar nor ends a collection does to the parts what it does to what is kept of them
-pub took_inner : (keep : Keep) (before held : List Frame) (was now : Bool) (fs : List Frame) (event s : Shape) (r : Result (Unit {0}) ReadFault)
+pub took_inner : (keep : Keep) (before held : List Frame) (was now : Bool) (fs : List Frame) (event s : Shape)
+    (r : Result (Unit {0}) ReadFault)
     → event ≡ s → IsInner s → Keeps keep before was fs → now ≡ was
     → MatchResult r (λ _. step before s ≡ Some held) (HasNone (step before s))
     → MatchResult r (λ _. KeepsNext keep held now (step fs event)) (HasNone (step fs event))

@@ -1,7 +1,9 @@
 -- What events that are taken one after another say of the tree.
 use Rattle.std.proofs.Common.{◌≡◌, List, [], ◌∷◌, Option, Some, None, sym, ap, subst, ◌∙◌}
 use Rattle.yaml_events.specs.declared.read_fault.ReadFault.{ReadFault}
-use Rattle.yaml_events.specs.declared.read_fault.ReadFault.TheVariants.{TooLong, NotUtf8, Syntax, Documents, KeyNotText, KeyTwice, TooDeep, LargeInStyle, OutOfMemory}
+use Rattle.yaml_events.specs.declared.read_fault.ReadFault.TheVariants.{TooLong, NotUtf8, Syntax, Documents}
+use Rattle.yaml_events.specs.declared.read_fault.ReadFault.TheVariants.{KeyNotText, KeyTwice, TooDeep, LargeInStyle}
+use Rattle.yaml_events.specs.declared.read_fault.ReadFault.TheVariants.{OutOfMemory}
 use Rattle.yaml_events.specs.Meant.{event_of, events_of}
 use Rattle.yaml_events.specs.declared.event.Event.{Event}
 use Rattle.yaml_grammar.specs.Events as grammar
@@ -23,7 +25,8 @@ run_on before left all x fs gs split runs e =
     sym (ap (λ o. run o (shapes (events_of left))) e) ∙ sym (ap (λ es. run (Some fs) (shapes (events_of es))) split) ∙ runs
 
 -- no event is left
-pub run_ended : (left all : List Event) (fs : List Frame) → left ≡ [] → RunsOn fs left all → run (Some []) (shapes (events_of all)) ≡ Some fs
+pub run_ended : (left all : List Event) (fs : List Frame) → left ≡ [] → RunsOn fs left all
+    → run (Some []) (shapes (events_of all)) ≡ Some fs
 run_ended left all fs end runs = sym runs ∙ ap (λ es. run (Some fs) (shapes (events_of es))) end
 
 -- an event that doesn't fit
@@ -41,14 +44,16 @@ pub tree_run : (es : List grammar.Event) (t : Tree) → IsTreeOf es t → run (S
 tree_run es t is = ap (run (Some [])) is ∙ document_run t
 
 -- events that build a tree are its events
-pub run_tree : (es : List grammar.Event) (fs : List Frame) (t : Tree) → run (Some []) (shapes es) ≡ Some fs → finished_tree fs ≡ Some t → IsTreeOf es t
+pub run_tree : (es : List grammar.Event) (fs : List Frame) (t : Tree) → run (Some []) (shapes es) ≡ Some fs
+    → finished_tree fs ≡ Some t → IsTreeOf es t
 run_tree es fs t e done = run_written (shapes es) (whole t ∷ []) (e ∙ ap Some (finished_whole fs t done))
 
 -- events that stop the builder are those of no tree
 pub none_stopped : (es : List grammar.Event) → run (Some []) (shapes es) ≡ None → (t : Tree) → IsTreeOf es t → ⊥
 none_stopped es e t is = let found = tree_run es t is in cc
 
-none_unfinished : (es : List grammar.Event) (fs : List Frame) → run (Some []) (shapes es) ≡ Some fs → finished_tree fs ≡ None → (t : Tree) → IsTreeOf es t → ⊥
+none_unfinished : (es : List grammar.Event) (fs : List Frame) → run (Some []) (shapes es) ≡ Some fs
+    → finished_tree fs ≡ None → (t : Tree) → IsTreeOf es t → ⊥
 none_unfinished es fs e none t is =
     let found = tree_run es t is in
     let same : fs ≡ whole t ∷ [] = cc in
@@ -71,7 +76,8 @@ no_tree o es none LargeInStyle h = absurd h
 pub stopped_refuses : (before left all : List Event) (x : Event) (fs : List Frame) (fault : ReadFault) → before ≡ x ∷ left
     → RunsOn fs before all → HasNone (step fs (shape (event_of x))) fault → HasNoTree (events_of all) fault
 stopped_refuses before left all x fs fault split runs =
-    no_tree (step fs (shape (event_of x))) (events_of all) (λ none. none_stopped (events_of all) (run_stopped before left all x fs split runs none)) fault
+    no_tree (step fs (shape (event_of x))) (events_of all)
+    (λ none. none_stopped (events_of all) (run_stopped before left all x fs split runs none)) fault
 
 -- where no tree is whole at the end, the fault is right: the events are those of no tree
 pub unfinished_refuses : (es : List grammar.Event) (fs : List Frame) (fault : ReadFault) → run (Some []) (shapes es) ≡ Some fs

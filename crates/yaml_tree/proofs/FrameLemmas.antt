@@ -1,8 +1,11 @@
 -- The events of a tree, taken one after another, give that tree; and events that give a tree are those of it.
 use Rattle.std.proofs.Common.{◌≡◌, ℕ, List, [], ◌∷◌, ◌++◌, Option, Some, None, append_assoc, refl, sym, ap, subst, ◌∙◌}
 use Rattle.std.proofs.lemmas.List.{append-nil}
-use Rattle.yaml_grammar.specs.Trees.{Tree, text, sequence, mapping, Elements, no_element, element, Members, no_member, member, Shape, document_from, document_to, seq_from, seq_to, map_from, map_to, scalar_of, tree_shapes, elements_shapes, members_shapes}
-use Rattle.yaml_tree.specs.Frames.{Frame, awaiting, root, whole, in_seq, at_key, at_value, elements_and, members_and, frames_with, step, finished_tree}
+use Rattle.yaml_grammar.specs.Trees.{Tree, text, sequence, mapping, Elements, no_element, element, Members, no_member}
+use Rattle.yaml_grammar.specs.Trees.{member, Shape, document_from, document_to, seq_from, seq_to, map_from, map_to}
+use Rattle.yaml_grammar.specs.Trees.{scalar_of, tree_shapes, elements_shapes, members_shapes}
+use Rattle.yaml_tree.specs.Frames.{Frame, awaiting, root, whole, in_seq, at_key, at_value, elements_and, members_and}
+use Rattle.yaml_tree.specs.Frames.{frames_with, step, finished_tree}
 use Rattle.yaml_data.proofs.SeenLemmas.{join_elements, join_members}
 
 -- ---- several events
@@ -120,12 +123,14 @@ put_writes [] t = tt
 put_writes (awaiting ∷ fs) t = written_joined fs document_from [] (tree_shapes t)
 put_writes (root u ∷ fs) t = tt
 put_writes (whole u ∷ fs) t = tt
-put_writes (in_seq ts ∷ fs) t = ap (λ ss. written fs ++ seq_from ∷ ss) (elements_and-shapes ts t) ∙ written_joined fs seq_from (elements_shapes ts) (tree_shapes t)
+put_writes (in_seq ts ∷ fs) t = ap (λ ss. written fs ++ seq_from ∷ ss) (elements_and-shapes ts t)
+    ∙ written_joined fs seq_from (elements_shapes ts) (tree_shapes t)
 put_writes (at_key ms ∷ fs) (text key) = written_joined fs map_from (members_shapes ms) (scalar_of key ∷ [])
 put_writes (at_key ms ∷ fs) (sequence ts) = tt
 put_writes (at_key ms ∷ fs) (mapping ns) = tt
 put_writes (at_value ms key ∷ fs) t =
-    ap (λ ss. written fs ++ map_from ∷ ss) (members_and-shapes ms key t ∙ sym (append_assoc (members_shapes ms) (scalar_of key ∷ []) (tree_shapes t)))
+    ap (λ ss. written fs ++ map_from ∷ ss) (members_and-shapes ms key t
+    ∙ sym (append_assoc (members_shapes ms) (scalar_of key ∷ []) (tree_shapes t)))
     ∙ written_joined fs map_from (members_shapes ms ++ scalar_of key ∷ []) (tree_shapes t)
 
 same_writes : (o : Option (List Frame)) (xs ys : List Shape) → xs ≡ ys → Writes o xs → Writes o ys
@@ -146,7 +151,8 @@ step_writes (awaiting ∷ fs) seq_to = tt
 step_writes (root t ∷ fs) seq_to = tt
 step_writes (whole t ∷ fs) seq_to = tt
 step_writes (in_seq ts ∷ fs) seq_to =
-    same_writes (frames_with fs (sequence ts)) _ _ (written_joined fs seq_from (elements_shapes ts) (seq_to ∷ [])) (put_writes fs (sequence ts))
+    same_writes (frames_with fs (sequence ts)) _ _ (written_joined fs seq_from (elements_shapes ts) (seq_to ∷ []))
+    (put_writes fs (sequence ts))
 step_writes (at_key ms ∷ fs) seq_to = tt
 step_writes (at_value ms key ∷ fs) seq_to = tt
 step_writes fs map_from = refl
@@ -156,7 +162,8 @@ step_writes (root t ∷ fs) map_to = tt
 step_writes (whole t ∷ fs) map_to = tt
 step_writes (in_seq ts ∷ fs) map_to = tt
 step_writes (at_key ms ∷ fs) map_to =
-    same_writes (frames_with fs (mapping ms)) _ _ (written_joined fs map_from (members_shapes ms) (map_to ∷ [])) (put_writes fs (mapping ms))
+    same_writes (frames_with fs (mapping ms)) _ _ (written_joined fs map_from (members_shapes ms) (map_to ∷ []))
+    (put_writes fs (mapping ms))
 step_writes (at_value ms key ∷ fs) map_to = tt
 step_writes fs (scalar_of value) = put_writes fs (text value)
 
@@ -170,7 +177,8 @@ after_wrote o s None e = tt
 after_wrote None s (Some gs) e = cc
 after_wrote (Some fs) s (Some gs) e = subst (λ p. Writes p (written fs ++ s ∷ [])) e (step_writes fs s)
 
-joined : (o : Option (List Frame)) (s : Shape) (ss : List Shape) (p q : Option (List Frame)) → Wrote o (s ∷ []) p → Wrote p ss q → Wrote o (s ∷ ss) q
+joined : (o : Option (List Frame)) (s : Shape) (ss : List Shape) (p q : Option (List Frame)) → Wrote o (s ∷ []) p
+    → Wrote p ss q → Wrote o (s ∷ ss) q
 joined o s ss p None h k = tt
 joined o s ss None (Some gs) h k = absurd k
 joined None s ss (Some fs) (Some gs) h k = absurd h

@@ -2,7 +2,9 @@
 use Rattle.std.proofs.Common.{◌≡◌, ◌≢◌, ℕ, ◌<◌, true, false, List, refl, sym, subst, ◌∙◌, arith}
 use Rattle.std.specs.Str.{chars}
 use Rattle.yaml_events.specs.declared.read_fault.ReadFault.{ReadFault}
-use Rattle.yaml_events.specs.declared.read_fault.ReadFault.TheVariants.{TooLong, NotUtf8, Syntax, Documents, KeyNotText, KeyTwice, TooDeep, LargeInStyle, OutOfMemory}
+use Rattle.yaml_events.specs.declared.read_fault.ReadFault.TheVariants.{TooLong, NotUtf8, Syntax, Documents}
+use Rattle.yaml_events.specs.declared.read_fault.ReadFault.TheVariants.{KeyNotText, KeyTwice, TooDeep, LargeInStyle}
+use Rattle.yaml_events.specs.declared.read_fault.ReadFault.TheVariants.{OutOfMemory}
 use Rattle.yaml_grammar.specs.Events.{Event}
 use Rattle.yaml_grammar.specs.Reads.{Limits, Reads}
 use Rattle.yaml_grammar.specs.Trees.{Tree, depth, distinct, IsTreeOf}
@@ -35,7 +37,8 @@ given_by bytes limits es t reads read =
     let given = read.gives in
     subst (λ fs. IsTreeOf fs t) (one_reading (chars bytes) given.events es given.reads reads) given.tree
 
-refused_tree : (bytes : List ℕ) (limits : Limits) (fault : ReadFault) (r : RefusesTree bytes limits fault) (t : Tree) → IsRead bytes limits t → r.tree ≡ t
+refused_tree : (bytes : List ℕ) (limits : Limits) (fault : ReadFault) (r : RefusesTree bytes limits fault) (t : Tree)
+    → IsRead bytes limits t → r.tree ≡ t
 refused_tree bytes limits fault r t read = tree_is_one r.events r.tree t r.is_tree (given_by bytes limits r.events t r.reads read)
 
 -- bytes that are refused give no tree

@@ -1,5 +1,6 @@
 -- A change of the innermost part.
-use Rattle.std.proofs.Common.{◌≡◌, ℕ, zero, suc, List, [], ◌∷◌, length, get_or, set, take, Option, Some, Result, Ok, Err, MatchResult, arith, sym, ap, ◌∙◌}
+use Rattle.std.proofs.Common.{◌≡◌, ℕ, zero, suc, List, [], ◌∷◌, length, get_or, set, take, Option, Some, Result, Ok}
+use Rattle.std.proofs.Common.{Err, MatchResult, arith, sym, ap, ◌∙◌}
 use Rattle.std.proofs.lemmas.List.{nil_from_length}
 use Rattle.yaml_events.specs.declared.read_fault.ReadFault.{ReadFault}
 use Rattle.yaml_tree.specs.Building.{frames_onto, HasNone}
@@ -21,7 +22,8 @@ frames_onto-set frame (p ∷ ps) zero new fs h = ap (λ qs. frames_onto frame qs
 frames_onto-set frame (p ∷ ps) (suc n) new fs h = frames_onto-set frame ps n new (frame p ∷ fs) (omega (arith, h))
 
 -- where the last part takes a change, so do the parts; where it refuses one, they do
-pub change_innermost : {A : Type 0} (frame : A → Frame) (change : Frame → Option Frame) (ps : List A) (n : ℕ) (part new : A) (r : Result (Unit {0}) ReadFault)
+pub change_innermost : {A : Type 0} (frame : A → Frame) (change : Frame → Option Frame) (ps : List A) (n : ℕ)
+    (part new : A) (r : Result (Unit {0}) ReadFault)
     → length ps ≡ suc n → part ≡ get_or ps n part
     → MatchResult r (λ _. change (frame part) ≡ Some (frame new)) (HasNone (change (frame part)))
     → MatchResult r (λ _. innermost change (frames_onto frame ps []) ≡ Some (frames_onto frame (set ps n new) []))

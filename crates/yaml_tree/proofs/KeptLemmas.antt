@@ -1,9 +1,14 @@
 -- A step of what is kept of open parts is one of the parts themselves.
 use Rattle.std.proofs.Common.{◌≡◌, ℕ, Bool, true, false, ◌&&◌, ◌||◌, not, List, [], ◌∷◌, Option, Some, None, refl, sym, ap, ap₂, subst, ◌∙◌}
 use Rattle.yaml_grammar.specs.Texts.{same_text}
-use Rattle.yaml_grammar.specs.Trees.{Tree, text, sequence, mapping, Elements, no_element, element, Members, no_member, member, Shape, document_from, document_to, seq_from, seq_to, map_from, map_to, scalar_of, distinct, elements_distinct, members_distinct, has_key}
-use Rattle.yaml_tree.specs.Frames.{Frame, awaiting, root, whole, in_seq, at_key, at_value, elements_and, members_and, innermost, frames_with, step, after_document_end, after_seq_end, after_map_end, finished_tree}
-use Rattle.yaml_tree.specs.Kept.{Keep, trees, keys, kept, kept_elements, kept_members, kept_frames, elements_more, with_last, value_placed, scalar_placed, seq_ended, map_ended, frames_distinct}
+use Rattle.yaml_grammar.specs.Trees.{Tree, text, sequence, mapping, Elements, no_element, element, Members, no_member}
+use Rattle.yaml_grammar.specs.Trees.{member, Shape, document_from, document_to, seq_from, seq_to, map_from, map_to}
+use Rattle.yaml_grammar.specs.Trees.{scalar_of, distinct, elements_distinct, members_distinct, has_key}
+use Rattle.yaml_tree.specs.Frames.{Frame, awaiting, root, whole, in_seq, at_key, at_value, elements_and, members_and}
+use Rattle.yaml_tree.specs.Frames.{innermost, frames_with, step, after_document_end, after_seq_end, after_map_end}
+use Rattle.yaml_tree.specs.Frames.{finished_tree}
+use Rattle.yaml_tree.specs.Kept.{Keep, trees, keys, kept, kept_elements, kept_members, kept_frames, elements_more}
+use Rattle.yaml_tree.specs.Kept.{with_last, value_placed, scalar_placed, seq_ended, map_ended, frames_distinct}
 use Rattle.yaml_tree.specs.OpenParts.{Finished}
 use Rattle.yaml_data.specs.Keys.{nothing, keys_differ, values_distinct}
 use Rattle.yaml_data.proofs.KeyLemmas.{members_distinct-parts}
@@ -16,13 +21,15 @@ kept_some keep (Some fs) = Some (kept_frames keep fs)
 -- ---- parts
 
 -- what is kept of elements with one more
-elements_and-kept : (keep : Keep) (ts : Elements) (t : Tree) → elements_more keep (kept_elements keep ts) (kept keep t) ≡ kept_elements keep (elements_and ts t)
+elements_and-kept : (keep : Keep) (ts : Elements) (t : Tree)
+    → elements_more keep (kept_elements keep ts) (kept keep t) ≡ kept_elements keep (elements_and ts t)
 elements_and-kept trees ts t = refl
 elements_and-kept keys no_element t = refl
 elements_and-kept keys (element u ts) t = refl
 
 -- what is kept of members with one more
-members_and-kept : (keep : Keep) (ms : Members) (key : List ℕ) (t : Tree) → members_and (kept_members keep ms) key (kept keep t) ≡ kept_members keep (members_and ms key t)
+members_and-kept : (keep : Keep) (ms : Members) (key : List ℕ) (t : Tree)
+    → members_and (kept_members keep ms) key (kept keep t) ≡ kept_members keep (members_and ms key t)
 members_and-kept keep no_member key t = refl
 members_and-kept keep (member k u ms) key t = ap (member k (kept keep u)) (members_and-kept keep ms key t)
 
@@ -145,7 +152,8 @@ elements_and-distinct (element u ts) t =
     turn false true c = refl
     turn false false c = refl
 
-members_and-distinct : (ms : Members) (key : List ℕ) (t : Tree) → values_distinct (members_and ms key t) ≡ (distinct t && values_distinct ms)
+members_and-distinct : (ms : Members) (key : List ℕ) (t : Tree)
+    → values_distinct (members_and ms key t) ≡ (distinct t && values_distinct ms)
 members_and-distinct no_member key t = refl
 members_and-distinct (member k u ms) key t =
     ap (λ b. distinct u && b) (members_and-distinct ms key t) ∙ turn (distinct u) (distinct t) (values_distinct ms)
@@ -162,12 +170,14 @@ put_differs (awaiting ∷ fs) t = refl
 put_differs (root u ∷ fs) t = tt
 put_differs (whole u ∷ fs) t = tt
 put_differs (in_seq ts ∷ fs) t =
-    and_assoc (distinct t) (elements_distinct ts) (frames_distinct fs) ∙ ap (λ b. b && frames_distinct fs) (sym (elements_and-distinct ts t))
+    and_assoc (distinct t) (elements_distinct ts) (frames_distinct fs)
+    ∙ ap (λ b. b && frames_distinct fs) (sym (elements_and-distinct ts t))
 put_differs (at_key ms ∷ fs) (text key) = refl
 put_differs (at_key ms ∷ fs) (sequence ts) = tt
 put_differs (at_key ms ∷ fs) (mapping ns) = tt
 put_differs (at_value ms key ∷ fs) t =
-    and_assoc (distinct t) (values_distinct ms) (frames_distinct fs) ∙ ap (λ b. b && frames_distinct fs) (sym (members_and-distinct ms key t))
+    and_assoc (distinct t) (values_distinct ms) (frames_distinct fs)
+    ∙ ap (λ b. b && frames_distinct fs) (sym (members_and-distinct ms key t))
 
 document_differs : (fs : List Frame) → Differs (after_document_end fs) (frames_distinct fs)
 document_differs [] = tt
@@ -195,7 +205,8 @@ pub record Stepped (keep : Keep) (new : List Frame) (differ : Bool) (o : Option 
   pub frames : new ≡ kept_frames keep parts
   pub distinct : differ ≡ frames_distinct parts
 
-stepped : (keep : Keep) (o : Option (List Frame)) (new : List Frame) (b : Bool) → kept_some keep o ≡ Some new → Differs o b → Stepped keep new b o
+stepped : (keep : Keep) (o : Option (List Frame)) (new : List Frame) (b : Bool) → kept_some keep o ≡ Some new
+    → Differs o b → Stepped keep new b o
 stepped keep None new b e d = cc
 stepped keep (Some fs) new b e d = record { parts = fs; are = refl; frames = cc; distinct = d }
 
@@ -213,7 +224,8 @@ pub inner_none : (keep : Keep) (fs : List Frame) (s : Shape) → IsInner s → s
 inner_none keep fs s h e = none_kept keep (step fs s) (sym (step_kept keep fs s h) ∙ e)
 
 -- where what is kept takes a scalar, so do the frames
-pub scalar_stepped : (keep : Keep) (fs new : List Frame) (value : List ℕ) → innermost (scalar_placed keep value) (kept_frames keep fs) ≡ Some new
+pub scalar_stepped : (keep : Keep) (fs new : List Frame) (value : List ℕ)
+    → innermost (scalar_placed keep value) (kept_frames keep fs) ≡ Some new
     → Stepped keep new (frames_distinct fs) (frames_with fs (text value))
 scalar_stepped keep fs new value e =
     stepped keep (frames_with fs (text value)) new (frames_distinct fs) (sym (scalar_kept keep fs value) ∙ e) (put_differs fs (text value))
@@ -239,7 +251,8 @@ pub record InMap (keep : Keep) (fs : List Frame) (ms : Members) (rest : List Fra
   pub after : rest ≡ kept_frames keep outer
 
 -- frames of which an open sequence is kept have one
-pub in_seq_parts : (keep : Keep) (fs : List Frame) (us : Elements) (rest : List Frame) → kept_frames keep fs ≡ in_seq us ∷ rest → InSeq keep fs us rest
+pub in_seq_parts : (keep : Keep) (fs : List Frame) (us : Elements) (rest : List Frame)
+    → kept_frames keep fs ≡ in_seq us ∷ rest → InSeq keep fs us rest
 in_seq_parts keep [] us rest e = cc
 in_seq_parts keep (awaiting ∷ fs) us rest e = cc
 in_seq_parts keep (root u ∷ fs) us rest e = cc
@@ -249,7 +262,8 @@ in_seq_parts keep (at_key ms ∷ fs) us rest e = cc
 in_seq_parts keep (at_value ms key ∷ fs) us rest e = cc
 
 -- frames of which an open mapping is kept have one
-pub in_map_parts : (keep : Keep) (fs : List Frame) (ns : Members) (rest : List Frame) → kept_frames keep fs ≡ at_key ns ∷ rest → InMap keep fs ns rest
+pub in_map_parts : (keep : Keep) (fs : List Frame) (ns : Members) (rest : List Frame)
+    → kept_frames keep fs ≡ at_key ns ∷ rest → InMap keep fs ns rest
 in_map_parts keep [] ns rest e = cc
 in_map_parts keep (awaiting ∷ fs) ns rest e = cc
 in_map_parts keep (root u ∷ fs) ns rest e = cc
@@ -259,7 +273,8 @@ in_map_parts keep (at_key ms ∷ fs) ns rest e = record { members = ms; outer = 
 in_map_parts keep (at_value ms key ∷ fs) ns rest e = cc
 
 -- what is put for a sequence
-seq_value : (keep : Keep) (ts us : Elements) (v : Tree) → us ≡ kept_elements keep ts → v ≡ kept keep (sequence us) → v ≡ kept keep (sequence ts)
+seq_value : (keep : Keep) (ts us : Elements) (v : Tree) → us ≡ kept_elements keep ts → v ≡ kept keep (sequence us)
+    → v ≡ kept keep (sequence ts)
 seq_value keep ts us v e is = is ∙ ap (λ ws. kept keep (sequence ws)) e ∙ seq-kept keep ts
 
 map_value : (keep : Keep) (ms ns : Members) (v : Tree) → ns ≡ kept_members keep ms → v ≡ kept keep (mapping ns) → v ≡ kept keep (mapping ms)
@@ -300,7 +315,8 @@ keys_differ-kept keep no_member = refl
 keys_differ-kept keep (member k t ms) = ap₂ (λ a b. not a && b) (has_key-kept keep k ms) (keys_differ-kept keep ms)
 
 -- the answer is taken together with whether this mapping's keys differ
-pub map_stepped : (keep : Keep) (fs rest new : List Frame) (ns : Members) (v : Tree) (d : Bool) → InMap keep fs ns rest → v ≡ kept keep (mapping ns)
+pub map_stepped : (keep : Keep) (fs rest new : List Frame) (ns : Members) (v : Tree) (d : Bool)
+    → InMap keep fs ns rest → v ≡ kept keep (mapping ns)
     → innermost (value_placed keep v) rest ≡ Some new → d ≡ frames_distinct fs → Stepped keep new (d && keys_differ ns) (after_map_end fs)
 map_stepped keep fs rest new ns v d i is e was =
     let value = map_value keep i.members ns v i.kept_is is in
@@ -346,7 +362,8 @@ map_none keep (at_value ms key ∷ fs) e = refl
 -- ---- the end
 
 -- where a whole tree is kept, so it is in the frames themselves
-pub finished_kept : (keep : Keep) (fs : List Frame) (t : Tree) (d : Bool) → finished_tree (kept_frames keep fs) ≡ Some t → d ≡ frames_distinct fs
+pub finished_kept : (keep : Keep) (fs : List Frame) (t : Tree) (d : Bool)
+    → finished_tree (kept_frames keep fs) ≡ Some t → d ≡ frames_distinct fs
     → Finished keep t d (finished_tree fs)
 finished_kept keep [] t d e h = cc
 finished_kept keep (awaiting ∷ fs) t d e h = cc

@@ -2,9 +2,13 @@
 use Rattle.std.proofs.Common.{◌≡◌, ℕ, Bool, true, false, ◌||◌, List, [], ◌∷◌, ◌++◌, Option, Some, None, append_assoc, refl, sym, ap, ◌∙◌}
 use Rattle.yaml_grammar.specs.Events.{Event}
 use Rattle.yaml_grammar.specs.Trees as trees
-use Rattle.yaml_grammar.specs.Trees.{Tree, Elements, no_element, element, Members, no_member, member, Shape, document_from, document_to, seq_from, seq_to, map_from, map_to, scalar_of, shapes, IsTreeOf}
+use Rattle.yaml_grammar.specs.Trees.{Tree, Elements, no_element, element, Members, no_member, member, Shape}
+use Rattle.yaml_grammar.specs.Trees.{document_from, document_to, seq_from, seq_to, map_from, map_to, scalar_of}
+use Rattle.yaml_grammar.specs.Trees.{shapes, IsTreeOf}
 use Rattle.yaml_tree.specs.Frames.{Frame, awaiting, whole, in_seq, at_key, at_value, elements_and, members_and, frames_with, step}
-use Rattle.yaml_tree.specs.Nested.{Nested, text, sequence, mapping, Values, no_value, value, Pairs, no_pair, pair, nested_shapes, values_shapes, pairs_shapes, has_collection_key, values_have_collection_key, pairs_have_collection_key, HasCollectionKey}
+use Rattle.yaml_tree.specs.Nested.{Nested, text, sequence, mapping, Values, no_value, value, Pairs, no_pair, pair}
+use Rattle.yaml_tree.specs.Nested.{nested_shapes, values_shapes, pairs_shapes, has_collection_key}
+use Rattle.yaml_tree.specs.Nested.{values_have_collection_key, pairs_have_collection_key, HasCollectionKey}
 use Rattle.yaml_tree.proofs.EventLemmas.{run_tree, none_stopped}
 use Rattle.yaml_tree.proofs.FrameLemmas.{run, run-None, join_elements-none, join_members-none, join_elements-one, join_members-one}
 use Rattle.yaml_data.proofs.SeenLemmas.{join_elements, join_members}
@@ -35,11 +39,13 @@ unless true o = None
 unless false o = o
 
 -- the first part has no place, or what follows goes on
-onward : (b c : Bool) (o p : Option (List Frame)) (xs rest : List Shape) → run o xs ≡ run (unless c p) rest → run (unless b o) xs ≡ run (unless (b || c) p) rest
+onward : (b c : Bool) (o p : Option (List Frame)) (xs rest : List Shape) → run o xs ≡ run (unless c p) rest
+    → run (unless b o) xs ≡ run (unless (b || c) p) rest
 onward true c o p xs rest e = run-None xs ∙ sym (run-None rest)
 onward false c o p xs rest e = e
 
-at_step : (b : Bool) (fs : List Frame) (s : Shape) (rest : List Shape) → run (unless b (Some fs)) (s ∷ rest) ≡ run (unless b (step fs s)) rest
+at_step : (b : Bool) (fs : List Frame) (s : Shape) (rest : List Shape)
+    → run (unless b (Some fs)) (s ∷ rest) ≡ run (unless b (step fs s)) rest
 at_step true fs s rest = refl
 at_step false fs s rest = refl
 
@@ -99,7 +105,8 @@ document_run : (es : List Event) (v : Nested) → shapes es ≡ document_from �
 document_run es v are =
     ap (run (Some [])) are ∙ nested_run v (awaiting ∷ []) (document_to ∷ []) ∙ at_end (has_collection_key v)
   where
-    at_end : (b : Bool) → run (unless b (frames_with (awaiting ∷ []) (plain_tree v))) (document_to ∷ []) ≡ unless b (Some (whole (plain_tree v) ∷ []))
+    at_end : (b : Bool) → run (unless b (frames_with (awaiting ∷ []) (plain_tree v))) (document_to ∷ [])
+        ≡ unless b (Some (whole (plain_tree v) ∷ []))
     at_end true = refl
     at_end false = refl
 
@@ -108,10 +115,12 @@ pub collection_key : (es : List Event) (v : Nested) → shapes es ≡ document_f
     → ((t : Tree) → IsTreeOf es t → ⊥) → HasCollectionKey es
 collection_key es v are none = by (has_collection_key v) refl (document_run es v are)
   where
-    by : (b : Bool) → has_collection_key v ≡ b → run (Some []) (shapes es) ≡ unless b (Some (whole (plain_tree v) ∷ [])) → HasCollectionKey es
+    by : (b : Bool) → has_collection_key v ≡ b → run (Some []) (shapes es)
+        ≡ unless b (Some (whole (plain_tree v) ∷ [])) → HasCollectionKey es
     by true h e = record { value = v; are = are; key = h }
     by false h e = absurd (none (plain_tree v) (run_tree es (whole (plain_tree v) ∷ []) (plain_tree v) e refl))
 
 -- and the other way round
 pub collection_key_none : (es : List Event) → HasCollectionKey es → (t : Tree) → IsTreeOf es t → ⊥
-collection_key_none es h = none_stopped es (document_run es h.value h.are ∙ ap (λ b. unless b (Some (whole (plain_tree h.value) ∷ []))) h.key)
+collection_key_none es h = none_stopped es (document_run es h.value h.are
+    ∙ ap (λ b. unless b (Some (whole (plain_tree h.value) ∷ []))) h.key)

@@ -1,5 +1,6 @@
 -- The open parts of src/parts.rt as frames: what is next in them, and what is written before it.
-use Rattle.std.proofs.Common.{◌≡◌, ℕ, suc, ◌+◌, ◌<◌, Bool, true, false, if◌then◌else◌, ◌==◌, List, [], ◌∷◌, ◌++◌, ◌⊎◌, inl, inr, codes, length, refl, sym, ap, ◌∙◌, arith}
+use Rattle.std.proofs.Common.{◌≡◌, ℕ, suc, ◌+◌, ◌<◌, Bool, true, false, if◌then◌else◌, ◌==◌, List, [], ◌∷◌, ◌++◌, ◌⊎◌}
+use Rattle.std.proofs.Common.{inl, inr, codes, length, refl, sym, ap, ◌∙◌, arith}
 use Rattle.std.proofs.lemmas.Bool.{ne_eqb}
 use Rattle.yaml_events.specs.Meant.{event_of}
 use Rattle.yaml_events.specs.declared.event.Event.{Event}
@@ -45,7 +46,8 @@ key_start_of (m ∷ ms) n fs e =
     ap (λ b. line_start b fs) (ne_eqb n 0 (λ none. omega (arith, some, none)))
 
 -- the end of a sequence without elements, and of others
-pub seq_end-empty : (is_empty : Bool) (fs : List Frame) → is_empty ≡ true → empty_line (codes "[]\n") fs ≡ seq_end (in_seq (elements_by is_empty)) fs
+pub seq_end-empty : (is_empty : Bool) (fs : List Frame) → is_empty ≡ true
+    → empty_line (codes "[]\n") fs ≡ seq_end (in_seq (elements_by is_empty)) fs
 seq_end-empty true fs e = refl
 seq_end-empty false fs e = cc
 
@@ -64,13 +66,15 @@ pub map_end-key : (ms : Members) (awaits : Bool) (fs : List Frame) → awaits �
 map_end-key ms false fs some = cc
 map_end-key ms true fs some = refl
 
-pub map_end-filled : (ms : List Key) (awaits : Bool) (fs : List Frame) → (length ms ≡ 0 → ⊥) → [] ≡ map_end (frame_by_next (members_by no_tree ms) awaits) fs
+pub map_end-filled : (ms : List Key) (awaits : Bool) (fs : List Frame) → (length ms ≡ 0 → ⊥)
+    → [] ≡ map_end (frame_by_next (members_by no_tree ms) awaits) fs
 map_end-filled [] awaits fs some = absurd (some refl)
 map_end-filled (m ∷ ms) false fs some = refl
 map_end-filled (m ∷ ms) true fs some = refl
 
 -- the start of a part begins as a value does
-pub start_added : (e : Event) (f : Frame) (fs : List Frame) → (e ≡ DocStart) ⊎ ((e ≡ SeqStart) ⊎ (e ≡ MapStart)) → dash f fs ≡ added (f ∷ fs) (shape (event_of e))
+pub start_added : (e : Event) (f : Frame) (fs : List Frame) → (e ≡ DocStart) ⊎ ((e ≡ SeqStart) ⊎ (e ≡ MapStart))
+    → dash f fs ≡ added (f ∷ fs) (shape (event_of e))
 start_added e f fs (inl is) = sym (ap (λ x. added (f ∷ fs) (shape (event_of x))) is)
 start_added e f fs (inr (inl is)) = sym (ap (λ x. added (f ∷ fs) (shape (event_of x))) is)
 start_added e f fs (inr (inr is)) = sym (ap (λ x. added (f ∷ fs) (shape (event_of x))) is)

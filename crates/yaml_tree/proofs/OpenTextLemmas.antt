@@ -1,13 +1,19 @@
 -- What an event adds to the text of the open parts gives the text of the parts after it.
-use Rattle.std.proofs.Common.{◌≡◌, ℕ, ◌+◌, ◌-◌, if◌then◌else◌, List, [], ◌∷◌, ◌++◌, Option, Some, None, codes, append_assoc, arith, refl, sym, ap, subst, ◌∙◌}
+use Rattle.std.proofs.Common.{◌≡◌, ℕ, ◌+◌, ◌-◌, if◌then◌else◌, List, [], ◌∷◌, ◌++◌, Option, Some, None, codes}
+use Rattle.std.proofs.Common.{append_assoc, arith, refl, sym, ap, subst, ◌∙◌}
 use Rattle.std.proofs.lemmas.List.{append-nil}
-use Rattle.yaml_grammar.specs.Style.{key_lines, lines_at, elements_at, elements_after, lines_after_dash, members_at, members_after, value_at}
+use Rattle.yaml_grammar.specs.Style.{key_lines, lines_at, elements_at, elements_after, lines_after_dash, members_at}
+use Rattle.yaml_grammar.specs.Style.{members_after, value_at}
 use Rattle.yaml_grammar.specs.Texts.{IsText, spaces}
-use Rattle.yaml_grammar.specs.Trees.{Tree, text, sequence, mapping, Elements, no_element, element, Members, no_member, member, Shape, document_from, document_to, seq_from, seq_to, map_from, map_to, scalar_of, IsTextTree, AreTextElements, AreTextMembers}
+use Rattle.yaml_grammar.specs.Trees.{Tree, text, sequence, mapping, Elements, no_element, element, Members, no_member}
+use Rattle.yaml_grammar.specs.Trees.{member, Shape, document_from, document_to, seq_from, seq_to, map_from, map_to}
+use Rattle.yaml_grammar.specs.Trees.{scalar_of, IsTextTree, AreTextElements, AreTextMembers}
 use Rattle.yaml_tree.specs.Kept.{keys, kept_members, kept_frame, kept_frames}
 use Rattle.yaml_tree.specs.Formatting.{indent_after}
-use Rattle.yaml_tree.specs.Frames.{Frame, awaiting, root, whole, in_seq, at_key, at_value, elements_and, members_and, frame_with, frames_with, inside, step, awaits_value}
-use Rattle.yaml_tree.specs.OpenText.{indent_in, opening, empty_line, dash, key_start, scalar_in, seq_end, map_end, added, dash_in, part_lines, text_of, AreTextFrames, BringsText}
+use Rattle.yaml_tree.specs.Frames.{Frame, awaiting, root, whole, in_seq, at_key, at_value, elements_and, members_and}
+use Rattle.yaml_tree.specs.Frames.{frame_with, frames_with, inside, step, awaits_value}
+use Rattle.yaml_tree.specs.OpenText.{indent_in, opening, empty_line, dash, key_start, scalar_in, seq_end, map_end}
+use Rattle.yaml_tree.specs.OpenText.{added, dash_in, part_lines, text_of, AreTextFrames, BringsText}
 
 -- ---- one more at the end
 
@@ -76,7 +82,8 @@ put_lines (root u) fs t = tt
 put_lines (whole u) fs t = tt
 put_lines (in_seq no_element) fs t = first_element (opening fs) (codes "- ") (lines_after_dash t (indent_in fs))
 put_lines (in_seq (element u us)) fs t =
-    one_more (opening fs) (elements_at (element u us) (indent_in fs)) (spaces (indent_in fs) ++ codes "- ") (lines_after_dash t (indent_in fs))
+    one_more (opening fs) (elements_at (element u us) (indent_in fs)) (spaces (indent_in fs) ++ codes "- ")
+    (lines_after_dash t (indent_in fs))
     (elements_at (element u (elements_and us t)) (indent_in fs)) (elements_at-and u us t (indent_in fs))
 put_lines (at_key no_member) fs (text key) = refl
 put_lines (at_key (member k u ms)) fs (text key) = refl
@@ -93,7 +100,8 @@ put_lines (at_value (member k u ms) key) fs t =
 
 -- it has added what it adds as a value
 seq_ended : (f : Frame) (fs : List Frame) (ts : Elements)
-    → AreLines (frame_with f (sequence ts)) fs (part_lines f fs ++ (dash f fs ++ part_lines (in_seq ts) (f ∷ fs) ++ seq_end (in_seq ts) (f ∷ fs)))
+    → AreLines (frame_with f (sequence ts)) fs (part_lines f fs
+    ++ (dash f fs ++ part_lines (in_seq ts) (f ∷ fs) ++ seq_end (in_seq ts) (f ∷ fs)))
 seq_ended awaiting fs no_element = refl
 seq_ended awaiting fs (element t ts) = append-nil (elements_at (element t ts) (indent_in fs))
 seq_ended (root u) fs ts = tt
@@ -110,11 +118,13 @@ seq_ended (at_key ms) fs ts = tt
 seq_ended (at_value ms key) fs no_element = put_lines (at_value ms key) fs (sequence no_element)
 seq_ended (at_value ms key) fs (element t ts) =
     let whole = append-nil (codes "\n" ++ spaces (indent_in fs + 2) ++ elements_at (element t ts) (indent_in fs + 2)) in
-    subst (AreLines (frame_with (at_value ms key) (sequence (element t ts))) fs) (ap (λ x. part_lines (at_value ms key) fs ++ x) (sym whole))
+    subst (AreLines (frame_with (at_value ms key) (sequence (element t ts))) fs)
+    (ap (λ x. part_lines (at_value ms key) fs ++ x) (sym whole))
     (put_lines (at_value ms key) fs (sequence (element t ts)))
 
 map_ended : (f : Frame) (fs : List Frame) (ns : Members)
-    → AreLines (frame_with f (mapping ns)) fs (part_lines f fs ++ (dash f fs ++ part_lines (at_key ns) (f ∷ fs) ++ map_end (at_key ns) (f ∷ fs)))
+    → AreLines (frame_with f (mapping ns)) fs (part_lines f fs
+    ++ (dash f fs ++ part_lines (at_key ns) (f ∷ fs) ++ map_end (at_key ns) (f ∷ fs)))
 map_ended awaiting fs no_member = refl
 map_ended awaiting fs (member key t ns) = append-nil (members_at (member key t ns) (indent_in fs))
 map_ended (root u) fs ns = tt
@@ -131,7 +141,8 @@ map_ended (at_key ms) fs ns = tt
 map_ended (at_value ms name) fs no_member = put_lines (at_value ms name) fs (mapping no_member)
 map_ended (at_value ms name) fs (member key t ns) =
     let whole = append-nil (codes "\n" ++ spaces (indent_in fs + 2) ++ members_at (member key t ns) (indent_in fs + 2)) in
-    subst (AreLines (frame_with (at_value ms name) (mapping (member key t ns))) fs) (ap (λ x. part_lines (at_value ms name) fs ++ x) (sym whole))
+    subst (AreLines (frame_with (at_value ms name) (mapping (member key t ns))) fs)
+    (ap (λ x. part_lines (at_value ms name) fs ++ x) (sym whole))
     (put_lines (at_value ms name) fs (mapping (member key t ns)))
 
 -- ---- one event
@@ -156,7 +167,8 @@ closed o fs lines mark more last are =
 opened : (fs : List Frame) (f : Frame) → part_lines f fs ≡ [] → text_of (f ∷ fs) ≡ text_of fs ++ dash_in fs
 opened fs f none = ap (λ x. text_of fs ++ dash_in fs ++ x) none ∙ append-nil (text_of fs ++ dash_in fs)
 
-scalar_put : (f : Frame) (fs : List Frame) (value : List ℕ) → AreLines (frame_with f (text value)) fs (part_lines f fs ++ scalar_in f fs value)
+scalar_put : (f : Frame) (fs : List Frame) (value : List ℕ)
+    → AreLines (frame_with f (text value)) fs (part_lines f fs ++ scalar_in f fs value)
 scalar_put awaiting fs value = put_lines awaiting fs (text value)
 scalar_put (root u) fs value = tt
 scalar_put (whole u) fs value = tt
@@ -200,7 +212,8 @@ step_text (at_key ms ∷ f ∷ fs) map_to =
     (map_ended f fs ms)
 step_text (at_value ms key ∷ fs) map_to = tt
 step_text [] (scalar_of value) = tt
-step_text (f ∷ fs) (scalar_of value) = in_part (frame_with f (text value)) fs (part_lines f fs) (scalar_in f fs value) (scalar_put f fs value)
+step_text (f ∷ fs) (scalar_of value) = in_part (frame_with f (text value)) fs (part_lines f fs) (scalar_in f fs value)
+    (scalar_put f fs value)
 
 -- ---- what an event adds doesn't go by the values in the parts
 
@@ -262,7 +275,8 @@ map_end-kept (at_key no_member) fs = empty_line-kept (codes "{}\n") fs
 map_end-kept (at_key (member key t ms)) fs = refl
 map_end-kept (at_value ms key) fs = refl
 
-scalar_in-kept : (f : Frame) (fs : List Frame) (value : List ℕ) → scalar_in (kept_frame keys f) (kept_frames keys fs) value ≡ scalar_in f fs value
+scalar_in-kept : (f : Frame) (fs : List Frame) (value : List ℕ)
+    → scalar_in (kept_frame keys f) (kept_frames keys fs) value ≡ scalar_in f fs value
 scalar_in-kept awaiting fs value = ap (λ i. lines_at (text value) i) (indent_in-kept fs)
 scalar_in-kept (root t) fs value = refl
 scalar_in-kept (whole t) fs value = refl
@@ -291,7 +305,8 @@ elements_and-texts : (ts : Elements) (u : Tree) → AreTextElements ts → IsTex
 elements_and-texts no_element u h k = (k, tt)
 elements_and-texts (element t ts) u h k = (h.0, elements_and-texts ts u h.1 k)
 
-members_and-texts : (ms : Members) (key : List ℕ) (u : Tree) → AreTextMembers ms → IsText key → IsTextTree u → AreTextMembers (members_and ms key u)
+members_and-texts : (ms : Members) (key : List ℕ) (u : Tree) → AreTextMembers ms → IsText key → IsTextTree u
+    → AreTextMembers (members_and ms key u)
 members_and-texts no_member key u h k l = (k, l, tt)
 members_and-texts (member name t ms) key u h k l = (h.0, h.1, members_and-texts ms key u h.2 k l)
 

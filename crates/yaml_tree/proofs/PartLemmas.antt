@@ -27,7 +27,8 @@ members_by-and tree [] m = refl
 members_by-and tree (n ∷ ms) m = ap (grammar.member (chars (text_bytes n.0)) (tree n.1)) (members_by-and tree ms m)
 
 -- with another value of the last key
-pub members_by-last : {V : Type 0} (tree : V → grammar.Tree) (ms : List (Text × V)) (n : ℕ) (m : Text × V) (v : V) → length ms ≡ suc n → m ≡ get_or ms n m
+pub members_by-last : {V : Type 0} (tree : V → grammar.Tree) (ms : List (Text × V)) (n : ℕ) (m : Text × V) (v : V)
+    → length ms ≡ suc n → m ≡ get_or ms n m
     → members_by tree (set ms n (m.0, v)) ≡ with_last (members_by tree ms) (tree v)
 members_by-last tree [] n m v h is = absurd (omega (arith, h))
 members_by-last tree (x ∷ []) zero m v h is = ap (λ (y : Text × _). grammar.member (chars (text_bytes y.0)) (tree v) grammar.no_member) is
@@ -47,7 +48,8 @@ has_key-by : {V : Type 0} (tree : V → grammar.Tree) (key : List ℕ) (ms : Lis
 has_key-by tree key [] = refl
 has_key-by tree key (m ∷ ms) = ap (λ b. same_text key (chars (text_bytes m.0)) || b) (has_key-by tree key ms)
 
-pub keys_differ-by : {V : Type 0} (tree : V → grammar.Tree) (ms : List (Text × V)) → keys_differ (key_members ms) ≡ keys_differ (members_by tree ms)
+pub keys_differ-by : {V : Type 0} (tree : V → grammar.Tree) (ms : List (Text × V))
+    → keys_differ (key_members ms) ≡ keys_differ (members_by tree ms)
 keys_differ-by tree [] = refl
 keys_differ-by tree (m ∷ ms) = ap₂ (λ a b. not a && b) (has_key-by tree (chars (text_bytes m.0)) ms) (keys_differ-by tree ms)
 
@@ -61,7 +63,8 @@ pub part_frames-push : {V E : Type 0} (tree : V → grammar.Tree) (elements : E 
     → part_frames tree elements (ps ++ p ∷ []) ≡ part_frame tree elements p ∷ part_frames tree elements ps
 part_frames-push tree elements ps p = frames_onto-push (part_frame tree elements) ps p []
 
-pub open_frames-push : (ps : List (Part (Unit {0}) Emptiness)) (p : Part (Unit {0}) Emptiness) → open_frames (ps ++ p ∷ []) ≡ open_frame p ∷ open_frames ps
+pub open_frames-push : (ps : List (Part (Unit {0}) Emptiness)) (p : Part (Unit {0}) Emptiness)
+    → open_frames (ps ++ p ∷ []) ≡ open_frame p ∷ open_frames ps
 open_frames-push ps p = frames_onto-push open_frame ps p []
 
 -- a document in which something else is open is not finished
@@ -76,6 +79,7 @@ unfinished_onto frame (at_value ms key) [] g fs = refl
 unfinished_onto frame f (p ∷ ps) g fs = unfinished_onto frame f ps (frame p) (g ∷ fs)
 
 -- where another part is open around it, no tree is finished
-pub unfinished : {A : Type 0} (frame : A → Frame) (f : Frame) (ps : List A) → 0 < length ps → finished_tree (f ∷ frames_onto frame ps []) ≡ None
+pub unfinished : {A : Type 0} (frame : A → Frame) (f : Frame) (ps : List A) → 0 < length ps
+    → finished_tree (f ∷ frames_onto frame ps []) ≡ None
 unfinished frame f [] h = absurd (omega arith)
 unfinished frame f (p ∷ ps) h = unfinished_onto frame f ps (frame p) []

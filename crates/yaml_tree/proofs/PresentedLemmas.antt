@@ -3,18 +3,22 @@ use Rattle.std.proofs.Common.{◌≡◌, ℕ, true, false, List, [], ◌∷◌, 
 use Rattle.std.specs.Prelude.{suc}
 use Rattle.std.proofs.lemmas.List.{append-nil}
 use Rattle.yaml_grammar.specs.BlockNodes as blocks
-use Rattle.yaml_grammar.specs.BlockNodes.{Node, Items, Pair, Indented, node_events, items_events, pairs_events, pair_events, indented_events}
+use Rattle.yaml_grammar.specs.BlockNodes.{Node, Items, Pair, Indented, node_events, items_events, pairs_events}
+use Rattle.yaml_grammar.specs.BlockNodes.{pair_events, indented_events}
 use Rattle.yaml_grammar.specs.BlockScalars.{block_value}
 use Rattle.yaml_grammar.specs.Events.{Event, seq_end, map_end, document_end, as_seq, as_map, as_document}
 use Rattle.yaml_grammar.specs.FlowNodes as flows
 use Rattle.yaml_grammar.specs.FlowNodes.{Flow, Entries, Entry, Value, flow_events, entries_events, entry_events, value_events}
 use Rattle.yaml_grammar.specs.FlowScalars.{scalar_value}
 use Rattle.yaml_grammar.specs.Reads.{Reads}
-use Rattle.yaml_grammar.specs.Streams.{Explicit, content, nothing, Document, bare, explicit, directed, Part, suffixes, line, further, Stream, explicit_events, document_events, optional_document_events, part_events, parts_events, stream_events}
+use Rattle.yaml_grammar.specs.Streams.{Explicit, content, nothing, Document, bare, explicit, directed, Part, suffixes}
+use Rattle.yaml_grammar.specs.Streams.{line, further, Stream, explicit_events, document_events}
+use Rattle.yaml_grammar.specs.Streams.{optional_document_events, part_events, parts_events, stream_events}
 use Rattle.yaml_grammar.specs.Trees.{Shape, document_from, document_to, seq_from, seq_to, map_from, map_to, shape, shapes}
 use Rattle.yaml_tree.specs.Reading.{document_count}
 use Rattle.yaml_tree.proofs.StartLemmas.{starts, starts_counted, nested_starts}
-use Rattle.yaml_tree.specs.Nested.{Nested, text, sequence, mapping, Values, no_value, value, Pairs, no_pair, pair, nested_shapes, values_shapes, pairs_shapes}
+use Rattle.yaml_tree.specs.Nested.{Nested, text, sequence, mapping, Values, no_value, value, Pairs, no_pair, pair}
+use Rattle.yaml_tree.specs.Nested.{nested_shapes, values_shapes, pairs_shapes}
 
 -- the shapes of two lists of events, one after the other
 pub shapes-append : (xs ys : List Event) → shapes (xs ++ ys) ≡ shapes xs ++ shapes ys
@@ -57,7 +61,8 @@ abbrev mutual
 two_shapes : (xs ys : List Event) (k v : Nested) (ps : Pairs) → shapes xs ≡ nested_shapes k → shapes ys ≡ nested_shapes v
     → shapes (xs ++ ys) ++ pairs_shapes ps ≡ pairs_shapes (pair k v ps)
 two_shapes xs ys k v ps e f =
-    ap (λ ss. ss ++ pairs_shapes ps) (shapes-append xs ys ∙ ap₂ (λ ss ts. ss ++ ts) e f) ∙ append_assoc (nested_shapes k) (nested_shapes v) (pairs_shapes ps)
+    ap (λ ss. ss ++ pairs_shapes ps) (shapes-append xs ys ∙ ap₂ (λ ss ts. ss ++ ts) e f)
+    ∙ append_assoc (nested_shapes k) (nested_shapes v) (pairs_shapes ps)
 
 -- a mapping of one pair
 one_pair : (xs ys : List Event) (k v : Nested) → shapes xs ≡ nested_shapes k → shapes ys ≡ nested_shapes v
@@ -92,7 +97,8 @@ mutual
   map_entries flows.none at = refl
   map_entries (flows.last e gap) at = sym (append-nil (shapes (entry_events e false at))) ∙ map_entry e at no_pair
   map_entries (flows.next e before after es) at =
-      shapes-append (entry_events e false at) _ ∙ ap (λ ss. shapes (entry_events e false at) ++ ss) (map_entries es _) ∙ map_entry e at (map_pairs es)
+      shapes-append (entry_events e false at) _ ∙ ap (λ ss. shapes (entry_events e false at) ++ ss) (map_entries es _)
+      ∙ map_entry e at (map_pairs es)
 
   seq_entry : (e : Entry) (at : ℕ) → shapes (entry_events e true at) ≡ nested_shapes (entry_value e)
   seq_entry (flows.entry None key flows.absent) at = flow_shapes key _
@@ -147,12 +153,14 @@ mutual
 
   items_shapes : (is : Items) (k at : ℕ) → shapes (items_events is k at) ≡ values_shapes (items_values is)
   items_shapes (blocks.item i) k at = indented_shapes i k _ ∙ sym (append-nil (nested_shapes (indented_value i)))
-  items_shapes (blocks.item_and i is) k at = values_more _ _ (indented_value i) (items_values is) (indented_shapes i k _) (items_shapes is k _)
+  items_shapes (blocks.item_and i is) k at = values_more _ _ (indented_value i) (items_values is)
+      (indented_shapes i k _) (items_shapes is k _)
 
   block_pairs_shapes : (ps : blocks.Pairs) (k at : ℕ) → shapes (pairs_events ps k at) ≡ pairs_shapes (pairs_values ps)
   block_pairs_shapes (blocks.pair p) k at = sym (append-nil (shapes (pair_events p k at))) ∙ pair_shapes p k at no_pair
   block_pairs_shapes (blocks.pair_and p ps) k at =
-      shapes-append (pair_events p k at) _ ∙ ap (λ ss. shapes (pair_events p k at) ++ ss) (block_pairs_shapes ps k _) ∙ pair_shapes p k at (pairs_values ps)
+      shapes-append (pair_events p k at) _ ∙ ap (λ ss. shapes (pair_events p k at) ++ ss) (block_pairs_shapes ps k _)
+      ∙ pair_shapes p k at (pairs_values ps)
 
   pair_shapes : (p : Pair) (k at : ℕ) (rest : Pairs) → shapes (pair_events p k at) ++ pairs_shapes rest ≡ pairs_shapes (pair_onto p rest)
   pair_shapes (blocks.asked key v) k at rest =
@@ -226,11 +234,13 @@ part_shapes (further x) at = explicit_shapes x at
 parts_shapes : (ps : List Part) (at : ℕ) → shapes (parts_events ps at) ≡ documents_shapes (parts_values ps)
 parts_shapes [] at = refl
 parts_shapes (p ∷ ps) at =
-    shapes-append (part_events p at) _ ∙ ap₂ (λ ss ts. ss ++ ts) (part_shapes p at) (parts_shapes ps _) ∙ sym (documents-append (part_values p) (parts_values ps))
+    shapes-append (part_events p at) _ ∙ ap₂ (λ ss ts. ss ++ ts) (part_shapes p at) (parts_shapes ps _)
+    ∙ sym (documents-append (part_values p) (parts_values ps))
 
 stream_shapes : (s : Stream) → shapes (stream_events s) ≡ documents_shapes (optional_values s.document ++ parts_values s.parts)
 stream_shapes s =
-    shapes-append (optional_document_events s.document _) _ ∙ ap₂ (λ ss ts. ss ++ ts) (optional_shapes s.document _) (parts_shapes s.parts _)
+    shapes-append (optional_document_events s.document _) _
+    ∙ ap₂ (λ ss ts. ss ++ ts) (optional_shapes s.document _) (parts_shapes s.parts _)
     ∙ sym (documents-append (optional_values s.document) (parts_values s.parts))
 
 -- ---- one document

@@ -2,7 +2,9 @@
 use Rattle.std.proofs.Common.{◌≡◌, ℕ, ◌<◌, ◌≤◌, List, sym, subst}
 use Rattle.std.specs.Str.{chars}
 use Rattle.yaml_events.specs.declared.read_fault.ReadFault.{ReadFault}
-use Rattle.yaml_events.specs.declared.read_fault.ReadFault.TheVariants.{TooLong, NotUtf8, Syntax, Documents, KeyNotText, KeyTwice, TooDeep, LargeInStyle, OutOfMemory}
+use Rattle.yaml_events.specs.declared.read_fault.ReadFault.TheVariants.{TooLong, NotUtf8, Syntax, Documents}
+use Rattle.yaml_events.specs.declared.read_fault.ReadFault.TheVariants.{KeyNotText, KeyTwice, TooDeep, LargeInStyle}
+use Rattle.yaml_events.specs.declared.read_fault.ReadFault.TheVariants.{OutOfMemory}
 use Rattle.yaml_docs.specs.Reading.{ReadsAs}
 use Rattle.yaml_events.specs.Meant.{events_of}
 use Rattle.yaml_events.specs.declared.event.Event.{Event}
@@ -15,7 +17,8 @@ use Rattle.yaml_tree.proofs.NestedLemmas.{collection_key}
 use Rattle.yaml_tree.proofs.PresentedLemmas.{document_nested}
 
 -- a good tree whose events the bytes read as is given by the bytes
-pub tree_read : (bytes : List ℕ) (limits : Limits) (es : List Event) (t : Tree) → ReadsAs bytes limits.bytes es → IsTreeOf (events_of es) t → Good t limits
+pub tree_read : (bytes : List ℕ) (limits : Limits) (es : List Event) (t : Tree) → ReadsAs bytes limits.bytes es
+    → IsTreeOf (events_of es) t → Good t limits
     → IsRead bytes limits t
 tree_read bytes limits es t reads is good = record {
   utf8 = reads.text.utf8;
@@ -41,7 +44,8 @@ key_refused bytes limits es h none =
     (reads.text, events_of es, reads.reads, h.1, collection_key (events_of es) held.value held.are none)
 
 -- a fault of a tree that is not too deep is right for the bytes
-pub shallow_refused : (bytes : List ℕ) (limits : Limits) (es : List Event) (fault : ReadFault) → ReadsAs bytes limits.bytes es → document_count (events_of es) ≡ 1
+pub shallow_refused : (bytes : List ℕ) (limits : Limits) (es : List Event) (fault : ReadFault)
+    → ReadsAs bytes limits.bytes es → document_count (events_of es) ≡ 1
     → HasNoTree (events_of es) fault → Refuses bytes limits fault
 shallow_refused bytes limits es TooLong reads one h = absurd h
 shallow_refused bytes limits es (NotUtf8 at) reads one h = absurd h
@@ -54,7 +58,8 @@ shallow_refused bytes limits es LargeInStyle reads one h = absurd h
 shallow_refused bytes limits es OutOfMemory reads one h = tt
 
 -- a fault of a tree that is too deep is right for the bytes
-pub deep_refused : (bytes : List ℕ) (limits : Limits) (es : List Event) (fault : ReadFault) → ReadsAs bytes limits.bytes es → document_count (events_of es) ≡ 1
+pub deep_refused : (bytes : List ℕ) (limits : Limits) (es : List Event) (fault : ReadFault)
+    → ReadsAs bytes limits.bytes es → document_count (events_of es) ≡ 1
     → ((t : Tree) → IsTreeOf (events_of es) t → limits.depth < depth t) → RefusesDeep (events_of es) fault → Refuses bytes limits fault
 deep_refused bytes limits es TooLong reads one deep h = absurd h
 deep_refused bytes limits es (NotUtf8 at) reads one deep h = absurd h

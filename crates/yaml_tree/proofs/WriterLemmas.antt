@@ -1,5 +1,7 @@
 -- A writer of a document after one event more, and at the end.
-use Rattle.std.proofs.Common.{◌≡◌, ◌≢◌, ℕ, ◌-◌, ◌<◌, ◌≤◌, nat_le, Bool, true, false, if◌then◌else◌, ◌++◌, List, [], ◌∷◌, length, Option, Some, None, Result, Err, ◌↔◌, encode_utf8_all, refl, sym, ap, subst, ◌∙◌, arith}
+use Rattle.std.proofs.Common.{◌≡◌, ◌≢◌, ℕ, ◌-◌, ◌<◌, ◌≤◌, nat_le, Bool, true, false, if◌then◌else◌, ◌++◌, List, []}
+use Rattle.std.proofs.Common.{◌∷◌, length, Option, Some, None, Result, Err, ◌↔◌, encode_utf8_all, refl, sym, ap}
+use Rattle.std.proofs.Common.{subst, ◌∙◌, arith}
 use Rattle.std.proofs.lemmas.Bool.{leb-true, leb-false}
 use Rattle.yaml_events.specs.Meant.{events_of}
 use Rattle.yaml_events.specs.declared.read_fault.ReadFault.{ReadFault}
@@ -38,7 +40,8 @@ begins takes start writer none keeps indent =
 pub wrote : {S : Type 0} (takes : S → List ℕ → S → Type 0)
     → ((a b c : S) (xs ys : List ℕ) → takes a xs b → takes b ys c → takes a (xs ++ ys) c)
     → (start before after : S) (old new : DocumentWriter) (fs : List Frame) (s : Shape) → Writes takes start before old fs
-    → Took keys no_tree (λ items. elements_by items.is_empty) new.parts (step fs s) → new.indent ≡ indent_after old.indent s → new.indent < 4294967296
+    → Took keys no_tree (λ items. elements_by items.is_empty) new.parts (step fs s)
+    → new.indent ≡ indent_after old.indent s → new.indent < 4294967296
     → BringsText (kept_frames keys fs) s → takes before (added (kept_frames keys fs) s) after → Wrote takes start after new (step fs s)
 wrote takes takes_both start before after old new fs s writes took indent room brings put =
     let more = subst (λ cs. takes before cs after) (added-kept fs s) put in
@@ -60,7 +63,8 @@ wrote takes takes_both start before after old new fs s writes took indent room b
     }
 
 -- a document whose tree is finished
-pub is_written : {S : Type 0} (takes : S → List ℕ → S → Type 0) (start now : S) (writer : DocumentWriter) (es : List CodeEvent) (value : Tree) (differ : Bool) (fs : List Frame)
+pub is_written : {S : Type 0} (takes : S → List ℕ → S → Type 0) (start now : S) (writer : DocumentWriter)
+    (es : List CodeEvent) (value : Tree) (differ : Bool) (fs : List Frame)
     → Writes takes start now writer fs → run (Some []) (shapes (events_of es)) ≡ Some fs → Finished keys value differ (finished_tree fs)
     → IsWritten takes start now (events_of es) differ
 is_written takes start now writer es value differ fs writes done has =
@@ -77,7 +81,8 @@ is_written takes start now writer es value differ fs writes done has =
 -- ---- a document that was read
 
 -- it was written
-pub written_to : {S : Type 0} (takes : S → List ℕ → S → Type 0) (bytes : List ℕ) (limits : Limits) (document : Document) (start now : S) (differ : Bool)
+pub written_to : {S : Type 0} (takes : S → List ℕ → S → Type 0) (bytes : List ℕ) (limits : Limits)
+    (document : Document) (start now : S) (differ : Bool)
     → IsDocument bytes limits document → (written : IsWritten takes start now (events_of document.events) differ) → differ ≡ true
     → document.depth ≤ limits.depth → IsWrittenTo takes bytes limits start now
 written_to takes bytes limits document start now differ is written differs shallow =
@@ -88,10 +93,16 @@ written_to takes bytes limits document start now differ is written differs shall
       deep = subst (λ n. n ≤ limits.depth) (is.as_deep written.tree written.is_tree) shallow;
       long = omega arith;
     } in
-    record { tree = written.tree; reads = tree_read bytes any document.events written.tree is.reads written.is_tree good; text = written.text }
+    record {
+      tree = written.tree;
+      reads = tree_read bytes any document.events written.tree is.reads written.is_tree
+          good;
+      text = written.text;
+    }
 
 -- it has equal keys in a mapping
-pub twice_refused : {S : Type 0} (takes : S → List ℕ → S → Type 0) (bytes : List ℕ) (limits : Limits) (document : Document) (start now : S) (differ : Bool)
+pub twice_refused : {S : Type 0} (takes : S → List ℕ → S → Type 0) (bytes : List ℕ) (limits : Limits)
+    (document : Document) (start now : S) (differ : Bool)
     → IsDocument bytes limits document → IsWritten takes start now (events_of document.events) differ → differ ≡ false
     → RefusesTree bytes limits KeyTwice
 twice_refused takes bytes limits document start now differ is written same = record {
@@ -104,7 +115,8 @@ twice_refused takes bytes limits document start now differ is written same = rec
 }
 
 -- its tree is too deep
-pub depth_refused : {S : Type 0} (takes : S → List ℕ → S → Type 0) (bytes : List ℕ) (limits : Limits) (document : Document) (start now : S) (differ : Bool)
+pub depth_refused : {S : Type 0} (takes : S → List ℕ → S → Type 0) (bytes : List ℕ) (limits : Limits)
+    (document : Document) (start now : S) (differ : Bool)
     → IsDocument bytes limits document → IsWritten takes start now (events_of document.events) differ → differ ≡ true
     → limits.depth < document.depth → RefusesTree bytes limits TooDeep
 depth_refused takes bytes limits document start now differ is written differs deep = record {
@@ -185,7 +197,8 @@ formatted bytes limits start now w limit empty kept =
     let n = byte_len (style_text w.tree) in
     record {
       tree = w.tree;
-      reads = read_within bytes limits w (kept_within limits.style n (room_left now) (w.text.0 ∙ ap (λ left. left_after left n) limit) kept);
+      reads = read_within bytes limits w (kept_within limits.style n (room_left now)
+          (w.text.0 ∙ ap (λ left. left_after left n) limit) kept);
       style = w.text.1 kept ∙ ap (λ before. before ++ encode_utf8_all (style_text w.tree)) empty;
     }
 

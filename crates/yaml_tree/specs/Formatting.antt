@@ -3,7 +3,8 @@ use Rattle.std.specs.Prelude.{◌≡◌, ℕ, ◌<◌, Bool, List, Option, Some,
 use Rattle.yaml_grammar.specs.Events.{Event}
 use Rattle.yaml_grammar.specs.Reads.{Limits}
 use Rattle.yaml_grammar.specs.Style.{style_text}
-use Rattle.yaml_grammar.specs.Trees.{Tree, IsTreeOf, IsTextTree, distinct, Shape, document_from, document_to, seq_from, seq_to, map_from, map_to, scalar_of}
+use Rattle.yaml_grammar.specs.Trees.{Tree, IsTreeOf, IsTextTree, distinct, Shape, document_from, document_to}
+use Rattle.yaml_grammar.specs.Trees.{seq_from, seq_to, map_from, map_to, scalar_of}
 use Rattle.yaml_tree.specs.OpenParts.{HoldsKeys}
 use Rattle.yaml_tree.specs.Frames.{Frame}
 use Rattle.yaml_tree.specs.OpenText.{indent_in, text_of, AreTextFrames}

@@ -7,7 +7,9 @@ use Rattle.yaml_grammar.specs.Reads.{Limits, Reads, Gives}
 use Rattle.yaml_grammar.specs.Trees.{Tree, IsTreeOf}
 use Rattle.yaml_docs.specs.Reading.{IsShortText}
 use Rattle.yaml_events.specs.declared.read_fault.ReadFault.{ReadFault}
-use Rattle.yaml_events.specs.declared.read_fault.ReadFault.TheVariants.{TooLong, NotUtf8, Syntax, Documents, KeyNotText, KeyTwice, TooDeep, LargeInStyle, OutOfMemory}
+use Rattle.yaml_events.specs.declared.read_fault.ReadFault.TheVariants.{TooLong, NotUtf8, Syntax, Documents}
+use Rattle.yaml_events.specs.declared.read_fault.ReadFault.TheVariants.{KeyNotText, KeyTwice, TooDeep, LargeInStyle}
+use Rattle.yaml_events.specs.declared.read_fault.ReadFault.TheVariants.{OutOfMemory}
 use Rattle.yaml_config.specs.Kept.{IsFirstFault}
 use Rattle.yaml_tree.specs.Nested.{HasCollectionKey}
 

@@ -1,5 +1,6 @@
 -- Tests of the bytes of a block at once, and of all bytes by blocks.
-use Rattle.std.proofs.Common.{◌≡◌, ℕ, ◌+◌, ◌-◌, ◌*◌, ◌%◌, ◌^◌, ◌≤◌, ◌==◌, Bool, true, false, not, cond, ◌&&◌, List, [], ◌∷◌, ◌++◌, map, length, take, drop, Fits, w8, refl, sym, ap, ap₂, ◌∙◌, subst, arith}
+use Rattle.std.proofs.Common.{◌≡◌, ℕ, ◌+◌, ◌-◌, ◌*◌, ◌%◌, ◌^◌, ◌≤◌, ◌==◌, Bool, true, false, not, cond, ◌&&◌, List}
+use Rattle.std.proofs.Common.{[], ◌∷◌, ◌++◌, map, length, take, drop, Fits, w8, refl, sym, ap, ap₂, ◌∙◌, subst, arith}
 use Rattle.std.proofs.Math.Seq.{take-add}
 use Rattle.std.proofs.lemmas.Bool.{agree_below, agree_below_at, and_parts}
 use Rattle.std.proofs.lemmas.Bool.Decides.{nat_tests}
@@ -38,15 +39,18 @@ pub lanes_pass : (p : ℕ → Bool) (block lanes : List ℕ) → length block �
     → (mask_l (map (top 7) lanes) % 2 ^ 64 == 0) ≡ list_all p block
 lanes_pass p block lanes few fits f each agree =
     let set : ℕ → Bool = λ x. top 7 (f x) in
-    let mask = ap (λ bits. mask_l bits % 2 ^ 64) (ap (map (top 7)) each ∙ map-map (top 7) f block) ∙ mask_l-mod (map set block) 64 (omega (arith, length-map block set, few)) in
+    let mask = ap (λ bits. mask_l bits % 2 ^ 64) (ap (map (top 7)) each ∙ map-map (top 7) f block)
+    ∙ mask_l-mod (map set block) 64 (omega (arith, length-map block set, few)) in
     ap (λ m. m == 0) mask ∙ no_bit set block ∙ same_of_bytes (λ x. not (set x)) p agree block fits
 
 -- ---- blocks of a list
 
 -- one block after those that pass
-pub one_more : (p : ℕ → Bool) (xs : List ℕ) (at n : ℕ) → list_all p (take at xs) ≡ true → list_all p (take (at + n) xs) ≡ list_all p (chunk at n xs)
+pub one_more : (p : ℕ → Bool) (xs : List ℕ) (at n : ℕ) → list_all p (take at xs) ≡ true
+    → list_all p (take (at + n) xs) ≡ list_all p (chunk at n xs)
 one_more p xs at n passed =
-    ap (list_all p) (take-add at n xs) ∙ list_all-append p (take at xs) (take n (drop at xs)) ∙ ap (λ b. b && list_all p (take n (drop at xs))) passed
+    ap (list_all p) (take-add at n xs) ∙ list_all-append p (take at xs) (take n (drop at xs))
+    ∙ ap (λ b. b && list_all p (take n (drop at xs))) passed
 
 second_false : (a b : Bool) → b ≡ false → (a && b) ≡ false
 second_false true b e = e

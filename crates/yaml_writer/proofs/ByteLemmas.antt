@@ -1,5 +1,6 @@
 -- Lengths in bytes.
-use Rattle.std.proofs.Common.{◌≡◌, ℕ, zero, suc, List, [], ◌∷◌, length, length-append, IsUtf8, encode_utf8, encode_utf8_all, refl, ap, ◌∙◌, arith}
+use Rattle.std.proofs.Common.{◌≡◌, ℕ, zero, suc, List, [], ◌∷◌, length, length-append, IsUtf8, encode_utf8}
+use Rattle.std.proofs.Common.{encode_utf8_all, refl, ap, ◌∙◌, arith}
 use Rattle.std.proofs.lemmas.Str.{length-encode, encodes-chars}
 use Rattle.std.specs.Str.{chars}
 use Rattle.yaml_grammar.specs.Texts.{byte_len, spaces}

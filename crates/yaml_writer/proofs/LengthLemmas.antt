@@ -1,10 +1,15 @@
 -- Each level of a tree has at least two characters in the one style.
-use Rattle.std.proofs.Common.{◌≡◌, ℕ, zero, suc, ◌+◌, ◌*◌, ◌≤◌, Bool, true, false, if◌then◌else◌, List, [], ◌∷◌, ◌++◌, length, length-append, codes, refl, arith}
+use Rattle.std.proofs.Common.{◌≡◌, ℕ, zero, suc, ◌+◌, ◌*◌, ◌≤◌, Bool, true, false, if◌then◌else◌, List, [], ◌∷◌, ◌++◌}
+use Rattle.std.proofs.Common.{length, length-append, codes, refl, arith}
 use Rattle.std.proofs.lemmas.Str.{len_utf8_bounds}
 use Rattle.std.proofs.lemmas.Bool.{and_parts}
 use Rattle.yaml_grammar.specs.Texts.{byte_len, spaces, first}
-use Rattle.yaml_grammar.specs.Trees.{Tree, text, sequence, mapping, Elements, no_element, element, Members, no_member, member, depth, elements_depth, members_depth}
-use Rattle.yaml_grammar.specs.Style.{letter, plain_in_style, literal_in_style, in_double_quotes, quoted_chars, literal_mark, literal_lines, feeds_at_end, scalar_lines, key_text, long_key, key_lines, elements_at, elements_after, lines_after_dash, members_at, members_after, value_at, style_text}
+use Rattle.yaml_grammar.specs.Trees.{Tree, text, sequence, mapping, Elements, no_element, element, Members, no_member}
+use Rattle.yaml_grammar.specs.Trees.{member, depth, elements_depth, members_depth}
+use Rattle.yaml_grammar.specs.Style.{letter, plain_in_style, literal_in_style, in_double_quotes, quoted_chars}
+use Rattle.yaml_grammar.specs.Style.{literal_mark, literal_lines, feeds_at_end, scalar_lines, key_text, long_key}
+use Rattle.yaml_grammar.specs.Style.{key_lines, elements_at, elements_after, lines_after_dash, members_at}
+use Rattle.yaml_grammar.specs.Style.{members_after, value_at, style_text}
 
 -- a text has at least as many bytes as characters
 pub length-byte_len : (cs : List ℕ) → length cs ≤ byte_len cs

@@ -1,5 +1,6 @@
 -- A text is cut at its first line feed.
-use Rattle.std.proofs.Common.{◌≡◌, ℕ, zero, suc, ◌+◌, ◌-◌, ◌<◌, ◌≤◌, Bool, true, not, ◌==◌, List, [], ◌∷◌, ◌++◌, length, take, drop, slice_index, IsUtf8, sym, ap, ap₂, ◌∙◌, subst, arith, slice_range}
+use Rattle.std.proofs.Common.{◌≡◌, ℕ, zero, suc, ◌+◌, ◌-◌, ◌<◌, ◌≤◌, Bool, true, not, ◌==◌, List, [], ◌∷◌, ◌++◌}
+use Rattle.std.proofs.Common.{length, take, drop, slice_index, IsUtf8, sym, ap, ap₂, ◌∙◌, subst, arith, slice_range}
 use Rattle.std.proofs.lemmas.Bool.{and_parts, not-true, not_from_false, false_from_ne_true, eqb-true}
 use Rattle.std.proofs.lemmas.Bool.Decides.{nat_tests}
 use Rattle.std.specs.List.{list_all}
@@ -23,7 +24,8 @@ all_feedless [] e = tt
 all_feedless (c ∷ cs) e = let p = and_parts (feedless c) (list_all feedless cs) e in (not-true (c == line_feed) p.0, all_feedless cs p.1)
 
 -- bytes without a line feed are one line of characters
-pub one_line_from_bytes : (bs : List ℕ) → IsUtf8 bs → ((k : ℕ) → 0 ≤ k → k < length bs → (slice_index bs k == line_feed) ≡ true → ⊥) → IsOneLine (chars bs)
+pub one_line_from_bytes : (bs : List ℕ) → IsUtf8 bs
+    → ((k : ℕ) → 0 ≤ k → k < length bs → (slice_index bs k == line_feed) ≡ true → ⊥) → IsOneLine (chars bs)
 one_line_from_bytes bs utf8 none =
     all_feedless (chars bs)
     (test-chars feedless bs blind-feedless utf8 (λ k l. not_from_false _ (false_from_ne_true _ (none k (omega arith) l))))

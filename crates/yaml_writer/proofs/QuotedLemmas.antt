@@ -1,5 +1,6 @@
 -- What is between double quotes.
-use Rattle.std.proofs.Common.{◌≡◌, ℕ, ◌+◌, ◌-◌, subst, ◌/◌, ◌%◌, ◌<◌, ◌≤◌, true, List, [], ◌∷◌, ◌++◌, codes, length, take, drop, IsUtf8, encode_utf8, refl, sym, ap, ap₂, ◌∙◌, append_assoc, arith}
+use Rattle.std.proofs.Common.{◌≡◌, ℕ, ◌+◌, ◌-◌, subst, ◌/◌, ◌%◌, ◌<◌, ◌≤◌, true, List, [], ◌∷◌, ◌++◌, codes, length}
+use Rattle.std.proofs.Common.{take, drop, IsUtf8, encode_utf8, refl, sym, ap, ap₂, ◌∙◌, append_assoc, arith}
 use Rattle.std.proofs.Math.Seq.{take-add}
 use Rattle.std.proofs.lemmas.List.Folds.{list_all-append}
 use Rattle.std.proofs.lemmas.List.{take-append-drop}
@@ -64,7 +65,8 @@ pub run_IsUtf8 : (bs : List ℕ) → list_all stands_alone bs ≡ true → IsUtf
 run_IsUtf8 bs alone = IsUtf8-from_ascii bs (every-IsAscii stands_alone stands_alone-below bs alone)
 
 -- a run of such characters at the start of bytes is written as it is
-pub spelled_run : {one : ℕ → List ℕ} {all : List ℕ → List ℕ} → Spells one all → (bs : List ℕ) (n : ℕ) → list_all stands_alone (take n bs) ≡ true
+pub spelled_run : {one : ℕ → List ℕ} {all : List ℕ → List ℕ} → Spells one all → (bs : List ℕ) (n : ℕ)
+    → list_all stands_alone (take n bs) ≡ true
     → chars (take n bs) ++ all (chars (drop n bs)) ≡ all (chars bs)
 spelled_run {one} {all} spells bs n alone =
     let same = chars-IsAscii (take n bs) (every-IsAscii stands_alone stands_alone-below (take n bs) alone) in
@@ -74,7 +76,8 @@ spelled_run {one} {all} spells bs n alone =
     ∙ ap (λ cs. all (chars cs)) (take-append-drop n bs)
 
 -- one character is written, and then the rest
-pub spelled_one : {one : ℕ → List ℕ} {all : List ℕ → List ℕ} → Spells one all → (bs rest : List ℕ) (c : ℕ) → IsUtf8 bs → bs ≡ encode_utf8 c ++ rest
+pub spelled_one : {one : ℕ → List ℕ} {all : List ℕ → List ℕ} → Spells one all → (bs rest : List ℕ) (c : ℕ) → IsUtf8 bs
+    → bs ≡ encode_utf8 c ++ rest
     → one c ++ all (chars rest) ≡ all (chars bs)
 spelled_one {one} {all} spells bs rest c utf8 e = sym (spells.more c (chars rest)) ∙ sym (ap all (chars_past_char bs rest c utf8 e))
 
@@ -83,7 +86,8 @@ pub run_boundary : (bs : List ℕ) (n : ℕ) → IsUtf8 bs → n ≤ length bs �
 run_boundary bs n utf8 within alone = IsCharBoundary-from_take bs n utf8 within (run_IsUtf8 (take n bs) alone)
 
 -- a run and sixteen bytes more
-pub alone_more : (bs : List ℕ) (n : ℕ) → list_all stands_alone (take n bs) ≡ true → list_all stands_alone (take (n + 16 - n) (drop n bs)) ≡ true
+pub alone_more : (bs : List ℕ) (n : ℕ) → list_all stands_alone (take n bs) ≡ true
+    → list_all stands_alone (take (n + 16 - n) (drop n bs)) ≡ true
     → list_all stands_alone (take (n + 16) bs) ≡ true
 alone_more bs n first more =
     let sixteen : n + 16 - n ≡ 16 = omega arith in

@@ -1,5 +1,7 @@
 -- The tests by which a scalar's style is chosen.
-use Rattle.std.proofs.Common.{◌≡◌, ℕ, suc, ◌+◌, ◌<◌, Bool, true, false, ◌==◌, ◌&&◌, ◌||◌, not, nat_le, if◌then◌else◌, List, [], ◌∷◌, ◌++◌, length, length-append, get_or, take, map, IsUtf8, encode_utf8_all, refl, sym, ap, ap₂, ◌∙◌, subst, lit<, arith}
+use Rattle.std.proofs.Common.{◌≡◌, ℕ, suc, ◌+◌, ◌<◌, Bool, true, false, ◌==◌, ◌&&◌, ◌||◌, not, nat_le, if◌then◌else◌}
+use Rattle.std.proofs.Common.{List, [], ◌∷◌, ◌++◌, length, length-append, get_or, take, map, IsUtf8, encode_utf8_all}
+use Rattle.std.proofs.Common.{refl, sym, ap, ap₂, ◌∙◌, subst, lit<, arith}
 use Rattle.std.proofs.Math.Seq.{take-append_seam, get_or-append_seam}
 use Rattle.std.proofs.lemmas.Bool.{and_from, and_parts, eqb-true}
 use Rattle.std.proofs.lemmas.Bool.Decides.{nat_tests}
@@ -38,7 +40,8 @@ long-not-plain bs utf8 long =
           let same : cs ≡ bs = chars-same bs utf8 (every-IsAscii word_char word_char-below cs all) in
           let many : nat_le (length cs) 128 ≡ false = ap (λ ds. nat_le (length ds) 128) same ∙ grind (arith, nat_tests, long) in
           ap (λ b. first letter cs && list_all word_char cs && b && rest) many ∙ third-false (first letter cs) (list_all word_char cs) rest
-      | false ↦ λ none. ap (λ b. first letter cs && b && nat_le (length cs) 128 && rest) none ∙ second-false (first letter cs) (nat_le (length cs) 128) rest
+      | false ↦ λ none. ap (λ b. first letter cs && b && nat_le (length cs) 128 && rest) none
+          ∙ second-false (first letter cs) (nat_le (length cs) 128) rest
     ]) refl
 
 ascii_in_lines-below : (c : ℕ) → ascii_in_lines c ≡ true → c < 128
@@ -56,7 +59,8 @@ all_shown (c ∷ cs) e =
     let parts = and_parts (ascii_in_lines c) (list_all ascii_in_lines cs) e in
     let apart = line_separator ∷ paragraph_separator ∷ byte_order_mark ∷ [] in
     let beyond = nat_le no_break_space c && printable c && not (is_in c apart) in
-    and_from (shown_or_feed c) (list_all shown_or_feed cs) (either_shown (in_range 0x20 0x7e c) (c == line_feed) beyond parts.0) (all_shown cs parts.1)
+    and_from (shown_or_feed c) (list_all shown_or_feed cs)
+    (either_shown (in_range 0x20 0x7e c) (c == line_feed) beyond parts.0) (all_shown cs parts.1)
 
 -- ASCII characters that a literal shows, and line feeds, are shown characters and line feeds
 pub shown-lines : (bs : List ℕ) → IsUtf8 bs → list_all ascii_in_lines bs ≡ true → list_all shown_or_feed (chars bs) ≡ true

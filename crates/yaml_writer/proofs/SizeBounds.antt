@@ -1,15 +1,21 @@
 -- A part has no more indented lines than bytes, so lengths at small indentations are small where the length in the one
 -- style is.
-use Rattle.std.proofs.Common.{◌≡◌, ℕ, zero, suc, ◌+◌, ◌*◌, ◌/◌, ◌%◌, ◌-◌, ◌<◌, ◌≤◌, ◌==◌, ◌||◌, nat_le, nat_lt, Bool, true, false, length, length-append, if◌then◌else◌, List, [], ◌∷◌, ◌++◌, codes, arith}
+use Rattle.std.proofs.Common.{◌≡◌, ℕ, zero, suc, ◌+◌, ◌*◌, ◌/◌, ◌%◌, ◌-◌, ◌<◌, ◌≤◌, ◌==◌, ◌||◌, nat_le, nat_lt, Bool}
+use Rattle.std.proofs.Common.{true, false, length, length-append, if◌then◌else◌, List, [], ◌∷◌, ◌++◌, codes, arith}
 use Rattle.std.proofs.lemmas.Bool.Decides.{nat_tests}
 use Rattle.std.proofs.lemmas.Str.{len_utf8_bounds}
 use Rattle.yaml_chars.specs.Classes.{in_range}
 use Rattle.yaml_chars.specs.Signs.{null, bell, line_feed, carriage_return, escape_char, double_quote, backslash}
 use Rattle.yaml_grammar.specs.Texts.{byte_len, spaces}
 use Rattle.yaml_grammar.specs.Trees.{Tree, text, sequence, mapping, Elements, no_element, element, Members, no_member, member}
-use Rattle.yaml_grammar.specs.Style.{shown as is_shown, hex, letter_escape, quoted_char, quoted_chars, plain_in_style, literal_in_style, in_double_quotes, literal_mark, literal_lines, feeds_at_end, scalar_lines, key_text, long_key, key_lines, elements_at, elements_after, lines_after_dash, members_at, members_after, value_at, style_text}
+use Rattle.yaml_grammar.specs.Style.{shown as is_shown, hex, letter_escape, quoted_char, quoted_chars, plain_in_style}
+use Rattle.yaml_grammar.specs.Style.{literal_in_style, in_double_quotes, literal_mark, literal_lines, feeds_at_end}
+use Rattle.yaml_grammar.specs.Style.{scalar_lines, key_text, long_key, key_lines, elements_at, elements_after}
+use Rattle.yaml_grammar.specs.Style.{lines_after_dash, members_at, members_after, value_at, style_text}
 use Rattle.yaml_writer.specs.BudgetLaws.{byte_len-append}
-use Rattle.yaml_writer.specs.Sizes.{indented_literal_lines, indented_scalar_lines, indented_key_lines, indented, elements_indented, elements_after_indented, members_indented, members_after_indented, value_indented}
+use Rattle.yaml_writer.specs.Sizes.{indented_literal_lines, indented_scalar_lines, indented_key_lines, indented}
+use Rattle.yaml_writer.specs.Sizes.{elements_indented, elements_after_indented, members_indented}
+use Rattle.yaml_writer.specs.Sizes.{members_after_indented, value_indented}
 use Rattle.yaml_writer.proofs.SizeLaws.{three, four, scalar_law, elements_law, members_law}
 
 literal_bound : (fresh : Bool) (cs : List ℕ) → indented_literal_lines fresh cs ≤ byte_len (literal_lines 0 fresh cs)
@@ -30,7 +36,8 @@ scalar_bound value = by (plain_in_style value) (literal_in_style value) (literal
   where
     by : (plain literal : Bool) (mark : List ℕ)
         → (if plain then 0 else if literal then indented_literal_lines true value else 0)
-        ≤ byte_len (if plain then value ++ codes "\n" else if literal then mark ++ codes "\n" ++ literal_lines 0 true value else in_double_quotes value ++ codes "\n")
+        ≤ byte_len (if plain then value ++ codes "\n" else if literal
+        then mark ++ codes "\n" ++ literal_lines 0 true value else in_double_quotes value ++ codes "\n")
     by true literal mark = omega arith
     by false true mark = omega (arith, literal_bound true value, three mark (codes "\n") (literal_lines 0 true value))
     by false false mark = omega arith
@@ -85,7 +92,12 @@ short_key key short = by (length (key_text key)) (text_short (plain_in_style key
     text_short : (plain : Bool) → length (if plain then key else in_double_quotes key) ≤ 1000
     text_short true = omega arith
     text_short false =
-        omega (arith, quoted_chars_short key, length-append (codes "\"" ++ quoted_chars key) (codes "\""), length-append (codes "\"") (quoted_chars key))
+        omega (
+          arith,
+          quoted_chars_short key,
+          length-append (codes "\"" ++ quoted_chars key) (codes "\""),
+          length-append (codes "\"") (quoted_chars key),
+        )
 
     by : (n : ℕ) → n ≤ 1000 → false ≡ nat_lt 1000 n
     by n h = grind (arith, nat_tests)

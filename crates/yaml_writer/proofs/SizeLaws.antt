@@ -1,12 +1,17 @@
 -- The length of a part at any indentation, by its size.
-use Rattle.std.proofs.Common.{◌≡◌, ℕ, zero, suc, ◌+◌, ◌-◌, ◌*◌, ◌==◌, Bool, true, false, if◌then◌else◌, List, [], ◌∷◌, ◌++◌, codes, refl, ap₂, arith}
+use Rattle.std.proofs.Common.{◌≡◌, ℕ, zero, suc, ◌+◌, ◌-◌, ◌*◌, ◌==◌, Bool, true, false, if◌then◌else◌, List, [], ◌∷◌}
+use Rattle.std.proofs.Common.{◌++◌, codes, refl, ap₂, arith}
 use Rattle.yaml_chars.specs.Signs.{line_feed}
 use Rattle.yaml_grammar.specs.Texts.{byte_len, spaces}
 use Rattle.yaml_grammar.specs.Trees.{Tree, text, sequence, mapping, Elements, no_element, element, Members, no_member, member}
-use Rattle.yaml_grammar.specs.Style.{plain_in_style, literal_in_style, in_double_quotes, literal_mark, literal_lines, feeds_at_end, scalar_lines, key_text, long_key, key_lines, elements_at, elements_after, lines_after_dash, members_at, members_after, value_at}
+use Rattle.yaml_grammar.specs.Style.{plain_in_style, literal_in_style, in_double_quotes, literal_mark, literal_lines}
+use Rattle.yaml_grammar.specs.Style.{feeds_at_end, scalar_lines, key_text, long_key, key_lines, elements_at}
+use Rattle.yaml_grammar.specs.Style.{elements_after, lines_after_dash, members_at, members_after, value_at}
 use Rattle.yaml_writer.specs.declared.size.Size.{Size}
 use Rattle.yaml_writer.specs.BudgetLaws.{byte_len-append}
-use Rattle.yaml_writer.specs.Sizes.{indented_literal_lines, indented_scalar_lines, indented_key_lines, indented, elements_indented, elements_after_indented, members_indented, members_after_indented, value_indented}
+use Rattle.yaml_writer.specs.Sizes.{indented_literal_lines, indented_scalar_lines, indented_key_lines, indented}
+use Rattle.yaml_writer.specs.Sizes.{elements_indented, elements_after_indented, members_indented}
+use Rattle.yaml_writer.specs.Sizes.{members_after_indented, value_indented}
 
 -- n spaces have n bytes
 pub spaces_bytes : (n : ℕ) → byte_len (spaces n) ≡ n
@@ -57,16 +62,24 @@ literal_law j fresh (c ∷ cs) = by (c == line_feed) fresh (literal_law j true c
     by false false on off = omega (arith, off)
 
 -- a scalar's text grows by one byte an indented line for each column of indentation
-pub scalar_law : (j : ℕ) (value : List ℕ) → byte_len (scalar_lines j value) ≡ byte_len (scalar_lines 0 value) + j * indented_scalar_lines value
+pub scalar_law : (j : ℕ) (value : List ℕ) → byte_len (scalar_lines j value)
+    ≡ byte_len (scalar_lines 0 value) + j * indented_scalar_lines value
 scalar_law j value = by (plain_in_style value) (literal_in_style value) (literal_mark (feeds_at_end value))
   where
     by : (plain literal : Bool) (mark : List ℕ)
-        → byte_len (if plain then value ++ codes "\n" else if literal then mark ++ codes "\n" ++ literal_lines j true value else in_double_quotes value ++ codes "\n")
-        ≡ byte_len (if plain then value ++ codes "\n" else if literal then mark ++ codes "\n" ++ literal_lines 0 true value else in_double_quotes value ++ codes "\n")
+        → byte_len (if plain then value ++ codes "\n" else if literal
+        then mark ++ codes "\n" ++ literal_lines j true value else in_double_quotes value ++ codes "\n")
+        ≡ byte_len (if plain then value ++ codes "\n" else if literal
+        then mark ++ codes "\n" ++ literal_lines 0 true value else in_double_quotes value ++ codes "\n")
         + j * (if plain then 0 else if literal then indented_literal_lines true value else 0)
     by true literal mark = omega arith
     by false true mark =
-        omega (arith, literal_law j true value, three mark (codes "\n") (literal_lines j true value), three mark (codes "\n") (literal_lines 0 true value))
+        omega (
+          arith,
+          literal_law j true value,
+          three mark (codes "\n") (literal_lines j true value),
+          three mark (codes "\n") (literal_lines 0 true value),
+        )
     by false false mark = omega arith
 
 -- so does a key's
@@ -75,7 +88,8 @@ key_law i key = by (long_key key) (key_text key)
   where
     by : (long : Bool) (shown : List ℕ)
         → byte_len (if long then codes "? " ++ shown ++ codes "\n" ++ spaces i ++ codes ":" else shown ++ codes ":")
-        ≡ byte_len (if long then codes "? " ++ shown ++ codes "\n" ++ spaces 0 ++ codes ":" else shown ++ codes ":") + i * (if long then 1 else 0)
+        ≡ byte_len (if long then codes "? " ++ shown ++ codes "\n" ++ spaces 0 ++ codes ":" else shown ++ codes ":")
+        + i * (if long then 1 else 0)
     by true shown =
         omega (
           arith,

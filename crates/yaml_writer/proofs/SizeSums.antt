@@ -1,17 +1,22 @@
 -- The size of a tree as the sum of its parts' sizes.
-use Rattle.std.proofs.Common.{◌≡◌, ℕ, ◌+◌, ◌*◌, ◌<◌, ◌≤◌, ◌==◌, Bool, true, false, not, if◌then◌else◌, List, [], ◌∷◌, ◌++◌, zero, suc, length, codes, IsUtf8, refl, sym, ap, ◌∙◌, arith}
+use Rattle.std.proofs.Common.{◌≡◌, ℕ, ◌+◌, ◌*◌, ◌<◌, ◌≤◌, ◌==◌, Bool, true, false, not, if◌then◌else◌, List, [], ◌∷◌}
+use Rattle.std.proofs.Common.{◌++◌, zero, suc, length, codes, IsUtf8, refl, sym, ap, ◌∙◌, arith}
 use Rattle.std.proofs.lemmas.Bool.Decides.{nat_tests}
 use Rattle.std.specs.Str.{chars}
 use Rattle.yaml_chars.specs.Signs.{line_feed}
 use Rattle.yaml_grammar.specs.Texts.{byte_len, spaces}
 use Rattle.yaml_grammar.specs.Trees.{Tree, text, sequence, mapping, Elements, no_element, element, Members, no_member, member}
-use Rattle.yaml_grammar.specs.Style.{literal_lines, plain_in_style, literal_in_style, feeds_at_end, scalar_lines, key_text, long_key, key_lines, elements_at, elements_after, lines_after_dash, members_at, members_after, value_at}
+use Rattle.yaml_grammar.specs.Style.{literal_lines, plain_in_style, literal_in_style, feeds_at_end, scalar_lines}
+use Rattle.yaml_grammar.specs.Style.{key_text, long_key, key_lines, elements_at, elements_after, lines_after_dash}
+use Rattle.yaml_grammar.specs.Style.{members_at, members_after, value_at}
 use Rattle.yaml_data.specs.Seen.{Pair, elements_of, members_of}
 use Rattle.yaml_data.specs.declared.tree.Tree as code
 use Rattle.yaml_writer.specs.Lines.{IsOneLine, line_text}
 use Rattle.yaml_writer.specs.ScalarStyles.{literal_style, value_style}
 use Rattle.yaml_writer.specs.BudgetLaws.{byte_len-append}
-use Rattle.yaml_writer.specs.Sizes.{indented_literal_lines, indented_scalar_lines, indented_key_lines, indented, elements_indented, elements_after_indented, members_indented, members_after_indented, is_filled, value_size}
+use Rattle.yaml_writer.specs.Sizes.{indented_literal_lines, indented_scalar_lines, indented_key_lines, indented}
+use Rattle.yaml_writer.specs.Sizes.{elements_indented, elements_after_indented, members_indented}
+use Rattle.yaml_writer.specs.Sizes.{members_after_indented, is_filled, value_size}
 use Rattle.yaml_writer.specs.declared.scalar_style.ScalarStyle.{ScalarStyle}
 use Rattle.yaml_writer.specs.declared.scalar_style.ScalarStyle.TheVariants.{Plain, Double, LiteralStrip, LiteralClip, LiteralKeep}
 use Rattle.yaml_writer.specs.declared.size.Size.{Size}

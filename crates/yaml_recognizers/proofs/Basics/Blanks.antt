@@ -40,7 +40,8 @@ inked_no_break (c ∷ cs) h = both (white c) (line_break c) h
 -- after whitespace there is a break if there is one at once
 pub white_at_break : (blank rest : List ℕ) → list_all white blank ≡ true → at_break (blank ++ rest) ≡ at_break rest
 white_at_break [] rest h = refl
-white_at_break (x ∷ xs) rest h = let p : (white x ≡ true) × (list_all white xs ≡ true) = and_parts _ _ h in rw p.0 (white_at_break xs rest p.1)
+white_at_break (x ∷ xs) rest h = let p : (white x ≡ true) × (list_all white xs ≡ true) = and_parts _ _ h in
+    rw p.0 (white_at_break xs rest p.1)
 
 -- without whitespace at its start, a text is at a break if it starts with one
 pub no_white_at_break : (text : List ℕ) → first white text ≡ false → at_break text ≡ first line_break text

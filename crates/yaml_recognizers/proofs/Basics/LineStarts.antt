@@ -3,7 +3,8 @@ use Rattle.std.proofs.Common.{append_assoc, arith, refl, sym, ◌∙◌, ◌≡�
 use Rattle.std.specs.Prelude.{Bool, List, None, Option, Some, [], false, not, true, ℕ, ◌++◌, ◌+◌, ◌||◌, ◌∷◌}
 use Rattle.std.proofs.lemmas.Bool.{and_parts, false≢true, or_left, or_right}
 use Rattle.yaml_chars.specs.Classes.{line_break}
-use Rattle.yaml_grammar.specs.Separation.{Break, LineEnd, break_text, comment_line_fits, comment_text, comments_fit, comments_text, cr, cr_lf, lf, line_end_text, stop_fits}
+use Rattle.yaml_grammar.specs.Separation.{Break, LineEnd, break_text, comment_line_fits, comment_text, comments_fit}
+use Rattle.yaml_grammar.specs.Separation.{comments_text, cr, cr_lf, lf, line_end_text, stop_fits}
 use Rattle.yaml_grammar.specs.Texts.{byte_len, is_empty, optional, starts_line}
 use Rattle.yaml_recognizers.proofs.Separation.LineEnds.{line_parts}
 
@@ -25,7 +26,8 @@ filled [] rest h = absurd (false≢true h)
 filled (x ∷ xs) rest h = refl
 
 -- comments that fit are no empty text
-pub lines_filled : (bol : Bool) (e : LineEnd) (es : List LineEnd) (after : List ℕ) → comments_fit bol (e ∷ es) after ≡ true → is_empty (comments_text (e ∷ es) ++ after) ≡ false
+pub lines_filled : (bol : Bool) (e : LineEnd) (es : List LineEnd) (after : List ℕ)
+    → comments_fit bol (e ∷ es) after ≡ true → is_empty (comments_text (e ∷ es) ++ after) ≡ false
 lines_filled bol e es after h =
     let some : not (is_empty (line_end_text e)) ≡ true = (and_parts _ _ (and_parts _ _ h).0).0 in
     rw (append_assoc (line_end_text e) (comments_text es) after) (filled (line_end_text e) (comments_text es ++ after) some)
@@ -48,25 +50,31 @@ break_starts bol cr = refl
 break_starts bol cr_lf = refl
 
 -- a line starts after a stop, or the text ends
-pub stop_starts : (bol : Bool) (stop : Option Break) (after : List ℕ) → stop_fits stop after ≡ true → line_or_end (starts_line bol (optional break_text stop)) after ≡ true
+pub stop_starts : (bol : Bool) (stop : Option Break) (after : List ℕ) → stop_fits stop after ≡ true
+    → line_or_end (starts_line bol (optional break_text stop)) after ≡ true
 stop_starts bol None after h = or_right bol _ h
 stop_starts bol (Some b) after h = or_left _ _ (break_starts bol b)
 
 -- a line starts after the end of a line, or the text ends
-pub line_starts : (bol : Bool) (e : LineEnd) (after : List ℕ) → comment_line_fits bol e after ≡ true → line_or_end (starts_line bol (line_end_text e)) after ≡ true
+pub line_starts : (bol : Bool) (e : LineEnd) (after : List ℕ) → comment_line_fits bol e after ≡ true
+    → line_or_end (starts_line bol (line_end_text e)) after ≡ true
 line_starts bol e after h =
-    rw (starts_joined bol (e.blank ++ optional comment_text e.comment) (optional break_text e.stop)) (stop_starts _ e.stop after (line_parts bol e after h).stop_fit)
+    rw (starts_joined bol (e.blank ++ optional comment_text e.comment) (optional break_text e.stop))
+    (stop_starts _ e.stop after (line_parts bol e after h).stop_fit)
 
 -- comments whose first line need not be at the start of a line
-pub comments_at : (bol : Bool) (es : List LineEnd) (after : List ℕ) → comments_fit true es after ≡ true → line_or_end bol (comments_text es ++ after) ≡ true → comments_fit bol es after ≡ true
+pub comments_at : (bol : Bool) (es : List LineEnd) (after : List ℕ) → comments_fit true es after ≡ true
+    → line_or_end bol (comments_text es ++ after) ≡ true → comments_fit bol es after ≡ true
 comments_at true es after h a = h
 comments_at false [] after h a = a
 comments_at false (e ∷ es) after h a = absurd (false≢true (sym (lines_filled true e es after h) ∙ a))
 
 -- a line starts after comments, or the text ends
-pub comments_start : (bol : Bool) (es : List LineEnd) (after : List ℕ) → comments_fit bol es after ≡ true → line_or_end (starts_line bol (comments_text es)) after ≡ true
+pub comments_start : (bol : Bool) (es : List LineEnd) (after : List ℕ) → comments_fit bol es after ≡ true
+    → line_or_end (starts_line bol (comments_text es)) after ≡ true
 comments_start bol [] after h = h
 comments_start bol (e ∷ es) after h =
     let p : (comment_line_fits bol e (comments_text es ++ after) ≡ true) × (comments_fit true es after ≡ true) = and_parts _ _ h in
     let b : Bool = starts_line bol (line_end_text e) in
-    rw (starts_joined bol (line_end_text e) (comments_text es)) (comments_start b es after (comments_at b es after p.1 (line_starts bol e (comments_text es ++ after) p.0)))
+    rw (starts_joined bol (line_end_text e) (comments_text es))
+    (comments_start b es after (comments_at b es after p.1 (line_starts bol e (comments_text es ++ after) p.0)))

@@ -12,13 +12,15 @@ use Rattle.yaml_recognizers.specs.Prefixes.{drop_while, past, take_while}
 pub take_while_all : (p : ℕ → Bool) (xs rest : List ℕ) → list_all p xs ≡ true → first p rest ≡ false → take_while p (xs ++ rest) ≡ xs
 take_while_all p [] [] h f = refl
 take_while_all p [] (c ∷ cs) h f = rw f
-take_while_all p (x ∷ xs) rest h f = let q : (p x ≡ true) × (list_all p xs ≡ true) = and_parts _ _ h in rw q.0 (ap (λ ys. x ∷ ys) (take_while_all p xs rest q.1 f))
+take_while_all p (x ∷ xs) rest h f = let q : (p x ≡ true) × (list_all p xs ≡ true) = and_parts _ _ h in
+    rw q.0 (ap (λ ys. x ∷ ys) (take_while_all p xs rest q.1 f))
 
 -- and what comes after them is left
 pub drop_while_all : (p : ℕ → Bool) (xs rest : List ℕ) → list_all p xs ≡ true → first p rest ≡ false → drop_while p (xs ++ rest) ≡ rest
 drop_while_all p [] [] h f = refl
 drop_while_all p [] (c ∷ cs) h f = rw f
-drop_while_all p (x ∷ xs) rest h f = let q : (p x ≡ true) × (list_all p xs ≡ true) = and_parts _ _ h in rw q.0 (drop_while_all p xs rest q.1 f)
+drop_while_all p (x ∷ xs) rest h f = let q : (p x ≡ true) × (list_all p xs ≡ true) = and_parts _ _ h in
+    rw q.0 (drop_while_all p xs rest q.1 f)
 
 -- a text is its longest such prefix and what is left
 pub take_while_split : (p : ℕ → Bool) (text : List ℕ) → text ≡ take_while p text ++ drop_while p text

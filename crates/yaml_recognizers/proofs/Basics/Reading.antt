@@ -21,7 +21,8 @@ sound_of P None f = tt
 sound_of P (Some r) f = f r refl
 
 -- a recognizer that is sound for one property is sound for a weaker one
-pub sound_to : {A : Type 0} (P Q : A → List ℕ → Type 0) (r : Read A) → Sound P r → ((a : A) (rest : List ℕ) → P a rest → Q a rest) → Sound Q r
+pub sound_to : {A : Type 0} (P Q : A → List ℕ → Type 0) (r : Read A) → Sound P r
+    → ((a : A) (rest : List ℕ) → P a rest → Q a rest) → Sound Q r
 sound_to P Q None s f = tt
 sound_to P Q (Some r) s f = f r.0 r.1 s
 
@@ -34,13 +35,15 @@ pub none_some : {A : Type 0} (x : A) → None ≡ Some x → ⊥
 none_some x h = cc
 
 -- two recognizers in turn return what the second does after the first
-pub on_parts : {A B : Type 0} (r : Read A) (g : A → List ℕ → Read B) (y : B × List ℕ) → on r g ≡ Some y → (a : A) × (t : List ℕ) × (r ≡ Some (a, t)) × (g a t ≡ Some y)
+pub on_parts : {A B : Type 0} (r : Read A) (g : A → List ℕ → Read B) (y : B × List ℕ) → on r g ≡ Some y
+    → (a : A) × (t : List ℕ) × (r ≡ Some (a, t)) × (g a t ≡ Some y)
 on_parts None g y h = absurd (none_some y h)
 on_parts (Some r) g y h = (r.0, r.1, refl, h)
 
 -- equal results have equal parts
 pub some_parts : {A : Type 0} (a b : A) (t u : List ℕ) → ◌≡◌ {A = Read A} (Some (a, t)) (Some (b, u)) → (a ≡ b) × (t ≡ u)
-some_parts {A} a b t u h = let e : ◌≡◌ {A = A × List ℕ} (a, t) (b, u) = cc in (ap (λ (r : A × List ℕ). r.0) e, ap (λ (r : A × List ℕ). r.1) e)
+some_parts {A} a b t u h = let e : ◌≡◌ {A = A × List ℕ} (a, t) (b, u) = cc in
+    (ap (λ (r : A × List ℕ). r.0) e, ap (λ (r : A × List ℕ). r.1) e)
 
 -- the two cases of a choice
 pub chosen : {A : Type 0} (b : Bool) (x y z : A) → cond b x y ≡ z → ((b ≡ true) × (x ≡ z)) ⊎ ((b ≡ false) × (y ≡ z))
@@ -48,7 +51,8 @@ chosen true x y z h = inl (refl, h)
 chosen false x y z h = inr (refl, h)
 
 -- a value that is closed by a character, and that character
-pub closed_parts : {A : Type 0} (x : ℕ) (a : A) (text : List ℕ) (y : A) (rest : List ℕ) → read_closing x a text ≡ Some (y, rest) → (a ≡ y) × (text ≡ x ∷ rest)
+pub closed_parts : {A : Type 0} (x : ℕ) (a : A) (text : List ℕ) (y : A) (rest : List ℕ)
+    → read_closing x a text ≡ Some (y, rest) → (a ≡ y) × (text ≡ x ∷ rest)
 closed_parts x a [] y rest h = absurd (none_some _ h)
 closed_parts x a (c ∷ cs) y rest h = elim (chosen (c == x) _ _ _ h) [
   | inl e ↦ (let p = some_parts a y cs rest e.1 in let i : c ≡ x = eqb-true c x e.0 in let j : cs ≡ rest = p.1 in (p.0, cc))
@@ -63,7 +67,8 @@ if_fits_parts false r y h = absurd (none_some y h)
 -- ---- two recognizers that go on alike
 
 -- two recognizers in turn are the same if the second ones are the same after each result
-pub on_same : {A B : Type 0} (r : Read A) (f g : A → List ℕ → Read B) → ((a : A) (rest : List ℕ) → r ≡ Some (a, rest) → f a rest ≡ g a rest) → on r f ≡ on r g
+pub on_same : {A B : Type 0} (r : Read A) (f g : A → List ℕ → Read B)
+    → ((a : A) (rest : List ℕ) → r ≡ Some (a, rest) → f a rest ≡ g a rest) → on r f ≡ on r g
 on_same None f g h = refl
 on_same (Some r) f g h = h r.0 r.1 refl
 

@@ -29,8 +29,10 @@ repeated_read read spell (x ∷ xs) (suc fuel) after m e =
 -- ---- sound
 
 module _ {A : Type 0} (read : List ℕ → Read A) (P : List ℕ → List A → List ℕ → Type 0) (none : (text : List ℕ) → P text [] text)
-    (step : (text : List ℕ) (a : A) (t : List ℕ) (more : List A) (rest : List ℕ) → read text ≡ Some (a, t) → P t more rest → P text (a ∷ more) rest) where
-  more_sound : (text : List ℕ) (again : List ℕ → List A × List ℕ) (r : Read A) → read text ≡ r → ((t : List ℕ) → P t (again t).0 (again t).1)
+    (step : (text : List ℕ) (a : A) (t : List ℕ) (more : List A) (rest : List ℕ) → read text ≡ Some (a, t)
+    → P t more rest → P text (a ∷ more) rest) where
+  more_sound : (text : List ℕ) (again : List ℕ → List A × List ℕ) (r : Read A) → read text ≡ r
+      → ((t : List ℕ) → P t (again t).0 (again t).1)
       → P text (and_more text again r).0 (and_more text again r).1
   more_sound text again None e f = none text
   more_sound text again (Some r) e f = step text r.0 r.1 _ _ e (f r.1)
@@ -44,7 +46,8 @@ module _ {A : Type 0} (read : List ℕ → Read A) (P : List ℕ → List A → 
 -- ---- none
 
 -- if there is none, none is read
-pub repeated_none : {A : Type 0} (read : List ℕ → Read A) (fuel : ℕ) (text : List ℕ) → read text ≡ None → repeated read fuel text ≡ ([], text)
+pub repeated_none : {A : Type 0} (read : List ℕ → Read A) (fuel : ℕ) (text : List ℕ) → read text ≡ None
+    → repeated read fuel text ≡ ([], text)
 repeated_none read fuel text e = repeated_read read (λ a. []) [] fuel text (omega arith) e
 
 -- if there is none, none is read
@@ -73,7 +76,8 @@ module _ {A : Type 0} (read : List ℕ → Read A) (shrinks : Shrinks read) wher
   repeated_end zero text m = none_there text (read text) refl m
   repeated_end (suc fuel) text m = more_end fuel text (λ rest. repeated read fuel rest) (read text) refl m (repeated_end fuel)
 
-  more_shorter : (text : List ℕ) (again : List ℕ → List A × List ℕ) (r : Read A) → read text ≡ r → ((t : List ℕ) → length (again t).1 ≤ length t)
+  more_shorter : (text : List ℕ) (again : List ℕ → List A × List ℕ) (r : Read A) → read text ≡ r
+      → ((t : List ℕ) → length (again t).1 ≤ length t)
       → length (and_more text again r).1 ≤ length text
   more_shorter text again None e f = omega arith
   more_shorter text again (Some r) e f = omega (arith, shrinks text r.0 r.1 e, f r.1)
@@ -93,19 +97,24 @@ module _ {A : Type 0} (read : List ℕ → Read A) (shrinks : Shrinks read) wher
       (f r.1 (omega (arith, shrinks text r.0 r.1 e)) (omega (arith, shrinks text r.0 r.1 e)))
 
   -- any number of times that is enough gives the same
-  pub repeated_same : (fuel other : ℕ) (text : List ℕ) → length text ≤ fuel → length text ≤ other → repeated read fuel text ≡ repeated read other text
+  pub repeated_same : (fuel other : ℕ) (text : List ℕ) → length text ≤ fuel → length text ≤ other
+      → repeated read fuel text ≡ repeated read other text
   unfolding repeated
   repeated_same zero other text m k = let e : read text ≡ None = none_there text (read text) refl m in sym (repeated_none read other text e)
-  repeated_same (suc fuel) zero text m k = let e : read text ≡ None = none_there text (read text) refl k in repeated_none read (suc fuel) text e
+  repeated_same (suc fuel) zero text m k = let e : read text ≡ None = none_there text (read text) refl k in
+      repeated_none read (suc fuel) text e
   repeated_same (suc fuel) (suc other) text m k = more_same fuel other text (read text) refl m k (λ t x y. repeated_same fuel other t x y)
 
-  repeated_some : (fuel : ℕ) (text : List ℕ) (a : A) (t : List ℕ) → read text ≡ Some (a, t) → length text ≤ fuel → repeated read fuel text ≡ (a ∷ (all_of read t).0, (all_of read t).1)
+  repeated_some : (fuel : ℕ) (text : List ℕ) (a : A) (t : List ℕ) → read text ≡ Some (a, t) → length text ≤ fuel
+      → repeated read fuel text ≡ (a ∷ (all_of read t).0, (all_of read t).1)
   unfolding repeated
   repeated_some zero text a t e m = absurd (omega (arith, shrinks text a t e))
   repeated_some (suc fuel) text a t e m =
       ap (and_more text (λ rest. repeated read fuel rest)) e
-      ∙ ap (λ (more : List A × List ℕ). (a ∷ more.0, more.1)) (repeated_same fuel (length t) t (omega (arith, shrinks text a t e)) (omega arith))
+      ∙ ap (λ (more : List A × List ℕ). (a ∷ more.0, more.1))
+      (repeated_same fuel (length t) t (omega (arith, shrinks text a t e)) (omega arith))
 
   -- if there is one: it, and all after it
-  pub all_some : (text : List ℕ) (a : A) (t : List ℕ) → read text ≡ Some (a, t) → all_of read text ≡ (a ∷ (all_of read t).0, (all_of read t).1)
+  pub all_some : (text : List ℕ) (a : A) (t : List ℕ) → read text ≡ Some (a, t)
+      → all_of read text ≡ (a ∷ (all_of read t).0, (all_of read t).1)
   all_some text a t e = repeated_some (length text) text a t e (omega arith)

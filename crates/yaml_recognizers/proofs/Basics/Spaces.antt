@@ -1,7 +1,9 @@
 -- Spaces at the start of a text, and what a line that goes on begins with.
 use Rattle.std.proofs.Common.{◌≡◌, refl, sym, ◌∙◌, ap, subst, inl, inr, arith, ◌<◌, ◌≤◌}
 use Rattle.std.specs.Prelude.{ℕ, zero, suc, ◌+◌, Bool, true, false, not, ◌&&◌, ◌||◌, ◌==◌, nat_le, nat_lt, List, [], ◌∷◌, ◌++◌, drop, codes}
-use Rattle.std.proofs.lemmas.Bool.{and_parts, and_from, and_left, and_right, or_cases, or_left, or_right, or_parts, or_from, false≢true, eqb-true, eq-eqb, ltb-true, lt-ltb, le-ltb, lt-leb, not-true, not-false, cases_Bool}
+use Rattle.std.proofs.lemmas.Bool.{and_parts, and_from, and_left, and_right, or_cases, or_left, or_right, or_parts}
+use Rattle.std.proofs.lemmas.Bool.{or_from, false≢true, eqb-true, eq-eqb, ltb-true, lt-ltb, le-ltb, lt-leb, not-true}
+use Rattle.std.proofs.lemmas.Bool.{not-false, cases_Bool}
 use Rattle.yaml_chars.specs.Classes.{printable, line_break, space, nb}
 use Rattle.yaml_grammar.specs.Texts.{first, begins, spaces, ends_word, marker, no_marker}
 use Rattle.yaml_grammar.specs.BlockScalars.{spaces_before, past_spaces, goes_on}
@@ -50,7 +52,11 @@ deep (suc k) (c ∷ cs) h = elim (cases_Bool (c == 32)) [
   | inl e ↦ (let i : c ≡ 32 = eqb-true c 32 e in
       let l : suc k ≤ suc (spaces_before cs) = rw e at h in
       let more : Deep k cs = deep k cs (omega arith) in
-      record { split = ap (λ x. x ∷ cs) i ∙ ap (λ xs. 32 ∷ xs) more.split; counted = rw e (ap suc more.counted ∙ omega arith); passed = rw e more.passed })
+      record {
+        split = ap (λ x. x ∷ cs) i ∙ ap (λ xs. 32 ∷ xs) more.split;
+        counted = rw e (ap suc more.counted ∙ omega arith);
+        passed = rw e more.passed;
+      })
   | inr e ↦ (let l : suc k ≤ 0 = rw e at h in absurd (omega arith))
 ]
 
@@ -64,7 +70,8 @@ nb_unbroken c h = (or_parts (line_break c) (c == 0xfeff) (not-true _ (and_parts 
 
 -- a first character that is no space has no spaces before it
 marker_dash : (a : ℕ) (b : Bool) (d : ℕ) (cs : List ℕ) → d == 32 ≡ false → (a == d) && b ≡ true → spaces_before (a ∷ cs) ≡ 0
-marker_dash a b d cs n h = let i : a ≡ d = eqb-true a d (and_parts (a == d) b h).0 in (no_space (a ∷ cs) (subst (λ (x : ℕ). x == 32 ≡ false) (sym i) n)).0
+marker_dash a b d cs n h = let i : a ≡ d = eqb-true a d (and_parts (a == d) b h).0 in
+    (no_space (a ∷ cs) (subst (λ (x : ℕ). x == 32 ≡ false) (sym i) n)).0
 
 -- no space comes before a marker
 pub marker_unspaced : (text : List ℕ) → marker text ≡ true → spaces_before text ≡ 0
@@ -109,17 +116,22 @@ pub ended_parts : (q : ℕ) (text : List ℕ) → goes_on q text ≡ false → E
 ended_parts q text h =
     let p : (nat_lt q (spaces_before text) || (nat_le (spaces_before text) q && first line_break (past_spaces text)) ≡ false)
     × ((spaces_before text == q) && first nb (past_spaces text) && no_marker true text ≡ false) = or_parts _ _ h in
-    let r : (nat_lt q (spaces_before text) ≡ false) × (nat_le (spaces_before text) q && first line_break (past_spaces text) ≡ false) = or_parts _ _ p.0 in
+    let r : (nat_lt q (spaces_before text) ≡ false)
+    × (nat_le (spaces_before text) q && first line_break (past_spaces text) ≡ false) = or_parts _ _ p.0 in
     record { narrow = r.0; no_empty = r.1; no_text = p.1 }
 
 -- The lines end before a line of k spaces, at most q, with no space and no break after them, unless it is a text line.
-pub line_ends : (k q : ℕ) (rest : List ℕ) → k ≤ q → first space rest ≡ false → first line_break rest ≡ false → (k == q) && first nb rest && no_marker true (spaces k ++ rest) ≡ false → goes_on q (spaces k ++ rest) ≡ false
+pub line_ends : (k q : ℕ) (rest : List ℕ) → k ≤ q → first space rest ≡ false → first line_break rest ≡ false
+    → (k == q) && first nb rest && no_marker true (spaces k ++ rest) ≡ false → goes_on q (spaces k ++ rest) ≡ false
 line_ends k q rest l s b t =
     let z : (spaces_before rest ≡ 0) × (past_spaces rest ≡ rest) = no_space rest s in
     let c : spaces_before (spaces k ++ rest) ≡ k = spaces_added k rest ∙ (ap (λ (n : ℕ). k + n) z.0 ∙ omega arith) in
     let p : past_spaces (spaces k ++ rest) ≡ rest = spaces_past k rest ∙ z.1 in
-    or_from _ _ (or_from _ _ (le-ltb q (spaces_before (spaces k ++ rest)) (omega arith)) (and_right (nat_le (spaces_before (spaces k ++ rest)) q) (first line_break (past_spaces (spaces k ++ rest))) (ap (first line_break) p ∙ b)))
-    (ap (λ (n : ℕ). (n == q) && first nb (past_spaces (spaces k ++ rest)) && no_marker true (spaces k ++ rest)) c ∙ (ap (λ r. (k == q) && first nb r && no_marker true (spaces k ++ rest)) p ∙ t))
+    or_from _ _ (or_from _ _ (le-ltb q (spaces_before (spaces k ++ rest)) (omega arith))
+    (and_right (nat_le (spaces_before (spaces k ++ rest)) q) (first line_break (past_spaces (spaces k ++ rest)))
+    (ap (first line_break) p ∙ b)))
+    (ap (λ (n : ℕ). (n == q) && first nb (past_spaces (spaces k ++ rest)) && no_marker true (spaces k ++ rest)) c
+    ∙ (ap (λ r. (k == q) && first nb r && no_marker true (spaces k ++ rest)) p ∙ t))
 
 -- ---- a text line
 
@@ -172,10 +184,15 @@ goes_on_text q text h n =
       | inl a ↦ elim (or_cases (nat_lt q (spaces_before text)) (nat_le (spaces_before text) q && first line_break (past_spaces text)) a) [
         | inl l ↦ (let w : q < spaces_before text = ltb-true q (spaces_before text) l in
             let d : Deep q text = deep q text (omega arith) in
-            record { split = d.split; filled = space_filled (drop q text) (omega (arith, d.counted)); unmarked = spaced_unmarked text (omega arith) })
+            record {
+              split = d.split;
+              filled = space_filled (drop q text) (omega (arith, d.counted));
+              unmarked = spaced_unmarked text (omega arith);
+            })
         | inr g ↦ absurd (false≢true (sym n ∙ g))
       ]
-      | inr t ↦ (let p : ((spaces_before text == q) && first nb (past_spaces text) ≡ true) × (no_marker true text ≡ true) = and_parts _ _ t in
+      | inr t ↦ (let p : ((spaces_before text == q) && first nb (past_spaces text) ≡ true)
+          × (no_marker true text ≡ true) = and_parts _ _ t in
           let r : (spaces_before text == q ≡ true) × (first nb (past_spaces text) ≡ true) = and_parts _ _ p.0 in
           let i : spaces_before text ≡ q = eqb-true (spaces_before text) q r.0 in
           let d : Deep q text = deep q text (omega arith) in

@@ -4,7 +4,10 @@ use Rattle.std.proofs.Math.Nat.{add-zero, add_assoc}
 use Rattle.std.specs.Prelude.{Bool, List, [], cond, false, nat_le, suc, true, ℕ, ◌&&◌, ◌++◌, ◌+◌, ◌==◌, ◌∷◌}
 use Rattle.std.proofs.lemmas.Bool.{and_from, and_parts}
 use Rattle.yaml_chars.specs.Classes.{white}
-use Rattle.yaml_grammar.specs.BlockNodes.{Items, Node, Pair, Pairs, asked, asked_alone, block, flow, item, item_and, items, items_fit, items_text, keyed, keyed_alone, node_events, node_fits, node_text, pair, pair_and, pair_fits, pair_text, pairs, pairs_fit, pairs_text}
+use Rattle.yaml_grammar.specs.BlockNodes.{Items, Node, Pair, Pairs, asked, asked_alone, block, flow, item, item_and}
+use Rattle.yaml_grammar.specs.BlockNodes.{items, items_fit, items_text, keyed, keyed_alone, node_events, node_fits}
+use Rattle.yaml_grammar.specs.BlockNodes.{node_text, pair, pair_and, pair_fits, pair_text, pairs, pairs_fit}
+use Rattle.yaml_grammar.specs.BlockNodes.{pairs_text}
 use Rattle.yaml_grammar.specs.BlockScalars.{block_fits, block_text}
 use Rattle.yaml_grammar.specs.FlowNodes.{Flow, flow_fits, flow_text, short_key}
 use Rattle.yaml_grammar.specs.FlowScalars.{block_key, outer}
@@ -60,7 +63,8 @@ parted_text (items comments k is) = simp append_assoc
 parted_text (pairs comments k ps) = simp append_assoc
 
 -- its length is that of both
-sep_length : (sep : Sep) (at : ℕ) → at + byte_len (sep_text sep) ≡ at + byte_len (comments_text (sep_comments sep)) + byte_len (sep_lead sep)
+sep_length : (sep : Sep) (at : ℕ) → at + byte_len (sep_text sep)
+    ≡ at + byte_len (comments_text (sep_comments sep)) + byte_len (sep_lead sep)
 sep_length sep at = rw (sep_parted sep, byte_len_joined (comments_text (sep_comments sep)) (sep_lead sep)) (sym (add_assoc at _ _))
 
 -- what comes after the comment lines means the same at its place
@@ -90,7 +94,8 @@ sep_part : (n : ℕ) (sep : Sep) (rest : List ℕ) → sep_fits n false true sep
 sep_part n (inline blank) rest h s = record { comments = refl; lead = (and_parts _ _ h).0; bol = refl }
 sep_part n (lines comments lead) rest h s =
     let p : (comments_fit true comments (lead ++ rest) ≡ true) × (indents n lead ≡ true) = and_parts _ _ h in
-    let b : starts_line true (comments_text comments) ≡ true = line_not_end _ (lead ++ rest) (comments_start true comments (lead ++ rest) p.0) (append_some lead rest s) in
+    let b : starts_line true (comments_text comments) ≡ true =
+    line_not_end _ (lead ++ rest) (comments_start true comments (lead ++ rest) p.0) (append_some lead rest s) in
     record { comments = p.0; lead = (and_parts _ _ p.1).0; bol = starts_joined true (comments_text comments) lead ∙ rw b }
 
 -- items start with something solid
@@ -99,24 +104,29 @@ items_solid (item i) k after = refl
 items_solid (item_and i is) k after = refl
 
 -- a key starts with something solid
-key_solid : (key : Flow) (gap : List ℕ) (bol more : Bool) (rest : List ℕ) → flow_fits key 0 block_key bol (gap ++ (58 ∷ rest)) && list_all white gap && short_key key gap && more ≡ true
+key_solid : (key : Flow) (gap : List ℕ) (bol more : Bool) (rest : List ℕ)
+    → flow_fits key 0 block_key bol (gap ++ (58 ∷ rest)) && list_all white gap && short_key key gap && more ≡ true
     → first solid (flow_text key ++ (gap ++ (58 ∷ rest))) ≡ true
 key_solid key gap bol more rest h =
-    form_solid key 0 block_key bol (gap ++ (58 ∷ rest)) (flow_form_fits key 0 block_key bol (gap ++ (58 ∷ rest)) (and_parts _ _ (and_parts _ _ (and_parts _ _ h).0).0).0)
+    form_solid key 0 block_key bol (gap ++ (58 ∷ rest))
+    (flow_form_fits key 0 block_key bol (gap ++ (58 ∷ rest)) (and_parts _ _ (and_parts _ _ (and_parts _ _ h).0).0).0)
 
 -- so does a pair
 pair_solid : (p : Pair) (k : ℕ) (bol : Bool) (after : List ℕ) → pair_fits p k bol after ≡ true → first solid (pair_text p k ++ after) ≡ true
 pair_solid (asked key value) k bol after h = refl
 pair_solid (asked_alone key) k bol after h = refl
 pair_solid (keyed key gap value) k bol after h =
-    let regrouped : pair_text (keyed key gap value) k ++ after ≡ flow_text key ++ (gap ++ (58 ∷ (node_text value ++ after))) = simp append_assoc in
+    let regrouped : pair_text (keyed key gap value) k ++ after
+    ≡ flow_text key ++ (gap ++ (58 ∷ (node_text value ++ after))) = simp append_assoc in
     rw regrouped (key_solid key gap bol _ (node_text value ++ after) h)
 pair_solid (keyed_alone key gap comments) k bol after h =
-    let regrouped : pair_text (keyed_alone key gap comments) k ++ after ≡ flow_text key ++ (gap ++ (58 ∷ (comments_text comments ++ after))) = simp append_assoc in
+    let regrouped : pair_text (keyed_alone key gap comments) k ++ after
+    ≡ flow_text key ++ (gap ++ (58 ∷ (comments_text comments ++ after))) = simp append_assoc in
     rw regrouped (key_solid key gap bol _ (comments_text comments ++ after) h)
 
 -- so do pairs
-pairs_solid : (ps : Pairs) (k : ℕ) (bol : Bool) (after : List ℕ) → pairs_fit ps k bol after ≡ true → first solid (pairs_text ps k ++ after) ≡ true
+pairs_solid : (ps : Pairs) (k : ℕ) (bol : Bool) (after : List ℕ) → pairs_fit ps k bol after ≡ true
+    → first solid (pairs_text ps k ++ after) ≡ true
 pairs_solid (pair p) k bol after h = pair_solid p k bol after h
 pairs_solid (pair_and p ps) k bol after h =
     let rest : List ℕ = spaces k ++ (pairs_text ps k ++ after) in
@@ -129,7 +139,8 @@ node_parted (block sep b) m shallow after h =
     let p : (sep_fits m false true sep (block_text b ++ after) ≡ true) × (block_fits m b after ≡ true) = and_parts _ _ h in
     let s : first solid (block_text b ++ after) ≡ true = (block_prefix b after).1 in
     let l : PartedSep m sep (block_text b ++ after) = sep_part m sep (block_text b ++ after) p.0 s in
-    let regrouped : node_text (unled (block sep b)) ++ after ≡ sep_lead sep ++ (block_text b ++ after) = append_assoc (sep_lead sep) (block_text b) after in
+    let regrouped : node_text (unled (block sep b)) ++ after ≡ sep_lead sep ++ (block_text b ++ after) =
+    append_assoc (sep_lead sep) (block_text b) after in
     record {
       comments = rw regrouped l.comments;
       node = and_from _ _ (and_from _ _ l.lead refl) p.1;
@@ -138,8 +149,11 @@ node_parted (block sep b) m shallow after h =
     }
 node_parted (flow sep f comments) m shallow after h =
     let rest : List ℕ = comments_text comments ++ after in
-    let p : (sep_fits m false true sep (flow_text f ++ rest) && flow_fits f m outer (starts_line true (sep_text sep)) rest ≡ true) × (comments_fit false comments after ≡ true) = and_parts _ _ h in
-    let q : (sep_fits m false true sep (flow_text f ++ rest) ≡ true) × (flow_fits f m outer (starts_line true (sep_text sep)) rest ≡ true) = and_parts _ _ p.0 in
+    let p : (sep_fits m false true sep (flow_text f ++ rest)
+    && flow_fits f m outer (starts_line true (sep_text sep)) rest ≡ true)
+    × (comments_fit false comments after ≡ true) = and_parts _ _ h in
+    let q : (sep_fits m false true sep (flow_text f ++ rest) ≡ true)
+    × (flow_fits f m outer (starts_line true (sep_text sep)) rest ≡ true) = and_parts _ _ p.0 in
     let s : first solid (flow_text f ++ rest) ≡ true = form_solid f m outer _ rest (flow_form_fits f m outer _ rest q.1) in
     let l : PartedSep m sep (flow_text f ++ rest) = sep_part m sep (flow_text f ++ rest) q.0 s in
     let regrouped : node_text (unled (flow sep f comments)) ++ after ≡ sep_lead sep ++ (flow_text f ++ rest) = simp append_assoc in
@@ -150,10 +164,13 @@ node_parted (flow sep f comments) m shallow after h =
       some = rw regrouped (append_some (sep_lead sep) (flow_text f ++ rest) s);
     }
 node_parted (items comments k is) m shallow after h =
-    let p : (comments_fit true comments (spaces k ++ (items_text is k ++ after)) && nat_le m (cond shallow (suc k) k) ≡ true) × (items_fit is k after ≡ true) = and_parts _ _ h in
-    let q : (comments_fit true comments (spaces k ++ (items_text is k ++ after)) ≡ true) × (nat_le m (cond shallow (suc k) k) ≡ true) = and_parts _ _ p.0 in
+    let p : (comments_fit true comments (spaces k ++ (items_text is k ++ after)) && nat_le m (cond shallow (suc k) k)
+    ≡ true) × (items_fit is k after ≡ true) = and_parts _ _ h in
+    let q : (comments_fit true comments (spaces k ++ (items_text is k ++ after)) ≡ true)
+    × (nat_le m (cond shallow (suc k) k) ≡ true) = and_parts _ _ p.0 in
     let s : first solid (items_text is k ++ after) ≡ true = items_solid is k after in
-    let regrouped : node_text (unled (items comments k is)) ++ after ≡ spaces k ++ (items_text is k ++ after) = append_assoc (spaces k) (items_text is k) after in
+    let regrouped : node_text (unled (items comments k is)) ++ after ≡ spaces k ++ (items_text is k ++ after) =
+    append_assoc (spaces k) (items_text is k) after in
     record {
       comments = rw regrouped q.0;
       node = and_from _ _ (and_from _ _ refl q.1) p.1;
@@ -161,10 +178,12 @@ node_parted (items comments k is) m shallow after h =
       some = rw regrouped (append_some (spaces k) (items_text is k ++ after) s);
     }
 node_parted (pairs comments k ps) m shallow after h =
-    let p : (comments_fit true comments (spaces k ++ (pairs_text ps k ++ after)) && nat_le m k ≡ true) × (pairs_fit ps k (k == 0) after ≡ true) = and_parts _ _ h in
+    let p : (comments_fit true comments (spaces k ++ (pairs_text ps k ++ after)) && nat_le m k ≡ true)
+    × (pairs_fit ps k (k == 0) after ≡ true) = and_parts _ _ h in
     let q : (comments_fit true comments (spaces k ++ (pairs_text ps k ++ after)) ≡ true) × (nat_le m k ≡ true) = and_parts _ _ p.0 in
     let s : first solid (pairs_text ps k ++ after) ≡ true = pairs_solid ps k (k == 0) after p.1 in
-    let regrouped : node_text (unled (pairs comments k ps)) ++ after ≡ spaces k ++ (pairs_text ps k ++ after) = append_assoc (spaces k) (pairs_text ps k) after in
+    let regrouped : node_text (unled (pairs comments k ps)) ++ after ≡ spaces k ++ (pairs_text ps k ++ after) =
+    append_assoc (spaces k) (pairs_text ps k) after in
     record {
       comments = rw regrouped q.0;
       node = and_from _ _ (and_from _ _ refl q.1) p.1;

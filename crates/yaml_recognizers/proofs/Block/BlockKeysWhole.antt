@@ -27,22 +27,31 @@ module _ (read_scalar : ℕ → FlowContext → Bool → List ℕ → Read Scala
   key_regrouped key gap rest = simp append_assoc
 
   -- a key that fits is read
-  pub block_key_read : (key : Flow) (gap : List ℕ) (bol : Bool) (rest : List ℕ) → canonical_flow key 0 block_key bol (gap ++ codes ":" ++ rest) ≡ true → list_all white gap ≡ true
+  pub block_key_read : (key : Flow) (gap : List ℕ) (bol : Bool) (rest : List ℕ)
+      → canonical_flow key 0 block_key bol (gap ++ codes ":" ++ rest) ≡ true → list_all white gap ≡ true
       → short_key key gap ≡ true → first ns rest ≡ false → key_in bol (flow_text key ++ gap ++ codes ":" ++ rest) ≡ Some ((key, gap), rest)
   block_key_read key gap bol rest h w s n =
-      let fit : canonical_flow key 0 block_key bol (gap ++ (58 ∷ rest)) ≡ true = subst (λ (t : List ℕ). canonical_flow key 0 block_key bol t ≡ true) (append_assoc gap (codes ":") rest) h in
+      let fit : canonical_flow key 0 block_key bol (gap ++ (58 ∷ rest)) ≡ true =
+      subst (λ (t : List ℕ). canonical_flow key 0 block_key bol t ≡ true) (append_assoc gap (codes ":") rest) h in
       ap (key_in bol) (key_regrouped key gap rest)
-      ∙ keys_read (whole_flow read_scalar) (whole_flow_read read_scalar scalars) (whole_flow_sound read_scalar scalars) key gap bol rest fit w s n
+      ∙ keys_read (whole_flow read_scalar) (whole_flow_read read_scalar scalars)
+      (whole_flow_sound read_scalar scalars) key gap bol rest fit w s n
 
   -- what is read is a key, as the grammar says it
-  pub block_key_is : (bol : Bool) (text : List ℕ) (key : Flow) (gap rest : List ℕ) → key_in bol text ≡ Some ((key, gap), rest) → IsBlockKey bol text key gap rest
+  pub block_key_is : (bol : Bool) (text : List ℕ) (key : Flow) (gap rest : List ℕ)
+      → key_in bol text ≡ Some ((key, gap), rest) → IsBlockKey bol text key gap rest
   block_key_is bol text key gap rest e =
       let w : WholeKey bol text (key, gap) rest =
-      sound_is (WholeKey bol text) (key_in bol text) ((key, gap), rest) (whole_key (whole_flow read_scalar) (whole_flow_read read_scalar scalars) (whole_flow_sound read_scalar scalars) bol text) e in
+      sound_is (WholeKey bol text) (key_in bol text) ((key, gap), rest)
+      (whole_key (whole_flow read_scalar) (whole_flow_read read_scalar scalars)
+      (whole_flow_sound read_scalar scalars) bol text) e in
       record { spells = (w.0).0; fits = (w.0).1; gap_white = (w.0).2; short = (w.0).3; apart = w.1 }
 
   -- a flow node before comments is no key
-  pub no_block_key : (f : Flow) (m : ℕ) (bol start : Bool) (comments : List LineEnd) (after : List ℕ) → canonical_flow f m outer bol (comments_text comments ++ after) ≡ true
-      → canonical_comments false comments after ≡ true → less_deep m after ≡ true → key_in start (flow_text f ++ (comments_text comments ++ after)) ≡ None
+  pub no_block_key : (f : Flow) (m : ℕ) (bol start : Bool) (comments : List LineEnd) (after : List ℕ)
+      → canonical_flow f m outer bol (comments_text comments ++ after) ≡ true
+      → canonical_comments false comments after ≡ true → less_deep m after ≡ true
+      → key_in start (flow_text f ++ (comments_text comments ++ after)) ≡ None
   no_block_key f m bol start comments after h c d =
-      flow_no_key (whole_flow read_scalar) (whole_flow_read read_scalar scalars) (whole_flow_sound read_scalar scalars) f m bol start comments after h c d
+      flow_no_key (whole_flow read_scalar) (whole_flow_read read_scalar scalars)
+      (whole_flow_sound read_scalar scalars) f m bol start comments after h c d

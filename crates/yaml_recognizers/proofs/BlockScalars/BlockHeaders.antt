@@ -1,12 +1,16 @@
 -- The header of a block scalar: what fits is read, and what is read fits.
 use Rattle.std.proofs.Common.{◌≡◌, refl, sym, ◌∙◌, ap, subst, inl, inr, append_assoc, arith, ◌≤◌}
-use Rattle.std.specs.Prelude.{ℕ, ◌+◌, ◌-◌, Bool, true, false, not, ◌&&◌, ◌||◌, ◌==◌, nat_le, List, [], ◌∷◌, ◌++◌, Option, Some, None, is_some, codes, if◌then◌else◌}
-use Rattle.std.proofs.lemmas.Bool.{and_parts, and_from, or_cases, or_left, false≢true, eqb-true, cond_both, leb-true, le-leb, not_from_false, cases_Bool}
+use Rattle.std.specs.Prelude.{ℕ, ◌+◌, ◌-◌, Bool, true, false, not, ◌&&◌, ◌||◌, ◌==◌, nat_le, List, [], ◌∷◌, ◌++◌}
+use Rattle.std.specs.Prelude.{Option, Some, None, is_some, codes, if◌then◌else◌}
+use Rattle.std.proofs.lemmas.Bool.{and_parts, and_from, or_cases, or_left, false≢true, eqb-true, cond_both, leb-true}
+use Rattle.std.proofs.lemmas.Bool.{le-leb, not_from_false, cases_Bool}
 use Rattle.yaml_chars.specs.Classes.{in_range, white, line_break}
 use Rattle.std.specs.List.{list_all}
 use Rattle.yaml_grammar.specs.Texts.{is_empty, optional, ends_word}
-use Rattle.yaml_grammar.specs.Separation.{Break, lf, cr, cr_lf, break_text, stop_fits, LineEnd, comment_text, line_end_text, comment_fits, line_end_fits}
-use Rattle.yaml_grammar.specs.BlockScalars.{Chomping, strip, clip, keep, Header, digit_text, chomping_text, header_text, digit_fits, header_fits}
+use Rattle.yaml_grammar.specs.Separation.{Break, lf, cr, cr_lf, break_text, stop_fits, LineEnd, comment_text}
+use Rattle.yaml_grammar.specs.Separation.{line_end_text, comment_fits, line_end_fits}
+use Rattle.yaml_grammar.specs.BlockScalars.{Chomping, strip, clip, keep, Header, digit_text, chomping_text}
+use Rattle.yaml_grammar.specs.BlockScalars.{header_text, digit_fits, header_fits}
 use Rattle.yaml_recognizers.proofs.Basics.Reading.{Sound, sound_on, sound_to}
 use Rattle.yaml_recognizers.specs.CanonicalBlockScalars.{canonical_header}
 use Rattle.yaml_recognizers.specs.Comments.{read_line_end}
@@ -17,9 +21,11 @@ use Rattle.yaml_recognizers.specs.BlockScalars.{read_digit, read_mark, read_head
 -- ---- the end of the header's line
 
 -- an empty end of the header's line is read
-empty_end_read : (blank : List ℕ) (comment : Option (List ℕ)) (stop : Option Break) (after : List ℕ) → is_empty (blank ++ optional comment_text comment ++ optional break_text stop) ≡ true
+empty_end_read : (blank : List ℕ) (comment : Option (List ℕ)) (stop : Option Break) (after : List ℕ)
+    → is_empty (blank ++ optional comment_text comment ++ optional break_text stop) ≡ true
     → stop_fits stop after ≡ true
-    → read_header_end ((blank ++ optional comment_text comment ++ optional break_text stop) ++ after) ≡ Some (record { blank = blank; comment = comment; stop = stop }, after)
+    → read_header_end ((blank ++ optional comment_text comment ++ optional break_text stop) ++ after)
+    ≡ Some (record { blank = blank; comment = comment; stop = stop }, after)
 empty_end_read [] None None [] e f = refl
 empty_end_read [] None None (c ∷ cs) e f = absurd (false≢true f)
 empty_end_read [] None (Some lf) after e f = absurd (false≢true e)
@@ -34,7 +40,8 @@ end_of_line [] after n = absurd (false≢true (sym n))
 end_of_line (c ∷ cs) after n = refl
 
 -- the end of the header's line is read
-header_end_read : (e : LineEnd) (after : List ℕ) → line_end_fits false e after ≡ true → read_header_end (line_end_text e ++ after) ≡ Some (e, after)
+header_end_read : (e : LineEnd) (after : List ℕ) → line_end_fits false e after ≡ true
+    → read_header_end (line_end_text e ++ after) ≡ Some (e, after)
 header_end_read e after h = elim (cases_Bool (is_empty (line_end_text e))) [
   | inl i ↦ empty_end_read e.blank e.comment e.stop after i (and_parts _ _ h).1
   | inr i ↦ end_of_line (line_end_text e) after i ∙ line_end_read false e after (and_from _ _ (not_from_false _ i) h)
@@ -47,7 +54,8 @@ HeaderEndOf text e rest = (text ≡ line_end_text e ++ rest) × (line_end_fits f
 -- the end of the header's line that is read fits
 header_end_sound : (text : List ℕ) → Sound (HeaderEndOf text) (read_header_end text)
 header_end_sound [] = (refl, refl)
-header_end_sound (c ∷ cs) = sound_to (LineOf false (c ∷ cs)) (HeaderEndOf (c ∷ cs)) (read_line_end false (c ∷ cs)) (line_sound false (c ∷ cs)) (λ e rest s. (s.0, (and_parts _ _ s.1).1))
+header_end_sound (c ∷ cs) = sound_to (LineOf false (c ∷ cs)) (HeaderEndOf (c ∷ cs)) (read_line_end false (c ∷ cs))
+    (line_sound false (c ∷ cs)) (λ e rest s. (s.0, (and_parts _ _ s.1).1))
 
 -- ---- after the signs comes whitespace, a break or the end
 
@@ -76,15 +84,18 @@ unsigned : (text : List ℕ) → ends_word text ≡ true → Unsigned text
 unsigned [] h = (refl, refl)
 unsigned (c ∷ cs) h = elim (or_cases (white c) (line_break c) h) [
   | inl w ↦ elim (or_cases (c == 32) (c == 9) w) [ inl e ↦ unsigned_at c cs 32 e (refl, refl) | inr e ↦ unsigned_at c cs 9 e (refl, refl) ]
-  | inr b ↦ elim (or_cases (c == 10) (c == 13) b) [ inl e ↦ unsigned_at c cs 10 e (refl, refl) | inr e ↦ unsigned_at c cs 13 e (refl, refl) ]
+  | inr b ↦ elim (or_cases (c == 10) (c == 13) b)
+      [ inl e ↦ unsigned_at c cs 10 e (refl, refl) | inr e ↦ unsigned_at c cs 13 e (refl, refl) ]
 ]
 
 -- at a line's end neither a digit nor a mark is read
 end_unsigned : (e : LineEnd) (after : List ℕ) → line_end_fits false e after ≡ true → Unsigned (line_end_text e ++ after)
 end_unsigned e after h =
-    let p : (list_all white e.blank && comment_fits (false || not (is_empty e.blank)) e.comment ≡ true) × (stop_fits e.stop after ≡ true) = and_parts _ _ h in
+    let p : (list_all white e.blank && comment_fits (false || not (is_empty e.blank)) e.comment ≡ true)
+    × (stop_fits e.stop after ≡ true) = and_parts _ _ h in
     let q : (list_all white e.blank ≡ true) × (comment_fits (false || not (is_empty e.blank)) e.comment ≡ true) = and_parts _ _ p.0 in
-    let regrouped : line_end_text e ++ after ≡ e.blank ++ (optional comment_text e.comment ++ (optional break_text e.stop ++ after)) = simp append_assoc in
+    let regrouped : line_end_text e ++ after ≡ e.blank
+    ++ (optional comment_text e.comment ++ (optional break_text e.stop ++ after)) = simp append_assoc in
     unsigned (line_end_text e ++ after) (ap ends_word regrouped ∙ end_word e.blank e.comment e.stop after q.0 q.1 p.1)
 
 -- ---- what fits is read
@@ -103,14 +114,16 @@ digit_read d tail h = let p : (in_range 49 57 (48 + d) ≡ true) × ((48 + d) - 
 
 -- the digit and the chomping mark
 abbrev pub signs : Option ℕ → Chomping → Bool → List ℕ
-signs digit chomping last = if last then chomping_text chomping ++ optional digit_text digit else optional digit_text digit ++ chomping_text chomping
+signs digit chomping last = if last then chomping_text chomping ++ optional digit_text digit
+    else optional digit_text digit ++ chomping_text chomping
 
 -- the digit is last only after a mark
 abbrev pub canonical_signs : Option ℕ → Chomping → Bool → Bool
 canonical_signs digit chomping last = not last || (is_some digit && not (is_empty (chomping_text chomping)))
 
 -- the digit and the mark are read
-signs_read : (folded : Bool) (digit : Option ℕ) (chomping : Chomping) (last : Bool) (tail : List ℕ) → digit_fits digit ≡ true → canonical_signs digit chomping last ≡ true
+signs_read : (folded : Bool) (digit : Option ℕ) (chomping : Chomping) (last : Bool) (tail : List ℕ)
+    → digit_fits digit ≡ true → canonical_signs digit chomping last ≡ true
     → Unsigned tail → after_digit folded (read_digit (signs digit chomping last ++ tail)) ≡ header_at folded digit chomping last tail
 signs_read folded None strip false tail f c u = rw u.0
 signs_read folded None clip false tail f c u = rw (u.0, u.1)
@@ -133,17 +146,25 @@ bar_read true text = refl
 bar_read false text = refl
 
 -- a header of parts that fit is read
-prefix_read : (folded : Bool) (digit : Option ℕ) (chomping : Chomping) (last : Bool) (e : LineEnd) (after : List ℕ) → digit_fits digit ≡ true → canonical_signs digit chomping last ≡ true
+prefix_read : (folded : Bool) (digit : Option ℕ) (chomping : Chomping) (last : Bool) (e : LineEnd) (after : List ℕ)
+    → digit_fits digit ≡ true → canonical_signs digit chomping last ≡ true
     → line_end_fits false e after ≡ true
-    → read_header (bar folded ++ (signs digit chomping last ++ (line_end_text e ++ after))) ≡ Some (record { folded = folded; digit = digit; chomping = chomping; digit_last = last; line_end = e }, after)
+    → read_header (bar folded ++ (signs digit chomping last ++ (line_end_text e ++ after)))
+    ≡ Some (record { folded = folded; digit = digit; chomping = chomping; digit_last = last; line_end = e }, after)
 prefix_read folded digit chomping last e after d c f =
-    rw (bar_read folded (signs digit chomping last ++ (line_end_text e ++ after)), signs_read folded digit chomping last (line_end_text e ++ after) d c (end_unsigned e after f), header_end_read e after f)
+    rw (
+      bar_read folded (signs digit chomping last ++ (line_end_text e ++ after)),
+      signs_read folded digit chomping last (line_end_text e ++ after) d c (end_unsigned e after f),
+      header_end_read e after f,
+    )
 
 -- a header that fits is read, where its digit is last only after a mark
-pub header_read : (h : Header) (after : List ℕ) → header_fits h after ≡ true → canonical_header h ≡ true → read_header (header_text h ++ after) ≡ Some (h, after)
+pub header_read : (h : Header) (after : List ℕ) → header_fits h after ≡ true → canonical_header h ≡ true
+    → read_header (header_text h ++ after) ≡ Some (h, after)
 header_read h after f c =
     let p : (digit_fits h.digit ≡ true) × (line_end_fits false h.line_end after ≡ true) = and_parts _ _ f in
-    let regrouped : header_text h ++ after ≡ bar h.folded ++ (signs h.digit h.chomping h.digit_last ++ (line_end_text h.line_end ++ after)) = simp append_assoc in
+    let regrouped : header_text h ++ after ≡ bar h.folded
+    ++ (signs h.digit h.chomping h.digit_last ++ (line_end_text h.line_end ++ after)) = simp append_assoc in
     ap read_header regrouped ∙ prefix_read h.folded h.digit h.chomping h.digit_last h.line_end after p.0 c p.1
 
 -- ---- what is read fits
@@ -153,13 +174,18 @@ abbrev pub HeaderOf : List ℕ → Header → List ℕ → Type 0
 HeaderOf text h rest = (text ≡ header_text h ++ rest) × (header_fits h rest ≡ true) × (canonical_header h ≡ true)
 
 -- a header that is read fits, from its line's end on
-at_sound : (folded : Bool) (digit : Option ℕ) (chomping : Chomping) (last : Bool) (tail : List ℕ) → digit_fits digit ≡ true → canonical_signs digit chomping last ≡ true
+at_sound : (folded : Bool) (digit : Option ℕ) (chomping : Chomping) (last : Bool) (tail : List ℕ)
+    → digit_fits digit ≡ true → canonical_signs digit chomping last ≡ true
     → Sound (HeaderOf (bar folded ++ (signs digit chomping last ++ tail))) (header_at folded digit chomping last tail)
 at_sound folded digit chomping last tail f c =
     sound_on (HeaderEndOf tail) (HeaderOf (bar folded ++ (signs digit chomping last ++ tail))) (read_header_end tail)
-    (λ e rest. Some (record { folded = folded; digit = digit; chomping = chomping; digit_last = last; line_end = e }, rest)) (header_end_sound tail)
+    (λ e rest. Some (
+      record { folded = folded; digit = digit; chomping = chomping; digit_last = last; line_end = e },
+      rest,
+    )) (header_end_sound tail)
     (λ e rest s.
-    let regrouped : (bar folded ++ signs digit chomping last ++ line_end_text e) ++ rest ≡ bar folded ++ (signs digit chomping last ++ (line_end_text e ++ rest)) = simp append_assoc in
+    let regrouped : (bar folded ++ signs digit chomping last ++ line_end_text e) ++ rest
+    ≡ bar folded ++ (signs digit chomping last ++ (line_end_text e ++ rest)) = simp append_assoc in
     (ap (λ t. bar folded ++ (signs digit chomping last ++ t)) s.0 ∙ sym regrouped, and_from _ _ f s.1, c))
 
 -- the digit, or none, fits at the start of the text
@@ -193,20 +219,25 @@ mark_sound (c ∷ cs) = cond_both (c == 45) (strip, cs) (if c == 43 then (keep, 
     (λ _. cond_both (c == 43) (keep, cs) (clip, c ∷ cs) (MarkOf (c ∷ cs)) (λ e. ap (λ x. x ∷ cs) (eqb-true c 43 e)) (λ _. refl))
 
 -- a digit after a mark, if there is one
-last_sound : (folded : Bool) (chomping : Chomping) (text : List ℕ) (d : Option ℕ × List ℕ) → not (is_empty (chomping_text chomping)) ≡ true → DigitOf text d
+last_sound : (folded : Bool) (chomping : Chomping) (text : List ℕ) (d : Option ℕ × List ℕ)
+    → not (is_empty (chomping_text chomping)) ≡ true → DigitOf text d
     → Sound (HeaderOf (bar folded ++ (chomping_text chomping ++ text))) (header_at folded d.0 chomping (is_some d.0) d.1)
 last_sound folded chomping text (None, tail) n s =
-    subst (λ (t : List ℕ). Sound (HeaderOf (bar folded ++ (chomping_text chomping ++ t))) (header_at folded None chomping false tail)) (sym s.0)
+    subst (λ (t : List ℕ). Sound (HeaderOf (bar folded ++ (chomping_text chomping ++ t)))
+    (header_at folded None chomping false tail)) (sym s.0)
     (at_sound folded None chomping false tail refl refl)
 last_sound folded chomping text (Some d, tail) n s =
-    let regrouped : (chomping_text chomping ++ digit_text d) ++ tail ≡ chomping_text chomping ++ text = append_assoc (chomping_text chomping) (digit_text d) tail ∙ ap (λ t. chomping_text chomping ++ t) (sym s.0) in
+    let regrouped : (chomping_text chomping ++ digit_text d) ++ tail ≡ chomping_text chomping ++ text =
+    append_assoc (chomping_text chomping) (digit_text d) tail ∙ ap (λ t. chomping_text chomping ++ t) (sym s.0) in
     subst (λ (t : List ℕ). Sound (HeaderOf (bar folded ++ t)) (header_at folded (Some d) chomping true tail)) regrouped
     (at_sound folded (Some d) chomping true tail s.1 n)
 
 -- a header that is read fits, from its mark on
-mark_then : (folded : Bool) (text : List ℕ) (m : Chomping × List ℕ) → MarkOf text m → Sound (HeaderOf (bar folded ++ text)) (after_mark folded m)
+mark_then : (folded : Bool) (text : List ℕ) (m : Chomping × List ℕ) → MarkOf text m
+    → Sound (HeaderOf (bar folded ++ text)) (after_mark folded m)
 mark_then folded text (clip, tail) s =
-    subst (λ (t : List ℕ). Sound (HeaderOf (bar folded ++ t)) (header_at folded None clip false tail)) (sym s) (at_sound folded None clip false tail refl refl)
+    subst (λ (t : List ℕ). Sound (HeaderOf (bar folded ++ t)) (header_at folded None clip false tail)) (sym s)
+    (at_sound folded None clip false tail refl refl)
 mark_then folded text (strip, tail) s =
     subst (λ (t : List ℕ). Sound (HeaderOf (bar folded ++ t)) (after_mark folded (strip, tail))) (sym s)
     (last_sound folded strip tail (read_digit tail) refl (digit_sound tail))
@@ -215,13 +246,15 @@ mark_then folded text (keep, tail) s =
     (last_sound folded keep tail (read_digit tail) refl (digit_sound tail))
 
 -- a header that is read fits, from its digit on
-digit_then : (folded : Bool) (text : List ℕ) (d : Option ℕ × List ℕ) → DigitOf text d → Sound (HeaderOf (bar folded ++ text)) (after_digit folded d)
+digit_then : (folded : Bool) (text : List ℕ) (d : Option ℕ × List ℕ) → DigitOf text d
+    → Sound (HeaderOf (bar folded ++ text)) (after_digit folded d)
 digit_then folded text (None, tail) s =
     subst (λ (t : List ℕ). Sound (HeaderOf (bar folded ++ t)) (after_mark folded (read_mark tail))) (sym s.0)
     (mark_then folded tail (read_mark tail) (mark_sound tail))
 digit_then folded text (Some d, tail) s =
     let m : Chomping × List ℕ = read_mark tail in
-    let regrouped : (digit_text d ++ chomping_text m.0) ++ m.1 ≡ text = append_assoc (digit_text d) (chomping_text m.0) m.1 ∙ (ap (λ t. digit_text d ++ t) (sym (mark_sound tail)) ∙ sym s.0) in
+    let regrouped : (digit_text d ++ chomping_text m.0) ++ m.1 ≡ text =
+    append_assoc (digit_text d) (chomping_text m.0) m.1 ∙ (ap (λ t. digit_text d ++ t) (sym (mark_sound tail)) ∙ sym s.0) in
     subst (λ (t : List ℕ). Sound (HeaderOf (bar folded ++ t)) (header_at folded (Some d) m.0 false m.1)) regrouped
     (at_sound folded (Some d) m.0 false m.1 s.1 refl)
 
@@ -229,8 +262,11 @@ digit_then folded text (Some d, tail) s =
 pub header_sound : (text : List ℕ) → Sound (HeaderOf text) (read_header text)
 header_sound [] = tt
 header_sound (c ∷ cs) =
-    cond_both (c == 62) (after_digit true (read_digit cs)) (if c == 124 then after_digit false (read_digit cs) else None) (Sound (HeaderOf (c ∷ cs)))
-    (λ e. subst (λ (x : ℕ). Sound (HeaderOf (x ∷ cs)) (after_digit true (read_digit cs))) (sym (eqb-true c 62 e)) (digit_then true cs (read_digit cs) (digit_sound cs)))
+    cond_both (c == 62) (after_digit true (read_digit cs))
+    (if c == 124 then after_digit false (read_digit cs) else None) (Sound (HeaderOf (c ∷ cs)))
+    (λ e. subst (λ (x : ℕ). Sound (HeaderOf (x ∷ cs)) (after_digit true (read_digit cs))) (sym (eqb-true c 62 e))
+    (digit_then true cs (read_digit cs) (digit_sound cs)))
     (λ _. cond_both (c == 124) (after_digit false (read_digit cs)) None (Sound (HeaderOf (c ∷ cs)))
-    (λ e. subst (λ (x : ℕ). Sound (HeaderOf (x ∷ cs)) (after_digit false (read_digit cs))) (sym (eqb-true c 124 e)) (digit_then false cs (read_digit cs) (digit_sound cs)))
+    (λ e. subst (λ (x : ℕ). Sound (HeaderOf (x ∷ cs)) (after_digit false (read_digit cs))) (sym (eqb-true c 124 e))
+    (digit_then false cs (read_digit cs) (digit_sound cs)))
     (λ _. tt))

@@ -79,7 +79,8 @@ key = refl
 comment_after : read_events 3 1 (codes "|\n  a\n # c\n") ≡ Some (scalar_event literal_style 3 9 (codes "a\n") ∷ [], [])
 comment_after = refl
 
-folded_lines : read_events 0 0 (codes ">\n  a\n  b\n\n  c\n   d\n  e\n") ≡ Some (scalar_event folded_style 0 24 (codes "a b\nc\n d\ne\n") ∷ [], [])
+folded_lines : read_events 0 0 (codes ">\n  a\n  b\n\n  c\n   d\n  e\n")
+    ≡ Some (scalar_event folded_style 0 24 (codes "a b\nc\n d\ne\n") ∷ [], [])
 folded_lines = refl
 
 digit_and_mark : read_events 3 1 (codes "|2-\n   a\n") ≡ Some (scalar_event literal_style 3 12 (codes " a") ∷ [], [])
@@ -150,5 +151,6 @@ unprintable : read_events 0 0 (codes "|\n a\u{1}\n") ≡ None
 unprintable = refl
 
 -- after the first comment line come lines of white and comments at any depth
-comments_then_text : read_events 2 1 (codes "|\n  a\n # b\n\n   # c\n- d") ≡ Some (scalar_event literal_style 2 8 (codes "a\n") ∷ [], codes "- d")
+comments_then_text : read_events 2 1 (codes "|\n  a\n # b\n\n   # c\n- d")
+    ≡ Some (scalar_event literal_style 2 8 (codes "a\n") ∷ [], codes "- d")
 comments_then_text = refl

@@ -5,12 +5,14 @@ use Rattle.std.specs.Prelude.{ℕ, ◌+◌, Bool, true, false, not, ◌&&◌, �
 use Rattle.std.proofs.lemmas.Bool.{and_parts}
 use Rattle.yaml_grammar.specs.Texts.{is_empty, byte_len}
 use Rattle.yaml_grammar.specs.Separation.{LineEnd, line_end_text, comments_text}
-use Rattle.yaml_grammar.specs.BlockScalars.{Chomping, strip, clip, keep, Header, Body, BlockScalar, chomping_text, header_text, body_text, bare_block_text, block_value}
+use Rattle.yaml_grammar.specs.BlockScalars.{Chomping, strip, clip, keep, Header, Body, BlockScalar, chomping_text}
+use Rattle.yaml_grammar.specs.BlockScalars.{header_text, body_text, bare_block_text, block_value}
 use Rattle.yaml_grammar.specs.Events.{Event, scalar_event, literal_style, folded_style}
 use Rattle.yaml_recognizers.specs.Scalars.{ReadsBlocks}
 use Rattle.yaml_recognizers.proofs.Basics.Reading.{none_some, some_parts, sound_is}
 use Rattle.yaml_recognizers.specs.BlockScalars.{read_header, read_body, read_trail, block_of, read_block}
-use Rattle.yaml_recognizers.specs.BlockScalarFacts.{HeaderStands, IsHeader, NoHeader, BodyStands, IsBody, NoBody, BlockStands, SameBlock, IsBlock, NoBlock}
+use Rattle.yaml_recognizers.specs.BlockScalarFacts.{HeaderStands, IsHeader, NoHeader, BodyStands, IsBody, NoBody}
+use Rattle.yaml_recognizers.specs.BlockScalarFacts.{BlockStands, SameBlock, IsBlock, NoBlock}
 use Rattle.yaml_recognizers.proofs.BlockScalars.BlockHeaders.{bar, signs, header_read, HeaderOf, header_sound}
 use Rattle.yaml_recognizers.proofs.BlockScalars.BlockBodies.{body_read, BodyOf, body_sound}
 use Rattle.yaml_recognizers.proofs.BlockScalars.BlockScalarsWhole.{BlockParts, block_parts, block_read, BlockOf, block_sound}
@@ -28,7 +30,13 @@ blocks_read = record {
 
 -- with its digit last only where it comes after a mark
 abbrev pub digit_first : Header → Header
-digit_first h = record { folded = h.folded; digit = h.digit; chomping = h.chomping; digit_last = h.digit_last && (is_some h.digit && not (is_empty (chomping_text h.chomping))); line_end = h.line_end }
+digit_first h = record {
+  folded = h.folded;
+  digit = h.digit;
+  chomping = h.chomping;
+  digit_last = h.digit_last && (is_some h.digit && not (is_empty (chomping_text h.chomping)));
+  line_end = h.line_end;
+}
 
 -- what is last only if it may be, is canonical
 canonical_first : (b c : Bool) → not (b && c) || c ≡ true
@@ -38,7 +46,8 @@ canonical_first false true = refl
 canonical_first false false = refl
 
 -- the digit's place doesn't change the signs where there is no digit or no mark
-signs_first : (digit : Option ℕ) (chomping : Chomping) (last : Bool) → signs digit chomping (last && (is_some digit && not (is_empty (chomping_text chomping)))) ≡ signs digit chomping last
+signs_first : (digit : Option ℕ) (chomping : Chomping) (last : Bool)
+    → signs digit chomping (last && (is_some digit && not (is_empty (chomping_text chomping)))) ≡ signs digit chomping last
 signs_first digit chomping false = refl
 signs_first None strip true = refl
 signs_first None clip true = refl
@@ -65,12 +74,21 @@ header_stands text h rest s =
       stands = s;
       means = record { style = refl; indentation = refl; chomps = refl };
       only = λ g after t.
-          let p : (digit_first g ≡ digit_first h) × (after ≡ rest) = some_parts (digit_first g) (digit_first h) after rest (sym (header_found text g after t) ∙ header_found text h rest s) in
-          (record { style = ap (λ (x : Header). x.folded) p.0; indentation = ap (λ (x : Header). x.digit) p.0; chomps = ap (λ (x : Header). x.chomping) p.0 }, p.1);
+          let p : (digit_first g ≡ digit_first h) × (after ≡ rest) =
+          some_parts (digit_first g) (digit_first h) after rest
+          (sym (header_found text g after t) ∙ header_found text h rest s) in (
+            record {
+              style = ap (λ (x : Header). x.folded) p.0;
+              indentation = ap (λ (x : Header). x.digit) p.0;
+              chomps = ap (λ (x : Header). x.chomping) p.0;
+            },
+            p.1,
+          );
     }
 
 -- a header that is read is there, and each one there says the same
-pub header_is : (text : List ℕ) (h : Header) (rest : List ℕ) → read_header text ≡ Some (h, rest) → IsHeader text h.folded h.digit h.chomping rest
+pub header_is : (text : List ℕ) (h : Header) (rest : List ℕ) → read_header text ≡ Some (h, rest)
+    → IsHeader text h.folded h.digit h.chomping rest
 header_is text h rest e =
     let s : HeaderOf text h rest = sound_is (HeaderOf text) (read_header text) (h, rest) (header_sound text) e in
     header_stands text h rest (record { spells = s.0; fits = s.1 })
@@ -82,11 +100,13 @@ no_header text e h rest s = none_some (digit_first h, rest) (sym e ∙ header_fo
 -- ---- the body
 
 -- a body that is there is read
-pub body_found : (digit : Option ℕ) (m : ℕ) (text : List ℕ) (b : Body) (rest : List ℕ) → BodyStands digit m text b rest → read_body digit m text ≡ Some (b, rest)
+pub body_found : (digit : Option ℕ) (m : ℕ) (text : List ℕ) (b : Body) (rest : List ℕ)
+    → BodyStands digit m text b rest → read_body digit m text ≡ Some (b, rest)
 body_found digit m text b rest s = ap (read_body digit m) s.spells ∙ body_read digit m b rest s.fits
 
 -- a body that is there is the one that is read, with its value
-pub body_stands : (digit : Option ℕ) (m : ℕ) (folded : Bool) (chomping : Chomping) (text : List ℕ) (b : Body) (rest : List ℕ) → BodyStands digit m text b rest
+pub body_stands : (digit : Option ℕ) (m : ℕ) (folded : Bool) (chomping : Chomping) (text : List ℕ) (b : Body)
+    (rest : List ℕ) → BodyStands digit m text b rest
     → IsBody digit m folded chomping text (block_value folded chomping b.empties b.texts) rest
 body_stands digit m folded chomping text b rest s =
     record {
@@ -97,7 +117,8 @@ body_stands digit m folded chomping text b rest s =
     }
 
 -- a body that is read is there, and no other
-pub body_is : (digit : Option ℕ) (m : ℕ) (folded : Bool) (chomping : Chomping) (text : List ℕ) (b : Body) (rest : List ℕ) → read_body digit m text ≡ Some (b, rest)
+pub body_is : (digit : Option ℕ) (m : ℕ) (folded : Bool) (chomping : Chomping) (text : List ℕ) (b : Body)
+    (rest : List ℕ) → read_body digit m text ≡ Some (b, rest)
     → IsBody digit m folded chomping text (block_value folded chomping b.empties b.texts) rest
 body_is digit m folded chomping text b rest e =
     let s : BodyOf digit m text b rest = sound_is (BodyOf digit m text) (read_body digit m text) (b, rest) (body_sound digit m text) e in
@@ -127,30 +148,37 @@ body_spelled header b = header ++ body_text b
 
 -- its events, from the header, the body and its text
 abbrev body_events : ℕ → Header → Body → List ℕ → List Event
-body_events at h b text = scalar_event (if h.folded then folded_style else literal_style) at (at + byte_len text) (block_value h.folded h.chomping b.empties b.texts) ∷ []
+body_events at h b text = scalar_event (if h.folded then folded_style else literal_style) at (at + byte_len text)
+    (block_value h.folded h.chomping b.empties b.texts) ∷ []
 
 -- scalars of the same parts are the same
 same_parts : (b c : BlockScalar) → digit_first b.header ≡ digit_first c.header → b.body ≡ c.body → SameBlock b c
 same_parts b c h g =
     let text : header_text b.header ≡ header_text c.header = sym (first_text b.header) ∙ (ap header_text h ∙ first_text c.header) in
-    let spelled : bare_block_text b ≡ bare_block_text c = ap (λ t. body_spelled t b.body) text ∙ ap (body_spelled (header_text c.header)) g in
+    let spelled : bare_block_text b ≡ bare_block_text c = ap (λ t. body_spelled t b.body) text
+    ∙ ap (body_spelled (header_text c.header)) g in
     record {
       spells = spelled;
       means = λ at. ap (λ x. body_events at x b.body (bare_block_text b)) h
-          ∙ (ap (λ x. body_events at (digit_first c.header) x (bare_block_text b)) g ∙ ap (body_events at (digit_first c.header) c.body) spelled);
+          ∙ (ap (λ x. body_events at (digit_first c.header) x (bare_block_text b)) g
+          ∙ ap (body_events at (digit_first c.header) c.body) spelled);
     }
 
 -- each block scalar that is there is read, but for the place of its digit, and with all comments after it
 pub block_found : (m : ℕ) (text : List ℕ) (b : BlockScalar) (rest : List ℕ) → BlockStands m text b rest
-    → let t = read_trail (b.body).indent (comments_text b.trail ++ rest) in read_block m text ≡ Some (block_of (digit_first b.header) b.body t.0, t.1)
+    → let t = read_trail (b.body).indent (comments_text b.trail ++ rest) in
+    read_block m text ≡ Some (block_of (digit_first b.header) b.body t.0, t.1)
 block_found m text b rest s =
     let tail : List ℕ = comments_text b.trail ++ rest in
-    let h : read_header text ≡ Some (digit_first b.header, body_text b.body ++ tail) = header_found text b.header (body_text b.body ++ tail) (block_header m text b rest s) in
-    let g : read_body (b.header).digit m (body_text b.body ++ tail) ≡ Some (b.body, tail) = body_found (b.header).digit m (body_text b.body ++ tail) b.body tail (block_body m text b rest s) in
+    let h : read_header text ≡ Some (digit_first b.header, body_text b.body ++ tail) =
+    header_found text b.header (body_text b.body ++ tail) (block_header m text b rest s) in
+    let g : read_body (b.header).digit m (body_text b.body ++ tail) ≡ Some (b.body, tail) =
+    body_found (b.header).digit m (body_text b.body ++ tail) b.body tail (block_body m text b rest s) in
     rw (h, g)
 
 -- all block scalars that are there spell the same up to their comments, and mean the same
-pub block_once : (m : ℕ) (text : List ℕ) (b c : BlockScalar) (rest after : List ℕ) → BlockStands m text b rest → BlockStands m text c after → SameBlock b c
+pub block_once : (m : ℕ) (text : List ℕ) (b c : BlockScalar) (rest after : List ℕ) → BlockStands m text b rest
+    → BlockStands m text c after → SameBlock b c
 block_once m text b c rest after s t =
     let u : List LineEnd × List ℕ = read_trail (b.body).indent (comments_text b.trail ++ rest) in
     let v : List LineEnd × List ℕ = read_trail (c.body).indent (comments_text c.trail ++ after) in

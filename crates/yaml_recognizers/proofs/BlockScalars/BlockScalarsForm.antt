@@ -1,11 +1,16 @@
 -- The canonical form of block scalars: the digit of the header is first, and further lines of comments after the scalar
 -- are taken in. Whether the lines after a node may be taken in, where a scalar without comments ends it.
 use Rattle.std.proofs.Common.{ap, append_assoc, inl, inr, refl, subst, sym, ◌∙◌, ◌≡◌}
-use Rattle.std.specs.Prelude.{Bool, List, None, Option, Some, [], cond, false, if◌then◌else◌, is_some, length, nat_lt, not, suc, true, ℕ, ◌&&◌, ◌++◌, ◌==◌, ◌||◌, ◌∷◌}
+use Rattle.std.specs.Prelude.{Bool, List, None, Option, Some, [], cond, false, if◌then◌else◌, is_some, length, nat_lt}
+use Rattle.std.specs.Prelude.{not, suc, true, ℕ, ◌&&◌, ◌++◌, ◌==◌, ◌||◌, ◌∷◌}
 use Rattle.std.proofs.lemmas.Bool.{and_from, and_left, and_parts, and_right, cases_Bool, eqb-true, false≢true, not_from_false, or_parts}
 use Rattle.yaml_chars.specs.Classes.{space, white}
-use Rattle.yaml_grammar.specs.BlockScalars.{BlockScalar, Chomping, Header, bare_block_text, block_events, block_fits, block_text, body_fits, body_text, chomping_text, clip, digit_text, header_fits, header_text, keep, past_spaces, spaces_before, strip, trail_fits}
-use Rattle.yaml_grammar.specs.Separation.{Break, LineEnd, break_text, comment_line_fits, comment_text, comments_fit, comments_text, cr, cr_lf, lf, line_end_text, stop_fits}
+use Rattle.yaml_grammar.specs.BlockScalars.{BlockScalar, Chomping, Header, bare_block_text, block_events, block_fits}
+use Rattle.yaml_grammar.specs.BlockScalars.{block_text, body_fits, body_text, chomping_text, clip, digit_text}
+use Rattle.yaml_grammar.specs.BlockScalars.{header_fits, header_text, keep, past_spaces, spaces_before, strip}
+use Rattle.yaml_grammar.specs.BlockScalars.{trail_fits}
+use Rattle.yaml_grammar.specs.Separation.{Break, LineEnd, break_text, comment_line_fits, comment_text, comments_fit}
+use Rattle.yaml_grammar.specs.Separation.{comments_text, cr, cr_lf, lf, line_end_text, stop_fits}
 use Rattle.std.specs.List.{list_all}
 use Rattle.yaml_grammar.specs.Texts.{first, is_empty, optional}
 use Rattle.yaml_recognizers.specs.CanonicalBlockScalars.{canonical_block, whole_trail}
@@ -26,7 +31,8 @@ header_form h = record h { digit_last = digit_last_form h.digit_last h.digit h.c
 
 -- it is the same text
 marks_same : (digit_last : Bool) (digit : Option ℕ) (chomping : Chomping)
-    → cond (digit_last_form digit_last digit chomping) (chomping_text chomping ++ optional digit_text digit) (optional digit_text digit ++ chomping_text chomping)
+    → cond (digit_last_form digit_last digit chomping) (chomping_text chomping ++ optional digit_text digit)
+    (optional digit_text digit ++ chomping_text chomping)
     ≡ cond digit_last (chomping_text chomping ++ optional digit_text digit) (optional digit_text digit ++ chomping_text chomping)
 marks_same false digit chomping = refl
 marks_same true None strip = refl
@@ -61,7 +67,8 @@ bare_form_text b ls = rw (header_form_text b.header)
 
 -- and then the comments taken in
 pub block_form_text : (b : BlockScalar) (ls : List LineEnd) → block_text (block_form b ls) ≡ block_text b ++ comments_text ls
-block_form_text b ls = rw (bare_form_text b ls, comments_joined b.trail ls) (sym (append_assoc (bare_block_text b) (comments_text b.trail) (comments_text ls)))
+block_form_text b ls = rw (bare_form_text b ls, comments_joined b.trail ls)
+    (sym (append_assoc (bare_block_text b) (comments_text b.trail) (comments_text ls)))
 
 -- it means the same
 pub block_form_events : (b : BlockScalar) (ls : List LineEnd) (at : ℕ) → block_events at (block_form b ls) ≡ block_events at b
@@ -93,7 +100,8 @@ no_space [] h = refl
 no_space (c ∷ cs) h = (or_parts (c == 32) (c == 9) h).0
 
 -- a `#` after white and spaces alone
-hash_after : (blank tail : List ℕ) → list_all white blank ≡ true → first white tail ≡ false → first hash (past_spaces (blank ++ tail)) ≡ true
+hash_after : (blank tail : List ℕ) → list_all white blank ≡ true → first white tail ≡ false
+    → first hash (past_spaces (blank ++ tail)) ≡ true
     → (list_all space blank ≡ true) × (spaces_before (blank ++ tail) ≡ length blank) × (first hash tail ≡ true)
 hash_after [] tail w f h =
     let s : first space tail ≡ false = no_space tail f in (refl, spaces_counted 0 tail s, rw (spaces_passed 0 tail s) at h)
@@ -127,7 +135,8 @@ hash_line q e rest f h =
     and_from _ _ (and_from _ _ (hash_comment e.comment e.stop rest l.stop_fit b.2) b.0) (subst (λ (n : ℕ). nat_lt n q ≡ true) b.1 p.0)
 
 -- lines that may not be taken in: then the first of them does not belong to the scalar
-pub takes_not : (o : Option ℕ) (ls : List LineEnd) (after : List ℕ) → comments_fit true ls after ≡ true → is_line_end after ≡ false → takes o ls after ≡ false
+pub takes_not : (o : Option ℕ) (ls : List LineEnd) (after : List ℕ) → comments_fit true ls after ≡ true
+    → is_line_end after ≡ false → takes o ls after ≡ false
     → takes o [] (comments_text ls ++ after) ≡ true
 takes_not None ls after f n h = absurd (false≢true (sym h ∙ not_from_false _ n))
 takes_not (Some q) [] after f n h = absurd (false≢true (sym h ∙ takes_none (Some q) after n))
@@ -138,26 +147,34 @@ takes_not (Some q) (e ∷ es) after f n h =
     elim (cases_Bool (nat_lt (spaces_before text) q && first hash (past_spaces text))) [
       | inr i ↦ not_from_false _ (and_left _ _ i)
       | inl i ↦ (let c : is_some e.comment && list_all space e.blank && nat_lt (length e.blank) q ≡ true =
-          hash_line q e (comments_text es ++ after) line (subst (λ (t : List ℕ). nat_lt (spaces_before t) q && first hash (past_spaces t) ≡ true) regrouped i) in
+          hash_line q e (comments_text es ++ after) line
+          (subst (λ (t : List ℕ). nat_lt (spaces_before t) q && first hash (past_spaces t) ≡ true) regrouped i) in
           absurd (false≢true (sym h ∙ and_from _ _ (and_from _ _ c f) (not_from_false _ n))))
     ]
 
 -- ---- it fits
 
 -- the comments with those taken in fit, and no further line may belong to them
-trail_fit : (q : ℕ) (trail ls : List LineEnd) (after : List ℕ) → trail_fits q trail (comments_text ls ++ after) ≡ true → comments_fit true ls after ≡ true
-    → takes (if is_empty trail then Some q else None) ls after ≡ true → (trail_fits q (trail ++ ls) after ≡ true) × (whole_trail q (trail ++ ls) after ≡ true)
+trail_fit : (q : ℕ) (trail ls : List LineEnd) (after : List ℕ) → trail_fits q trail (comments_text ls ++ after) ≡ true
+    → comments_fit true ls after ≡ true
+    → takes (if is_empty trail then Some q else None) ls after ≡ true
+    → (trail_fits q (trail ++ ls) after ≡ true) × (whole_trail q (trail ++ ls) after ≡ true)
 trail_fit q [] ls after h l t = and_parts _ _ t
 trail_fit q (e ∷ es) ls after h l t =
-    let p : (is_some e.comment && list_all space e.blank && nat_lt (length e.blank) q ≡ true) × (comments_fit true (e ∷ es) (comments_text ls ++ after) ≡ true) = and_parts _ _ h in
+    let p : (is_some e.comment && list_all space e.blank && nat_lt (length e.blank) q ≡ true)
+    × (comments_fit true (e ∷ es) (comments_text ls ++ after) ≡ true) = and_parts _ _ h in
     (and_from _ _ p.0 (joined_fit true (e ∷ es) ls after p.1 l), t)
 
 -- it is canonical if the scalar fits
-pub block_form_fits : (b : BlockScalar) (ls : List LineEnd) (m : ℕ) (after : List ℕ) → block_fits m b (comments_text ls ++ after) ≡ true → comments_fit true ls after ≡ true
+pub block_form_fits : (b : BlockScalar) (ls : List LineEnd) (m : ℕ) (after : List ℕ)
+    → block_fits m b (comments_text ls ++ after) ≡ true → comments_fit true ls after ≡ true
     → takes (block_open b) ls after ≡ true → canonical_block m (block_form b ls) after ≡ true
 block_form_fits b ls m after h l t =
     let p = and_parts _ _ h in
-    let body : header_fits b.header (body_text b.body ++ (comments_text (b.trail ++ ls) ++ after)) && body_fits (b.header).digit m b.body (comments_text (b.trail ++ ls) ++ after) ≡ true =
-    subst (λ (r : List ℕ). header_fits b.header (body_text b.body ++ r) && body_fits (b.header).digit m b.body r ≡ true) (sym (joined_before b.trail ls after)) p.0 in
+    let body : header_fits b.header (body_text b.body ++ (comments_text (b.trail ++ ls) ++ after))
+    && body_fits (b.header).digit m b.body (comments_text (b.trail ++ ls) ++ after) ≡ true =
+    subst (λ (r : List ℕ). header_fits b.header (body_text b.body ++ r) && body_fits (b.header).digit m b.body r
+    ≡ true) (sym (joined_before b.trail ls after)) p.0 in
     let trail = trail_fit (b.body).indent b.trail ls after p.1 l t in
-    and_from _ _ (and_from _ _ (and_from _ _ body trail.0) (marks_canonical (b.header).digit_last (b.header).digit (b.header).chomping)) trail.1
+    and_from _ _ (and_from _ _ (and_from _ _ body trail.0)
+    (marks_canonical (b.header).digit_last (b.header).digit (b.header).chomping)) trail.1

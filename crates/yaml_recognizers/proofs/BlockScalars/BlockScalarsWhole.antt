@@ -4,7 +4,8 @@ use Rattle.std.proofs.Common.{◌≡◌, sym, ◌∙◌, ap, subst, append_assoc
 use Rattle.std.specs.Prelude.{ℕ, true, ◌&&◌, List, ◌++◌, Some}
 use Rattle.std.proofs.lemmas.Bool.{and_parts, and_from}
 use Rattle.yaml_grammar.specs.Separation.{LineEnd, comments_text}
-use Rattle.yaml_grammar.specs.BlockScalars.{Header, Body, BlockScalar, header_text, body_text, block_text, header_fits, body_fits, trail_fits, block_fits}
+use Rattle.yaml_grammar.specs.BlockScalars.{Header, Body, BlockScalar, header_text, body_text, block_text}
+use Rattle.yaml_grammar.specs.BlockScalars.{header_fits, body_fits, trail_fits, block_fits}
 use Rattle.yaml_recognizers.proofs.Basics.Reading.{Sound, sound_on}
 use Rattle.yaml_recognizers.specs.CanonicalBlockScalars.{canonical_header, whole_trail, canonical_block}
 use Rattle.yaml_recognizers.specs.Reading.{on}
@@ -36,14 +37,20 @@ block_parts m b after h =
 -- ---- complete
 
 -- a canonical block scalar is read
-pub block_read : (b : BlockScalar) (m : ℕ) (after : List ℕ) → canonical_block m b after ≡ true → read_block m (block_text b ++ after) ≡ Some (b, after)
+pub block_read : (b : BlockScalar) (m : ℕ) (after : List ℕ) → canonical_block m b after ≡ true
+    → read_block m (block_text b ++ after) ≡ Some (b, after)
 block_read b m after h =
-    let p : (block_fits m b after && canonical_header b.header ≡ true) × (whole_trail (b.body).indent b.trail after ≡ true) = and_parts _ _ h in
+    let p : (block_fits m b after && canonical_header b.header ≡ true)
+    × (whole_trail (b.body).indent b.trail after ≡ true) = and_parts _ _ h in
     let q : (block_fits m b after ≡ true) × (canonical_header b.header ≡ true) = and_parts _ _ p.0 in
     let parts : BlockParts m b after = block_parts m b after q.0 in
     let rest : List ℕ = comments_text b.trail ++ after in
     ap (read_block m) (block_regrouped b.header b.body b.trail after)
-    ∙ rw (header_read b.header (body_text b.body ++ rest) parts.header q.1, body_read (b.header).digit m b.body rest parts.body, trail_read (b.body).indent b.trail after parts.trail p.1)
+    ∙ rw (
+      header_read b.header (body_text b.body ++ rest) parts.header q.1,
+      body_read (b.header).digit m b.body rest parts.body,
+      trail_read (b.body).indent b.trail after parts.trail p.1,
+    )
 
 -- ---- sound
 
@@ -61,14 +68,16 @@ joined m text after rest h b s t =
     let at : after ≡ body_text b ++ (comments_text trail ++ end) = t.0 ∙ ap (λ x. body_text b ++ x) u.0 in (
       s.0 ∙ (ap (λ x. header_text h ++ x) at ∙ sym (block_regrouped h b trail end)),
       and_from _ _ (and_from _ _
-          (and_from _ _ (and_from _ _ (subst (λ (x : List ℕ). header_fits h x ≡ true) at s.1) (subst (λ (x : List ℕ). body_fits h.digit m b x ≡ true) u.0 t.1)) u.1) s.2) u.2,
+          (and_from _ _ (and_from _ _ (subst (λ (x : List ℕ). header_fits h x ≡ true) at s.1)
+          (subst (λ (x : List ℕ). body_fits h.digit m b x ≡ true) u.0 t.1)) u.1) s.2) u.2,
     )
 
 -- a block scalar that is read is canonical
 pub block_sound : (m : ℕ) (text : List ℕ) → Sound (BlockOf m text) (read_block m text)
 block_sound m text =
     sound_on (HeaderOf text) (BlockOf m text) (read_header text)
-    (λ h rest. on (read_body h.digit m rest) (λ b after. let t = read_trail b.indent after in Some (block_of h b t.0, t.1))) (header_sound text)
+    (λ h rest. on (read_body h.digit m rest) (λ b after. let t = read_trail b.indent after in
+    Some (block_of h b t.0, t.1))) (header_sound text)
     (λ h after s. sound_on (BodyOf h.digit m after) (BlockOf m text) (read_body h.digit m after)
     (λ b rest. let t = read_trail b.indent rest in Some (block_of h b t.0, t.1)) (body_sound h.digit m after)
     (λ b rest t. joined m text after rest h b s t))

@@ -4,7 +4,9 @@ use Rattle.std.specs.Prelude.{Bool, List, [], false, flat_map, true, ℕ, ◌++�
 use Rattle.std.proofs.lemmas.Bool.{and_from, and_parts}
 use Rattle.std.proofs.lemmas.List.{append-nil}
 use Rattle.yaml_grammar.specs.Separation.{LineEnd, comment_line_fits, comments_text, line_end_text}
-use Rattle.yaml_grammar.specs.Streams.{Explicit, Part, Stream, content, document_text, explicit_fits, explicit_text, fits, further, line, nothing, part_fits, part_text, parts_fit, parts_text, suffix_text, suffixes}
+use Rattle.yaml_grammar.specs.Streams.{Explicit, Part, Stream, content, document_text, explicit_fits, explicit_text}
+use Rattle.yaml_grammar.specs.Streams.{fits, further, line, nothing, part_fits, part_text, parts_fit, parts_text}
+use Rattle.yaml_grammar.specs.Streams.{suffix_text, suffixes}
 use Rattle.yaml_grammar.specs.Texts.{ends_word, marker, optional, starts_line}
 use Rattle.yaml_recognizers.specs.CanonicalComments.{is_line_end}
 use Rattle.yaml_recognizers.specs.StandingNodes.{EndsNode}
@@ -26,7 +28,8 @@ explicit_no_line (content n) rest = refl
 explicit_no_line (nothing comments) rest = refl
 
 -- a line of white or a comment, before what ends a node
-line_before : (bol : Bool) (e : LineEnd) (rest : List ℕ) → comment_line_fits bol e rest ≡ true → EndsNode 0 false rest → EndsNode 0 false (line_end_text e ++ rest)
+line_before : (bol : Bool) (e : LineEnd) (rest : List ℕ) → comment_line_fits bol e rest ≡ true → EndsNode 0 false rest
+    → EndsNode 0 false (line_end_text e ++ rest)
 line_before bol e rest h r =
     record {
       lines = e ∷ r.lines;
@@ -43,16 +46,21 @@ parts_end [] bol h = record { lines = []; after = []; is = refl; fit = refl; who
 parts_end (suffixes one more prefix d ∷ ps) bol h =
     let rest : List ℕ = optional document_text d ++ (parts_text ps ++ []) in
     let after : List ℕ = comments_text one ++ (flat_map suffix_text more ++ (comments_text prefix ++ rest)) in
-    let p : (part_fits (suffixes one more prefix d) bol (parts_text ps ++ []) ≡ true) × (parts_fit ps (starts_line bol (part_text (suffixes one more prefix d))) [] ≡ true) = and_parts _ _ h in
+    let p : (part_fits (suffixes one more prefix d) bol (parts_text ps ++ []) ≡ true)
+    × (parts_fit ps (starts_line bol (part_text (suffixes one more prefix d))) [] ≡ true) = and_parts _ _ h in
     let mark : ends_word after ≡ true = (and_parts _ _ (and_parts _ _ (and_parts _ _ (and_parts _ _ (and_parts _ _ p.0).0).0).0).0).1 in
-    let regrouped : (((comments_text one ++ flat_map suffix_text more) ++ comments_text prefix) ++ optional document_text d) ++ parts_text ps ≡ after = simp (append_assoc, append-nil) in
+    let regrouped : (((comments_text one ++ flat_map suffix_text more) ++ comments_text prefix)
+    ++ optional document_text d) ++ parts_text ps ≡ after = simp (append_assoc, append-nil) in
     at_mark (parts_text (suffixes one more prefix d ∷ ps)) refl (rw regrouped mark)
 parts_end (line e ∷ ps) bol h =
-    let p : (comment_line_fits bol e (parts_text ps ++ []) ≡ true) × (parts_fit ps (starts_line bol (line_end_text e)) [] ≡ true) = and_parts _ _ h in
+    let p : (comment_line_fits bol e (parts_text ps ++ []) ≡ true)
+    × (parts_fit ps (starts_line bol (line_end_text e)) [] ≡ true) = and_parts _ _ h in
     line_before bol e (parts_text ps) (rw (append-nil (parts_text ps)) at p.0) (parts_end ps (starts_line bol (line_end_text e)) p.1)
 parts_end (further x ∷ ps) bol h =
-    let p : (explicit_fits x bol (parts_text ps ++ []) ≡ true) × (parts_fit ps (starts_line bol (explicit_text x)) [] ≡ true) = and_parts _ _ h in
-    at_mark (parts_text (further x ∷ ps)) (explicit_no_line x (parts_text ps)) (explicit_mark x bol (parts_text ps) (rw (append-nil (parts_text ps)) at p.0))
+    let p : (explicit_fits x bol (parts_text ps ++ []) ≡ true)
+    × (parts_fit ps (starts_line bol (explicit_text x)) [] ≡ true) = and_parts _ _ h in
+    at_mark (parts_text (further x ∷ ps)) (explicit_no_line x (parts_text ps))
+    (explicit_mark x bol (parts_text ps) (rw (append-nil (parts_text ps)) at p.0))
 
 -- later parts end a document's node
 later_end : (before after : List Part) (bol : Bool) → parts_fit (before ++ after) bol [] ≡ true → EndsNode 0 false (parts_text after)
@@ -60,7 +68,8 @@ later_end [] after bol h = parts_end after bol h
 later_end (p ∷ ps) after bol h = later_end ps after (starts_line bol (part_text p)) (and_parts _ _ h).1
 
 -- the same at each document of a stream
-pub document_ends : (s : Stream) (before after : List Part) → fits s ≡ true → s.parts ≡ before ++ after → EndsNode 0 false (parts_text after)
+pub document_ends : (s : Stream) (before after : List Part) → fits s ≡ true → s.parts ≡ before ++ after
+    → EndsNode 0 false (parts_text after)
 document_ends s before after h e =
     let b : Bool = starts_line true (comments_text s.prefix ++ optional document_text s.document) in
     later_end before after b (subst (λ (ps : List Part). parts_fit ps b [] ≡ true) e (and_parts _ _ h).1)

@@ -6,12 +6,15 @@ use Rattle.std.proofs.lemmas.Bool.{and_from, and_parts, not_from_false}
 use Rattle.yaml_chars.specs.Classes.{white}
 use Rattle.yaml_grammar.specs.BlockNodes.{node_fits, node_text}
 use Rattle.yaml_grammar.specs.Separation.{LineEnd, comments_fit, comments_text}
-use Rattle.yaml_grammar.specs.Streams.{Document, Explicit, bare, content, directed, directive_text, document_events, document_text, explicit, explicit_events, explicit_fits, explicit_text, nothing}
+use Rattle.yaml_grammar.specs.Streams.{Document, Explicit, bare, content, directed, directive_text, document_events}
+use Rattle.yaml_grammar.specs.Streams.{document_text, explicit, explicit_events, explicit_fits, explicit_text}
+use Rattle.yaml_grammar.specs.Streams.{nothing}
 use Rattle.std.specs.List.{list_all}
 use Rattle.yaml_grammar.specs.Texts.{ends_word, is_empty}
 use Rattle.yaml_recognizers.specs.CanonicalComments.{canonical_comments, is_line_end}
 use Rattle.yaml_recognizers.specs.CanonicalStreams.{canonical_document, canonical_explicit}
-use Rattle.yaml_recognizers.proofs.Block.BlockNodesForm.{node_before, node_form, node_form_events, node_form_fits, node_form_text, node_open}
+use Rattle.yaml_recognizers.proofs.Block.BlockNodesForm.{node_before, node_form, node_form_events, node_form_fits}
+use Rattle.yaml_recognizers.proofs.Block.BlockNodesForm.{node_form_text, node_open}
 use Rattle.yaml_recognizers.proofs.BlockScalars.BlockScalarsForm.{takes}
 use Rattle.yaml_recognizers.proofs.Separation.CommentsForm.{comments_form_fit, comments_joined, joined_before}
 use Rattle.yaml_recognizers.proofs.Documents.StreamsFlatFit.{flat_document_fits}
@@ -66,7 +69,8 @@ document_form_events (directed blank version comments x) ls at = explicit_form_e
 -- ---- it fits
 
 -- it is canonical
-explicit_form_fits : (x : Explicit) (ls : List LineEnd) (bol : Bool) (after : List ℕ) → explicit_fits x bol (comments_text ls ++ after) ≡ true
+explicit_form_fits : (x : Explicit) (ls : List LineEnd) (bol : Bool) (after : List ℕ)
+    → explicit_fits x bol (comments_text ls ++ after) ≡ true
     → comments_fit true ls after ≡ true → takes (explicit_open x) ls after ≡ true → canonical_explicit (explicit_form x ls) bol after ≡ true
 explicit_form_fits (content n) ls bol after h l t =
     let more : List ℕ = comments_text ls ++ after in
@@ -78,7 +82,8 @@ explicit_form_fits (nothing comments) ls bol after h l t =
     rw (joined_before comments ls after) (and_from _ _ p.0 (comments_form_fit false comments ls after p.1 l t))
 
 -- the comments taken in come after its text
-explicit_before : (x : Explicit) (ls : List LineEnd) (after : List ℕ) → explicit_text (explicit_form x ls) ++ after ≡ explicit_text x ++ (comments_text ls ++ after)
+explicit_before : (x : Explicit) (ls : List LineEnd) (after : List ℕ)
+    → explicit_text (explicit_form x ls) ++ after ≡ explicit_text x ++ (comments_text ls ++ after)
 explicit_before x ls after = rw (explicit_form_text x ls) (append_assoc (explicit_text x) (comments_text ls) after)
 
 -- no comments begin at a `---`
@@ -87,8 +92,10 @@ explicit_stop (content n) after = refl
 explicit_stop (nothing comments) after = refl
 
 -- it is canonical if the document fits
-pub document_form_fits : (d : Document) (ls : List LineEnd) (opened bol : Bool) (after : List ℕ) → flat_document_fits d opened bol (comments_text ls ++ after) ≡ true
-    → comments_fit true ls after ≡ true → takes (document_open d) ls after ≡ true → canonical_document (document_form d ls) opened bol after ≡ true
+pub document_form_fits : (d : Document) (ls : List LineEnd) (opened bol : Bool) (after : List ℕ)
+    → flat_document_fits d opened bol (comments_text ls ++ after) ≡ true
+    → comments_fit true ls after ≡ true → takes (document_open d) ls after ≡ true
+    → canonical_document (document_form d ls) opened bol after ≡ true
 document_form_fits (bare n) ls opened bol after h l t =
     let more : List ℕ = comments_text ls ++ after in
     let p : (opened && not (is_line_end (node_text n ++ more)) ≡ true) × (node_fits n 0 false bol more ≡ true) = and_parts _ _ h in
@@ -97,11 +104,14 @@ document_form_fits (explicit x) ls opened bol after h l t = explicit_form_fits x
 document_form_fits (directed blank version comments x) ls opened bol after h l t =
     let more : List ℕ = comments_text ls ++ after in
     let head : Bool = bol && list_all white blank && not (is_empty blank) in
-    let p : (opened ≡ true) × (head && comments_fit false comments (explicit_text x ++ more) && explicit_fits x true more ≡ true) = and_parts _ _ h in
-    let q : (head && comments_fit false comments (explicit_text x ++ more) ≡ true) × (explicit_fits x true more ≡ true) = and_parts _ _ p.1 in
+    let p : (opened ≡ true) × (head && comments_fit false comments (explicit_text x ++ more)
+    && explicit_fits x true more ≡ true) = and_parts _ _ h in
+    let q : (head && comments_fit false comments (explicit_text x ++ more) ≡ true)
+    × (explicit_fits x true more ≡ true) = and_parts _ _ p.1 in
     let r : (head ≡ true) × (comments_fit false comments (explicit_text x ++ more) ≡ true) = and_parts _ _ q.0 in
     let s : (bol && list_all white blank ≡ true) × (not (is_empty blank) ≡ true) = and_parts _ _ r.0 in
     let u : (bol ≡ true) × (list_all white blank ≡ true) = and_parts _ _ s.0 in
-    let c : canonical_comments false comments (explicit_text x ++ more) ≡ true = and_from _ _ r.1 (not_from_false _ (explicit_stop x more)) in
+    let c : canonical_comments false comments (explicit_text x ++ more) ≡ true =
+    and_from _ _ r.1 (not_from_false _ (explicit_stop x more)) in
     let e : canonical_explicit (explicit_form x ls) true after ≡ true = explicit_form_fits x ls true after q.1 l t in
     rw (explicit_before x ls after) (and_from _ _ (and_from _ _ (and_from _ _ (and_from _ _ (and_from _ _ p.0 u.0) u.1) s.1) c) e)

@@ -3,13 +3,15 @@
 -- texts, never from the recognizer.
 use Rattle.std.proofs.Common.{◌≡◌, refl}
 use Rattle.std.specs.Prelude.{List, [], ◌∷◌, ◌++◌, codes}
-use Rattle.yaml_grammar.specs.Events.{document_start, document_end, seq_start, seq_end, map_start, map_end, scalar_event, plain_style, double_style, literal_style, folded_style}
+use Rattle.yaml_grammar.specs.Events.{document_start, document_end, seq_start, seq_end, map_start, map_end}
+use Rattle.yaml_grammar.specs.Events.{scalar_event, plain_style, double_style, literal_style, folded_style}
 use Rattle.yaml_recognizers.specs.FlowNodes.{read_flow}
 use Rattle.yaml_recognizers.specs.BlockNodes.{read_node}
 use Rattle.yaml_recognizers.specs.Streams.{read_explicit, read_section, read_sections}
 use Rattle.yaml_recognizers.specs.Repeated.{repeated}
 use Rattle.yaml_recognizers.specs.Joins.{read_empty, after_blank, read_join}
-use Rattle.yaml_recognizers.specs.QuotedScalars.{read_held, read_quoted_line, read_quoted, read_single_one, single_closes, read_single, read_item, double_closes, read_double}
+use Rattle.yaml_recognizers.specs.QuotedScalars.{read_held, read_quoted_line, read_quoted, read_single_one}
+use Rattle.yaml_recognizers.specs.QuotedScalars.{single_closes, read_single, read_item, double_closes, read_double}
 use Rattle.yaml_recognizers.specs.PlainScalars.{read_run, read_plain_line, read_plain, last_of, last_char, plain_ends}
 use Rattle.yaml_recognizers.specs.FlowScalars.{read_scalar, scalar_ends}
 use Rattle.yaml_recognizers.proofs.Documents.StreamExamples.{Example, found, read, refused, wanted}
@@ -20,13 +22,16 @@ abbrev where_comments_begin : List Example
 where_comments_begin =
     -- a `#` after a break and spaces begins a comment, so the plain scalar before it ends
     read (codes "a\n #c\n") (document_start ∷ scalar_event plain_style 0 1 (codes "a") ∷ document_end ∷ [])
-    ∷ read (codes "k: a\n  #c\n") (document_start ∷ map_start ∷ scalar_event plain_style 0 1 (codes "k") ∷ scalar_event plain_style 3 4 (codes "a") ∷ map_end ∷ document_end ∷ [])
+    ∷ read (codes "k: a\n  #c\n") (document_start ∷ map_start ∷ scalar_event plain_style 0 1 (codes "k")
+    ∷ scalar_event plain_style 3 4 (codes "a") ∷ map_end ∷ document_end ∷ [])
     -- no control may be in a comment
     ∷ refused (codes "a\n#" ++ (1 ∷ []) ++ codes "\n")
     ∷ []
 
 where_comments_begin_found : found where_comments_begin ≡ wanted where_comments_begin
-unfolding read_flow read_node read_explicit read_section read_sections repeated read_empty after_blank read_join read_held read_quoted_line read_quoted read_single_one single_closes read_single read_item double_closes read_double read_run read_plain_line read_plain last_of last_char plain_ends read_scalar scalar_ends
+unfolding read_flow read_node read_explicit read_section read_sections repeated read_empty after_blank read_join
+    read_held read_quoted_line read_quoted read_single_one single_closes read_single read_item double_closes
+    read_double read_run read_plain_line read_plain last_of last_char plain_ends read_scalar scalar_ends
 where_comments_begin_found = refl
 
 -- ---- scalars over several lines, and characters that aren't allowed in them
@@ -45,7 +50,9 @@ scalars_over_lines =
     ∷ []
 
 scalars_over_lines_found : found scalars_over_lines ≡ wanted scalars_over_lines
-unfolding read_flow read_node read_explicit read_section read_sections repeated read_empty after_blank read_join read_held read_quoted_line read_quoted read_single_one single_closes read_single read_item double_closes read_double read_run read_plain_line read_plain last_of last_char plain_ends read_scalar scalar_ends
+unfolding read_flow read_node read_explicit read_section read_sections repeated read_empty after_blank read_join
+    read_held read_quoted_line read_quoted read_single_one single_closes read_single read_item double_closes
+    read_double read_run read_plain_line read_plain last_of last_char plain_ends read_scalar scalar_ends
 scalars_over_lines_found = refl
 
 -- ---- a key of a block mapping is on one line
@@ -61,7 +68,9 @@ keys_over_lines =
     ∷ []
 
 keys_over_lines_found : found keys_over_lines ≡ wanted keys_over_lines
-unfolding read_flow read_node read_explicit read_section read_sections repeated read_empty after_blank read_join read_held read_quoted_line read_quoted read_single_one single_closes read_single read_item double_closes read_double read_run read_plain_line read_plain last_of last_char plain_ends read_scalar scalar_ends
+unfolding read_flow read_node read_explicit read_section read_sections repeated read_empty after_blank read_join
+    read_held read_quoted_line read_quoted read_single_one single_closes read_single read_item double_closes
+    read_double read_run read_plain_line read_plain last_of last_char plain_ends read_scalar scalar_ends
 keys_over_lines_found = refl
 
 -- ---- entries between brackets
@@ -70,7 +79,8 @@ abbrev entries : List Example
 entries =
     -- after a plain key the value is apart from its `:`
     refused (codes "{a:[b]}")
-    ∷ read (codes "{\"a\":[b]}") (document_start ∷ map_start ∷ scalar_event double_style 1 4 (codes "a") ∷ seq_start ∷ scalar_event plain_style 6 7 (codes "b") ∷ seq_end ∷ map_end ∷ document_end ∷ [])
+    ∷ read (codes "{\"a\":[b]}") (document_start ∷ map_start ∷ scalar_event double_style 1 4 (codes "a") ∷ seq_start
+    ∷ scalar_event plain_style 6 7 (codes "b") ∷ seq_end ∷ map_end ∷ document_end ∷ [])
     -- so does a key from its `?`
     ∷ refused (codes "[?[a]]")
     ∷ refused (codes "{?{a}}")
@@ -85,7 +95,9 @@ entries =
     ∷ []
 
 entries_found : found entries ≡ wanted entries
-unfolding read_flow read_node read_explicit read_section read_sections repeated read_empty after_blank read_join read_held read_quoted_line read_quoted read_single_one single_closes read_single read_item double_closes read_double read_run read_plain_line read_plain last_of last_char plain_ends read_scalar scalar_ends
+unfolding read_flow read_node read_explicit read_section read_sections repeated read_empty after_blank read_join
+    read_held read_quoted_line read_quoted read_single_one single_closes read_single read_item double_closes
+    read_double read_run read_plain_line read_plain last_of last_char plain_ends read_scalar scalar_ends
 entries_found = refl
 
 -- ---- headers of block scalars, and comments after them
@@ -94,19 +106,26 @@ abbrev block_scalars : List Example
 block_scalars =
     -- the header may end the text
     read (codes "|") (document_start ∷ scalar_event literal_style 0 1 [] ∷ document_end ∷ [])
-    ∷ read (codes "k: >-") (document_start ∷ map_start ∷ scalar_event plain_style 0 1 (codes "k") ∷ scalar_event folded_style 3 5 [] ∷ map_end ∷ document_end ∷ [])
+    ∷ read (codes "k: >-") (document_start ∷ map_start ∷ scalar_event plain_style 0 1 (codes "k")
+    ∷ scalar_event folded_style 3 5 [] ∷ map_end ∷ document_end ∷ [])
     -- the indentation is one digit, from 1, before the chomping mark or after it
     ∷ refused (codes "|0\n a\n")
     ∷ refused (codes "|10\n a\n")
-    ∷ read (codes "k: |-2\n   a\n") (document_start ∷ map_start ∷ scalar_event plain_style 0 1 (codes "k") ∷ scalar_event literal_style 3 12 (codes " a") ∷ map_end ∷ document_end ∷ [])
+    ∷ read (codes "k: |-2\n   a\n") (document_start ∷ map_start ∷ scalar_event plain_style 0 1 (codes "k")
+    ∷ scalar_event literal_style 3 12 (codes " a") ∷ map_end ∷ document_end ∷ [])
     ∷ read (codes ">+1\n  a\n\n") (document_start ∷ scalar_event folded_style 0 9 (codes " a\n\n") ∷ document_end ∷ [])
     -- a comment that is less deep ends the scalar, and the collection goes on
-    ∷ read (codes "k: |\n  a\n # c\nb: x\n") (document_start ∷ map_start ∷ scalar_event plain_style 0 1 (codes "k") ∷ scalar_event literal_style 3 9 (codes "a\n") ∷ scalar_event plain_style 14 15 (codes "b") ∷ scalar_event plain_style 17 18 (codes "x") ∷ map_end ∷ document_end ∷ [])
-    ∷ read (codes "- |\n a\n# c\n- b\n") (document_start ∷ seq_start ∷ scalar_event literal_style 2 7 (codes "a\n") ∷ scalar_event plain_style 13 14 (codes "b") ∷ seq_end ∷ document_end ∷ [])
+    ∷ read (codes "k: |\n  a\n # c\nb: x\n") (document_start ∷ map_start ∷ scalar_event plain_style 0 1 (codes "k")
+    ∷ scalar_event literal_style 3 9 (codes "a\n") ∷ scalar_event plain_style 14 15 (codes "b")
+    ∷ scalar_event plain_style 17 18 (codes "x") ∷ map_end ∷ document_end ∷ [])
+    ∷ read (codes "- |\n a\n# c\n- b\n") (document_start ∷ seq_start ∷ scalar_event literal_style 2 7 (codes "a\n")
+    ∷ scalar_event plain_style 13 14 (codes "b") ∷ seq_end ∷ document_end ∷ [])
     ∷ []
 
 block_scalars_found : found block_scalars ≡ wanted block_scalars
-unfolding read_flow read_node read_explicit read_section read_sections repeated read_empty after_blank read_join read_held read_quoted_line read_quoted read_single_one single_closes read_single read_item double_closes read_double read_run read_plain_line read_plain last_of last_char plain_ends read_scalar scalar_ends
+unfolding read_flow read_node read_explicit read_section read_sections repeated read_empty after_blank read_join
+    read_held read_quoted_line read_quoted read_single_one single_closes read_single read_item double_closes
+    read_double read_run read_plain_line read_plain last_of last_char plain_ends read_scalar scalar_ends
 block_scalars_found = refl
 
 -- ---- directives, and the marks of documents
@@ -123,5 +142,7 @@ directives_and_marks =
     ∷ []
 
 directives_and_marks_found : found directives_and_marks ≡ wanted directives_and_marks
-unfolding read_flow read_node read_explicit read_section read_sections repeated read_empty after_blank read_join read_held read_quoted_line read_quoted read_single_one single_closes read_single read_item double_closes read_double read_run read_plain_line read_plain last_of last_char plain_ends read_scalar scalar_ends
+unfolding read_flow read_node read_explicit read_section read_sections repeated read_empty after_blank read_join
+    read_held read_quoted_line read_quoted read_single_one single_closes read_single read_item double_closes
+    read_double read_run read_plain_line read_plain last_of last_char plain_ends read_scalar scalar_ends
 directives_and_marks_found = refl

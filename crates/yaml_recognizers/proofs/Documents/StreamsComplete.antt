@@ -5,17 +5,22 @@ use Rattle.std.proofs.lemmas.Bool.{and_from, and_parts, and_right, cases_Bool, c
 use Rattle.yaml_chars.specs.Classes.{white}
 use Rattle.yaml_grammar.specs.BlockNodes.{Node, node_text}
 use Rattle.yaml_grammar.specs.Separation.{LineEnd, comments_text, line_end_text}
-use Rattle.yaml_grammar.specs.Streams.{Explicit, bare, content, directed, document_text, explicit, explicit_text, mark_text, nothing, Version, yaml_1_1, yaml_1_2, version_text}
+use Rattle.yaml_grammar.specs.Streams.{Explicit, bare, content, directed, document_text, explicit, explicit_text}
+use Rattle.yaml_grammar.specs.Streams.{mark_text, nothing, Version, yaml_1_1, yaml_1_2, version_text}
 use Rattle.std.specs.List.{list_all}
 use Rattle.yaml_grammar.specs.Texts.{begins, ends_word, first, is_empty, marker, starts_line}
 use Rattle.yaml_recognizers.specs.BlockNodes.{omits}
 use Rattle.yaml_recognizers.specs.CanonicalBlockNodes.{canonical_node}
 use Rattle.yaml_recognizers.specs.CanonicalComments.{canonical_comments, is_line_end}
-use Rattle.yaml_recognizers.specs.CanonicalStreams.{FlatStream, Section, canonical_explicit, canonical_section, canonical_sections, canonical_stream, document, flat_text, line, opens, section_text, sections_text, suffix}
+use Rattle.yaml_recognizers.specs.CanonicalStreams.{FlatStream, Section, canonical_explicit, canonical_section}
+use Rattle.yaml_recognizers.specs.CanonicalStreams.{canonical_sections, canonical_stream, document, flat_text, line}
+use Rattle.yaml_recognizers.specs.CanonicalStreams.{opens, section_text, sections_text, suffix}
 use Rattle.yaml_recognizers.specs.Comments.{all_comments, closes_line}
 use Rattle.yaml_recognizers.specs.Ends.{block_node_stops}
 use Rattle.yaml_recognizers.specs.Reading.{Read, on}
-use Rattle.yaml_recognizers.specs.Streams.{directed_with, marker_of, more_sections, order_mark, percent, section_and, read_directed, read_explicit, read_section, read_sections, read_version, stream_of, suffix_with, with_mark}
+use Rattle.yaml_recognizers.specs.Streams.{directed_with, marker_of, more_sections, order_mark, percent, section_and}
+use Rattle.yaml_recognizers.specs.Streams.{read_directed, read_explicit, read_section, read_sections, read_version}
+use Rattle.yaml_recognizers.specs.Streams.{stream_of, suffix_with, with_mark}
 use Rattle.yaml_recognizers.proofs.Block.BlockNodesBegin.{closes}
 use Rattle.yaml_recognizers.proofs.Separation.CommentsComplete.{comments_all, line_end_read}
 use Rattle.yaml_recognizers.proofs.Separation.CommentsSound.{line_is_end}
@@ -45,7 +50,8 @@ dots_mark text h =
     ap marker (begins_split (codes "...") text p.0) ∙ p.1
 
 -- where no marker is, neither is there
-no_marker_of : (bol : Bool) (x : ℕ) (text : List ℕ) → (marker_of x text ≡ true → marker text ≡ true) → (bol ≡ true → marker text ≡ false) → bol && marker_of x text ≡ false
+no_marker_of : (bol : Bool) (x : ℕ) (text : List ℕ) → (marker_of x text ≡ true → marker text ≡ true)
+    → (bol ≡ true → marker text ≡ false) → bol && marker_of x text ≡ false
 no_marker_of false x text f u = refl
 no_marker_of true x text f u = elim (cases_Bool (marker_of x text)) [
   | inl e ↦ absurd (false≢true (sym (u refl) ∙ f e))
@@ -72,7 +78,8 @@ Follows (line e) after = Unit {0}
 Follows (document d) after = block_node_stops 0 false after ≡ true
 
 -- what follows a section ends it
-pub follows : (p : Section) (ps : List Section) (opened bol : Bool) → canonical_sections ps (opens opened p) bol ≡ true → Follows p (sections_text ps)
+pub follows : (p : Section) (ps : List Section) (opened bol : Bool)
+    → canonical_sections ps (opens opened p) bol ≡ true → Follows p (sections_text ps)
 follows (suffix comments) ps opened bol h = tt
 follows (line e) ps opened bol h = tt
 follows (document d) ps opened bol h = document_ended ps bol h
@@ -80,12 +87,14 @@ follows (document d) ps opened bol h = document_ended ps bol h
 -- ---- what sections begin with
 
 -- what starts with `---` isn't empty, and starts with no byte order mark
-explicit_some : (x : Explicit) (rest : List ℕ) → (is_empty (explicit_text x ++ rest) ≡ false) × (first order_mark (explicit_text x ++ rest) ≡ false)
+explicit_some : (x : Explicit) (rest : List ℕ)
+    → (is_empty (explicit_text x ++ rest) ≡ false) × (first order_mark (explicit_text x ++ rest) ≡ false)
 explicit_some (content n) rest = (refl, refl)
 explicit_some (nothing comments) rest = (refl, refl)
 
 -- a canonical node is found as a bare document
-bare_some : (n : Node) (bol : Bool) (rest : List ℕ) → canonical_node n 0 false bol rest ≡ true → is_line_end (node_text n ++ rest) ≡ false → Bare bol (node_text n ++ rest)
+bare_some : (n : Node) (bol : Bool) (rest : List ℕ) → canonical_node n 0 false bol rest ≡ true
+    → is_line_end (node_text n ++ rest) ≡ false → Bare bol (node_text n ++ rest)
 bare_some n bol rest h l = bare_prefix bol (node_text n ++ rest) (node_prefix n bol rest h) l
 
 -- a line that isn't empty isn't so before more
@@ -112,7 +121,8 @@ explicit_long (content n) = omega arith
 explicit_long (nothing comments) = omega arith
 
 -- a section isn't empty
-pub section_long : (p : Section) (opened bol : Bool) (rest : List ℕ) → canonical_section p opened bol rest ≡ true → 1 ≤ length (section_text p)
+pub section_long : (p : Section) (opened bol : Bool) (rest : List ℕ) → canonical_section p opened bol rest ≡ true
+    → 1 ≤ length (section_text p)
 section_long (suffix comments) opened bol rest h = omega arith
 section_long (line e) opened bol rest h = line_long bol e rest h
 section_long (document (bare n)) opened bol rest h = node_long n 0 false bol rest (and_parts _ _ h).1
@@ -123,7 +133,8 @@ section_long (document (directed blank version comments x)) opened bol rest h = 
 sections_long : (ps : List Section) (opened bol : Bool) → canonical_sections ps opened bol ≡ true → length ps ≤ length (sections_text ps)
 sections_long [] opened bol h = omega arith
 sections_long (p ∷ ps) opened bol h =
-    let q : (canonical_section p opened bol (sections_text ps) ≡ true) × (canonical_sections ps (opens opened p) (starts_line bol (section_text p)) ≡ true) = and_parts _ _ h in
+    let q : (canonical_section p opened bol (sections_text ps) ≡ true)
+    × (canonical_sections ps (opens opened p) (starts_line bol (section_text p)) ≡ true) = and_parts _ _ h in
     let l : 1 ≤ length (section_text p) = section_long p opened bol (sections_text ps) q.0 in
     let m : length ps ≤ length (sections_text ps) = sections_long ps (opens opened p) (starts_line bol (section_text p)) q.1 in
     omega (arith, l, m, length-append (section_text p) (sections_text ps))
@@ -141,8 +152,10 @@ version_not_white yaml_1_1 rest = refl
 version_not_white yaml_1_2 rest = refl
 
 module _ (node_at : Bool → List ℕ → Read Node)
-    (node_read : (n : Node) (bol : Bool) (after : List ℕ) → canonical_node n 0 false bol after ≡ true → block_node_stops 0 false after ≡ true → node_at bol (node_text n ++ after) ≡ Some (n, after)) where
-  explicit_read : (x : Explicit) (after : List ℕ) → canonical_explicit x true after ≡ true → block_node_stops 0 false after ≡ true → read_explicit node_at (explicit_text x ++ after) ≡ Some (x, after)
+    (node_read : (n : Node) (bol : Bool) (after : List ℕ) → canonical_node n 0 false bol after ≡ true
+    → block_node_stops 0 false after ≡ true → node_at bol (node_text n ++ after) ≡ Some (n, after)) where
+  explicit_read : (x : Explicit) (after : List ℕ) → canonical_explicit x true after ≡ true
+      → block_node_stops 0 false after ≡ true → read_explicit node_at (explicit_text x ++ after) ≡ Some (x, after)
   unfolding read_explicit
   explicit_read (content n) after h e =
       let text : List ℕ = node_text n ++ after in
@@ -155,33 +168,40 @@ module _ (node_at : Bool → List ℕ → Read Node)
       let o : omits 0 false (comments, after) ≡ true = and_from _ _ (closes comments after p.1) e in
       rw p.0 (rw (comments_all false comments after p.1) (rw o refl))
 
-  directed_read : (blank : List ℕ) (version : Version) (comments : List LineEnd) (x : Explicit) (after : List ℕ) → list_all white blank ≡ true → is_empty blank ≡ false
-      → canonical_comments false comments (explicit_text x ++ after) ≡ true → canonical_explicit x true after ≡ true → block_node_stops 0 false after ≡ true
+  directed_read : (blank : List ℕ) (version : Version) (comments : List LineEnd) (x : Explicit) (after : List ℕ)
+      → list_all white blank ≡ true → is_empty blank ≡ false
+      → canonical_comments false comments (explicit_text x ++ after) ≡ true → canonical_explicit x true after ≡ true
+      → block_node_stops 0 false after ≡ true
       → read_directed node_at (document_text (directed blank version comments x) ++ after) ≡ Some (directed blank version comments x, after)
   directed_read blank version comments x after w b c h e =
       let rest : List ℕ = explicit_text x ++ after in
       let from_version : List ℕ = version_text version ++ (comments_text comments ++ rest) in
-      let regrouped : document_text (directed blank version comments x) ++ after ≡ codes "%YAML" ++ (blank ++ from_version) = simp append_assoc in
+      let regrouped : document_text (directed blank version comments x) ++ after
+      ≡ codes "%YAML" ++ (blank ++ from_version) = simp append_assoc in
       let f : first white from_version ≡ false = version_not_white version (comments_text comments ++ rest) in
       ap (read_directed node_at) regrouped
       ∙ rw (take_while_all white blank from_version w f, drop_while_all white blank from_version w f, b)
-      (ap (λ r. on r (λ v rest'. directed_with node_at blank v (all_comments false rest'))) (version_read version (comments_text comments ++ rest))
+      (ap (λ r. on r (λ v rest'. directed_with node_at blank v (all_comments false rest')))
+      (version_read version (comments_text comments ++ rest))
       ∙ (ap (directed_with node_at blank version) (comments_all false comments rest c)
       ∙ rw (closes comments rest c)
       (ap (λ r. on r (λ x' rest'. Some (directed blank version comments x', rest'))) (explicit_read x after h e))))
 
-  explicit_step : (x : Explicit) (opened : Bool) (text : List ℕ) (r : Read Explicit) → is_line_end text ≡ false → marker_of 46 text ≡ false → marker_of 45 text ≡ true → read_explicit node_at text ≡ r
+  explicit_step : (x : Explicit) (opened : Bool) (text : List ℕ) (r : Read Explicit) → is_line_end text ≡ false
+      → marker_of 46 text ≡ false → marker_of 45 text ≡ true → read_explicit node_at text ≡ r
       → read_section node_at opened true text ≡ on r (λ x' rest. Some (document (explicit x'), rest))
   unfolding read_section
   explicit_step x opened text r l m d e = rw (l, m, d) (ap (λ s. on s (λ x' rest. Some (document (explicit x'), rest))) e)
 
   dashes : (x : Explicit) (after : List ℕ) → canonical_explicit x true after ≡ true
-      → (is_line_end (explicit_text x ++ after) ≡ false) × (marker_of 46 (explicit_text x ++ after) ≡ false) × (marker_of 45 (explicit_text x ++ after) ≡ true)
+      → (is_line_end (explicit_text x ++ after) ≡ false) × (marker_of 46 (explicit_text x ++ after) ≡ false)
+      × (marker_of 45 (explicit_text x ++ after) ≡ true)
   dashes (content n) after h = (refl, refl, (and_parts _ _ h).0)
   dashes (nothing comments) after h = (refl, refl, (and_parts _ _ h).0)
 
   -- a section that is canonical is read
-  section_read : (p : Section) (opened bol : Bool) (after : List ℕ) → canonical_section p opened bol after ≡ true → Follows p after → read_section node_at opened bol (section_text p ++ after) ≡ Some (p, after)
+  section_read : (p : Section) (opened bol : Bool) (after : List ℕ) → canonical_section p opened bol after ≡ true
+      → Follows p after → read_section node_at opened bol (section_text p ++ after) ≡ Some (p, after)
   unfolding read_section
   section_read (suffix comments) opened bol after h f =
       let text : List ℕ = comments_text comments ++ after in
@@ -211,31 +231,42 @@ module _ (node_at : Bool → List ℕ → Read Node)
       let d = dashes x after h in
       explicit_step x opened (explicit_text x ++ after) (Some (x, after)) d.0 d.1 d.2 (explicit_read x after h f)
   section_read (document (directed blank version comments x)) opened bol after h f =
-      let p : (opened && bol && list_all white blank && not (is_empty blank) && canonical_comments false comments (explicit_text x ++ after) ≡ true) × (canonical_explicit x true after ≡ true) = and_parts _ _ h in
-      let q : (opened && bol && list_all white blank && not (is_empty blank) ≡ true) × (canonical_comments false comments (explicit_text x ++ after) ≡ true) = and_parts _ _ p.0 in
+      let p : (opened && bol && list_all white blank && not (is_empty blank)
+      && canonical_comments false comments (explicit_text x ++ after) ≡ true)
+      × (canonical_explicit x true after ≡ true) = and_parts _ _ h in
+      let q : (opened && bol && list_all white blank && not (is_empty blank) ≡ true)
+      × (canonical_comments false comments (explicit_text x ++ after) ≡ true) = and_parts _ _ p.0 in
       let r : (opened && bol && list_all white blank ≡ true) × (not (is_empty blank) ≡ true) = and_parts _ _ q.0 in
       let s : (opened && bol ≡ true) × (list_all white blank ≡ true) = and_parts _ _ r.0 in
       let t : (opened ≡ true) × (bol ≡ true) = and_parts _ _ s.0 in
-      rw (t.0, t.1) (ap (λ u. on u (λ d rest. Some (document d, rest))) (directed_read blank version comments x after s.1 (not-true _ r.1) q.1 p.1 f))
+      rw (t.0, t.1) (ap (λ u. on u (λ d rest. Some (document d, rest)))
+      (directed_read blank version comments x after s.1 (not-true _ r.1) q.1 p.1 f))
 
-  sections_read : (ps : List Section) (fuel : ℕ) (opened bol : Bool) → length ps < fuel → canonical_sections ps opened bol ≡ true → read_sections node_at fuel opened bol (sections_text ps) ≡ Some ps
+  sections_read : (ps : List Section) (fuel : ℕ) (opened bol : Bool) → length ps < fuel
+      → canonical_sections ps opened bol ≡ true → read_sections node_at fuel opened bol (sections_text ps) ≡ Some ps
   unfolding read_sections
   sections_read [] zero opened bol l h = absurd (omega arith)
   sections_read (p ∷ ps) zero opened bol l h = absurd (omega arith)
   sections_read [] (suc fuel) opened bol l h = refl
   sections_read (p ∷ ps) (suc fuel) opened bol l h =
       let rest : List ℕ = sections_text ps in
-      let q : (canonical_section p opened bol rest ≡ true) × (canonical_sections ps (opens opened p) (starts_line bol (section_text p)) ≡ true) = and_parts _ _ h in
+      let q : (canonical_section p opened bol rest ≡ true)
+      × (canonical_sections ps (opens opened p) (starts_line bol (section_text p)) ≡ true) = and_parts _ _ h in
       let e : is_empty (section_text p ++ rest) ≡ false = (section_some p opened bol rest q.0).0 in
-      let one : read_section node_at opened bol (section_text p ++ rest) ≡ Some (p, rest) = section_read p opened bol rest q.0 (follows p ps opened (starts_line bol (section_text p)) q.1) in
-      let more : read_sections node_at fuel (opens opened p) (starts_line bol (section_text p)) rest ≡ Some ps = sections_read ps fuel (opens opened p) (starts_line bol (section_text p)) (omega arith) q.1 in
-      rw e (ap (more_sections (λ p' rest'. read_sections node_at fuel (opens opened p') (starts_line bol (section_text p')) rest')) one ∙ ap (section_and p) more)
+      let one : read_section node_at opened bol (section_text p ++ rest) ≡ Some (p, rest) =
+      section_read p opened bol rest q.0 (follows p ps opened (starts_line bol (section_text p)) q.1) in
+      let more : read_sections node_at fuel (opens opened p) (starts_line bol (section_text p)) rest ≡ Some ps =
+      sections_read ps fuel (opens opened p) (starts_line bol (section_text p)) (omega arith) q.1 in
+      rw e (ap (more_sections (λ p' rest'. read_sections node_at fuel (opens opened p')
+      (starts_line bol (section_text p')) rest')) one ∙ ap (section_and p) more)
 
-  sections_no_mark : (ps : List Section) (opened bol : Bool) → canonical_sections ps opened bol ≡ true → first order_mark (sections_text ps) ≡ false
+  sections_no_mark : (ps : List Section) (opened bol : Bool) → canonical_sections ps opened bol ≡ true
+      → first order_mark (sections_text ps) ≡ false
   sections_no_mark [] opened bol h = refl
   sections_no_mark (p ∷ ps) opened bol h = (section_some p opened bol (sections_text ps) (and_parts _ _ h).0).1
 
-  stream_read_marked : (mark : Bool) (ps : List Section) → canonical_sections ps true true ≡ true → stream_of node_at (mark_text mark ++ sections_text ps) ≡ Some (record { mark = mark; sections = ps })
+  stream_read_marked : (mark : Bool) (ps : List Section) → canonical_sections ps true true ≡ true
+      → stream_of node_at (mark_text mark ++ sections_text ps) ≡ Some (record { mark = mark; sections = ps })
   stream_read_marked true ps h =
       let l : length ps ≤ length (sections_text ps) = sections_long ps true true h in
       ap (with_mark true) (sections_read ps (suc (suc (length (sections_text ps)))) true true (omega arith) h)

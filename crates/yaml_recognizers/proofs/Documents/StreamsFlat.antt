@@ -8,9 +8,13 @@ use Rattle.std.proofs.lemmas.List.{append-nil}
 use Rattle.yaml_grammar.specs.BlockNodes.{node_events, node_text}
 use Rattle.yaml_grammar.specs.Events.{as_document}
 use Rattle.yaml_grammar.specs.Separation.{LineEnd, comments_text, line_end_text}
-use Rattle.yaml_grammar.specs.Streams.{Document, Part, Stream, bare, directed, directive_text, document_events, document_text, explicit, explicit_text, further, line as part_line, mark_text, stream_events, optional_document_events, part_events, part_text, parts_events, parts_text, stream_text, suffix_text, suffixes}
+use Rattle.yaml_grammar.specs.Streams.{Document, Part, Stream, bare, directed, directive_text, document_events}
+use Rattle.yaml_grammar.specs.Streams.{document_text, explicit, explicit_text, further, line as part_line, mark_text}
+use Rattle.yaml_grammar.specs.Streams.{stream_events, optional_document_events, part_events, part_text, parts_events}
+use Rattle.yaml_grammar.specs.Streams.{parts_text, stream_text, suffix_text, suffixes}
 use Rattle.yaml_grammar.specs.Texts.{byte_len, optional}
-use Rattle.yaml_recognizers.specs.CanonicalStreams.{Section, document, line, section_events, section_text, sections_events, sections_text, suffix}
+use Rattle.yaml_recognizers.specs.CanonicalStreams.{Section, document, line, section_events, section_text}
+use Rattle.yaml_recognizers.specs.CanonicalStreams.{sections_events, sections_text, suffix}
 use Rattle.yaml_recognizers.proofs.Block.BareNodes.{leading, parted_events, parted_text, unled}
 use Rattle.yaml_recognizers.proofs.Basics.LineStarts.{byte_len_joined}
 
@@ -84,9 +88,11 @@ suffixes_sections_text (s ∷ ss) = rw (suffixes_sections_text ss)
 -- the sections of a part have its text
 part_sections_text : (p : Part) → sections_text (part_sections p) ≡ part_text p
 part_sections_text (suffixes one more prefix d) =
-    let text : sections_text (suffixes_sections more ++ (lines_sections prefix ++ optional_sections d)) ≡ flat_map suffix_text more ++ (comments_text prefix ++ optional document_text d) =
+    let text : sections_text (suffixes_sections more ++ (lines_sections prefix ++ optional_sections d))
+    ≡ flat_map suffix_text more ++ (comments_text prefix ++ optional document_text d) =
     simp (sections_joined, suffixes_sections_text more, lines_sections_text prefix, optional_sections_text d) in
-    rw text (sym (append_assoc (suffix_text one ++ flat_map suffix_text more) (comments_text prefix) (optional document_text d) ∙ append_assoc (suffix_text one) (flat_map suffix_text more) _))
+    rw text (sym (append_assoc (suffix_text one ++ flat_map suffix_text more) (comments_text prefix)
+    (optional document_text d) ∙ append_assoc (suffix_text one) (flat_map suffix_text more) _))
 part_sections_text (part_line e) = append-nil (line_end_text e)
 part_sections_text (further x) = append-nil (explicit_text x)
 
@@ -106,11 +112,13 @@ stream_sections_text s =
 -- ---- the meaning
 
 -- the events of sections, joined
-pub sections_events_joined : (ps qs : List Section) (at : ℕ) → sections_events (ps ++ qs) at ≡ sections_events ps at ++ sections_events qs (at + byte_len (sections_text ps))
+pub sections_events_joined : (ps qs : List Section) (at : ℕ)
+    → sections_events (ps ++ qs) at ≡ sections_events ps at ++ sections_events qs (at + byte_len (sections_text ps))
 sections_events_joined [] qs at = rw add-zero
 sections_events_joined (p ∷ ps) qs at =
     let after : ℕ = at + byte_len (section_text p) in
-    let place : at + byte_len (section_text p ++ sections_text ps) ≡ after + byte_len (sections_text ps) = rw byte_len_joined (sym (add_assoc at _ _)) in
+    let place : at + byte_len (section_text p ++ sections_text ps) ≡ after + byte_len (sections_text ps) =
+    rw byte_len_joined (sym (add_assoc at _ _)) in
     rw (sections_events_joined ps qs after, place) (sym (append_assoc (section_events p at) (sections_events ps after) _))
 
 -- lines have no events
@@ -127,7 +135,8 @@ suffixes_sections_events (s ∷ ss) at = suffixes_sections_events ss _
 document_sections_events : (d : Document) (at : ℕ) → sections_events (document_sections d) at ≡ document_events d at
 document_sections_events (bare n) at =
     sections_events_joined (lines_sections (leading n)) (document (bare (unled n)) ∷ []) at
-    ∙ (rw (lines_sections_events (leading n) at, lines_sections_text (leading n), parted_events n at) (append-nil (as_document (node_events (unled n) (at + byte_len (comments_text (leading n)))))))
+    ∙ (rw (lines_sections_events (leading n) at, lines_sections_text (leading n), parted_events n at)
+    (append-nil (as_document (node_events (unled n) (at + byte_len (comments_text (leading n)))))))
 document_sections_events (explicit x) at = append-nil (document_events (explicit x) at)
 document_sections_events (directed blank version comments x) at = append-nil (document_events (directed blank version comments x) at)
 
@@ -142,8 +151,10 @@ part_sections_events (suffixes one more prefix d) at =
     let after : ℕ = at + byte_len (suffix_text one) in
     let last : ℕ = after + byte_len (flat_map suffix_text more) in
     sections_events_joined (suffixes_sections more) (lines_sections prefix ++ optional_sections d) after
-    ∙ rw (suffixes_sections_events more after, suffixes_sections_text more) (sections_events_joined (lines_sections prefix) (optional_sections d) last
-    ∙ rw (lines_sections_events prefix last, lines_sections_text prefix) (optional_sections_events d (last + byte_len (comments_text prefix))))
+    ∙ rw (suffixes_sections_events more after, suffixes_sections_text more)
+    (sections_events_joined (lines_sections prefix) (optional_sections d) last
+    ∙ rw (lines_sections_events prefix last, lines_sections_text prefix)
+    (optional_sections_events d (last + byte_len (comments_text prefix))))
 part_sections_events (part_line e) at = refl
 part_sections_events (further x) at = append-nil (document_events (explicit x) at)
 
@@ -151,7 +162,8 @@ part_sections_events (further x) at = append-nil (document_events (explicit x) a
 parts_sections_events : (ps : List Part) (at : ℕ) → sections_events (parts_sections ps) at ≡ parts_events ps at
 parts_sections_events [] at = refl
 parts_sections_events (p ∷ ps) at =
-    sections_events_joined (part_sections p) (parts_sections ps) at ∙ rw (part_sections_events p at, part_sections_text p, parts_sections_events ps)
+    sections_events_joined (part_sections p) (parts_sections ps) at
+    ∙ rw (part_sections_events p at, part_sections_text p, parts_sections_events ps)
 
 -- the sections of a stream mean what it does
 pub stream_sections_events : (s : Stream) → sections_events (stream_sections s) (if s.mark then 3 else 0) ≡ stream_events s
@@ -159,5 +171,6 @@ stream_sections_events s =
     let at : ℕ = if s.mark then 3 else 0 in
     let after : ℕ = at + byte_len (comments_text s.prefix) in
     sections_events_joined (lines_sections s.prefix) (optional_sections s.document ++ parts_sections s.parts) at
-    ∙ rw (lines_sections_events s.prefix at, lines_sections_text s.prefix) (sections_events_joined (optional_sections s.document) (parts_sections s.parts) after
+    ∙ rw (lines_sections_events s.prefix at, lines_sections_text s.prefix)
+    (sections_events_joined (optional_sections s.document) (parts_sections s.parts) after
     ∙ rw (optional_sections_events s.document after, optional_sections_text s.document, parts_sections_events s.parts))

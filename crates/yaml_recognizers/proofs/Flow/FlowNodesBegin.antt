@@ -3,8 +3,11 @@ use Rattle.std.proofs.Common.{ap, append_assoc, inl, inr, refl, subst, sym, ◌�
 use Rattle.std.specs.Prelude.{Bool, List, None, Some, [], codes, cond, false, not, true, ℕ, ◌&&◌, ◌++◌, ◌==◌, ◌||◌, ◌∷◌}
 use Rattle.std.proofs.lemmas.Bool.{and_left, and_parts, cases_eq, eqb-true, false≢true, ne_eqb, not-true, not_from_true, or_cases, or_from}
 use Rattle.yaml_chars.specs.Classes.{indicator, is_in, ns}
-use Rattle.yaml_grammar.specs.FlowNodes.{Entries, Entry, Flow, entries_text, entry, entry_text, flow_text, last, map, next, none, scalar, seq, single_pair, value_text}
-use Rattle.yaml_grammar.specs.FlowScalars.{FlowContext, Line, Scalar, block_key, double, flow_key, inner, lines_after, lines_text, one_line, outer, plain, plain_first, plain_kind, plain_line, plain_lines, plain_text, safe, scalar_fits, scalar_text, single}
+use Rattle.yaml_grammar.specs.FlowNodes.{Entries, Entry, Flow, entries_text, entry, entry_text, flow_text, last, map}
+use Rattle.yaml_grammar.specs.FlowNodes.{next, none, scalar, seq, single_pair, value_text}
+use Rattle.yaml_grammar.specs.FlowScalars.{FlowContext, Line, Scalar, block_key, double, flow_key, inner, lines_after}
+use Rattle.yaml_grammar.specs.FlowScalars.{lines_text, one_line, outer, plain, plain_first, plain_kind, plain_line}
+use Rattle.yaml_grammar.specs.FlowScalars.{plain_lines, plain_text, safe, scalar_fits, scalar_text, single}
 use Rattle.yaml_grammar.specs.Separation.{gap_text}
 use Rattle.yaml_grammar.specs.Texts.{first, is_empty, marker, no_marker}
 use Rattle.yaml_recognizers.specs.BlockNodes.{bar}
@@ -45,7 +48,8 @@ pub plain_begins : (c : FlowContext) (prefix after : List ℕ) → plain_line c 
     × (first (λ x. x == 91) (prefix ++ after) ≡ false) × (first (λ x. x == 123) (prefix ++ after) ≡ false)
 plain_begins c [] after h = absurd (false≢true h)
 plain_begins c (x ∷ xs) after h =
-    let p : (ns x ≡ true) × (not (indicator x) || (is_in x (codes "?:-") && first (safe c) (xs ++ after)) ≡ true) = and_parts _ _ (and_parts _ _ h).0 in
+    let p : (ns x ≡ true) × (not (indicator x) || (is_in x (codes "?:-") && first (safe c) (xs ++ after)) ≡ true) =
+    and_parts _ _ (and_parts _ _ h).0 in
     elim (or_cases _ _ p.1) [
       | inl i ↦ (let f : indicator x ≡ false = not-true _ i in (
         plain_solid x p.0 (no_indicator x 35 refl f),
@@ -64,23 +68,30 @@ plain_begins c (x ∷ xs) after h =
     ]
 
 -- the first line of a plain scalar that fits, and that no marker is there
-pub plain_prefix : (n : ℕ) (c : FlowContext) (bol : Bool) (prefix : List ℕ) (more : List (Line ℕ)) (after : List ℕ) → scalar_fits n c bol (plain prefix more) after ≡ true
+pub plain_prefix : (n : ℕ) (c : FlowContext) (bol : Bool) (prefix : List ℕ) (more : List (Line ℕ)) (after : List ℕ)
+    → scalar_fits n c bol (plain prefix more) after ≡ true
     → (plain_line c prefix (lines_after plain_kind more after) ≡ true) × (no_marker bol (lines_text plain_text prefix more ++ after) ≡ true)
 plain_prefix n c bol prefix more after h =
-    let p : (no_marker bol (lines_text plain_text prefix more ++ after) && plain_line c prefix (lines_after plain_kind more after) && plain_lines n c prefix more after ≡ true)
+    let p : (no_marker bol (lines_text plain_text prefix more ++ after)
+    && plain_line c prefix (lines_after plain_kind more after) && plain_lines n c prefix more after ≡ true)
     × (is_empty more || not (one_line c) ≡ true) = and_parts _ _ h in
-    let q : (no_marker bol (lines_text plain_text prefix more ++ after) && plain_line c prefix (lines_after plain_kind more after) ≡ true) × (plain_lines n c prefix more after ≡ true) = and_parts _ _ p.0 in
-    let r : (no_marker bol (lines_text plain_text prefix more ++ after) ≡ true) × (plain_line c prefix (lines_after plain_kind more after) ≡ true) = and_parts _ _ q.0 in
+    let q : (no_marker bol (lines_text plain_text prefix more ++ after)
+    && plain_line c prefix (lines_after plain_kind more after) ≡ true)
+    × (plain_lines n c prefix more after ≡ true) = and_parts _ _ p.0 in
+    let r : (no_marker bol (lines_text plain_text prefix more ++ after) ≡ true)
+    × (plain_line c prefix (lines_after plain_kind more after) ≡ true) = and_parts _ _ q.0 in
     (r.1, r.0)
 
 -- ---- nodes
 
 -- the text of a node begins with no closing bracket, no white and no comment
 pub flow_begins : (f : Flow) (n : ℕ) (c : FlowContext) (bol : Bool) (after : List ℕ) → canonical_flow f n c bol after ≡ true
-    → (first solid (flow_text f ++ after) ≡ true) × (ends_entry (flow_text f ++ after) ≡ false) × (is_asked c (flow_text f ++ after) ≡ false)
+    → (first solid (flow_text f ++ after) ≡ true) × (ends_entry (flow_text f ++ after) ≡ false)
+    × (is_asked c (flow_text f ++ after) ≡ false)
 flow_begins (scalar (plain prefix more)) n c bol after h =
     let b = plain_begins c prefix (lines_after plain_kind more after) (plain_prefix n c bol prefix more after h).0 in
-    subst (λ (t : List ℕ). (first solid t ≡ true) × (ends_entry t ≡ false) × (is_asked c t ≡ false)) (sym (plain_regrouped prefix more after)) (b.0, b.1, b.2)
+    subst (λ (t : List ℕ). (first solid t ≡ true) × (ends_entry t ≡ false) × (is_asked c t ≡ false))
+    (sym (plain_regrouped prefix more after)) (b.0, b.1, b.2)
 flow_begins (scalar (single prefix more)) n c bol after h = (refl, refl, refl)
 flow_begins (scalar (double prefix more)) n c bol after h = (refl, refl, refl)
 flow_begins (seq gap es) n c bol after h = (refl, refl, refl)
@@ -91,7 +102,8 @@ pub scalar_begins : (s : Scalar) (n : ℕ) (c : FlowContext) (bol : Bool) (after
     → (first (λ x. x == 91) (scalar_text s ++ after) ≡ false) × (first (λ x. x == 123) (scalar_text s ++ after) ≡ false)
 scalar_begins (plain prefix more) n c bol after h =
     let b = plain_begins c prefix (lines_after plain_kind more after) (plain_prefix n c bol prefix more after h).0 in
-    subst (λ (t : List ℕ). (first (λ x. x == 91) t ≡ false) × (first (λ x. x == 123) t ≡ false)) (sym (plain_regrouped prefix more after)) (b.3, b.4)
+    subst (λ (t : List ℕ). (first (λ x. x == 91) t ≡ false) × (first (λ x. x == 123) t ≡ false))
+    (sym (plain_regrouped prefix more after)) (b.3, b.4)
 scalar_begins (single prefix more) n c bol after h = (refl, refl)
 scalar_begins (double prefix more) n c bol after h = (refl, refl)
 
@@ -123,7 +135,8 @@ unclosed (c ∷ cs) close k h = elim (cases_eq c close) [
 
 -- the key of an entry is canonical in one context or in the other
 either_key : (pair : Bool) (f : Flow) (n : ℕ) (c : FlowContext) (bol : Bool) (after : List ℕ) (short : Bool)
-    → cond pair (canonical_flow f 0 flow_key bol after && short) (canonical_flow f n c bol after) ≡ true → (first solid (flow_text f ++ after) ≡ true) × (ends_entry (flow_text f ++ after) ≡ false)
+    → cond pair (canonical_flow f 0 flow_key bol after && short) (canonical_flow f n c bol after) ≡ true
+    → (first solid (flow_text f ++ after) ≡ true) × (ends_entry (flow_text f ++ after) ≡ false)
 either_key true f n c bol after short h = let b = flow_begins f 0 flow_key bol after (and_parts _ _ h).0 in (b.0, b.1)
 either_key false f n c bol after short h = let b = flow_begins f n c bol after h in (b.0, b.1)
 
@@ -145,7 +158,9 @@ entries_begin (last e gap) n d in_seq bol close after k h =
     let regrouped : entries_text (last e gap) ++ (close ∷ after) ≡ entry_text e ++ (gap_text gap ++ (close ∷ after)) = simp append_assoc in
     rw regrouped (entry_begins e n d in_seq bol _ (and_parts _ _ h).0).0
 entries_begin (next e before gap_after es) n d in_seq bol close after k h =
-    let regrouped : entries_text (next e before gap_after es) ++ (close ∷ after) ≡ entry_text e ++ (gap_text before ++ (44 ∷ (gap_text gap_after ++ (entries_text es ++ (close ∷ after))))) = simp append_assoc in
+    let regrouped : entries_text (next e before gap_after es) ++ (close ∷ after)
+    ≡ entry_text e ++ (gap_text before ++ (44 ∷ (gap_text gap_after ++ (entries_text es ++ (close ∷ after))))) =
+    simp append_assoc in
     let p = and_parts _ _ h in
     let q = and_parts _ _ p.0 in
     rw regrouped (entry_begins e n d in_seq bol _ (and_parts _ _ q.0).0).0
@@ -153,7 +168,8 @@ entries_begin (next e before gap_after es) n d in_seq bol close after k h =
 -- an entry begins with no closing bracket
 pub entry_opens : (e : Entry) (n : ℕ) (d : FlowContext) (in_seq bol : Bool) (close : ℕ) (after : List ℕ) → bracket close ≡ true
     → canonical_entry e n d in_seq bol after ≡ true → first (λ x. x == close) (entry_text e ++ after) ≡ false
-entry_opens e n d in_seq bol close after k h = unclosed (entry_text e ++ after) close (bracket_closing close k) (entry_begins e n d in_seq bol after h).1
+entry_opens e n d in_seq bol close after k h =
+    unclosed (entry_text e ++ after) close (bracket_closing close k) (entry_begins e n d in_seq bol after h).1
 
 -- ---- nodes in a block
 
@@ -167,7 +183,8 @@ wide_safe inner xs w h = absurd (false≢true (sym w))
 wide_safe flow_key xs w h = absurd (false≢true (sym w))
 
 -- a plain scalar starts with no indicator as a sign
-plain_unsigned : (c : FlowContext) (k x : ℕ) (xs : List ℕ) → between_brackets c ≡ false → indicator k ≡ true → plain_first c x xs ≡ true → sign k (x ∷ xs) ≡ false
+plain_unsigned : (c : FlowContext) (k x : ℕ) (xs : List ℕ) → between_brackets c ≡ false → indicator k ≡ true
+    → plain_first c x xs ≡ true → sign k (x ∷ xs) ≡ false
 plain_unsigned c k x xs w i h = elim (or_cases _ _ (and_parts _ _ h).1) [
   | inl n ↦ and_left (x == k) _ (no_indicator x k i (not-true _ n))
   | inr n ↦ not_both (x == k) _ (not_from_true _ (wide_safe c xs w (and_parts _ _ n).1))
@@ -206,7 +223,8 @@ pub record Opens (text : List ℕ) : Type 0 where
   pub unreserved : first reserved text ≡ false
 
 -- a plain scalar may start a node
-plain_opens : (c : FlowContext) (prefix after : List ℕ) → between_brackets c ≡ false → plain_line c prefix after ≡ true → Opens (prefix ++ after) × (first bar (prefix ++ after) ≡ false)
+plain_opens : (c : FlowContext) (prefix after : List ℕ) → between_brackets c ≡ false
+    → plain_line c prefix after ≡ true → Opens (prefix ++ after) × (first bar (prefix ++ after) ≡ false)
 plain_opens c [] after w h = absurd (false≢true h)
 plain_opens c (x ∷ xs) after w h =
     let f : plain_first c x (xs ++ after) ≡ true = (and_parts _ _ h).0 in (
@@ -221,17 +239,30 @@ plain_opens c (x ∷ xs) after w h =
     )
 
 -- a flow node in a block starts with no sign of a block node, and with no `|` or `>`
-pub flow_opens : (f : Flow) (n : ℕ) (c : FlowContext) (bol : Bool) (after : List ℕ) → between_brackets c ≡ false → canonical_flow f n c bol after ≡ true
+pub flow_opens : (f : Flow) (n : ℕ) (c : FlowContext) (bol : Bool) (after : List ℕ) → between_brackets c ≡ false
+    → canonical_flow f n c bol after ≡ true
     → Opens (flow_text f ++ after) × (first bar (flow_text f ++ after) ≡ false)
 flow_opens (scalar (plain prefix more)) n c bol after w h =
-    subst (λ (t : List ℕ). Opens t × (first bar t ≡ false)) (sym (plain_regrouped prefix more after)) (plain_opens c prefix (lines_after plain_kind more after) w (plain_prefix n c bol prefix more after h).0)
-flow_opens (scalar (single prefix more)) n c bol after w h = (record { solid_first = refl; no_dash = refl; no_ask = refl; no_colon = refl; unreserved = refl }, refl)
-flow_opens (scalar (double prefix more)) n c bol after w h = (record { solid_first = refl; no_dash = refl; no_ask = refl; no_colon = refl; unreserved = refl }, refl)
-flow_opens (seq gap es) n c bol after w h = (record { solid_first = refl; no_dash = refl; no_ask = refl; no_colon = refl; unreserved = refl }, refl)
-flow_opens (map gap es) n c bol after w h = (record { solid_first = refl; no_dash = refl; no_ask = refl; no_colon = refl; unreserved = refl }, refl)
+    subst (λ (t : List ℕ). Opens t × (first bar t ≡ false)) (sym (plain_regrouped prefix more after))
+    (plain_opens c prefix (lines_after plain_kind more after) w (plain_prefix n c bol prefix more after h).0)
+flow_opens (scalar (single prefix more)) n c bol after w h =
+    (record { solid_first = refl; no_dash = refl; no_ask = refl; no_colon = refl; unreserved = refl }, refl)
+flow_opens (scalar (double prefix more)) n c bol after w h =
+    (record { solid_first = refl; no_dash = refl; no_ask = refl; no_colon = refl; unreserved = refl }, refl)
+flow_opens (seq gap es) n c bol after w h = (
+  record
+      { solid_first = refl; no_dash = refl; no_ask = refl; no_colon = refl; unreserved = refl },
+  refl,
+)
+flow_opens (map gap es) n c bol after w h = (
+  record
+      { solid_first = refl; no_dash = refl; no_ask = refl; no_colon = refl; unreserved = refl },
+  refl,
+)
 
 -- a key at the start of a line is no marker
-pub key_unmarked : (f : Flow) (n : ℕ) (c : FlowContext) (after : List ℕ) → canonical_flow f n c true after ≡ true → marker (flow_text f ++ after) ≡ false
+pub key_unmarked : (f : Flow) (n : ℕ) (c : FlowContext) (after : List ℕ) → canonical_flow f n c true after ≡ true
+    → marker (flow_text f ++ after) ≡ false
 key_unmarked (scalar (plain prefix more)) n c after h =
     not-true _ (plain_prefix n c true prefix more after h).1
 key_unmarked (scalar (single prefix more)) n c after h = marker_first 39 _ refl refl

@@ -12,24 +12,29 @@ use Rattle.yaml_recognizers.proofs.Basics.Reading.{none_some, some_parts}
 use Rattle.yaml_recognizers.proofs.Scalars.ScalarsInNodes.{reads_scalars}
 
 -- a flow node that is there is read
-pub found : (n : ℕ) (c : FlowContext) (bol : Bool) (text : List ℕ) (f : Flow) (rest : List ℕ) → StandsFlow n c bol text f rest → flow_node_at n c bol text ≡ Some (f, rest)
+pub found : (n : ℕ) (c : FlowContext) (bol : Bool) (text : List ℕ) (f : Flow) (rest : List ℕ)
+    → StandsFlow n c bol text f rest → flow_node_at n c bol text ≡ Some (f, rest)
 unfolding reads_scalars
 found n c bol text f rest h = ap (flow_node_at n c bol) h.spells ∙ flow_found read_scalar reads_scalars f n c bol rest h.canonical h.ends
 
 -- a flow node that is read is there
-pub stands : (n : ℕ) (c : FlowContext) (bol : Bool) (text : List ℕ) (f : Flow) (rest : List ℕ) → flow_node_at n c bol text ≡ Some (f, rest) → StandsFlow n c bol text f rest
+pub stands : (n : ℕ) (c : FlowContext) (bol : Bool) (text : List ℕ) (f : Flow) (rest : List ℕ)
+    → flow_node_at n c bol text ≡ Some (f, rest) → StandsFlow n c bol text f rest
 unfolding reads_scalars
 stands n c bol text f rest e =
     let p = flow_is read_scalar reads_scalars (4 * length text + 1) n c bol text f rest e in
     record { spells = p.0; canonical = p.1; ends = p.2 }
 
 -- two that are there are the same
-pub once : (n : ℕ) (c : FlowContext) (bol : Bool) (text : List ℕ) (one other : Flow) (rest after : List ℕ) → StandsFlow n c bol text one rest → StandsFlow n c bol text other after
+pub once : (n : ℕ) (c : FlowContext) (bol : Bool) (text : List ℕ) (one other : Flow) (rest after : List ℕ)
+    → StandsFlow n c bol text one rest → StandsFlow n c bol text other after
     → (one ≡ other) × (rest ≡ after)
-once n c bol text one other rest after h k = some_parts one other rest after (sym (found n c bol text one rest h) ∙ found n c bol text other after k)
+once n c bol text one other rest after h k =
+    some_parts one other rest after (sym (found n c bol text one rest h) ∙ found n c bol text other after k)
 
 -- if none is read, none is there
-pub missing : (n : ℕ) (c : FlowContext) (bol : Bool) (text : List ℕ) (f : Flow) (rest : List ℕ) → flow_node_at n c bol text ≡ None → StandsFlow n c bol text f rest → ⊥
+pub missing : (n : ℕ) (c : FlowContext) (bol : Bool) (text : List ℕ) (f : Flow) (rest : List ℕ)
+    → flow_node_at n c bol text ≡ None → StandsFlow n c bol text f rest → ⊥
 missing n c bol text f rest e h = none_some (f, rest) (sym e ∙ found n c bol text f rest h)
 
 -- what stops a scalar ends a flow node

@@ -1,15 +1,19 @@
 -- What the recognizer of flow nodes reads is at the start of the text, and fits.
 use Rattle.std.proofs.Common.{ap, append_assoc, inl, inr, refl, subst, sym, ◌∙◌, ◌≡◌}
-use Rattle.std.specs.Prelude.{Bool, List, None, Option, Some, [], cond, false, is_some, not, suc, true, zero, ℕ, ◌&&◌, ◌++◌, ◌==◌, ◌||◌, ◌∷◌}
+use Rattle.std.specs.Prelude.{Bool, List, None, Option, Some, [], cond, false, is_some, not, suc, true, zero, ℕ, ◌&&◌}
+use Rattle.std.specs.Prelude.{◌++◌, ◌==◌, ◌||◌, ◌∷◌}
 use Rattle.std.proofs.lemmas.Bool.{and_from, and_parts, eqb-true, false≢true, or_parts}
-use Rattle.yaml_grammar.specs.FlowNodes.{Entries, Entry, Flow, Value, absent, empty, entries_text, entry, entry_text, flow_text, given, is_plain, last, map, next, none, scalar, seq, single_pair, value_text}
+use Rattle.yaml_grammar.specs.FlowNodes.{Entries, Entry, Flow, Value, absent, empty, entries_text, entry, entry_text}
+use Rattle.yaml_grammar.specs.FlowNodes.{flow_text, given, is_plain, last, map, next, none, scalar, seq, single_pair}
+use Rattle.yaml_grammar.specs.FlowNodes.{value_text}
 use Rattle.yaml_grammar.specs.FlowScalars.{FlowContext, Scalar, in_flow, one_line, safe, scalar_fits, scalar_text}
 use Rattle.yaml_grammar.specs.Separation.{Sep, gap_text}
 use Rattle.yaml_grammar.specs.Texts.{first, starts_line}
 use Rattle.yaml_recognizers.specs.CanonicalComments.{canonical_gap}
 use Rattle.yaml_recognizers.specs.CanonicalFlowNodes.{canonical_entries, canonical_entry, canonical_flow, canonical_value}
 use Rattle.yaml_recognizers.specs.Ends.{is_colon}
-use Rattle.yaml_recognizers.specs.FlowNodes.{asked_with, ends_entry, flow_ends, is_asked, key_is_short, read_entries, read_entry, read_flow, read_value}
+use Rattle.yaml_recognizers.specs.FlowNodes.{asked_with, ends_entry, flow_ends, is_asked, key_is_short, read_entries}
+use Rattle.yaml_recognizers.specs.FlowNodes.{read_entry, read_flow, read_value}
 use Rattle.yaml_recognizers.specs.Prefixes.{past}
 use Rattle.yaml_recognizers.specs.Gaps.{GapRead, read_gap}
 use Rattle.yaml_recognizers.specs.Reading.{Read}
@@ -24,9 +28,11 @@ asked_head d [] h = absurd (false≢true h)
 asked_head d (c ∷ cs) h = ap (λ x. x ∷ cs) (eqb-true c 63 (and_parts _ _ h).0)
 
 -- the `:` of a value, and what comes after it
-pub colon_parts : (d : FlowContext) (after_plain : Bool) (text : List ℕ) → is_colon d after_plain text ≡ true → (text ≡ 58 ∷ past text) × (not (after_plain && first (safe d) (past text)) ≡ true)
+pub colon_parts : (d : FlowContext) (after_plain : Bool) (text : List ℕ) → is_colon d after_plain text ≡ true
+    → (text ≡ 58 ∷ past text) × (not (after_plain && first (safe d) (past text)) ≡ true)
 colon_parts d after_plain [] h = absurd (false≢true h)
-colon_parts d after_plain (c ∷ cs) h = let p : (c == 58 ≡ true) × (not (after_plain && first (safe d) cs) ≡ true) = and_parts _ _ h in (ap (λ x. x ∷ cs) (eqb-true c 58 p.0), p.1)
+colon_parts d after_plain (c ∷ cs) h = let p : (c == 58 ≡ true) × (not (after_plain && first (safe d) cs) ≡ true) =
+    and_parts _ _ h in (ap (λ x. x ∷ cs) (eqb-true c 58 p.0), p.1)
 
 -- nothing more is no change
 or_false : (b : Bool) → b ≡ b || false
@@ -34,7 +40,8 @@ or_false true = refl
 or_false false = refl
 
 -- the tests of an entry hold, whether it is a single pair or not
-pair_fits_all : (pair o a b : Bool) (v : Bool → Bool) → cond pair (a && v true) true ≡ true → b ≡ true → v o ≡ true → cond pair a b && v (o || pair) ≡ true
+pair_fits_all : (pair o a b : Bool) (v : Bool → Bool) → cond pair (a && v true) true ≡ true → b ≡ true → v o ≡ true
+    → cond pair a b && v (o || pair) ≡ true
 pair_fits_all true true a b v h k l = and_from _ _ (and_parts _ _ h).0 l
 pair_fits_all true false a b v h k l = h
 pair_fits_all false o a b v h k l = and_from _ _ k (subst (λ (x : Bool). v x ≡ true) (or_false o) l)
@@ -64,7 +71,8 @@ FlowOfAt n c bol text f rest = (text ≡ flow_text f ++ rest) × (canonical_flow
 module _ (read_scalar : ℕ → FlowContext → Bool → List ℕ → Read Scalar) (scalars : ReadsScalars read_scalar) where
   -- the same of a flow node
   abbrev pub FlowFound : ℕ → FlowContext → Bool → List ℕ → List ℕ → Flow → Type 0
-  FlowFound n c bol text rest f = (text ≡ flow_text f ++ rest) × (canonical_flow f n c bol rest ≡ true) × (flow_ends scalars.ends n c f rest ≡ true)
+  FlowFound n c bol text rest f = (text ≡ flow_text f ++ rest) × (canonical_flow f n c bol rest ≡ true)
+      × (flow_ends scalars.ends n c f rest ≡ true)
 
   mutual
     unfolding read_flow
@@ -75,29 +83,40 @@ module _ (read_scalar : ℕ → FlowContext → Bool → List ℕ → Read Scala
     flow_sound zero n c bol text f rest h = absurd (none_some _ h)
     flow_sound (suc fuel) n c bol text f rest h =
         let gap : GapRead = read_gap n (one_line c) (past text) in
-        let g : (past text ≡ gap_text gap.0 ++ gap.1) × (canonical_gap n (one_line c) gap.0 gap.1 ≡ true) = gap_sound n (one_line c) (past text) in
+        let g : (past text ≡ gap_text gap.0 ++ gap.1) × (canonical_gap n (one_line c) gap.0 gap.1 ≡ true) =
+        gap_sound n (one_line c) (past text) in
         elim (chosen (first (λ x. x == 91) text) _ _ _ h) [
-          | inl e ↦ (let p = on_parts (read_entries read_scalar fuel n (in_flow c) true (starts_line false (gap_text gap.0)) 93 gap.1) _ _ e.1 in
+          | inl e ↦ (let p = on_parts (read_entries read_scalar fuel n (in_flow c) true
+              (starts_line false (gap_text gap.0)) 93 gap.1) _ _ e.1 in
               let q = closed_parts 93 (seq gap.0 p.0) p.1 f rest p.3 in
-              let j : EntriesSound n (in_flow c) true (starts_line false (gap_text gap.0)) gap.1 p.1 p.0 = entries_sound fuel n (in_flow c) true _ 93 gap.1 p.0 p.1 p.2 in
+              let j : EntriesSound n (in_flow c) true (starts_line false (gap_text gap.0)) gap.1 p.1 p.0 =
+              entries_sound fuel n (in_flow c) true _ 93 gap.1 p.0 p.1 p.2 in
               let after : gap.1 ≡ entries_text p.0 ++ (93 ∷ rest) = j.0 ∙ ap (λ (t : List ℕ). entries_text p.0 ++ t) q.1 in
-              let regrouped : flow_text (seq gap.0 p.0) ++ rest ≡ 91 ∷ (gap_text gap.0 ++ (entries_text p.0 ++ (93 ∷ rest))) = simp append_assoc in
+              let regrouped : flow_text (seq gap.0 p.0) ++ rest
+              ≡ 91 ∷ (gap_text gap.0 ++ (entries_text p.0 ++ (93 ∷ rest))) = simp append_assoc in
               subst (FlowFound n c bol text rest) q.0 (
-                head_is 91 text e.0 ∙ (ap (λ (t : List ℕ). 91 ∷ t) g.0 ∙ (ap (λ (t : List ℕ). 91 ∷ (gap_text gap.0 ++ t)) after ∙ sym regrouped)),
+                head_is 91 text e.0 ∙ (ap (λ (t : List ℕ). 91 ∷ t) g.0
+                    ∙ (ap (λ (t : List ℕ). 91 ∷ (gap_text gap.0 ++ t)) after ∙ sym regrouped)),
                 and_from _ _ (subst (λ (t : List ℕ). canonical_gap n (one_line c) gap.0 t ≡ true) after g.1)
-                    (subst (λ (t : List ℕ). canonical_entries p.0 n (in_flow c) true (starts_line false (gap_text gap.0)) t ≡ true) q.1 j.1),
+                    (subst (λ (t : List ℕ). canonical_entries p.0 n (in_flow c) true
+                    (starts_line false (gap_text gap.0)) t ≡ true) q.1 j.1),
                 refl,
               ))
           | inr i ↦ elim (chosen (first (λ x. x == 123) text) _ _ _ i.1) [
-            | inl e ↦ (let p = on_parts (read_entries read_scalar fuel n (in_flow c) false (starts_line false (gap_text gap.0)) 125 gap.1) _ _ e.1 in
+            | inl e ↦ (let p = on_parts (read_entries read_scalar fuel n (in_flow c) false
+                (starts_line false (gap_text gap.0)) 125 gap.1) _ _ e.1 in
                 let q = closed_parts 125 (map gap.0 p.0) p.1 f rest p.3 in
-                let j : EntriesSound n (in_flow c) false (starts_line false (gap_text gap.0)) gap.1 p.1 p.0 = entries_sound fuel n (in_flow c) false _ 125 gap.1 p.0 p.1 p.2 in
+                let j : EntriesSound n (in_flow c) false (starts_line false (gap_text gap.0)) gap.1 p.1 p.0 =
+                entries_sound fuel n (in_flow c) false _ 125 gap.1 p.0 p.1 p.2 in
                 let after : gap.1 ≡ entries_text p.0 ++ (125 ∷ rest) = j.0 ∙ ap (λ (t : List ℕ). entries_text p.0 ++ t) q.1 in
-                let regrouped : flow_text (map gap.0 p.0) ++ rest ≡ 123 ∷ (gap_text gap.0 ++ (entries_text p.0 ++ (125 ∷ rest))) = simp append_assoc in
+                let regrouped : flow_text (map gap.0 p.0) ++ rest
+                ≡ 123 ∷ (gap_text gap.0 ++ (entries_text p.0 ++ (125 ∷ rest))) = simp append_assoc in
                 subst (FlowFound n c bol text rest) q.0 (
-                  head_is 123 text e.0 ∙ (ap (λ (t : List ℕ). 123 ∷ t) g.0 ∙ (ap (λ (t : List ℕ). 123 ∷ (gap_text gap.0 ++ t)) after ∙ sym regrouped)),
+                  head_is 123 text e.0 ∙ (ap (λ (t : List ℕ). 123 ∷ t) g.0
+                      ∙ (ap (λ (t : List ℕ). 123 ∷ (gap_text gap.0 ++ t)) after ∙ sym regrouped)),
                   and_from _ _ (subst (λ (t : List ℕ). canonical_gap n (one_line c) gap.0 t ≡ true) after g.1)
-                      (subst (λ (t : List ℕ). canonical_entries p.0 n (in_flow c) false (starts_line false (gap_text gap.0)) t ≡ true) q.1 j.1),
+                      (subst (λ (t : List ℕ). canonical_entries p.0 n (in_flow c) false
+                      (starts_line false (gap_text gap.0)) t ≡ true) q.1 j.1),
                   refl,
                 ))
             | inr e ↦ (let p = on_parts (read_scalar n c bol text) _ _ e.1 in
@@ -123,18 +142,23 @@ module _ (read_scalar : ℕ → FlowContext → Bool → List ℕ → Read Scala
               let g : (p.1 ≡ gap_text b.0 ++ b.1) × (canonical_gap n (one_line d) b.0 b.1 ≡ true) = gap_sound n (one_line d) p.1 in
               elim (chosen (first (λ x. x == 44) b.1) _ _ _ p.3) [
                 | inl e ↦ (let a : GapRead = read_gap n (one_line d) (past b.1) in
-                    let g2 : (past b.1 ≡ gap_text a.0 ++ a.1) × (canonical_gap n (one_line d) a.0 a.1 ≡ true) = gap_sound n (one_line d) (past b.1) in
+                    let g2 : (past b.1 ≡ gap_text a.0 ++ a.1) × (canonical_gap n (one_line d) a.0 a.1 ≡ true) =
+                    gap_sound n (one_line d) (past b.1) in
                     let k = on_parts (read_entries read_scalar fuel n d in_seq (starts_line false (gap_text a.0)) close a.1) _ _ e.1 in
                     let q = some_parts (next p.0 b.0 a.0 k.0) es k.1 rest k.3 in
-                    let m : EntriesSound n d in_seq (starts_line false (gap_text a.0)) a.1 k.1 k.0 = entries_sound fuel n d in_seq _ close a.1 k.0 k.1 k.2 in
+                    let m : EntriesSound n d in_seq (starts_line false (gap_text a.0)) a.1 k.1 k.0 =
+                    entries_sound fuel n d in_seq _ close a.1 k.0 k.1 k.2 in
                     let rest_after : a.1 ≡ entries_text k.0 ++ rest = m.0 ∙ ap (λ (t : List ℕ). entries_text k.0 ++ t) q.1 in
                     let tail : List ℕ = gap_text a.0 ++ (entries_text k.0 ++ rest) in
-                    let comma : b.1 ≡ 44 ∷ tail = head_is 44 b.1 e.0 ∙ (ap (λ (t : List ℕ). 44 ∷ t) g2.0 ∙ ap (λ (t : List ℕ). 44 ∷ (gap_text a.0 ++ t)) rest_after) in
+                    let comma : b.1 ≡ 44 ∷ tail = head_is 44 b.1 e.0
+                    ∙ (ap (λ (t : List ℕ). 44 ∷ t) g2.0 ∙ ap (λ (t : List ℕ). 44 ∷ (gap_text a.0 ++ t)) rest_after) in
                     let after : p.1 ≡ gap_text b.0 ++ (44 ∷ tail) = g.0 ∙ ap (λ (t : List ℕ). gap_text b.0 ++ t) comma in
-                    let regrouped : entries_text (next p.0 b.0 a.0 k.0) ++ rest ≡ entry_text p.0 ++ (gap_text b.0 ++ (44 ∷ tail)) = simp append_assoc in
+                    let regrouped : entries_text (next p.0 b.0 a.0 k.0) ++ rest
+                    ≡ entry_text p.0 ++ (gap_text b.0 ++ (44 ∷ tail)) = simp append_assoc in
                     subst (EntriesSound n d in_seq bol text rest) q.0 (
                       j.0 ∙ (ap (λ (t : List ℕ). entry_text p.0 ++ t) after ∙ sym regrouped),
-                      and_from _ _ (and_from _ _ (and_from _ _ (subst (λ (t : List ℕ). canonical_entry p.0 n d in_seq bol t ≡ true) after j.1)
+                      and_from _ _ (and_from _ _ (and_from _ _
+                          (subst (λ (t : List ℕ). canonical_entry p.0 n d in_seq bol t ≡ true) after j.1)
                           (subst (λ (t : List ℕ). canonical_gap n (one_line d) b.0 t ≡ true) comma g.1))
                           (subst (λ (t : List ℕ). canonical_gap n (one_line d) a.0 t ≡ true) rest_after g2.1))
                           (subst (λ (t : List ℕ). canonical_entries k.0 n d in_seq (starts_line false (gap_text a.0)) t ≡ true) q.1 m.1),
@@ -144,7 +168,8 @@ module _ (read_scalar : ℕ → FlowContext → Bool → List ℕ → Read Scala
                     let regrouped : entries_text (last p.0 b.0) ++ rest ≡ entry_text p.0 ++ (gap_text b.0 ++ rest) = simp append_assoc in
                     subst (EntriesSound n d in_seq bol text rest) q.0 (
                       j.0 ∙ (ap (λ (t : List ℕ). entry_text p.0 ++ t) after ∙ sym regrouped),
-                      and_from _ _ (subst (λ (t : List ℕ). canonical_entry p.0 n d in_seq bol t ≡ true) after j.1) (subst (λ (t : List ℕ). canonical_gap n (one_line d) b.0 t ≡ true) q.1 g.1),
+                      and_from _ _ (subst (λ (t : List ℕ). canonical_entry p.0 n d in_seq bol t ≡ true) after j.1)
+                          (subst (λ (t : List ℕ). canonical_gap n (one_line d) b.0 t ≡ true) q.1 g.1),
                     ))
               ])
         ]
@@ -157,26 +182,32 @@ module _ (read_scalar : ℕ → FlowContext → Bool → List ℕ → Read Scala
         let a : GapRead = read_gap n (one_line d) (past text) in
         let g : (past text ≡ gap_text a.0 ++ a.1) × (canonical_gap n (one_line d) a.0 a.1 ≡ true) = gap_sound n (one_line d) (past text) in
         let value_at : Bool → List ℕ → Read Value = λ after_plain rest'. read_value read_scalar fuel n d after_plain rest' in
-        let again : Option Sep → List ℕ → Read Flow = λ gap' rest'. read_flow read_scalar fuel n d (starts_line false (gap_text gap')) rest' in
+        let again : Option Sep → List ℕ → Read Flow =
+        λ gap' rest'. read_flow read_scalar fuel n d (starts_line false (gap_text gap')) rest' in
         elim (chosen (is_asked d text) _ _ _ h) [
-          | inl i ↦ (elim a.0 as (λ o. (past text ≡ gap_text o ++ a.1) → canonical_gap n (one_line d) o a.1 ≡ true → asked_with again value_at o a.1 ≡ Some (e, rest) → EntrySound n d in_seq bol text rest e) [
-            | None ↦ λ x y z. absurd (none_some _ z)
-            | Some sep ↦ λ x y z.
-                let p = on_parts (read_flow read_scalar fuel n d (starts_line false (gap_text (Some sep))) a.1) _ _ z in
-                let k = on_parts (read_value read_scalar fuel n d (is_plain p.0) p.1) _ _ p.3 in
-                let q = some_parts (entry (Some sep) p.0 k.0) e k.1 rest k.3 in
-                let j : FlowFound n d (starts_line false (gap_text (Some sep))) a.1 p.1 p.0 = flow_sound fuel n d _ a.1 p.0 p.1 p.2 in
-                let m : ValueSound n d (is_plain p.0) p.1 k.1 k.0 = value_sound fuel n d (is_plain p.0) p.1 k.0 k.1 k.2 in
-                let after : p.1 ≡ value_text k.0 ++ rest = m.0 ∙ ap (λ (t : List ℕ). value_text k.0 ++ t) q.1 in
-                let node : a.1 ≡ flow_text p.0 ++ (value_text k.0 ++ rest) = j.0 ∙ ap (λ (t : List ℕ). flow_text p.0 ++ t) after in
-                let regrouped : entry_text (entry (Some sep) p.0 k.0) ++ rest ≡ 63 ∷ (gap_text (Some sep) ++ (flow_text p.0 ++ (value_text k.0 ++ rest))) = simp append_assoc in
-                subst (EntrySound n d in_seq bol text rest) q.0 (
-                  asked_head d text i.0 ∙ (ap (λ (t : List ℕ). 63 ∷ t) x ∙ (ap (λ (t : List ℕ). 63 ∷ (gap_text (Some sep) ++ t)) node ∙ sym regrouped)),
-                  and_from _ _ (and_from _ _ (subst (λ (t : List ℕ). canonical_gap n (one_line d) (Some sep) t ≡ true) node y)
-                      (subst (λ (t : List ℕ). canonical_flow p.0 n d (starts_line false (gap_text (Some sep))) t ≡ true) after j.1))
-                      (subst (λ (b : Bool). canonical_value k.0 n d b (is_plain p.0) rest ≡ true) (or_false (one_line d)) (subst (λ (t : List ℕ). canonical_value k.0 n d (one_line d) (is_plain p.0) t ≡ true) q.1 m.1)),
-                )
-          ]) g.0 g.1 i.1
+          | inl i ↦ (elim a.0 as (λ o. (past text ≡ gap_text o ++ a.1) → canonical_gap n (one_line d) o a.1 ≡ true
+              → asked_with again value_at o a.1 ≡ Some (e, rest) → EntrySound n d in_seq bol text rest e) [
+                | None ↦ λ x y z. absurd (none_some _ z)
+                | Some sep ↦ λ x y z.
+                    let p = on_parts (read_flow read_scalar fuel n d (starts_line false (gap_text (Some sep))) a.1) _ _ z in
+                    let k = on_parts (read_value read_scalar fuel n d (is_plain p.0) p.1) _ _ p.3 in
+                    let q = some_parts (entry (Some sep) p.0 k.0) e k.1 rest k.3 in
+                    let j : FlowFound n d (starts_line false (gap_text (Some sep))) a.1 p.1 p.0 = flow_sound fuel n d _ a.1 p.0 p.1 p.2 in
+                    let m : ValueSound n d (is_plain p.0) p.1 k.1 k.0 = value_sound fuel n d (is_plain p.0) p.1 k.0 k.1 k.2 in
+                    let after : p.1 ≡ value_text k.0 ++ rest = m.0 ∙ ap (λ (t : List ℕ). value_text k.0 ++ t) q.1 in
+                    let node : a.1 ≡ flow_text p.0 ++ (value_text k.0 ++ rest) = j.0 ∙ ap (λ (t : List ℕ). flow_text p.0 ++ t) after in
+                    let regrouped : entry_text (entry (Some sep) p.0 k.0) ++ rest
+                    ≡ 63 ∷ (gap_text (Some sep) ++ (flow_text p.0 ++ (value_text k.0 ++ rest))) = simp append_assoc in
+                    subst (EntrySound n d in_seq bol text rest) q.0 (
+                      asked_head d text i.0 ∙ (ap (λ (t : List ℕ). 63 ∷ t) x
+                          ∙ (ap (λ (t : List ℕ). 63 ∷ (gap_text (Some sep) ++ t)) node ∙ sym regrouped)),
+                      and_from _ _ (and_from _ _ (subst (λ (t : List ℕ). canonical_gap n (one_line d) (Some sep) t ≡ true) node y)
+                          (subst (λ (t : List ℕ). canonical_flow p.0 n d (starts_line false (gap_text (Some sep))) t ≡ true) after j.1))
+                          (subst (λ (b : Bool). canonical_value k.0 n d b (is_plain p.0) rest ≡ true)
+                          (or_false (one_line d)) (subst (λ (t : List ℕ).
+                          canonical_value k.0 n d (one_line d) (is_plain p.0) t ≡ true) q.1 m.1)),
+                    )
+              ]) g.0 g.1 i.1
           | inr i ↦ (let p = on_parts (read_flow read_scalar fuel n d bol text) _ _ i.1 in
               let k = on_parts (read_value read_scalar fuel n d (is_plain p.0) p.1) _ _ p.3 in
               let s = if_fits_parts (key_is_short n d in_seq bol None p.0 k.0 k.1) _ _ k.3 in
@@ -185,11 +216,13 @@ module _ (read_scalar : ℕ → FlowContext → Bool → List ℕ → Read Scala
               let m : ValueSound n d (is_plain p.0) p.1 k.1 k.0 = value_sound fuel n d (is_plain p.0) p.1 k.0 k.1 k.2 in
               let after : p.1 ≡ value_text k.0 ++ rest = m.0 ∙ ap (λ (t : List ℕ). value_text k.0 ++ t) q.1 in
               let regrouped : entry_text (entry None p.0 k.0) ++ rest ≡ flow_text p.0 ++ (value_text k.0 ++ rest) = simp append_assoc in
-              let short : key_is_short n d in_seq bol None p.0 k.0 rest ≡ true = subst (λ (t : List ℕ). key_is_short n d in_seq bol None p.0 k.0 t ≡ true) q.1 s.0 in
+              let short : key_is_short n d in_seq bol None p.0 k.0 rest ≡ true =
+              subst (λ (t : List ℕ). key_is_short n d in_seq bol None p.0 k.0 t ≡ true) q.1 s.0 in
               subst (EntrySound n d in_seq bol text rest) q.0 (
                 j.0 ∙ (ap (λ (t : List ℕ). flow_text p.0 ++ t) after ∙ sym regrouped),
                 pair_fits_all (single_pair in_seq None k.0) (one_line d) _ _ (λ b. canonical_value k.0 n d b (is_plain p.0) rest) short
-                    (subst (λ (t : List ℕ). canonical_flow p.0 n d bol t ≡ true) after j.1) (subst (λ (t : List ℕ). canonical_value k.0 n d (one_line d) (is_plain p.0) t ≡ true) q.1 m.1),
+                    (subst (λ (t : List ℕ). canonical_flow p.0 n d bol t ≡ true) after j.1)
+                    (subst (λ (t : List ℕ). canonical_value k.0 n d (one_line d) (is_plain p.0) t ≡ true) q.1 m.1),
               ))
         ]
 
@@ -202,7 +235,8 @@ module _ (read_scalar : ℕ → FlowContext → Bool → List ℕ → Read Scala
         elim (chosen (is_colon d after_plain b.1) _ _ _ h) [
           | inr i ↦ (let q = some_parts absent v text rest i.1 in subst (ValueSound n d after_plain text rest) q.0 (q.1, refl))
           | inl i ↦ (let a : GapRead = read_gap n (one_line d) (past b.1) in
-              let g2 : (past b.1 ≡ gap_text a.0 ++ a.1) × (canonical_gap n (one_line d) a.0 a.1 ≡ true) = gap_sound n (one_line d) (past b.1) in
+              let g2 : (past b.1 ≡ gap_text a.0 ++ a.1) × (canonical_gap n (one_line d) a.0 a.1 ≡ true) =
+              gap_sound n (one_line d) (past b.1) in
               let c : (b.1 ≡ 58 ∷ past b.1) × (not (after_plain && first (safe d) (past b.1)) ≡ true) = colon_parts d after_plain b.1 i.0 in
               elim (chosen (ends_entry a.1 || (after_plain && not (is_some a.0))) _ _ _ i.1) [
                 | inl e ↦ (let q = some_parts (empty b.0) v (past b.1) rest e.1 in
@@ -217,8 +251,10 @@ module _ (read_scalar : ℕ → FlowContext → Bool → List ℕ → Read Scala
                     let q = some_parts (given b.0 a.0 p.0) v p.1 rest p.3 in
                     let j : FlowFound n d (starts_line false (gap_text a.0)) a.1 p.1 p.0 = flow_sound fuel n d _ a.1 p.0 p.1 p.2 in
                     let node : a.1 ≡ flow_text p.0 ++ rest = j.0 ∙ ap (λ (t : List ℕ). flow_text p.0 ++ t) q.1 in
-                    let colon : b.1 ≡ 58 ∷ (gap_text a.0 ++ (flow_text p.0 ++ rest)) = c.0 ∙ (ap (λ (t : List ℕ). 58 ∷ t) g2.0 ∙ ap (λ (t : List ℕ). 58 ∷ (gap_text a.0 ++ t)) node) in
-                    let regrouped : value_text (given b.0 a.0 p.0) ++ rest ≡ gap_text b.0 ++ (58 ∷ (gap_text a.0 ++ (flow_text p.0 ++ rest))) = simp append_assoc in
+                    let colon : b.1 ≡ 58 ∷ (gap_text a.0 ++ (flow_text p.0 ++ rest)) = c.0
+                    ∙ (ap (λ (t : List ℕ). 58 ∷ t) g2.0 ∙ ap (λ (t : List ℕ). 58 ∷ (gap_text a.0 ++ t)) node) in
+                    let regrouped : value_text (given b.0 a.0 p.0) ++ rest
+                    ≡ gap_text b.0 ++ (58 ∷ (gap_text a.0 ++ (flow_text p.0 ++ rest))) = simp append_assoc in
                     subst (ValueSound n d after_plain text rest) q.0 (
                       g.0 ∙ (ap (λ (t : List ℕ). gap_text b.0 ++ t) colon ∙ sym regrouped),
                       and_from _ _ (and_from _ _ (and_from _ _ (subst (λ (t : List ℕ). canonical_gap n (one_line d) b.0 t ≡ true) colon g.1)

@@ -2,7 +2,8 @@
 use Rattle.std.proofs.Common.{refl, subst, ◌≡◌}
 use Rattle.std.specs.Prelude.{Bool, List, None, Option, Some, cond, false, not, true, ℕ, ◌&&◌, ◌||◌}
 use Rattle.std.proofs.lemmas.Bool.{and_from, and_parts, false≢true}
-use Rattle.yaml_grammar.specs.FlowNodes.{Entries, Entry, Flow, Value, absent, empty, entry, given, last, map, next, none, scalar, seq, single_pair}
+use Rattle.yaml_grammar.specs.FlowNodes.{Entries, Entry, Flow, Value, absent, empty, entry, given, last, map, next}
+use Rattle.yaml_grammar.specs.FlowNodes.{none, scalar, seq, single_pair}
 use Rattle.yaml_grammar.specs.FlowScalars.{FlowContext, Scalar, block_key, flow_key, inner, in_flow, one_line, outer, safe, scalar_fits}
 use Rattle.yaml_grammar.specs.Separation.{Sep, inline, lines}
 use Rattle.yaml_grammar.specs.Texts.{first}
@@ -12,7 +13,8 @@ use Rattle.yaml_recognizers.specs.OneLine.{widens}
 use Rattle.yaml_recognizers.proofs.Scalars.ScalarKeys.{first_same, fits_same, key_on_one_line}
 
 -- what holds of each of the four pairs holds of the two contexts
-pub widens_cases : (P : FlowContext → FlowContext → Type 0) (c d : FlowContext) → widens c d ≡ true → P block_key outer → P block_key block_key → P flow_key inner → P flow_key flow_key → P c d
+pub widens_cases : (P : FlowContext → FlowContext → Type 0) (c d : FlowContext) → widens c d ≡ true
+    → P block_key outer → P block_key block_key → P flow_key inner → P flow_key flow_key → P c d
 widens_cases P outer d w one two three four = absurd (false≢true w)
 widens_cases P inner d w one two three four = absurd (false≢true w)
 widens_cases P block_key outer w one two three four = one
@@ -35,7 +37,8 @@ wider_in_flow c d w = widens_cases (λ a b. widens (in_flow a) (in_flow b) ≡ t
 -- ---- gaps and scalars
 
 -- a gap on one line fits in either way
-pub gap_wider : (n m : ℕ) (key key' : Bool) (gap : Option Sep) (after : List ℕ) → key ≡ true → canonical_gap n key gap after ≡ true → canonical_gap m key' gap after ≡ true
+pub gap_wider : (n m : ℕ) (key key' : Bool) (gap : Option Sep) (after : List ℕ) → key ≡ true
+    → canonical_gap n key gap after ≡ true → canonical_gap m key' gap after ≡ true
 gap_wider n m key key' None after k h = refl
 gap_wider n m key key' (Some (inline blank)) after k h = h
 gap_wider n m true key' (Some (lines comments lead)) after k h = absurd (false≢true h)
@@ -50,8 +53,10 @@ pub first_safe : (c d : FlowContext) (xs : List ℕ) → widens c d ≡ true →
 first_safe c d xs w = first_same c d (safe_same c d w) xs
 
 -- a scalar fits in the wider context
-scalar_wider : (s : Scalar) (n m : ℕ) (c d : FlowContext) (bol : Bool) (after : List ℕ) → widens c d ≡ true → scalar_fits n c bol s after ≡ true → scalar_fits m d bol s after ≡ true
-scalar_wider s n m c d bol after w h = fits_same c d (safe_same c d w) s n m bol after (key_on_one_line s n c bol after (key_line c d w) h) h
+scalar_wider : (s : Scalar) (n m : ℕ) (c d : FlowContext) (bol : Bool) (after : List ℕ) → widens c d ≡ true
+    → scalar_fits n c bol s after ≡ true → scalar_fits m d bol s after ≡ true
+scalar_wider s n m c d bol after w h = fits_same c d (safe_same c d w) s n m bol after
+    (key_on_one_line s n c bol after (key_line c d w) h) h
 
 -- ---- nodes
 
@@ -67,17 +72,21 @@ or_true false b h = absurd (false≢true h)
 
 mutual
   -- what fits as a key fits in the wider context
-  pub flow_wider : (f : Flow) (n m : ℕ) (c d : FlowContext) (bol : Bool) (after : List ℕ) → widens c d ≡ true → canonical_flow f n c bol after ≡ true → canonical_flow f m d bol after ≡ true
+  pub flow_wider : (f : Flow) (n m : ℕ) (c d : FlowContext) (bol : Bool) (after : List ℕ) → widens c d ≡ true
+      → canonical_flow f n c bol after ≡ true → canonical_flow f m d bol after ≡ true
   flow_wider (scalar s) n m c d bol after w h = scalar_wider s n m c d bol after w h
   flow_wider (seq gap es) n m c d bol after w h =
       let p = and_parts _ _ h in
-      and_from _ _ (gap_wider n m (one_line c) (one_line d) gap _ (key_line c d w) p.0) (entries_wider es n m (in_flow c) (in_flow d) true _ _ (wider_in_flow c d w) p.1)
+      and_from _ _ (gap_wider n m (one_line c) (one_line d) gap _ (key_line c d w) p.0)
+      (entries_wider es n m (in_flow c) (in_flow d) true _ _ (wider_in_flow c d w) p.1)
   flow_wider (map gap es) n m c d bol after w h =
       let p = and_parts _ _ h in
-      and_from _ _ (gap_wider n m (one_line c) (one_line d) gap _ (key_line c d w) p.0) (entries_wider es n m (in_flow c) (in_flow d) false _ _ (wider_in_flow c d w) p.1)
+      and_from _ _ (gap_wider n m (one_line c) (one_line d) gap _ (key_line c d w) p.0)
+      (entries_wider es n m (in_flow c) (in_flow d) false _ _ (wider_in_flow c d w) p.1)
 
   -- so do entries
-  entries_wider : (es : Entries) (n m : ℕ) (c d : FlowContext) (in_seq bol : Bool) (after : List ℕ) → widens c d ≡ true → canonical_entries es n c in_seq bol after ≡ true → canonical_entries es m d in_seq bol after ≡ true
+  entries_wider : (es : Entries) (n m : ℕ) (c d : FlowContext) (in_seq bol : Bool) (after : List ℕ)
+      → widens c d ≡ true → canonical_entries es n c in_seq bol after ≡ true → canonical_entries es m d in_seq bol after ≡ true
   entries_wider none n m c d in_seq bol after w h = refl
   entries_wider (last e gap) n m c d in_seq bol after w h =
       let p = and_parts _ _ h in
@@ -87,16 +96,19 @@ mutual
       let p = and_parts _ _ h in
       let q = and_parts _ _ p.0 in
       let r = and_parts _ _ q.0 in
-      and_from _ _ (and_from _ _ (and_from _ _ (entry_wider e n m c d in_seq bol _ w r.0) (gap_wider n m (one_line c) (one_line d) before _ k r.1)) (gap_wider n m (one_line c) (one_line d) gap_after _ k q.1))
+      and_from _ _ (and_from _ _ (and_from _ _ (entry_wider e n m c d in_seq bol _ w r.0)
+      (gap_wider n m (one_line c) (one_line d) before _ k r.1)) (gap_wider n m (one_line c) (one_line d) gap_after _ k q.1))
       (entries_wider es n m c d in_seq _ _ w p.1)
 
   -- and an entry
-  entry_wider : (e : Entry) (n m : ℕ) (c d : FlowContext) (in_seq bol : Bool) (after : List ℕ) → widens c d ≡ true → canonical_entry e n c in_seq bol after ≡ true → canonical_entry e m d in_seq bol after ≡ true
+  entry_wider : (e : Entry) (n m : ℕ) (c d : FlowContext) (in_seq bol : Bool) (after : List ℕ) → widens c d ≡ true
+      → canonical_entry e n c in_seq bol after ≡ true → canonical_entry e m d in_seq bol after ≡ true
   entry_wider (entry ask key value) n m c d in_seq bol after w h =
       let k : one_line c ≡ true = key_line c d w in
       let p = and_parts _ _ h in
       let q = and_parts _ _ p.0 in
-      and_from _ _ (and_from _ _ (gap_wider n m (one_line c) (one_line d) ask _ k q.0) (either (single_pair in_seq ask value) _ _ _ (flow_wider key n m c d _ _ w) q.1))
+      and_from _ _ (and_from _ _ (gap_wider n m (one_line c) (one_line d) ask _ k q.0)
+      (either (single_pair in_seq ask value) _ _ _ (flow_wider key n m c d _ _ w) q.1))
       (value_wider value n m c d _ _ _ _ w (or_true (one_line c) (single_pair in_seq ask value) k) p.1)
 
   -- and a value
@@ -110,4 +122,5 @@ mutual
       let p = and_parts _ _ h in
       let q = and_parts _ _ p.0 in
       let r = and_parts _ _ q.0 in
-      and_from _ _ (and_from _ _ (and_from _ _ (gap_wider n m key key' before _ k r.0) r.1) (gap_wider n m (one_line c) (one_line d) gap_after _ (key_line c d w) q.1)) (flow_wider f n m c d _ _ w p.1)
+      and_from _ _ (and_from _ _ (and_from _ _ (gap_wider n m key key' before _ k r.0) r.1)
+      (gap_wider n m (one_line c) (one_line d) gap_after _ (key_line c d w) q.1)) (flow_wider f n m c d _ _ w p.1)

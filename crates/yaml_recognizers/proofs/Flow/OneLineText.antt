@@ -1,13 +1,21 @@
 -- A flow node is on one line exactly where its text has no break.
 use Rattle.std.proofs.Common.{ap, arith, refl, sym, ◌∙◌, ◌≡◌}
-use Rattle.std.specs.Prelude.{Bool, List, None, Option, Some, [], codes, cond, false, flat_map, not, true, ℕ, ◌&&◌, ◌++◌, ◌==◌, ◌||◌, ◌∷◌, if◌then◌else◌, is_some}
+use Rattle.std.specs.Prelude.{Bool, List, None, Option, Some, [], codes, cond, false, flat_map, not, true, ℕ, ◌&&◌}
+use Rattle.std.specs.Prelude.{◌++◌, ◌==◌, ◌||◌, ◌∷◌, if◌then◌else◌, is_some}
 use Rattle.std.specs.List.{list_all}
 use Rattle.std.proofs.lemmas.Bool.{and_from, and_parts, cond_both, false≢true}
 use Rattle.std.proofs.lemmas.Bool.Decides.{nat_tests}
 use Rattle.yaml_chars.specs.Classes.{is_in, line_break, nb_json, ns, white}
-use Rattle.yaml_grammar.specs.FlowNodes.{Entries, Entry, Flow, Value, absent, asked_text, before_colon, empty, entries_text, entry, entry_text, flow_text, given, is_plain, last, map, next, none, scalar, seq, short_key, single_pair, value_text}
-use Rattle.yaml_grammar.specs.FlowScalars.{FlowContext, block_key, inner, outer, QuotedChar, Line, Scalar, double, quoted_char_fits, escape, flow_key, hex_digit, in_flow, quoted_char_text, line_text, lines_text, number, one_line, plain, plain_line, plain_next, plain_run, plain_text, raw, scalar_fits, scalar_text, single, single_text}
-use Rattle.yaml_grammar.specs.Separation.{Break, Sep, break_text, comment_line_fits, comment_text, comments_fit, comments_text, cr, cr_lf, gap_text, inline, lf, line_end_text, lines, stop_fits}
+use Rattle.yaml_grammar.specs.FlowNodes.{Entries, Entry, Flow, Value, absent, asked_text, before_colon, empty}
+use Rattle.yaml_grammar.specs.FlowNodes.{entries_text, entry, entry_text, flow_text, given, is_plain, last, map, next}
+use Rattle.yaml_grammar.specs.FlowNodes.{none, scalar, seq, short_key, single_pair, value_text}
+use Rattle.yaml_grammar.specs.FlowScalars.{FlowContext, block_key, inner, outer, QuotedChar, Line, Scalar, double}
+use Rattle.yaml_grammar.specs.FlowScalars.{quoted_char_fits, escape, flow_key, hex_digit, in_flow, quoted_char_text}
+use Rattle.yaml_grammar.specs.FlowScalars.{line_text, lines_text, number, one_line, plain, plain_line, plain_next}
+use Rattle.yaml_grammar.specs.FlowScalars.{plain_run, plain_text, raw, scalar_fits, scalar_text, single, single_text}
+use Rattle.yaml_grammar.specs.Separation.{Break, Sep, break_text, comment_line_fits, comment_text, comments_fit}
+use Rattle.yaml_grammar.specs.Separation.{comments_text, cr, cr_lf, gap_text, inline, lf, line_end_text, lines}
+use Rattle.yaml_grammar.specs.Separation.{stop_fits}
 use Rattle.yaml_grammar.specs.Texts.{is_empty, optional, starts_line}
 use Rattle.yaml_recognizers.specs.CanonicalComments.{canonical_gap, is_line_end}
 use Rattle.yaml_recognizers.proofs.Separation.LineEnds.{line_parts}
@@ -53,9 +61,11 @@ break_broken cr_lf = refl
 -- ---- scalars
 
 -- things that are spelled without a break have none, one after another
-all_unbroken : {A : Type 0} (spell : A → List ℕ) (p : A → Bool) (xs : List A) → ((x : A) → p x ≡ true → unbroken (spell x) ≡ true) → list_all p xs ≡ true → unbroken (flat_map spell xs) ≡ true
+all_unbroken : {A : Type 0} (spell : A → List ℕ) (p : A → Bool) (xs : List A)
+    → ((x : A) → p x ≡ true → unbroken (spell x) ≡ true) → list_all p xs ≡ true → unbroken (flat_map spell xs) ≡ true
 all_unbroken spell p [] f h = refl
-all_unbroken spell p (x ∷ xs) f h = let q = and_parts _ _ h in both_unbroken (spell x) (flat_map spell xs) (f x q.0) (all_unbroken spell p xs f q.1)
+all_unbroken spell p (x ∷ xs) f h = let q = and_parts _ _ h in
+    both_unbroken (spell x) (flat_map spell xs) (f x q.0) (all_unbroken spell p xs f q.1)
 
 -- a character that is no break has none
 one_unbroken : (x : ℕ) → line_break x ≡ false → unbroken (x ∷ []) ≡ true
@@ -63,7 +73,8 @@ one_unbroken x h = rw h refl
 
 -- a character between single quotes has no break
 single_unbroken : (x : ℕ) → nb_json x ≡ true → unbroken (single_text x) ≡ true
-single_unbroken x h = cond_both (x == 39) (codes "''") (x ∷ []) (λ (t : List ℕ). unbroken t ≡ true) (λ _. refl) (λ _. one_unbroken x (grind (arith, nat_tests)))
+single_unbroken x h = cond_both (x == 39) (codes "''") (x ∷ []) (λ (t : List ℕ). unbroken t ≡ true) (λ _. refl)
+    (λ _. one_unbroken x (grind (arith, nat_tests)))
 
 -- hexadecimal digits have no break
 digits_unbroken : (ds : List ℕ) → list_all hex_digit ds ≡ true → unbroken ds ≡ true
@@ -97,7 +108,8 @@ ns_unbroken : (x : ℕ) → ns x ≡ true → not (line_break x) ≡ true
 ns_unbroken x h = grind (arith, nat_tests)
 
 -- white and plain characters
-run_unbroken : (c : FlowContext) (prev : ℕ) (xs after : List ℕ) → plain_run c prev xs after ≡ true → unbroken (flat_map plain_text xs) ≡ true
+run_unbroken : (c : FlowContext) (prev : ℕ) (xs after : List ℕ) → plain_run c prev xs after ≡ true
+    → unbroken (flat_map plain_text xs) ≡ true
 run_unbroken c prev [] after h = refl
 run_unbroken c prev (x ∷ xs) after h =
     let q = and_parts _ _ h in and_from _ _ (one c prev x (xs ++ after) q.0) (run_unbroken c x xs after q.1)
@@ -111,16 +123,21 @@ run_unbroken c prev (x ∷ xs) after h =
 -- a further line has a break
 line_broken : {A : Type 0} (spell : A → List ℕ) (l : Line A) → unbroken (line_text spell l) ≡ false
 line_broken spell l =
-    left_broken (((l.blank ++ (if l.escaped then codes "\\" else []) ++ break_text l.stop) ++ flat_map (λ e. e.blank ++ break_text e.stop) l.empties) ++ l.lead) (flat_map spell l.held)
-    (left_broken ((l.blank ++ (if l.escaped then codes "\\" else []) ++ break_text l.stop) ++ flat_map (λ e. e.blank ++ break_text e.stop) l.empties) l.lead
-    (left_broken (l.blank ++ (if l.escaped then codes "\\" else []) ++ break_text l.stop) (flat_map (λ e. e.blank ++ break_text e.stop) l.empties)
+    left_broken (((l.blank ++ (if l.escaped then codes "\\" else []) ++ break_text l.stop)
+    ++ flat_map (λ e. e.blank ++ break_text e.stop) l.empties) ++ l.lead) (flat_map spell l.held)
+    (left_broken ((l.blank ++ (if l.escaped then codes "\\" else []) ++ break_text l.stop)
+    ++ flat_map (λ e. e.blank ++ break_text e.stop) l.empties) l.lead
+    (left_broken (l.blank ++ (if l.escaped then codes "\\" else []) ++ break_text l.stop)
+    (flat_map (λ e. e.blank ++ break_text e.stop) l.empties)
     (right_broken (l.blank ++ (if l.escaped then codes "\\" else [])) (break_text l.stop) (break_broken l.stop))))
 
 -- what the first line holds has no break: so there is one exactly where there is a further line
-lines_one_line : {A : Type 0} (spell : A → List ℕ) (prefix : List A) (more : List (Line A)) → unbroken (flat_map spell prefix) ≡ true → unbroken (lines_text spell prefix more) ≡ is_empty more
+lines_one_line : {A : Type 0} (spell : A → List ℕ) (prefix : List A) (more : List (Line A))
+    → unbroken (flat_map spell prefix) ≡ true → unbroken (lines_text spell prefix more) ≡ is_empty more
 lines_one_line spell prefix [] h = both_unbroken (flat_map spell prefix) [] h refl
 lines_one_line spell prefix (l ∷ ls) h =
-    right_broken (flat_map spell prefix) (line_text spell l ++ flat_map (line_text spell) ls) (left_broken (line_text spell l) (flat_map (line_text spell) ls) (line_broken spell l))
+    right_broken (flat_map spell prefix) (line_text spell l ++ flat_map (line_text spell) ls)
+    (left_broken (line_text spell l) (flat_map (line_text spell) ls) (line_broken spell l))
 
 -- quotes have no break
 between_quotes : (q : ℕ) (xs : List ℕ) → line_break q ≡ false → unbroken ((q ∷ []) ++ xs ++ (q ∷ [])) ≡ unbroken xs
@@ -138,7 +155,8 @@ plain_prefix c (x ∷ xs) after h =
     let q = and_parts _ _ h in and_from _ _ (ns_unbroken x (and_parts _ _ q.0).0) (run_unbroken c x xs after q.1)
 
 -- a scalar is on one line exactly if its text has no break
-pub scalar_one_line : (s : Scalar) (n : ℕ) (c : FlowContext) (bol : Bool) (after : List ℕ) → scalar_fits n c bol s after ≡ true → stands_on_one_line s ≡ unbroken (scalar_text s)
+pub scalar_one_line : (s : Scalar) (n : ℕ) (c : FlowContext) (bol : Bool) (after : List ℕ)
+    → scalar_fits n c bol s after ≡ true → stands_on_one_line s ≡ unbroken (scalar_text s)
 scalar_one_line (plain prefix more) n c bol after h =
     let p = and_parts _ _ h in
     let q = and_parts _ _ p.0 in
@@ -147,11 +165,13 @@ scalar_one_line (plain prefix more) n c bol after h =
 scalar_one_line (single prefix more) n c bol after h =
     let p = and_parts _ _ h in
     let q = and_parts _ _ p.0 in
-    sym (between_quotes 39 (lines_text single_text prefix more) refl ∙ lines_one_line single_text prefix more (all_unbroken single_text nb_json prefix single_unbroken q.0))
+    sym (between_quotes 39 (lines_text single_text prefix more) refl
+    ∙ lines_one_line single_text prefix more (all_unbroken single_text nb_json prefix single_unbroken q.0))
 scalar_one_line (double prefix more) n c bol after h =
     let p = and_parts _ _ h in
     let q = and_parts _ _ p.0 in
-    sym (between_quotes 34 (lines_text quoted_char_text prefix more) refl ∙ lines_one_line quoted_char_text prefix more (all_unbroken quoted_char_text quoted_char_fits prefix item_unbroken q.0))
+    sym (between_quotes 34 (lines_text quoted_char_text prefix more) refl
+    ∙ lines_one_line quoted_char_text prefix more (all_unbroken quoted_char_text quoted_char_fits prefix item_unbroken q.0))
 
 -- ---- gaps
 
@@ -169,12 +189,14 @@ white_unbroken (x ∷ xs) h = let q = and_parts _ _ h in and_from _ _ (one x q.0
     one x h = grind (arith, nat_tests)
 
 -- a line's end that isn't at the end of the text has a break
-stop_broken : (stop : Option Break) (after : List ℕ) → stop_fits stop after ≡ true → is_empty after ≡ false → unbroken (optional break_text stop) ≡ false
+stop_broken : (stop : Option Break) (after : List ℕ) → stop_fits stop after ≡ true → is_empty after ≡ false
+    → unbroken (optional break_text stop) ≡ false
 stop_broken None after h k = absurd (false≢true (sym k ∙ h))
 stop_broken (Some b) after h k = break_broken b
 
 -- so is a gap
-pub gap_one_line : (n : ℕ) (key : Bool) (gap : Option Sep) (after : List ℕ) → canonical_gap n key gap after ≡ true → is_empty after ≡ false → gap_on_one_line gap ≡ unbroken (gap_text gap)
+pub gap_one_line : (n : ℕ) (key : Bool) (gap : Option Sep) (after : List ℕ) → canonical_gap n key gap after ≡ true
+    → is_empty after ≡ false → gap_on_one_line gap ≡ unbroken (gap_text gap)
 gap_one_line n key None after h k = refl
 gap_one_line n key (Some (inline blank)) after h k = sym (white_unbroken blank (and_parts _ _ h).0)
 gap_one_line n key (Some (lines [] lead)) after h k =
@@ -191,14 +213,18 @@ gap_one_line n key (Some (lines (e ∷ es) lead)) after h k =
     stop_broken e.stop (comments_text es ++ (lead ++ after)) (line_parts false e (comments_text es ++ (lead ++ after)) here).stop_fit
     (nonempty_after (comments_text es) (lead ++ after) (nonempty_after lead after k)) in
     sym (left_broken (comments_text (e ∷ es)) lead
-    (left_broken (line_end_text e) (comments_text es) (right_broken (e.blank ++ optional comment_text e.comment) (optional break_text e.stop) stop)))
+    (left_broken (line_end_text e) (comments_text es)
+    (right_broken (e.blank ++ optional comment_text e.comment) (optional break_text e.stop) stop)))
 
 -- ---- nodes
 
 -- brackets have no break
-bracketed : (a b : ℕ) (g es : List ℕ) → line_break a ≡ false → line_break b ≡ false → unbroken ((a ∷ []) ++ g ++ es ++ (b ∷ [])) ≡ unbroken g && unbroken es
+bracketed : (a b : ℕ) (g es : List ℕ) → line_break a ≡ false → line_break b ≡ false
+    → unbroken ((a ∷ []) ++ g ++ es ++ (b ∷ [])) ≡ unbroken g && unbroken es
 bracketed a b g es h k =
-    unbroken_joined ((a ∷ []) ++ g ++ es) (b ∷ []) ∙ (ap (λ t. t && unbroken (b ∷ [])) (unbroken_joined ((a ∷ []) ++ g) es) ∙ rw (h, k) (and_true (unbroken g && unbroken es)))
+    unbroken_joined ((a ∷ []) ++ g ++ es) (b ∷ [])
+    ∙ (ap (λ t. t && unbroken (b ∷ [])) (unbroken_joined ((a ∷ []) ++ g) es)
+    ∙ rw (h, k) (and_true (unbroken g && unbroken es)))
   where
     and_true : (b : Bool) → b && true ≡ b
     and_true true = refl
@@ -233,24 +259,37 @@ and_true false = refl
 
 mutual
   -- so is a flow node
-  pub flow_one_line : (f : Flow) (n : ℕ) (c : FlowContext) (bol : Bool) (after : List ℕ) → canonical_flow f n c bol after ≡ true → on_one_line f ≡ unbroken (flow_text f)
+  pub flow_one_line : (f : Flow) (n : ℕ) (c : FlowContext) (bol : Bool) (after : List ℕ)
+      → canonical_flow f n c bol after ≡ true → on_one_line f ≡ unbroken (flow_text f)
   flow_one_line (scalar s) n c bol after h = scalar_one_line s n c bol after h
   flow_one_line (seq gap es) n c bol after h =
       let p = and_parts _ _ h in
-      rw (gap_one_line n (one_line c) gap (entries_text es ++ (93 ∷ after)) p.0 (nonempty_after (entries_text es) (93 ∷ after) refl), entries_one_line es n (in_flow c) true _ (93 ∷ after) p.1 refl)
+      rw (
+        gap_one_line n (one_line c) gap (entries_text es ++ (93 ∷ after)) p.0
+            (nonempty_after (entries_text es) (93 ∷ after) refl),
+        entries_one_line es n (in_flow c) true _ (93 ∷ after) p.1 refl,
+      )
       (sym (bracketed 91 93 (gap_text gap) (entries_text es) refl refl))
   flow_one_line (map gap es) n c bol after h =
       let p = and_parts _ _ h in
-      rw (gap_one_line n (one_line c) gap (entries_text es ++ (125 ∷ after)) p.0 (nonempty_after (entries_text es) (125 ∷ after) refl), entries_one_line es n (in_flow c) false _ (125 ∷ after) p.1 refl)
+      rw (
+        gap_one_line n (one_line c) gap (entries_text es ++ (125 ∷ after)) p.0
+            (nonempty_after (entries_text es) (125 ∷ after) refl),
+        entries_one_line es n (in_flow c) false _ (125 ∷ after) p.1 refl,
+      )
       (sym (bracketed 123 125 (gap_text gap) (entries_text es) refl refl))
 
   -- entries are on one line just where their text has no break
-  entries_one_line : (es : Entries) (n : ℕ) (d : FlowContext) (in_seq bol : Bool) (after : List ℕ) → canonical_entries es n d in_seq bol after ≡ true → is_empty after ≡ false
+  entries_one_line : (es : Entries) (n : ℕ) (d : FlowContext) (in_seq bol : Bool) (after : List ℕ)
+      → canonical_entries es n d in_seq bol after ≡ true → is_empty after ≡ false
       → entries_on_one_line es ≡ unbroken (entries_text es)
   entries_one_line none n d in_seq bol after h k = refl
   entries_one_line (last e gap) n d in_seq bol after h k =
       let p = and_parts _ _ h in
-      rw (entry_one_line e n d in_seq bol (gap_text gap ++ after) p.0 (nonempty_after (gap_text gap) after k), gap_one_line n (one_line d) gap after p.1 k)
+      rw (
+        entry_one_line e n d in_seq bol (gap_text gap ++ after) p.0 (nonempty_after (gap_text gap) after k),
+        gap_one_line n (one_line d) gap after p.1 k,
+      )
       (sym (unbroken_joined (entry_text e) (gap_text gap)))
   entries_one_line (next e before gap_after es) n d in_seq bol after h k =
       let p = and_parts _ _ h in
@@ -258,17 +297,20 @@ mutual
       let r = and_parts _ _ q.0 in
       let more : is_empty (entries_text es ++ after) ≡ false = nonempty_after (entries_text es) after k in
       rw (
-        entry_one_line e n d in_seq bol (gap_text before ++ (44 ∷ (gap_text gap_after ++ (entries_text es ++ after)))) r.0 (nonempty_after (gap_text before) (44 ∷ (gap_text gap_after ++ (entries_text es ++ after))) refl),
+        entry_one_line e n d in_seq bol (gap_text before ++ (44 ∷ (gap_text gap_after ++ (entries_text es ++ after))))
+            r.0 (nonempty_after (gap_text before) (44 ∷ (gap_text gap_after ++ (entries_text es ++ after))) refl),
         gap_one_line n (one_line d) before (44 ∷ (gap_text gap_after ++ (entries_text es ++ after))) r.1 refl,
         gap_one_line n (one_line d) gap_after (entries_text es ++ after) q.1 more,
         entries_one_line es n d in_seq _ after p.1 k,
       )
       (sym (three ((entry_text e ++ gap_text before) ++ (44 ∷ [])) (gap_text gap_after) (entries_text es)
       ∙ ap (λ t. (t && unbroken (gap_text gap_after)) && unbroken (entries_text es))
-      (unbroken_joined (entry_text e ++ gap_text before) (44 ∷ []) ∙ (and_true (unbroken (entry_text e ++ gap_text before)) ∙ unbroken_joined (entry_text e) (gap_text before)))))
+      (unbroken_joined (entry_text e ++ gap_text before) (44 ∷ [])
+      ∙ (and_true (unbroken (entry_text e ++ gap_text before)) ∙ unbroken_joined (entry_text e) (gap_text before)))))
 
   -- and so is an entry
-  entry_one_line : (e : Entry) (n : ℕ) (d : FlowContext) (in_seq bol : Bool) (after : List ℕ) → canonical_entry e n d in_seq bol after ≡ true → is_empty after ≡ false
+  entry_one_line : (e : Entry) (n : ℕ) (d : FlowContext) (in_seq bol : Bool) (after : List ℕ)
+      → canonical_entry e n d in_seq bol after ≡ true → is_empty after ≡ false
       → entry_on_one_line e ≡ unbroken (entry_text e)
   entry_one_line (entry ask key value) n d in_seq bol after h k =
       let p = and_parts _ _ h in
@@ -276,22 +318,29 @@ mutual
       let more : is_empty (value_text value ++ after) ≡ false = nonempty_after (value_text value) after k in
       let line : on_one_line key ≡ unbroken (flow_text key) =
       of_either (on_one_line key ≡ unbroken (flow_text key)) (single_pair in_seq ask value)
-      (canonical_flow key 0 flow_key bol (value_text value ++ after)) (short_key key (before_colon value)) (canonical_flow key n d (if is_some ask then starts_line false (gap_text ask) else bol) (value_text value ++ after)) q.1
-      (λ f. flow_one_line key 0 flow_key bol (value_text value ++ after) f) (λ f. flow_one_line key n d (if is_some ask then starts_line false (gap_text ask) else bol) (value_text value ++ after) f) in
+      (canonical_flow key 0 flow_key bol (value_text value ++ after)) (short_key key (before_colon value))
+      (canonical_flow key n d (if is_some ask then starts_line false (gap_text ask) else bol) (value_text value ++ after)) q.1
+      (λ f. flow_one_line key 0 flow_key bol (value_text value ++ after) f)
+      (λ f. flow_one_line key n d (if is_some ask then starts_line false (gap_text ask) else bol)
+      (value_text value ++ after) f) in
       rw (
-        gap_one_line n (one_line d) ask (flow_text key ++ (value_text value ++ after)) q.0 (nonempty_after (flow_text key) (value_text value ++ after) more),
+        gap_one_line n (one_line d) ask (flow_text key ++ (value_text value ++ after)) q.0
+            (nonempty_after (flow_text key) (value_text value ++ after) more),
         line,
         value_one_line value n d (one_line d || single_pair in_seq ask value) (is_plain key) after p.1 k,
       )
-      (sym (three (asked_text ask) (flow_text key) (value_text value) ∙ ap (λ t. (t && unbroken (flow_text key)) && unbroken (value_text value)) (asked_same ask)))
+      (sym (three (asked_text ask) (flow_text key) (value_text value)
+      ∙ ap (λ t. (t && unbroken (flow_text key)) && unbroken (value_text value)) (asked_same ask)))
 
   -- and a value
-  value_one_line : (v : Value) (n : ℕ) (d : FlowContext) (key after_plain : Bool) (after : List ℕ) → canonical_value v n d key after_plain after ≡ true → is_empty after ≡ false
+  value_one_line : (v : Value) (n : ℕ) (d : FlowContext) (key after_plain : Bool) (after : List ℕ)
+      → canonical_value v n d key after_plain after ≡ true → is_empty after ≡ false
       → value_on_one_line v ≡ unbroken (value_text v)
   value_one_line absent n d key after_plain after h k = refl
   value_one_line (empty gap) n d key after_plain after h k =
       let p = and_parts _ _ h in
-      rw (gap_one_line n key gap (58 ∷ after) p.0 refl) (sym (unbroken_joined (gap_text gap) (58 ∷ []) ∙ and_true (unbroken (gap_text gap))))
+      rw (gap_one_line n key gap (58 ∷ after) p.0 refl)
+      (sym (unbroken_joined (gap_text gap) (58 ∷ []) ∙ and_true (unbroken (gap_text gap))))
   value_one_line (given before gap_after f) n d key after_plain after h k =
       let p = and_parts _ _ h in
       let q = and_parts _ _ p.0 in
@@ -302,4 +351,5 @@ mutual
         flow_one_line f n d _ after p.1,
       )
       (sym (three ((gap_text before) ++ (58 ∷ [])) (gap_text gap_after) (flow_text f)
-      ∙ ap (λ t. (t && unbroken (gap_text gap_after)) && unbroken (flow_text f)) (unbroken_joined (gap_text before) (58 ∷ []) ∙ and_true (unbroken (gap_text before)))))
+      ∙ ap (λ t. (t && unbroken (gap_text gap_after)) && unbroken (flow_text f))
+      (unbroken_joined (gap_text before) (58 ∷ []) ∙ and_true (unbroken (gap_text before)))))

@@ -26,13 +26,15 @@ gap_before (empty gap) = gap
 gap_before (given before after f) = before
 
 -- a gap that fits between brackets fits in a key exactly where it is on one line
-gap_in_key : (n : ℕ) (key : Bool) (gap : Option Sep) (after : List ℕ) → canonical_gap n key gap after ≡ true → canonical_gap n true gap after ≡ gap_on_one_line gap
+gap_in_key : (n : ℕ) (key : Bool) (gap : Option Sep) (after : List ℕ) → canonical_gap n key gap after ≡ true
+    → canonical_gap n true gap after ≡ gap_on_one_line gap
 gap_in_key n key None after h = refl
 gap_in_key n key (Some (inline blank)) after h = h
 gap_in_key n key (Some (lines comments lead)) after h = refl
 
 -- a canonical value is so in a key just where the gap before its `:` is on one line
-value_in_key : (v : Value) (n : ℕ) (d : FlowContext) (key after_plain : Bool) (after : List ℕ) → canonical_value v n d key after_plain after ≡ true
+value_in_key : (v : Value) (n : ℕ) (d : FlowContext) (key after_plain : Bool) (after : List ℕ)
+    → canonical_value v n d key after_plain after ≡ true
     → canonical_value v n d true after_plain after ≡ gap_on_one_line (gap_before v)
 value_in_key absent n d key after_plain after h = refl
 value_in_key (empty gap) n d key after_plain after h =
@@ -53,11 +55,13 @@ value_in_key (given before gap_after f) n d key after_plain after h =
     and_all false = refl
 
 -- what the recognizer asks of an entry's key, once the value is read, is what the `:` shows
-pub single_pair_asks : (n : ℕ) (d : FlowContext) (bol : Bool) (key : Flow) (v : Value) (rest : List ℕ) → widens flow_key d ≡ true → has_colon v ≡ true
+pub single_pair_asks : (n : ℕ) (d : FlowContext) (bol : Bool) (key : Flow) (v : Value) (rest : List ℕ)
+    → widens flow_key d ≡ true → has_colon v ≡ true
     → canonical_flow key n d bol (value_text v ++ rest) ≡ true → canonical_value v n d (one_line d) (is_plain key) rest ≡ true
     → key_is_short n d true bol None key v rest ≡ (on_one_line key && short_key key (before_colon v)) && gap_on_one_line (gap_before v)
 single_pair_asks n d bol key v rest w c h k =
     let line : canonical_flow key 0 flow_key bol (value_text v ++ rest) ≡ on_one_line key =
     same_test (canonical_flow key 0 flow_key bol (value_text v ++ rest)) (on_one_line key)
-    (λ e. flow_key_line key 0 flow_key d bol (value_text v ++ rest) w e) (λ o. flow_narrower key n 0 d flow_key bol (value_text v ++ rest) w o h) in
+    (λ e. flow_key_line key 0 flow_key d bol (value_text v ++ rest) w e)
+    (λ o. flow_narrower key n 0 d flow_key bol (value_text v ++ rest) w o h) in
     rw (c, line, value_in_key v n d (one_line d) (is_plain key) rest k) refl

@@ -24,8 +24,20 @@ abbrev pub blank : ℕ → Bool
 blank x = white x || line_break x
 
 -- no sign is there
-no_sign : (x : ℕ) → blank x ≡ true → (x == 91 ≡ false) × (x == 123 ≡ false) × (x == 93 ≡ false) × (x == 125 ≡ false) × (x == 44 ≡ false) × (x == 58 ≡ false) × (x == 39 ≡ false) × (x == 34 ≡ false) × (x == 63 ≡ false) × (ns x ≡ false)
-no_sign x h = (grind (arith, nat_tests), grind (arith, nat_tests), grind (arith, nat_tests), grind (arith, nat_tests), grind (arith, nat_tests), grind (arith, nat_tests), grind (arith, nat_tests), grind (arith, nat_tests), grind (arith, nat_tests), grind (arith, nat_tests))
+no_sign : (x : ℕ) → blank x ≡ true → (x == 91 ≡ false) × (x == 123 ≡ false) × (x == 93 ≡ false) × (x == 125 ≡ false)
+    × (x == 44 ≡ false) × (x == 58 ≡ false) × (x == 39 ≡ false) × (x == 34 ≡ false) × (x == 63 ≡ false) × (ns x ≡ false)
+no_sign x h = (
+  grind (arith, nat_tests),
+  grind (arith, nat_tests),
+  grind (arith, nat_tests),
+  grind (arith, nat_tests),
+  grind (arith, nat_tests),
+  grind (arith, nat_tests),
+  grind (arith, nat_tests),
+  grind (arith, nat_tests),
+  grind (arith, nat_tests),
+  grind (arith, nat_tests),
+)
 
 -- such a character is no `:`
 pub no_colon : (d : FlowContext) (after_plain : Bool) (x : ℕ) (xs : List ℕ) → blank x ≡ true → is_colon d after_plain (x ∷ xs) ≡ false
@@ -52,9 +64,11 @@ no_node n c bol x xs h =
     is_scalar n c bol (x ∷ xs) s.0 s.1 ∙ ap (λ r. on r (λ f rest. Some (scalar f, rest))) (no_scalar n c bol x xs h)
 
 -- after a node: no value
-pub no_value_after : (n : ℕ) (d : FlowContext) (after_plain : Bool) (x : ℕ) (xs : List ℕ) → blank x ≡ true → read_gap n (one_line d) (x ∷ xs) ≡ (None, x ∷ xs)
+pub no_value_after : (n : ℕ) (d : FlowContext) (after_plain : Bool) (x : ℕ) (xs : List ℕ) → blank x ≡ true
+    → read_gap n (one_line d) (x ∷ xs) ≡ (None, x ∷ xs)
     → flow_value_at n d after_plain (x ∷ xs) ≡ Some (absent, x ∷ xs)
-no_value_after n d after_plain x xs h g = value_step read_scalar reads_scalars n d after_plain (x ∷ xs) ∙ rw (g, no_colon d after_plain x xs h) refl
+no_value_after n d after_plain x xs h g = value_step read_scalar reads_scalars n d after_plain (x ∷ xs)
+    ∙ rw (g, no_colon d after_plain x xs h) refl
 
 -- after an entry: no comma and no bracket
 not_closed : (in_seq : Bool) (f : Flow) (x : ℕ) (xs : List ℕ) → blank x ≡ true → read_closing (closer in_seq) f (x ∷ xs) ≡ None
@@ -62,8 +76,11 @@ not_closed true f x xs h = rw ((no_sign x h).2) refl
 not_closed false f x xs h = rw ((no_sign x h).3) refl
 
 -- no entries go on with it
-pub no_entries_after : (n : ℕ) (d : FlowContext) (b : Bracket) (e : Entry) (x : ℕ) (xs : List ℕ) → blank x ≡ true → read_gap n (one_line d) (x ∷ xs) ≡ (None, x ∷ xs)
+pub no_entries_after : (n : ℕ) (d : FlowContext) (b : Bracket) (e : Entry) (x : ℕ) (xs : List ℕ) → blank x ≡ true
+    → read_gap n (one_line d) (x ∷ xs) ≡ (None, x ∷ xs)
     → close_with b (entries_of n d b.in_seq e (x ∷ xs)) ≡ None
 no_entries_after n d b e x xs h g =
     last_entry n d b e (x ∷ xs) (ap (λ (r : GapRead). first (λ y. y == 44) r.1) g ∙ (no_sign x h).4)
-    ∙ (ap (λ (r : GapRead). read_closing (closer b.in_seq) (collection_of b.in_seq b.gap (entries_onto b.done (last e r.0))) r.1) g ∙ not_closed b.in_seq (collection_of b.in_seq b.gap (entries_onto b.done (last e None))) x xs h)
+    ∙ (ap (λ (r : GapRead). read_closing (closer b.in_seq)
+    (collection_of b.in_seq b.gap (entries_onto b.done (last e r.0))) r.1) g
+    ∙ not_closed b.in_seq (collection_of b.in_seq b.gap (entries_onto b.done (last e None))) x xs h)

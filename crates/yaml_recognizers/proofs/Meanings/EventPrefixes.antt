@@ -1,7 +1,9 @@
 -- The events of what is read of a collection are a prefix of the collection's events.
 use Rattle.std.proofs.Common.{ap, append_assoc, refl, sym, ◌∙◌, ◌≡◌}
 use Rattle.std.specs.Prelude.{Bool, List, [], ℕ, ◌++◌, ◌+◌, ◌∷◌}
-use Rattle.yaml_grammar.specs.BlockNodes.{Indented, Items, Pair, Pairs, indented_end, indented_events, indented_text, item, items_end, items_events, pair, pair_end, pair_events, pair_text, pairs_end, pairs_events}
+use Rattle.yaml_grammar.specs.BlockNodes.{Indented, Items, Pair, Pairs, indented_end, indented_events, indented_text}
+use Rattle.yaml_grammar.specs.BlockNodes.{item, items_end, items_events, pair, pair_end, pair_events, pair_text}
+use Rattle.yaml_grammar.specs.BlockNodes.{pairs_end, pairs_events}
 use Rattle.yaml_grammar.specs.Events.{Event}
 use Rattle.yaml_grammar.specs.FlowNodes.{Entries, entries_events, entry_events, entry_text}
 use Rattle.yaml_grammar.specs.Separation.{gap_text}
@@ -31,7 +33,8 @@ pub entries_prefix : (done : List DoneEntry) (es : Entries) (in_seq : Bool) (at 
 entries_prefix [] es in_seq at = refl
 entries_prefix (x ∷ xs) es in_seq at =
     ap (λ r. entry_events x.entry in_seq at ++ r) (entries_prefix xs es in_seq (done_place x at))
-    ∙ sym (append_assoc (entry_events x.entry in_seq at) (done_events xs in_seq (done_place x at)) (entries_events es in_seq (done_end xs (done_place x at))))
+    ∙ sym (append_assoc (entry_events x.entry in_seq at) (done_events xs in_seq (done_place x at))
+    (entries_events es in_seq (done_end xs (done_place x at))))
 
 -- ---- sequences and mappings
 
@@ -55,10 +58,12 @@ pub items_prefix : (k : ℕ) (done : List Indented) (is : Items) (at : ℕ)
 items_prefix k [] is at = refl
 items_prefix k (i ∷ done) is at =
     ap (λ r. indented_events i k (at + 1) ++ r) (items_prefix k done is (item_place k i at))
-    ∙ sym (append_assoc (indented_events i k (at + 1)) (done_items_events k done (item_place k i at)) (items_events is k (done_items_end k done (item_place k i at))))
+    ∙ sym (append_assoc (indented_events i k (at + 1)) (done_items_events k done (item_place k i at))
+    (items_events is k (done_items_end k done (item_place k i at))))
 
 -- where the sequence ends is where its last item does
-pub items_end_last : (k : ℕ) (done : List Indented) (i : Indented) (at : ℕ) → items_end (joined_items done (item i)) k at ≡ indented_end i k (done_items_end k done at + 1)
+pub items_end_last : (k : ℕ) (done : List Indented) (i : Indented) (at : ℕ)
+    → items_end (joined_items done (item i)) k at ≡ indented_end i k (done_items_end k done at + 1)
 items_end_last k [] i at = refl
 items_end_last k (d ∷ done) i at = items_end_last k done i (item_place k d at)
 
@@ -82,9 +87,11 @@ pub pairs_prefix : (k : ℕ) (done : List Pair) (ps : Pairs) (at : ℕ)
 pairs_prefix k [] ps at = refl
 pairs_prefix k (p ∷ done) ps at =
     ap (λ r. pair_events p k at ++ r) (pairs_prefix k done ps (pair_place k p at))
-    ∙ sym (append_assoc (pair_events p k at) (done_pairs_events k done (pair_place k p at)) (pairs_events ps k (done_pairs_end k done (pair_place k p at))))
+    ∙ sym (append_assoc (pair_events p k at) (done_pairs_events k done (pair_place k p at))
+    (pairs_events ps k (done_pairs_end k done (pair_place k p at))))
 
 -- the end of pairs is the end of the last one
-pub pairs_end_last : (k : ℕ) (done : List Pair) (p : Pair) (at : ℕ) → pairs_end (joined_pairs done (pair p)) k at ≡ pair_end p k (done_pairs_end k done at)
+pub pairs_end_last : (k : ℕ) (done : List Pair) (p : Pair) (at : ℕ)
+    → pairs_end (joined_pairs done (pair p)) k at ≡ pair_end p k (done_pairs_end k done at)
 pairs_end_last k [] p at = refl
 pairs_end_last k (d ∷ done) p at = pairs_end_last k done p (pair_place k d at)

@@ -1,12 +1,25 @@
 -- The ranges of scalars are in order, in each part of a presentation.
 use Rattle.std.proofs.Common.{arith, refl, ◌≡◌, ◌≤◌}
-use Rattle.std.specs.Prelude.{Bool, List, None, Option, Some, [], codes, false, flat_map, if◌then◌else◌, not, suc, true, zero, ℕ, ◌++◌, ◌+◌, ◌∷◌}
-use Rattle.yaml_grammar.specs.BlockNodes.{Indented, Items, Node, Pair, Pairs, asked, asked_alone, block, compact_items, compact_pairs, flow, indented_end, indented_events, indented_text, item, item_and, items, items_end, items_events, items_text, keyed, keyed_alone, node, node_end, node_events, node_text, omitted, pair, pair_and, pair_end, pair_events, pair_text, pairs, pairs_end, pairs_events, pairs_text}
+use Rattle.std.specs.Prelude.{Bool, List, None, Option, Some, [], codes, false, flat_map, if◌then◌else◌, not, suc}
+use Rattle.std.specs.Prelude.{true, zero, ℕ, ◌++◌, ◌+◌, ◌∷◌}
+use Rattle.yaml_grammar.specs.BlockNodes.{Indented, Items, Node, Pair, Pairs, asked, asked_alone, block}
+use Rattle.yaml_grammar.specs.BlockNodes.{compact_items, compact_pairs, flow, indented_end, indented_events}
+use Rattle.yaml_grammar.specs.BlockNodes.{indented_text, item, item_and, items, items_end, items_events, items_text}
+use Rattle.yaml_grammar.specs.BlockNodes.{keyed, keyed_alone, node, node_end, node_events, node_text, omitted, pair}
+use Rattle.yaml_grammar.specs.BlockNodes.{pair_and, pair_end, pair_events, pair_text, pairs, pairs_end, pairs_events}
+use Rattle.yaml_grammar.specs.BlockNodes.{pairs_text}
 use Rattle.yaml_grammar.specs.BlockScalars.{bare_block_text, block_text}
-use Rattle.yaml_grammar.specs.Events.{Event, as_document, as_map, as_seq, document_end, document_start, map_end, map_start, omitted_at, scalar_event, seq_end, seq_start}
-use Rattle.yaml_grammar.specs.FlowNodes.{Entries, Entry, Flow, Value, absent, asked_text, empty, entries_events, entries_text, entry, entry_events, entry_text, flow_events, flow_text, given, is_pair, last, map, next, none, scalar, seq, value_events, value_text}
+use Rattle.yaml_grammar.specs.Events.{Event, as_document, as_map, as_seq, document_end, document_start, map_end}
+use Rattle.yaml_grammar.specs.Events.{map_start, omitted_at, scalar_event, seq_end, seq_start}
+use Rattle.yaml_grammar.specs.FlowNodes.{Entries, Entry, Flow, Value, absent, asked_text, empty, entries_events}
+use Rattle.yaml_grammar.specs.FlowNodes.{entries_text, entry, entry_events, entry_text, flow_events, flow_text, given}
+use Rattle.yaml_grammar.specs.FlowNodes.{is_pair, last, map, next, none, scalar, seq, value_events, value_text}
 use Rattle.yaml_grammar.specs.Separation.{comments_text, gap_text, sep_text}
-use Rattle.yaml_grammar.specs.Streams.{Document, Explicit, Part, Stream, bare, content, directed, directive_text, document_events, document_text, explicit, explicit_events, explicit_text, further, line, mark_text, stream_events, nothing, optional_document_events, part_events, part_text, parts_events, parts_text, stream_text, suffix_text, suffixes}
+use Rattle.yaml_grammar.specs.Streams.{Document, Explicit, Part, Stream, bare, content, directed, directive_text}
+use Rattle.yaml_grammar.specs.Streams.{document_events, document_text, explicit, explicit_events, explicit_text}
+use Rattle.yaml_grammar.specs.Streams.{further, line, mark_text, stream_events, nothing, optional_document_events}
+use Rattle.yaml_grammar.specs.Streams.{part_events, part_text, parts_events, parts_text, stream_text, suffix_text}
+use Rattle.yaml_grammar.specs.Streams.{suffixes}
 use Rattle.yaml_grammar.specs.Texts.{byte_len, optional, spaces}
 use Rattle.yaml_recognizers.specs.Ranges.{RangesInOrder}
 use Rattle.yaml_recognizers.proofs.Basics.LineStarts.{byte_len_joined}
@@ -25,7 +38,8 @@ ranges_from low from (map_end ∷ es) to l h = ranges_from low from es to l h
 ranges_from low from (scalar_event style start end value ∷ es) to l h = (omega (arith, h.0), h.1, h.2)
 
 -- ranges in order, and then more of them
-pub ranges_joined : (from : ℕ) (es : List Event) (middle : ℕ) (more : List Event) (to : ℕ) → RangesInOrder from es middle → RangesInOrder middle more to → RangesInOrder from (es ++ more) to
+pub ranges_joined : (from : ℕ) (es : List Event) (middle : ℕ) (more : List Event) (to : ℕ)
+    → RangesInOrder from es middle → RangesInOrder middle more to → RangesInOrder from (es ++ more) to
 ranges_joined from [] middle more to h m = ranges_from from middle more to h m
 ranges_joined from (document_start ∷ es) middle more to h m = ranges_joined from es middle more to h m
 ranges_joined from (document_end ∷ es) middle more to h m = ranges_joined from es middle more to h m
@@ -67,7 +81,8 @@ abbrev Within : ℕ → List Event → List ℕ → Type 0
 Within at es text = RangesInOrder at es (at + byte_len text)
 
 -- ranges within a text are in order between wider places
-within : (low at : ℕ) (es : List Event) (text : List ℕ) (high : ℕ) → low ≤ at → at + byte_len text ≤ high → Within at es text → RangesInOrder low es high
+within : (low at : ℕ) (es : List Event) (text : List ℕ) (high : ℕ) → low ≤ at → at + byte_len text ≤ high
+    → Within at es text → RangesInOrder low es high
 within low at es text high l u h = wider low at es (at + byte_len text) high l u h
 
 -- n spaces have n bytes
@@ -105,14 +120,16 @@ mutual
       let place : ℕ = at + 1 + byte_len (gap_text gap) in
       let high : ℕ = at + byte_len (flow_text (seq gap es)) in
       let inner : RangesInOrder at (entries_events es true place) high =
-      within at place (entries_events es true place) (entries_text es) high (omega arith) (omega (arith, l)) (entries_ranges es true place) in
+      within at place (entries_events es true place) (entries_text es) high (omega arith) (omega (arith, l))
+      (entries_ranges es true place) in
       seq_ranges at (entries_events es true place) high inner
   flow_ranges (map gap es) at =
       let l = len4 (codes "{") (gap_text gap) (entries_text es) (codes "}") in
       let place : ℕ = at + 1 + byte_len (gap_text gap) in
       let high : ℕ = at + byte_len (flow_text (map gap es)) in
       let inner : RangesInOrder at (entries_events es false place) high =
-      within at place (entries_events es false place) (entries_text es) high (omega arith) (omega (arith, l)) (entries_ranges es false place) in
+      within at place (entries_events es false place) (entries_text es) high (omega arith) (omega (arith, l))
+      (entries_ranges es false place) in
       map_ranges at (entries_events es false place) high inner
 
   -- the ranges of entries are within their text
@@ -128,7 +145,8 @@ mutual
       let place : ℕ = middle + byte_len (gap_text before) + 1 + byte_len (gap_text after) in
       let high : ℕ = at + byte_len (entries_text (next e before after es)) in
       let more : RangesInOrder middle (entries_events es in_seq place) high =
-      within middle place (entries_events es in_seq place) (entries_text es) high (omega arith) (omega (arith, l)) (entries_ranges es in_seq place) in
+      within middle place (entries_events es in_seq place) (entries_text es) high (omega arith) (omega (arith, l))
+      (entries_ranges es in_seq place) in
       ranges_joined at (entry_events e in_seq at) middle (entries_events es in_seq place) high (entry_ranges e in_seq at) more
 
   -- so are those of an entry
@@ -138,7 +156,8 @@ mutual
       let place : ℕ = at + byte_len (asked_text ask) in
       let after : ℕ = place + byte_len (flow_text key) in
       let high : ℕ = at + byte_len (entry_text (entry ask key value)) in
-      let k : RangesInOrder at (flow_events key place) after = ranges_from at place (flow_events key place) after (omega arith) (flow_ranges key place) in
+      let k : RangesInOrder at (flow_events key place) after =
+      ranges_from at place (flow_events key place) after (omega arith) (flow_ranges key place) in
       let v : RangesInOrder after (value_events value after) high =
       ranges_to after (value_events value after) (after + byte_len (value_text value)) high (omega (arith, l)) (value_ranges value after) in
       let both : RangesInOrder at (flow_events key place ++ value_events value after) high =
@@ -186,7 +205,8 @@ mutual
       let place : ℕ = at + byte_len (comments_text comments) + k in
       let r = items_ranged is k place in
       record {
-        ranges = seq_ranges at (items_events is k place) (items_end is k place) (ranges_from at place (items_events is k place) (items_end is k place) (omega arith) r.ranges);
+        ranges = seq_ranges at (items_events is k place) (items_end is k place)
+            (ranges_from at place (items_events is k place) (items_end is k place) (omega arith) r.ranges);
         inside = omega (arith, l, s, r.inside);
         onward = omega (arith, r.onward);
       }
@@ -196,7 +216,8 @@ mutual
       let place : ℕ = at + byte_len (comments_text comments) + k in
       let r = pairs_ranged ps k place in
       record {
-        ranges = map_ranges at (pairs_events ps k place) (pairs_end ps k place) (ranges_from at place (pairs_events ps k place) (pairs_end ps k place) (omega arith) r.ranges);
+        ranges = map_ranges at (pairs_events ps k place) (pairs_end ps k place)
+            (ranges_from at place (pairs_events ps k place) (pairs_end ps k place) (omega arith) r.ranges);
         inside = omega (arith, l, s, r.inside);
         onward = omega (arith, r.onward);
       }
@@ -218,9 +239,11 @@ mutual
       let one = indented_ranged i k (at + 1) in
       let more = items_ranged is k place in
       record {
-        ranges = ranges_joined at (indented_events i k (at + 1)) (indented_end i k (at + 1)) (items_events is k place) (items_end is k place)
+        ranges = ranges_joined at (indented_events i k (at + 1)) (indented_end i k (at + 1)) (items_events is k place)
+            (items_end is k place)
             (ranges_from at (at + 1) (indented_events i k (at + 1)) (indented_end i k (at + 1)) (omega arith) one.ranges)
-            (ranges_from (indented_end i k (at + 1)) place (items_events is k place) (items_end is k place) (omega (arith, one.inside)) more.ranges);
+            (ranges_from (indented_end i k (at + 1)) place (items_events is k place) (items_end is k place)
+            (omega (arith, one.inside)) more.ranges);
         inside = omega (arith, l, s, more.inside);
         onward = omega (arith, more.onward);
       }
@@ -250,9 +273,11 @@ mutual
       let one = indented_ranged key k (at + 1) in
       let more = indented_ranged value k place in
       record {
-        ranges = ranges_joined at (indented_events key k (at + 1)) (indented_end key k (at + 1)) (indented_events value k place) (indented_end value k place)
+        ranges = ranges_joined at (indented_events key k (at + 1)) (indented_end key k (at + 1))
+            (indented_events value k place) (indented_end value k place)
             (ranges_from at (at + 1) (indented_events key k (at + 1)) (indented_end key k (at + 1)) (omega arith) one.ranges)
-            (ranges_from (indented_end key k (at + 1)) place (indented_events value k place) (indented_end value k place) (omega (arith, one.inside)) more.ranges);
+            (ranges_from (indented_end key k (at + 1)) place (indented_events value k place)
+            (indented_end value k place) (omega (arith, one.inside)) more.ranges);
         inside = omega (arith, l, s, more.inside);
         onward = omega (arith, more.onward);
       }
@@ -282,7 +307,8 @@ mutual
       let after : ℕ = at + byte_len (flow_text key) in
       let place : ℕ = after + byte_len gap + 1 in
       record {
-        ranges = ranges_joined at (flow_events key at) after (omitted_at place) place (flow_ranges key at) (omega arith, omega arith, omega arith);
+        ranges = ranges_joined at (flow_events key at) after (omitted_at place) place (flow_ranges key at)
+            (omega arith, omega arith, omega arith);
         inside = omega (arith, l);
         onward = omega arith;
       }
@@ -295,21 +321,34 @@ mutual
       let r = items_ranged is (k + 1 + s) (at + s) in
       let end : ℕ = items_end is (k + 1 + s) (at + s) in
       let es : List Event = items_events is (k + 1 + s) (at + s) in
-      record { ranges = seq_ranges at es end (ranges_from at (at + s) es end (omega arith) r.ranges); inside = omega (arith, l, t, r.inside); onward = omega (arith, r.onward) }
+      record {
+        ranges = seq_ranges at es end (ranges_from at (at + s) es end (omega arith) r.ranges);
+        inside = omega (arith, l, t, r.inside);
+        onward = omega (arith, r.onward);
+      }
   indented_ranged (compact_pairs s ps) k at =
       let l = byte_len_joined (spaces s) (pairs_text ps (k + 1 + s)) in
       let t = byte_len-spaces s in
       let r = pairs_ranged ps (k + 1 + s) (at + s) in
       let end : ℕ = pairs_end ps (k + 1 + s) (at + s) in
       let es : List Event = pairs_events ps (k + 1 + s) (at + s) in
-      record { ranges = map_ranges at es end (ranges_from at (at + s) es end (omega arith) r.ranges); inside = omega (arith, l, t, r.inside); onward = omega (arith, r.onward) }
+      record {
+        ranges = map_ranges at es end (ranges_from at (at + s) es end (omega arith) r.ranges);
+        inside = omega (arith, l, t, r.inside);
+        onward = omega (arith, r.onward);
+      }
   indented_ranged (node n) k at = node_ranged n at
-  indented_ranged (omitted comments) k at = record { ranges = (omega arith, omega arith, omega arith); inside = omega arith; onward = omega arith }
+  indented_ranged (omitted comments) k at = record {
+    ranges = (omega arith, omega arith, omega arith);
+    inside = omega arith;
+    onward = omega arith;
+  }
 
 -- ---- streams
 
 -- the ranges of a document's node are in order
-node_ranges : (n : Node) (low at high : ℕ) → low ≤ at → at + byte_len (node_text n) ≤ high → RangesInOrder low (as_document (node_events n at)) high
+node_ranges : (n : Node) (low at high : ℕ) → low ≤ at → at + byte_len (node_text n) ≤ high
+    → RangesInOrder low (as_document (node_events n at)) high
 node_ranges n low at high l u =
     let r = node_ranged n at in
     document_ranges low (node_events n at) high (wider low at (node_events n at) (node_end n at) high l (omega (arith, r.inside)) r.ranges)
@@ -317,7 +356,8 @@ node_ranges n low at high l u =
 -- the ranges after `---` are within the text
 explicit_ranges : (x : Explicit) (at : ℕ) → Within at (explicit_events x at) (explicit_text x)
 explicit_ranges (content n) at =
-    let l = byte_len_joined (codes "---") (node_text n) in node_ranges n at (at + 3) (at + byte_len (explicit_text (content n))) (omega arith) (omega (arith, l))
+    let l = byte_len_joined (codes "---") (node_text n) in
+    node_ranges n at (at + 3) (at + byte_len (explicit_text (content n))) (omega arith) (omega (arith, l))
 explicit_ranges (nothing comments) at =
     let l = byte_len_joined (codes "---") (comments_text comments) in
     let high : ℕ = at + byte_len (explicit_text (nothing comments)) in
@@ -330,7 +370,8 @@ one_document_ranges (explicit x) at = explicit_ranges x at
 one_document_ranges (directed blank version comments x) at =
     let prefix : List ℕ = directive_text blank version comments in
     let l = byte_len_joined prefix (explicit_text x) in
-    within at (at + byte_len prefix) (explicit_events x (at + byte_len prefix)) (explicit_text x) (at + byte_len (document_text (directed blank version comments x)))
+    within at (at + byte_len prefix) (explicit_events x (at + byte_len prefix)) (explicit_text x)
+    (at + byte_len (document_text (directed blank version comments x)))
     (omega arith) (omega (arith, l)) (explicit_ranges x (at + byte_len prefix))
 
 -- and of a document that may be left out
@@ -343,7 +384,8 @@ part_ranges : (p : Part) (at : ℕ) → Within at (part_events p at) (part_text 
 part_ranges (suffixes one more prefix d) at =
     let l = len4 (suffix_text one) (flat_map suffix_text more) (comments_text prefix) (optional document_text d) in
     let place : ℕ = at + byte_len (suffix_text one) + byte_len (flat_map suffix_text more) + byte_len (comments_text prefix) in
-    within at place (optional_document_events d place) (optional document_text d) (at + byte_len (part_text (suffixes one more prefix d))) (omega arith) (omega (arith, l)) (optional_ranges d place)
+    within at place (optional_document_events d place) (optional document_text d)
+    (at + byte_len (part_text (suffixes one more prefix d))) (omega arith) (omega (arith, l)) (optional_ranges d place)
 part_ranges (line e) at = omega arith
 part_ranges (further x) at = explicit_ranges x at
 
@@ -372,4 +414,5 @@ stream_ranges p =
     let high : ℕ = byte_len (stream_text p) in
     ranges_joined 0 (optional_document_events p.document at) after (parts_events p.parts after) high
     (ranges_from 0 at (optional_document_events p.document at) after (omega arith) (optional_ranges p.document at))
-    (within after after (parts_events p.parts after) (parts_text p.parts) high (omega arith) (omega (arith, l, m)) (parts_ranges p.parts after))
+    (within after after (parts_events p.parts after) (parts_text p.parts) high (omega arith) (omega (arith, l, m))
+    (parts_ranges p.parts after))

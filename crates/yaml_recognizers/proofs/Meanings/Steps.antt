@@ -12,7 +12,9 @@ use Rattle.yaml_recognizers.specs.Comments.{all_comments}
 use Rattle.yaml_recognizers.specs.FlowScalars.{read_scalar}
 use Rattle.yaml_recognizers.specs.Prefixes.{past, sign}
 use Rattle.yaml_recognizers.specs.Reading.{on}
-use Rattle.yaml_recognizers.specs.Recognizers.{block_indented_at, block_items_at, block_key_in, block_node_at, block_pair_at, block_pairs_at, document_node_at, flow_leaf_at, flow_node_at, section_at, sections_at, stream_at}
+use Rattle.yaml_recognizers.specs.Recognizers.{block_indented_at, block_items_at, block_key_in, block_node_at}
+use Rattle.yaml_recognizers.specs.Recognizers.{block_pair_at, block_pairs_at, document_node_at, flow_leaf_at}
+use Rattle.yaml_recognizers.specs.Recognizers.{flow_node_at, section_at, sections_at, stream_at}
 use Rattle.yaml_recognizers.specs.Streams.{more_sections, order_mark, with_mark}
 use Rattle.yaml_recognizers.proofs.Block.BlockKeys.{WholeKey, whole_key}
 use Rattle.yaml_recognizers.proofs.Block.BlockNodesDepth.{indented_step, items_step, node_step, pair_step, pairs_step}
@@ -28,7 +30,8 @@ use Rattle.yaml_recognizers.proofs.Documents.StreamsDepth.{sections_step, stream
 key_parts_of : (bol : Bool) (text : List ℕ) → Sound (KeyOf bol text) (block_key_in bol text)
 key_parts_of bol text =
     sound_to (WholeKey bol text) (KeyOf bol text) (block_key_in bol text)
-    (whole_key flow_node_at (whole_flow_read read_scalar reads_scalars) (whole_flow_sound read_scalar reads_scalars) bol text) (λ key rest w. w.0)
+    (whole_key flow_node_at (whole_flow_read read_scalar reads_scalars)
+    (whole_flow_sound read_scalar reads_scalars) bol text) (λ key rest w. w.0)
 
 -- a flow node in a block that is read fits
 leaf_parts : (m : ℕ) (bol : Bool) (text : List ℕ) → Sound (FlowOf m bol text) (flow_leaf_at m bol text)
@@ -49,7 +52,8 @@ pub items_steps : (k : ℕ) (text : List ℕ) → block_items_at k text
 items_steps k text = items_step block_key_in flow_leaf_at read_block key_parts_of leaf_parts block_parts_of k text
 
 -- pairs, from their parts
-pub pairs_steps : (k : ℕ) (bol : Bool) (text : List ℕ) → block_pairs_at k bol text ≡ on (block_pair_at k bol text) (λ p rest. more_pairs k (block_pairs_at k (k == 0)) p rest)
+pub pairs_steps : (k : ℕ) (bol : Bool) (text : List ℕ)
+    → block_pairs_at k bol text ≡ on (block_pair_at k bol text) (λ p rest. more_pairs k (block_pairs_at k (k == 0)) p rest)
 pairs_steps k bol text = pairs_step block_key_in flow_leaf_at read_block key_parts_of leaf_parts block_parts_of k bol text
 
 -- a pair, from its parts
@@ -64,7 +68,8 @@ pub indented_steps : (k : ℕ) (shallow : Bool) (text : List ℕ) → block_inde
     ≡ (if nat_le 1 (spaces_before text) && sign 45 (past_spaces text)
     then on (block_items_at (k + 1 + spaces_before text) (past_spaces text)) (λ is rest. Some (compact_items (spaces_before text) is, rest))
     else if nat_le 1 (spaces_before text) && opens_pair block_key_in flow_leaf_at read_block false (past_spaces text)
-    then on (block_pairs_at (k + 1 + spaces_before text) false (past_spaces text)) (λ ps rest. Some (compact_pairs (spaces_before text) ps, rest))
+    then on (block_pairs_at (k + 1 + spaces_before text) false (past_spaces text))
+    (λ ps rest. Some (compact_pairs (spaces_before text) ps, rest))
     else indented_node k shallow (block_node_at (suc k) shallow false) text (all_comments false text))
 indented_steps k shallow text = indented_step block_key_in flow_leaf_at read_block key_parts_of leaf_parts block_parts_of k shallow text
 
@@ -75,10 +80,13 @@ document_sound : (bol : Bool) (text : List ℕ) → Sound (NodeOf 0 false bol te
 document_sound bol text = whole_node_sound read_scalar reads_scalars read_block blocks_read 0 false bol text
 
 -- a stream, from its mark and sections
-pub stream_steps : (text : List ℕ) → stream_at text ≡ (if first order_mark text then with_mark true (sections_at true true (drop 1 text)) else with_mark false (sections_at true true text))
+pub stream_steps : (text : List ℕ) → stream_at text
+    ≡ (if first order_mark text then with_mark true (sections_at true true (drop 1 text))
+    else with_mark false (sections_at true true text))
 stream_steps text = stream_step document_node_at document_sound text
 
 -- sections, from the first one
 pub sections_steps : (opened bol : Bool) (text : List ℕ) → sections_at opened bol text
-    ≡ (if is_empty text then Some [] else more_sections (λ p rest. sections_at (opens opened p) (starts_line bol (section_text p)) rest) (section_at opened bol text))
+    ≡ (if is_empty text then Some [] else more_sections
+    (λ p rest. sections_at (opens opened p) (starts_line bol (section_text p)) rest) (section_at opened bol text))
 sections_steps opened bol text = sections_step document_node_at document_sound opened bol text

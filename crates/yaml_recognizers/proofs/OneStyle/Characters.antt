@@ -1,7 +1,8 @@
 -- What the characters of words, quoted texts and literals in the one style are.
 use Rattle.std.proofs.Common.{◌≡◌, refl, ◌∙◌, ap, inl, inr, arith, ◌<◌, ◌≤◌}
 use Rattle.std.specs.Prelude.{ℕ, ◌+◌, ◌/◌, ◌%◌, Bool, true, false, not, ◌||◌, nat_lt, nat_le, ◌==◌, List, [], ◌∷◌, ◌++◌, codes}
-use Rattle.std.proofs.lemmas.Bool.{cond_both, and_parts, and_from, or_cases, eqb-true, le-leb, leb-true, ltb-true, agree_below, agree_below_at, false≢true}
+use Rattle.std.proofs.lemmas.Bool.{cond_both, and_parts, and_from, or_cases, eqb-true, le-leb, leb-true, ltb-true}
+use Rattle.std.proofs.lemmas.Bool.{agree_below, agree_below_at, false≢true}
 use Rattle.yaml_chars.specs.Classes.{in_range, is_in, code_point}
 use Rattle.std.specs.List.{list_all}
 use Rattle.yaml_grammar.specs.Style.{letter, word_char, shown, hex, letter_escape, quoted_char, quoted_chars}
@@ -19,7 +20,8 @@ pub to_range : (low high c : ℕ) → low ≤ c → c ≤ high → in_range low 
 to_range low high c l h = and_from _ _ (le-leb low c l) (le-leb c high h)
 
 -- a test of two texts is one of both joined
-pub every_joined : (p : ℕ → Bool) (prefix after : List ℕ) → list_all p prefix ≡ true → list_all p after ≡ true → list_all p (prefix ++ after) ≡ true
+pub every_joined : (p : ℕ → Bool) (prefix after : List ℕ) → list_all p prefix ≡ true → list_all p after ≡ true
+    → list_all p (prefix ++ after) ≡ true
 every_joined p [] after h k = k
 every_joined p (c ∷ cs) after h k =
     let q : (p c ≡ true) × (list_all p cs ≡ true) = and_parts _ _ h in
@@ -90,8 +92,10 @@ Escaped x = is_in x (codes "0abtnvfre") ≡ true
 -- the letter of a short escape is one of nine
 escape_letter : (c : ℕ) → is_in (letter_escape c) (codes "0abtnvfre") ≡ true
 escape_letter c =
-    cond_both (c == 0) _ _ Escaped (λ e. refl) (λ e. cond_both (c == 7) _ _ Escaped (λ e. refl) (λ e. cond_both (c == 8) _ _ Escaped (λ e. refl) (λ e.
-    cond_both (c == 9) _ _ Escaped (λ e. refl) (λ e. cond_both (c == 10) _ _ Escaped (λ e. refl) (λ e. cond_both (c == 11) _ _ Escaped (λ e. refl) (λ e.
+    cond_both (c == 0) _ _ Escaped (λ e. refl) (λ e.
+    cond_both (c == 7) _ _ Escaped (λ e. refl) (λ e. cond_both (c == 8) _ _ Escaped (λ e. refl) (λ e.
+    cond_both (c == 9) _ _ Escaped (λ e. refl) (λ e.
+    cond_both (c == 10) _ _ Escaped (λ e. refl) (λ e. cond_both (c == 11) _ _ Escaped (λ e. refl) (λ e.
     cond_both (c == 12) _ _ Escaped (λ e. refl) (λ e. cond_both (c == 13) _ _ Escaped (λ e. refl) (λ e. refl))))))))
 
 -- p holds of all that the character may be written with: the signs and letters of escapes, itself, and the digits of
@@ -108,18 +112,22 @@ quoted_char_all p c w =
     let sign : (x : ℕ) → is_in x (codes "\"\\xu") ≡ true → p x ≡ true = λ x i. every_at p x (codes "\"\\xu") w.signs i in
     let slash : p 92 ≡ true = sign 92 refl in
     cond_both ((c == 34) || (c == 92)) _ _ (λ cs. list_all p cs ≡ true)
-    (λ e. and_from _ _ slash (and_from _ _ (elim (or_cases (c == 34) (c == 92) e) [ inl q ↦ ap p (eqb-true c 34 q) ∙ sign 34 refl | inr q ↦ ap p (eqb-true c 92 q) ∙ slash ]) refl)) (λ n.
+    (λ e. and_from _ _ slash (and_from _ _ (elim (or_cases (c == 34) (c == 92) e)
+    [ inl q ↦ ap p (eqb-true c 34 q) ∙ sign 34 refl | inr q ↦ ap p (eqb-true c 92 q) ∙ slash ]) refl)) (λ n.
     cond_both (shown c) _ _ (λ cs. list_all p cs ≡ true) (λ s. and_from _ _ (w.shown s) refl) (λ s.
     cond_both ((c == 0) || in_range 7 13 c || (c == 27)) _ _ (λ cs. list_all p cs ≡ true)
     (λ l. and_from _ _ slash (and_from _ _ (every_at p (letter_escape c) (codes "0abtnvfre") w.letters (escape_letter c)) refl)) (λ l.
     cond_both (nat_le c 0xff) _ _ (λ cs. list_all p cs ≡ true)
     (λ u. let low : c ≤ 0xff = leb-true c 0xff u in
-    and_from _ _ slash (and_from _ _ (sign 120 refl) (and_from _ _ (w.digits (c / 16) (omega (arith, low))) (and_from _ _ (w.digits (c % 16) (omega arith)) refl))))
-    (λ u. and_from _ _ slash (and_from _ _ (sign 117 refl) (and_from _ _ (w.digits (c / 4096) (omega arith)) (and_from _ _ (w.digits (c / 256 % 16) (omega arith))
+    and_from _ _ slash (and_from _ _ (sign 120 refl)
+    (and_from _ _ (w.digits (c / 16) (omega (arith, low))) (and_from _ _ (w.digits (c % 16) (omega arith)) refl))))
+    (λ u. and_from _ _ slash (and_from _ _ (sign 117 refl)
+    (and_from _ _ (w.digits (c / 4096) (omega arith)) (and_from _ _ (w.digits (c / 256 % 16) (omega arith))
     (and_from _ _ (w.digits (c / 16 % 16) (omega arith)) (and_from _ _ (w.digits (c % 16) (omega arith)) refl)))))))))
 
 -- all that a text is written with between its quotes has p, where it does at each character that has q
-pub quoted_chars_all : (p q : ℕ → Bool) (cs : List ℕ) → ((c : ℕ) → q c ≡ true → Writes p c) → list_all q cs ≡ true → list_all p (quoted_chars cs) ≡ true
+pub quoted_chars_all : (p q : ℕ → Bool) (cs : List ℕ) → ((c : ℕ) → q c ≡ true → Writes p c) → list_all q cs ≡ true
+    → list_all p (quoted_chars cs) ≡ true
 quoted_chars_all p q [] w h = refl
 quoted_chars_all p q (c ∷ cs) w h =
     let r : (q c ≡ true) × (list_all q cs ≡ true) = and_parts _ _ h in

@@ -1,7 +1,8 @@
 -- The texts of records and bases are closed once, at their end, and where they are joined or torn at the ends of the
 -- whole ones.
 use Rattle.std.proofs.Common.{◌≡◌, refl, sym, ◌∙◌, ap, inl, inr, arith, ◌<◌, ◌≤◌, append_assoc, length-append}
-use Rattle.std.specs.Prelude.{ℕ, ◌+◌, ◌/◌, ◌%◌, Bool, true, false, cond, not, ◌&&◌, nat_lt, nat_le, ◌==◌, List, [], ◌∷◌, ◌++◌, length, replicate, codes, encode_utf8_all}
+use Rattle.std.specs.Prelude.{ℕ, ◌+◌, ◌/◌, ◌%◌, Bool, true, false, cond, not, ◌&&◌, nat_lt, nat_le, ◌==◌, List, []}
+use Rattle.std.specs.Prelude.{◌∷◌, ◌++◌, length, replicate, codes, encode_utf8_all}
 use Rattle.std.proofs.Math.Utf8.{encode}
 use Rattle.std.proofs.lemmas.Str.{encode_ascii, encodes-append}
 use Rattle.std.proofs.lemmas.List.{append-nil}
@@ -11,7 +12,9 @@ use Rattle.yaml_grammar.specs.Trees.{Tree}
 use Rattle.yaml_grammar.specs.Style.{style_text}
 use Rattle.yaml_grammar.specs.Closings.{ClosesAt}
 use Rattle.yaml_recognizers.specs.Closings.{framed_text_bytes, all_framed_bytes, EndsWhole, ClosedOnce, TornClosings}
-use Rattle.yaml_recognizers.proofs.OneStyle.Closings.{ends_from, closes, dotless, Piece, closes_from, closes_at, piece_closes, piece_closes_end, piece_closes_more, closes_before_padding, closes_within}
+use Rattle.yaml_recognizers.proofs.OneStyle.Closings.{ends_from, closes, dotless, Piece, closes_from, closes_at}
+use Rattle.yaml_recognizers.proofs.OneStyle.Closings.{piece_closes, piece_closes_end, piece_closes_more}
+use Rattle.yaml_recognizers.proofs.OneStyle.Closings.{closes_before_padding, closes_within}
 use Rattle.yaml_recognizers.proofs.OneStyle.StyleLines.{Lined, not_both, style_lined}
 
 -- ---- lines and dots are the same in bytes
@@ -33,18 +36,22 @@ followers b bs h = and_from _ _ (le-leb 128 (128 + b) (omega arith)) h
 
 -- all bytes of an encoding in two, three or four bytes are from 128 on
 encode_cases : (x y z : Bool) (bytes : List ℕ) (a b d e f g k l m : ℕ) → (x ≡ true → ⊥)
-    → High (cond x bytes (cond y ((192 + a) ∷ (128 + b) ∷ []) (cond z ((224 + d) ∷ (128 + e) ∷ (128 + f) ∷ []) ((240 + g) ∷ (128 + k) ∷ (128 + l) ∷ (128 + m) ∷ []))))
+    → High (cond x bytes (cond y ((192 + a) ∷ (128 + b) ∷ [])
+    (cond z ((224 + d) ∷ (128 + e) ∷ (128 + f) ∷ []) ((240 + g) ∷ (128 + k) ∷ (128 + l) ∷ (128 + m) ∷ []))))
 encode_cases true y z bytes a b d e f g k l m n = absurd (n refl)
 encode_cases false true z bytes a b d e f g k l m n = high_lead 192 a ((128 + b) ∷ []) (omega arith) (followers b [] refl)
-encode_cases false false true bytes a b d e f g k l m n = high_lead 224 d ((128 + e) ∷ (128 + f) ∷ []) (omega arith) (followers e ((128 + f) ∷ []) (followers f [] refl))
+encode_cases false false true bytes a b d e f g k l m n =
+    high_lead 224 d ((128 + e) ∷ (128 + f) ∷ []) (omega arith) (followers e ((128 + f) ∷ []) (followers f [] refl))
 encode_cases false false false bytes a b d e f g k l m n =
-    high_lead 240 g ((128 + k) ∷ (128 + l) ∷ (128 + m) ∷ []) (omega arith) (followers k ((128 + l) ∷ (128 + m) ∷ []) (followers l ((128 + m) ∷ []) (followers m [] refl)))
+    high_lead 240 g ((128 + k) ∷ (128 + l) ∷ (128 + m) ∷ []) (omega arith)
+    (followers k ((128 + l) ∷ (128 + m) ∷ []) (followers l ((128 + m) ∷ []) (followers m [] refl)))
 
 -- all bytes of a character from 128 on are so
 encode_high : (c : ℕ) → 128 ≤ c → High (encode c)
 unfolding encode
 encode_high c h =
-    encode_cases (nat_lt c 128) (nat_lt c 2048) (nat_lt c 65536) (c ∷ []) (c / 64) (c % 64) (c / 4096) (c / 64 % 64) (c % 64) (c / 262144) (c / 4096 % 64) (c / 64 % 64) (c % 64)
+    encode_cases (nat_lt c 128) (nat_lt c 2048) (nat_lt c 65536) (c ∷ []) (c / 64) (c % 64) (c / 4096) (c / 64 % 64)
+    (c % 64) (c / 262144) (c / 4096 % 64) (c / 64 % 64) (c % 64)
     (λ e. let l : c < 128 = ltb-true c 128 e in omega (arith, l, h))
 
 -- after high bytes no line starts
@@ -60,7 +67,8 @@ high_lined bol b bs rest h =
       ap (λ x. ends_from x (bs ++ rest)) feed ∙ more.1,
     )
   where
-    on : (ds : List ℕ) → list_all (nat_le 128) ds ≡ true → (dotless false (ds ++ rest) ≡ dotless false rest) × (ends_from false (ds ++ rest) ≡ ends_from false rest)
+    on : (ds : List ℕ) → list_all (nat_le 128) ds ≡ true
+        → (dotless false (ds ++ rest) ≡ dotless false rest) × (ends_from false (ds ++ rest) ≡ ends_from false rest)
     on [] h = (refl, refl)
     on (d ∷ ds) h =
         let p : (nat_le 128 d ≡ true) × (list_all (nat_le 128) ds ≡ true) = and_parts _ _ h in
@@ -70,24 +78,31 @@ high_lined bol b bs rest h =
         (ap (λ x. dotless x (ds ++ rest)) feed ∙ more.0, ap (λ x. ends_from x (ds ++ rest)) feed ∙ more.1)
 
 -- for dots and line feeds, a character's bytes are as the character
-char_same : (bol : Bool) (c : ℕ) (rest : List ℕ) → (dotless bol (encode c ++ rest) ≡ dotless bol (c ∷ rest)) × (ends_from bol (encode c ++ rest) ≡ ends_from bol (c ∷ rest))
+char_same : (bol : Bool) (c : ℕ) (rest : List ℕ)
+    → (dotless bol (encode c ++ rest) ≡ dotless bol (c ∷ rest)) × (ends_from bol (encode c ++ rest) ≡ ends_from bol (c ∷ rest))
 char_same bol c rest = elim (cases_lt c 128) [
   | inl l ↦ (ap (λ t. dotless bol (t ++ rest)) (encode_ascii c l), ap (λ t. ends_from bol (t ++ rest)) (encode_ascii c l))
   | inr l ↦ (let h : High (encode c) = encode_high c l in
-      let p : (dotless bol ((h.prefix ∷ h.more) ++ rest) ≡ dotless false rest) × (ends_from bol ((h.prefix ∷ h.more) ++ rest) ≡ ends_from false rest) = high_lined bol h.prefix h.more rest h.high in
+      let p : (dotless bol ((h.prefix ∷ h.more) ++ rest) ≡ dotless false rest)
+      × (ends_from bol ((h.prefix ∷ h.more) ++ rest) ≡ ends_from false rest) = high_lined bol h.prefix h.more rest h.high in
       let dot : c == 46 ≡ false = ne_eqb c 46 (λ e. omega (arith, l, e)) in
       let feed : c == 10 ≡ false = ne_eqb c 10 (λ e. omega (arith, l, e)) in (
-        ap (λ t. dotless bol (t ++ rest)) h.is ∙ (p.0 ∙ sym (ap (λ x. x && dotless (c == 10) rest) (not_both bol (c == 46) dot) ∙ ap (λ x. dotless x rest) feed)),
+        ap (λ t. dotless bol (t ++ rest)) h.is ∙ (p.0
+            ∙ sym (ap (λ x. x && dotless (c == 10) rest) (not_both bol (c == 46) dot) ∙ ap (λ x. dotless x rest) feed)),
         ap (λ t. ends_from bol (t ++ rest)) h.is ∙ (p.1 ∙ sym (ap (λ x. ends_from x rest) feed)),
       ))
 ]
 
 -- and the bytes of a text as the text
-encoded_same : (bol : Bool) (cs : List ℕ) → (dotless bol (encode_utf8_all cs) ≡ dotless bol cs) × (ends_from bol (encode_utf8_all cs) ≡ ends_from bol cs)
+encoded_same : (bol : Bool) (cs : List ℕ) → (dotless bol (encode_utf8_all cs) ≡ dotless bol cs)
+    × (ends_from bol (encode_utf8_all cs) ≡ ends_from bol cs)
 encoded_same bol [] = (refl, refl)
 encoded_same bol (c ∷ cs) =
-    let p : (dotless bol (encode c ++ encode_utf8_all cs) ≡ dotless bol (c ∷ encode_utf8_all cs)) × (ends_from bol (encode c ++ encode_utf8_all cs) ≡ ends_from bol (c ∷ encode_utf8_all cs)) = char_same bol c (encode_utf8_all cs) in
-    let q : (dotless (c == 10) (encode_utf8_all cs) ≡ dotless (c == 10) cs) × (ends_from (c == 10) (encode_utf8_all cs) ≡ ends_from (c == 10) cs) = encoded_same (c == 10) cs in
+    let p : (dotless bol (encode c ++ encode_utf8_all cs) ≡ dotless bol (c ∷ encode_utf8_all cs))
+    × (ends_from bol (encode c ++ encode_utf8_all cs) ≡ ends_from bol (c ∷ encode_utf8_all cs)) =
+    char_same bol c (encode_utf8_all cs) in
+    let q : (dotless (c == 10) (encode_utf8_all cs) ≡ dotless (c == 10) cs)
+    × (ends_from (c == 10) (encode_utf8_all cs) ≡ ends_from (c == 10) cs) = encoded_same (c == 10) cs in
     (p.0 ∙ ap (λ b. not (bol && (c == 46)) && b) q.0, p.1 ∙ q.1)
 
 -- ---- one text
@@ -101,11 +116,13 @@ dots_encoded = refl
 pub framed_piece : (t : Tree) → Piece (framed_text_bytes t)
 framed_piece t =
     let source : List ℕ = codes "---\n" ++ style_text t in
-    let same : (dotless true (encode_utf8_all source) ≡ dotless true source) × (ends_from true (encode_utf8_all source) ≡ ends_from true source) = encoded_same true source in
+    let same : (dotless true (encode_utf8_all source) ≡ dotless true source)
+    × (ends_from true (encode_utf8_all source) ≡ ends_from true source) = encoded_same true source in
     let lined : Lined true (style_text t) true = style_lined t in
     record {
       body = encode_utf8_all source;
-      is = ap encode_utf8_all (sym (append_assoc (codes "---\n") (style_text t) (codes "...\n"))) ∙ (encodes-append source (codes "...\n") ∙ ap (λ t. encode_utf8_all source ++ t) dots_encoded);
+      is = ap encode_utf8_all (sym (append_assoc (codes "---\n") (style_text t) (codes "...\n")))
+          ∙ (encodes-append source (codes "...\n") ∙ ap (λ t. encode_utf8_all source ++ t) dots_encoded);
       dotless = same.0 ∙ lined.0;
       line = same.1 ∙ lined.1;
     }
@@ -115,11 +132,14 @@ pub framed_once : ClosedOnce
 framed_once t =
     let p : Piece (framed_text_bytes t) = framed_piece t in
     record {
-      closes = closes_at (framed_text_bytes t) (length (framed_text_bytes t)) (ap (λ s. closes true s (length (framed_text_bytes t))) (sym (append-nil (framed_text_bytes t))) ∙ piece_closes_end (framed_text_bytes t) [] p);
-      once = λ place c. elim (piece_closes (framed_text_bytes t) [] place p (ap (λ t. closes true t place) (append-nil (framed_text_bytes t)) ∙ closes_from (framed_text_bytes t) place c)) [
-        | inl e ↦ e
-        | inr r ↦ absurd (false≢true r.2)
-      ];
+      closes = closes_at (framed_text_bytes t) (length (framed_text_bytes t))
+          (ap (λ s. closes true s (length (framed_text_bytes t))) (sym (append-nil (framed_text_bytes t)))
+          ∙ piece_closes_end (framed_text_bytes t) [] p);
+      once = λ place c. elim (piece_closes (framed_text_bytes t) [] place p
+          (ap (λ t. closes true t place) (append-nil (framed_text_bytes t)) ∙ closes_from (framed_text_bytes t) place c)) [
+            | inl e ↦ e
+            | inr r ↦ absurd (false≢true r.2)
+          ];
     }
 
 -- ---- texts in a row
@@ -143,16 +163,21 @@ all_close (t ∷ ts) place h = elim (piece_closes (framed_text_bytes t) (all_fra
         one = more.one;
         after = more.after;
         all = ap (λ us. t ∷ us) more.all;
-        ends = r.1 ∙ (ap (λ n. length (framed_text_bytes t) + n) more.ends ∙ sym (length-append (framed_text_bytes t) (all_framed_bytes (more.before ++ (more.one ∷ [])))));
+        ends = r.1 ∙ (ap (λ n. length (framed_text_bytes t) + n) more.ends
+            ∙ sym (length-append (framed_text_bytes t) (all_framed_bytes (more.before ++ (more.one ∷ [])))));
       })
 ]
 
 -- and they close where each one ends
-end_closes : (before : List Tree) (one : Tree) (after : List Tree) → closes true (all_framed_bytes (before ++ (one ∷ after))) (length (all_framed_bytes (before ++ (one ∷ [])))) ≡ true
-end_closes [] one after = ap (λ s. closes true (framed_text_bytes one ++ all_framed_bytes after) (length s)) (append-nil (framed_text_bytes one)) ∙ piece_closes_end (framed_text_bytes one) (all_framed_bytes after) (framed_piece one)
+end_closes : (before : List Tree) (one : Tree) (after : List Tree)
+    → closes true (all_framed_bytes (before ++ (one ∷ after))) (length (all_framed_bytes (before ++ (one ∷ [])))) ≡ true
+end_closes [] one after = ap (λ s. closes true (framed_text_bytes one ++ all_framed_bytes after) (length s))
+    (append-nil (framed_text_bytes one)) ∙ piece_closes_end (framed_text_bytes one) (all_framed_bytes after) (framed_piece one)
 end_closes (t ∷ before) one after =
-    ap (closes true (framed_text_bytes t ++ all_framed_bytes (before ++ (one ∷ after)))) (length-append (framed_text_bytes t) (all_framed_bytes (before ++ (one ∷ []))))
-    ∙ piece_closes_more (framed_text_bytes t) (all_framed_bytes (before ++ (one ∷ after))) (length (all_framed_bytes (before ++ (one ∷ [])))) (framed_piece t) (end_closes before one after)
+    ap (closes true (framed_text_bytes t ++ all_framed_bytes (before ++ (one ∷ after))))
+    (length-append (framed_text_bytes t) (all_framed_bytes (before ++ (one ∷ []))))
+    ∙ piece_closes_more (framed_text_bytes t) (all_framed_bytes (before ++ (one ∷ after)))
+    (length (all_framed_bytes (before ++ (one ∷ [])))) (framed_piece t) (end_closes before one after)
 
 -- and framed texts that are cut close at the ends of the whole ones
 pub torn_closings : TornClosings
@@ -160,19 +185,22 @@ torn_closings ts prefix lost padding place cut = (there, back)
   where
     there : ClosesAt (prefix ++ replicate padding 0) place → EndsWhole ts (length prefix) place
     there c =
-        let p : (place ≤ length prefix) × (closes true (prefix ++ lost) place ≡ true) = closes_before_padding true prefix lost padding place (closes_from (prefix ++ replicate padding 0) place c) in
+        let p : (place ≤ length prefix) × (closes true (prefix ++ lost) place ≡ true) =
+        closes_before_padding true prefix lost padding place (closes_from (prefix ++ replicate padding 0) place c) in
         let e : Ends ts place = all_close ts place (ap (λ t. closes true t place) cut ∙ p.1) in
         record { before = e.before; one = e.one; after = e.after; all = e.all; ends = e.ends; within = p.0 }
 
     back : EndsWhole ts (length prefix) place → ClosesAt (prefix ++ replicate padding 0) place
     back e =
         let c : closes true (all_framed_bytes ts) place ≡ true = rw (e.all, e.ends) (end_closes e.before e.one e.after) in
-        closes_at (prefix ++ replicate padding 0) place (closes_within true prefix lost (replicate padding 0) place e.within (ap (λ t. closes true t place) (sym cut) ∙ c))
+        closes_at (prefix ++ replicate padding 0) place
+        (closes_within true prefix lost (replicate padding 0) place e.within (ap (λ t. closes true t place) (sym cut) ∙ c))
 
 -- ---- pieces
 
 -- if the first list is no longer than the third, it is a prefix of it
-pub cut_after : (one after prefix lost : List ℕ) → length one ≤ length prefix → one ++ after ≡ prefix ++ lost → (more : List ℕ) × (prefix ≡ one ++ more) × (after ≡ more ++ lost)
+pub cut_after : (one after prefix lost : List ℕ) → length one ≤ length prefix → one ++ after ≡ prefix ++ lost
+    → (more : List ℕ) × (prefix ≡ one ++ more) × (after ≡ more ++ lost)
 cut_after [] after prefix lost l e = (prefix, refl, e)
 cut_after (c ∷ cs) after [] lost l e = absurd (omega (arith, l))
 cut_after (c ∷ cs) after (d ∷ ds) lost l e =

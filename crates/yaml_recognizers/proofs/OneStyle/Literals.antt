@@ -27,7 +27,8 @@ feeds_counted n (c ∷ cs) = elim (cases_Bool (c == 10)) [
   | inr e ↦ rw (e, feeds_counted 0 cs) (other (list_all (λ d. d == 10) cs) refl)
 ]
   where
-    by : (b : Bool) → cond b (suc n + length cs) (feeds_at_end cs) ≡ cond b (n + suc (length cs)) (cond b (suc (length cs)) (feeds_at_end cs))
+    by : (b : Bool) → cond b (suc n + length cs) (feeds_at_end cs)
+        ≡ cond b (n + suc (length cs)) (cond b (suc (length cs)) (feeds_at_end cs))
     by true = omega arith
     by false = refl
 
@@ -54,7 +55,8 @@ held_first keep c held empties [] = refl
 held_first ch c held empties (l ∷ ls) = refl
 
 -- the line feeds after the last line are those at the end of the value
-last_feeds : (n empties : ℕ) → empties ≡ n + 0 → text_value false (chomping_of (suc n)) (line_with [] empties) [] ≡ replicate (suc n) 10 ++ []
+last_feeds : (n empties : ℕ) → empties ≡ n + 0
+    → text_value false (chomping_of (suc n)) (line_with [] empties) [] ≡ replicate (suc n) 10 ++ []
 last_feeds zero empties e = refl
 last_feeds (suc n) empties e =
     let long : length (bare_empties empties) ≡ suc n = length-replicate empties _ ∙ omega (arith, e) in
@@ -67,7 +69,8 @@ feed_moved (suc n) cs = ap (λ t. 10 ∷ t) (feed_moved n cs)
 
 mutual
   -- from a place within a line on
-  line_meant : (cs : List ℕ) → text_value false (chomping_of (feeds_after 0 cs)) (line_with (held_by cs) (empties_in false cs)) (lines_in false cs) ≡ cs
+  line_meant : (cs : List ℕ) → text_value false (chomping_of (feeds_after 0 cs))
+      (line_with (held_by cs) (empties_in false cs)) (lines_in false cs) ≡ cs
   line_meant [] = refl
   line_meant (c ∷ cs) = elim (cases_Bool (c == 10)) [
     | inl e ↦ rw (e, eqb-true c 10 e) (fresh_meant 0 (empties_in true cs) cs (omega arith))
@@ -83,7 +86,8 @@ mutual
         rw (f, eqb-true c 10 f) (fresh_meant (suc n) empties cs (omega (arith, g)) ∙ sym (feed_moved (suc n) cs)))
     | inr f ↦ (let g : empties ≡ n + 0 = (rw f at e) in
         let long : length (bare_empties empties) ≡ n = length-replicate empties _ ∙ omega (arith, g) in
-        rw (f, long) (ap (λ t. replicate (suc n) 10 ++ t) (held_first _ c (held_by cs) (empties_in false cs) (lines_in false cs) ∙ ap (λ t. c ∷ t) (line_meant cs))))
+        rw (f, long) (ap (λ t. replicate (suc n) 10 ++ t)
+        (held_first _ c (held_by cs) (empties_in false cs) (lines_in false cs) ∙ ap (λ t. c ∷ t) (line_meant cs))))
   ]
 
 -- the value of a literal's lines is the text that they were made from

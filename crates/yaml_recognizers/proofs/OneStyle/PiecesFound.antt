@@ -1,5 +1,6 @@
 -- Each closing ends a piece, and so all bytes are cut into pieces.
-use Rattle.std.proofs.Common.{◌≡◌, refl, sym, ◌∙◌, ap, subst, append_assoc, inl, inr, ◌⊎◌, arith, ◌<◌, ◌≤◌, length-take, length-drop, take-append-drop}
+use Rattle.std.proofs.Common.{◌≡◌, refl, sym, ◌∙◌, ap, subst, append_assoc, inl, inr, ◌⊎◌, arith, ◌<◌, ◌≤◌}
+use Rattle.std.proofs.Common.{length-take, length-drop, take-append-drop}
 use Rattle.std.specs.Prelude.{ℕ, zero, suc, ◌+◌, true, false, List, [], ◌∷◌, ◌++◌, length, take, drop}
 use Rattle.std.specs.List.{concat}
 use Rattle.std.proofs.lemmas.List.{append-nil}
@@ -7,25 +8,32 @@ use Rattle.std.proofs.lemmas.List.Elements.{All-nil, All-cons}
 use Rattle.std.proofs.lemmas.Bool.{cases_Bool, cases_lt, false≢true}
 use Rattle.yaml_grammar.specs.Closings.{ends_line, ClosesAt, ClosesOnce, Pieces}
 use Rattle.yaml_recognizers.specs.Closings.{PieceBetween, RestUnclosed, SomePieces}
-use Rattle.yaml_recognizers.proofs.OneStyle.Closings.{ends_same, closes, closes_from, closes_at, closes_within, closes_from_line, closes_range}
+use Rattle.yaml_recognizers.proofs.OneStyle.Closings.{ends_same, closes, closes_from, closes_at, closes_within}
+use Rattle.yaml_recognizers.proofs.OneStyle.Closings.{closes_from_line, closes_range}
 
 -- closings after the start of a line, and those of what is there
 further : (prefix rest : List ℕ) (q : ℕ) → ends_line prefix ≡ true → ClosesAt rest q → ClosesAt (prefix ++ rest) (length prefix + q)
 further prefix rest q h c =
     let r : (4 ≤ q) × (q ≤ length rest) = closes_range rest q c in
-    closes_at (prefix ++ rest) (length prefix + q) (closes_from_line true prefix rest q (ends_same prefix ∙ h) (omega (arith, r.0)) ∙ closes_from rest q c)
+    closes_at (prefix ++ rest) (length prefix + q)
+    (closes_from_line true prefix rest q (ends_same prefix ∙ h) (omega (arith, r.0)) ∙ closes_from rest q c)
 
 -- between two closings there is a piece
 pub piece_between : PieceBetween
 piece_between prefix piece after h l c first =
     let here : closes true (piece ++ after) (length piece) ≡ true =
-    sym (closes_from_line true prefix (piece ++ after) (length piece) (ends_same prefix ∙ h) (omega (arith, l))) ∙ closes_from (prefix ++ (piece ++ after)) (length prefix + length piece) c in
+    sym (closes_from_line true prefix (piece ++ after) (length piece) (ends_same prefix ∙ h) (omega (arith, l)))
+    ∙ closes_from (prefix ++ (piece ++ after)) (length prefix + length piece) c in
     record {
-      closes = closes_at piece (length piece) (ap (λ s. closes true s (length piece)) (sym (append-nil piece)) ∙ closes_within true piece after [] (length piece) (omega arith) here);
+      closes = closes_at piece (length piece) (ap (λ s. closes true s (length piece)) (sym (append-nil piece))
+          ∙ closes_within true piece after [] (length piece) (omega arith) here);
       once = λ place d. (let r : (4 ≤ place) × (place ≤ length piece) = closes_range piece place d in
-          let wider : closes true (piece ++ after) place ≡ true = closes_within true piece [] after place r.1 (ap (λ s. closes true s place) (append-nil piece) ∙ closes_from piece place d) in
+          let wider : closes true (piece ++ after) place ≡ true =
+          closes_within true piece [] after place r.1
+          (ap (λ s. closes true s place) (append-nil piece) ∙ closes_from piece place d) in
           let no_earlier : length prefix + length piece ≤ length prefix + place =
-          first (length prefix + place) (omega (arith, r.0)) (further prefix (piece ++ after) place h (closes_at (piece ++ after) place wider)) in
+          first (length prefix + place) (omega (arith, r.0))
+          (further prefix (piece ++ after) place h (closes_at (piece ++ after) place wider)) in
           omega (arith, r.1, no_earlier));
     }
 
@@ -59,7 +67,8 @@ first_below bytes (suc k) = elim (first_below bytes k) [
 ]
 
 -- bytes up to their first closing are a piece
-first_piece : (bytes : List ℕ) (place : ℕ) → ClosesAt bytes place → ((q : ℕ) → q < place → closes true bytes q ≡ false) → ClosesOnce (take place bytes)
+first_piece : (bytes : List ℕ) (place : ℕ) → ClosesAt bytes place
+    → ((q : ℕ) → q < place → closes true bytes q ≡ false) → ClosesOnce (take place bytes)
 first_piece bytes place at first =
     let r : (4 ≤ place) × (place ≤ length bytes) = closes_range bytes place at in
     let whole : take place bytes ++ drop place bytes ≡ bytes = take-append-drop place bytes in
@@ -90,11 +99,14 @@ cut_in_pieces (suc fuel) bytes l = elim (first_below bytes (suc (length bytes)))
       let r : (4 ≤ f.place) × (f.place ≤ length bytes) = closes_range bytes f.place at in
       let left : length (drop f.place bytes) < fuel = omega (arith, length-drop f.place bytes, r.0, r.1, l) in
       let one : ClosesOnce (take f.place bytes) = first_piece bytes f.place at f.first in
-      let more : (pieces : List (List ℕ)) × (rest : List ℕ) × Pieces (drop f.place bytes) pieces rest = cut_in_pieces fuel (drop f.place bytes) left in (
+      let more : (pieces : List (List ℕ)) × (rest : List ℕ) × Pieces (drop f.place bytes) pieces rest =
+      cut_in_pieces fuel (drop f.place bytes) left in (
         take f.place bytes ∷ more.0,
         more.1,
         record {
-          joined = sym (take-append-drop f.place bytes) ∙ (ap (λ s. take f.place bytes ++ s) more.2.joined ∙ sym (append_assoc (take f.place bytes) (concat more.0) more.1));
+          joined = sym (take-append-drop f.place bytes)
+              ∙ (ap (λ s. take f.place bytes ++ s) more.2.joined
+              ∙ sym (append_assoc (take f.place bytes) (concat more.0) more.1));
           closed = All-cons ClosesOnce (take f.place bytes) more.0 one more.2.closed;
           unclosed = more.2.unclosed;
         },

@@ -1,11 +1,13 @@
 -- A presentation of each tree in the one style: which productions its text is made by.
-use Rattle.std.specs.Prelude.{ℕ, zero, suc, ◌+◌, ◌/◌, ◌%◌, Bool, true, false, ◌||◌, nat_le, ◌==◌, List, [], ◌∷◌, Some, None, replicate, if◌then◌else◌}
+use Rattle.std.specs.Prelude.{ℕ, zero, suc, ◌+◌, ◌/◌, ◌%◌, Bool, true, false, ◌||◌, nat_le, ◌==◌, List, [], ◌∷◌, Some}
+use Rattle.std.specs.Prelude.{None, replicate, if◌then◌else◌}
 use Rattle.yaml_chars.specs.Classes.{in_range}
 use Rattle.yaml_grammar.specs.Separation.{lf, LineEnd, Sep, inline, lines}
 use Rattle.yaml_grammar.specs.FlowScalars.{QuotedChar, raw, escape, number, plain, double}
 use Rattle.yaml_grammar.specs.FlowNodes.{Flow, scalar, seq, map, none}
 use Rattle.yaml_grammar.specs.BlockScalars.{Chomping, strip, clip, keep, BlockEmptyLine, TextLine, BlockScalar}
-use Rattle.yaml_grammar.specs.BlockNodes.{Node, block, flow, items, pairs, Items, item, item_and, Pairs, pair, pair_and, Pair, asked, keyed, Indented, compact_items, compact_pairs, node}
+use Rattle.yaml_grammar.specs.BlockNodes.{Node, block, flow, items, pairs, Items, item, item_and, Pairs, pair}
+use Rattle.yaml_grammar.specs.BlockNodes.{pair_and, Pair, asked, keyed, Indented, compact_items, compact_pairs, node}
 use Rattle.yaml_grammar.specs.Streams.{Stream, bare, explicit, content, suffixes}
 use Rattle.yaml_grammar.specs.Trees.{Tree, text, sequence, mapping, Elements, no_element, element, Members, no_member, member}
 use Rattle.yaml_grammar.specs.Style.{shown, plain_in_style, literal_in_style, hex, letter_escape, feeds_at_end, long_key}
@@ -163,4 +165,9 @@ presentation_of t = record { mark = false; prefix = []; document = Some (bare (t
 -- the tree between `---` and `...`
 abbrev pub framed_presentation_of : Tree → Stream
 framed_presentation_of t =
-    record { mark = false; prefix = []; document = Some (explicit (content (top_node after_marker t))); parts = suffixes (feed ∷ []) [] [] None ∷ [] }
+    record {
+      mark = false;
+      prefix = [];
+      document = Some (explicit (content (top_node after_marker t)));
+      parts = suffixes (feed ∷ []) [] [] None ∷ [];
+    }

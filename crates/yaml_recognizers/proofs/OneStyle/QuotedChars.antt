@@ -1,9 +1,12 @@
 -- What is written for a character between double quotes fits there, and means that character.
 use Rattle.std.proofs.Common.{◌≡◌, refl, sym, ◌∙◌, ap, subst, inl, inr, arith, ◌<◌, ◌≤◌}
 use Rattle.std.specs.Prelude.{ℕ, ◌/◌, ◌%◌, Bool, true, false, not, ◌&&◌, ◌||◌, nat_le, ◌==◌, [], ◌∷◌}
-use Rattle.std.proofs.lemmas.Bool.{cond_both, and_parts, and_from, or_parts, or_cases, or_right, or_from, not_from_false, eqb-true, le-leb, leb-true, agree_below_at, false≢true, cases_lt, ne_eqb}
+use Rattle.std.proofs.lemmas.Bool.{cond_both, and_parts, and_from, or_parts, or_cases, or_right, or_from}
+use Rattle.std.proofs.lemmas.Bool.{not_from_false, eqb-true, le-leb, leb-true, agree_below_at, false≢true, cases_lt}
+use Rattle.std.proofs.lemmas.Bool.{ne_eqb}
 use Rattle.yaml_chars.specs.Classes.{in_range, is_in, code_point, printable, nb_json}
-use Rattle.yaml_grammar.specs.FlowScalars.{QuotedChar, raw, escape, number, quoted_char_fits, quoted_char_value, hex_digit, digit_of, hex_value, escaped_char}
+use Rattle.yaml_grammar.specs.FlowScalars.{QuotedChar, raw, escape, number, quoted_char_fits, quoted_char_value}
+use Rattle.yaml_grammar.specs.FlowScalars.{hex_digit, digit_of, hex_value, escaped_char}
 use Rattle.yaml_grammar.specs.Style.{shown, hex, letter_escape}
 use Rattle.yaml_recognizers.proofs.OneStyle.Presented.{item_of}
 use Rattle.yaml_recognizers.proofs.OneStyle.Characters.{from_range, to_range, after_not, code_point_high, shown_low}
@@ -52,7 +55,8 @@ has_letter_low c h = elim (or_cases ((c == 0) || in_range 7 13 c) (c == 27) h) [
 lettered : (c : ℕ) → has_letter c ≡ true → Quotes c (escape (letter_escape c))
 lettered c h =
     let right : letter_right c ≡ true = agree_below_at letter_right (λ x. true) 28 c refl (has_letter_low c h) in
-    let p : (quoted_char_fits (escape (letter_escape c)) ≡ true) × (escaped_char (letter_escape c) == c ≡ true) = and_parts _ _ (after_not _ _ right h) in
+    let p : (quoted_char_fits (escape (letter_escape c)) ≡ true) × (escaped_char (letter_escape c) == c ≡ true) =
+    and_parts _ _ (after_not _ _ right h) in
     (p.0, eqb-true _ c p.1)
 
 -- ---- numbers
@@ -65,7 +69,8 @@ short_right c = quoted_char_fits (number 120 (hex (c / 16) ∷ hex (c % 16) ∷ 
 short_number : (c : ℕ) → nat_le c 0xff ≡ true → Quotes c (number 120 (hex (c / 16) ∷ hex (c % 16) ∷ []))
 short_number c h =
     let low : c < 256 = (let q : c ≤ 255 = leb-true c 255 h in omega (arith, q)) in
-    let p : (quoted_char_fits (number 120 (hex (c / 16) ∷ hex (c % 16) ∷ [])) ≡ true) × (hex_value 0 (hex (c / 16) ∷ hex (c % 16) ∷ []) == c ≡ true) =
+    let p : (quoted_char_fits (number 120 (hex (c / 16) ∷ hex (c % 16) ∷ [])) ≡ true)
+    × (hex_value 0 (hex (c / 16) ∷ hex (c % 16) ∷ []) == c ≡ true) =
     and_parts _ _ (agree_below_at short_right (λ x. true) 256 c refl low) in
     (p.0, eqb-true _ c p.1)
 
@@ -76,7 +81,8 @@ digit_right d = hex_digit (hex d) && (digit_of (hex d) == d)
 -- the digit of a number below 16 means it
 digit : (d : ℕ) → d < 16 → (hex_digit (hex d) ≡ true) × (digit_of (hex d) ≡ d)
 digit d h =
-    let p : (hex_digit (hex d) ≡ true) × (digit_of (hex d) == d ≡ true) = and_parts _ _ (agree_below_at digit_right (λ x. true) 16 d refl h) in
+    let p : (hex_digit (hex d) ≡ true) × (digit_of (hex d) == d ≡ true) =
+    and_parts _ _ (agree_below_at digit_right (λ x. true) 16 d refl h) in
     (p.0, eqb-true _ d p.1)
 
 -- a character below 0x10000 is written by four digits
@@ -87,8 +93,12 @@ long_number c t h =
     let b : (hex_digit (hex (c / 256 % 16)) ≡ true) × (digit_of (hex (c / 256 % 16)) ≡ c / 256 % 16) = digit (c / 256 % 16) (omega arith) in
     let d : (hex_digit (hex (c / 16 % 16)) ≡ true) × (digit_of (hex (c / 16 % 16)) ≡ c / 16 % 16) = digit (c / 16 % 16) (omega arith) in
     let e : (hex_digit (hex (c % 16)) ≡ true) × (digit_of (hex (c % 16)) ≡ c % 16) = digit (c % 16) (omega arith) in
-    let value : hex_value 0 (hex (c / 4096) ∷ hex (c / 256 % 16) ∷ hex (c / 16 % 16) ∷ hex (c % 16) ∷ []) ≡ c = omega (arith, a.1, b.1, d.1, e.1) in
-    (and_from _ _ (and_from _ _ refl (and_from _ _ a.0 (and_from _ _ b.0 (and_from _ _ d.0 (and_from _ _ e.0 refl))))) (ap code_point value ∙ t), value)
+    let value : hex_value 0 (hex (c / 4096) ∷ hex (c / 256 % 16) ∷ hex (c / 16 % 16) ∷ hex (c % 16) ∷ []) ≡ c =
+    omega (arith, a.1, b.1, d.1, e.1) in (
+      and_from _ _ (and_from _ _ refl (and_from _ _ a.0 (and_from _ _ b.0 (and_from _ _ d.0 (and_from _ _ e.0 refl)))))
+          (ap code_point value ∙ t),
+      value,
+    )
 
 -- a greater number is another one
 above : (k c : ℕ) → k < c → c == k ≡ false
@@ -99,7 +109,8 @@ shown_above : (c : ℕ) → code_point c ≡ true → 0x10000 ≤ c → shown c 
 shown_above c t h =
     let plain : printable c ≡ true = or_right _ _ (to_range 0x10000 0x10ffff c h (code_point_high c t)) in
     let other : is_in c (0x2028 ∷ 0x2029 ∷ 0xfeff ∷ []) ≡ false =
-    or_from _ _ (above 0x2028 c (omega arith)) (or_from _ _ (above 0x2029 c (omega arith)) (or_from _ _ (above 0xfeff c (omega arith)) refl)) in
+    or_from _ _ (above 0x2028 c (omega arith)) (or_from _ _ (above 0x2029 c (omega arith))
+    (or_from _ _ (above 0xfeff c (omega arith)) refl)) in
     or_right _ _ (and_from _ _ (and_from _ _ (le-leb 0xa0 c (omega arith)) plain) (not_from_false _ other))
 
 -- a character that isn't shown is below 0x10000

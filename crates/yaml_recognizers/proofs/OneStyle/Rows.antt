@@ -16,7 +16,8 @@ tree =
     mapping
     (member (codes "k") (text (codes "a\n\nb\n\n"))
     (member (codes "1")
-    (sequence (element (text (codes "x")) (element (mapping (member (codes "y") (text (codes "q\nr")) no_member)) (element (sequence no_element) no_element))))
+    (sequence (element (text (codes "x")) (element (mapping (member (codes "y") (text (codes "q\nr")) no_member))
+    (element (sequence no_element) no_element))))
     (member (codes "m") (mapping (member (codes "z") (mapping no_member) no_member)) no_member)))
 
 -- its text in the one style

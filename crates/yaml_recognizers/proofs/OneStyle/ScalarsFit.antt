@@ -2,16 +2,20 @@
 use Rattle.std.proofs.Common.{◌≡◌, refl, sym, ◌∙◌, ap, inl, inr, arith, ◌≤◌}
 use Rattle.std.specs.Prelude.{ℕ, zero, suc, ◌+◌, Bool, true, false, cond, not, ◌&&◌, ◌||◌, nat_le, ◌==◌, List, [], ◌∷◌, ◌++◌, codes}
 use Rattle.std.specs.List.{list_all}
-use Rattle.std.proofs.lemmas.Bool.{cases_Bool, and_parts, and_from, and_left, and_right, or_parts, or_cases, or_left, or_right, or_from, cond_both, leb-true, not-true, not_from_false, le-leb, le-ltb, ne_eqb, false≢true}
+use Rattle.std.proofs.lemmas.Bool.{cases_Bool, and_parts, and_from, and_left, and_right, or_parts, or_cases, or_left}
+use Rattle.std.proofs.lemmas.Bool.{or_right, or_from, cond_both, leb-true, not-true, not_from_false, le-leb, le-ltb}
+use Rattle.std.proofs.lemmas.Bool.{ne_eqb, false≢true}
 use Rattle.yaml_chars.specs.Classes.{in_range, is_in, code_point, printable, nb, ns, white, line_break, indicator}
 use Rattle.yaml_grammar.specs.Texts.{IsText, first, spaces, marker, no_marker, starts_line}
 use Rattle.yaml_grammar.specs.Separation.{Sep, sep_text, sep_fits}
 use Rattle.yaml_grammar.specs.FlowScalars.{FlowContext, outer, safe, plain_text, lines_text, plain_run, quoted_char_fits, plain, double}
 use Rattle.yaml_grammar.specs.FlowNodes.{scalar, flow_text, flow_fits}
-use Rattle.yaml_grammar.specs.BlockScalars.{block_empties_text, block_empties_fit, text_line_fits, text_lines_fit, spaces_before, past_spaces, goes_on, block_text, block_fits}
+use Rattle.yaml_grammar.specs.BlockScalars.{block_empties_text, block_empties_fit, text_line_fits, text_lines_fit}
+use Rattle.yaml_grammar.specs.BlockScalars.{spaces_before, past_spaces, goes_on, block_text, block_fits}
 use Rattle.yaml_grammar.specs.BlockNodes.{flow, block, node_fits}
 use Rattle.yaml_grammar.specs.Style.{letter, word_char, plain_in_style, literal_in_style, shown, shown_or_feed, space_or_feed}
-use Rattle.yaml_recognizers.proofs.OneStyle.Presented.{feed, items_of_text, word_flow, bare_empties, line_with, held_by, empties_in, lines_in, literal_block, scalar_node}
+use Rattle.yaml_recognizers.proofs.OneStyle.Presented.{feed, items_of_text, word_flow, bare_empties, line_with}
+use Rattle.yaml_recognizers.proofs.OneStyle.Presented.{held_by, empties_in, lines_in, literal_block, scalar_node}
 use Rattle.yaml_recognizers.proofs.OneStyle.Characters.{from_range, of_letter, of_word}
 use Rattle.yaml_recognizers.proofs.OneStyle.QuotedChars.{item_quotes}
 
@@ -38,12 +42,14 @@ abbrev pub Wide : FlowContext → Type 0
 Wide c = (x : ℕ) → safe c x ≡ ns x
 
 -- the rest of a word fits as a run of a plain scalar
-run_fits : (c : FlowContext) (prev : ℕ) (xs after : List ℕ) → Wide c → white prev ≡ false → list_all word_char xs ≡ true → plain_run c prev xs after ≡ true
+run_fits : (c : FlowContext) (prev : ℕ) (xs after : List ℕ) → Wide c → white prev ≡ false
+    → list_all word_char xs ≡ true → plain_run c prev xs after ≡ true
 run_fits c prev [] after w p h = not_from_false _ p
 run_fits c prev (x ∷ xs) after w p h =
     let q : (word_char x ≡ true) × (list_all word_char xs ≡ true) = and_parts _ _ h in
     let r : (ns x && not (is_in x (codes ":#")) ≡ true) × (not (white x) ≡ true) = and_parts _ _ (word_tells x q.0) in
-    and_from _ _ (or_right (white x) _ (or_left _ _ (or_left _ _ (ap (λ b. b && not (is_in x (codes ":#"))) (w x) ∙ r.0)))) (run_fits c x xs after w (not-true _ r.1) q.1)
+    and_from _ _ (or_right (white x) _ (or_left _ _
+    (or_left _ _ (ap (λ b. b && not (is_in x (codes ":#"))) (w x) ∙ r.0)))) (run_fits c x xs after w (not-true _ r.1) q.1)
 
 -- a text that starts with neither `-` nor `.` has no marker
 pub unmarked : (x : ℕ) (rest : List ℕ) → x == 45 ≡ false → x == 46 ≡ false → marker (x ∷ rest) ≡ false
@@ -57,11 +63,13 @@ no_marker_there true text h = rw h
 no_marker_there false text h = refl
 
 -- a word fits as a plain scalar
-word_fits : (value : List ℕ) (n : ℕ) (c : FlowContext) (bol : Bool) (after : List ℕ) → Wide c → plain_in_style value ≡ true → flow_fits (scalar (plain value [])) n c bol after ≡ true
+word_fits : (value : List ℕ) (n : ℕ) (c : FlowContext) (bol : Bool) (after : List ℕ) → Wide c
+    → plain_in_style value ≡ true → flow_fits (scalar (plain value [])) n c bol after ≡ true
 word_fits [] n c bol after w h = absurd (false≢true h)
 word_fits (x ∷ xs) n c bol after w h =
     let p : (letter x ≡ true) × (list_all word_char (x ∷ xs) ≡ true) = and_parts _ _ (and_parts _ _ (and_parts _ _ h).0).0 in
-    let q : (ns x && not (indicator x) && not (white x) && not (x == 46) ≡ true) × (not (x == 45) ≡ true) = and_parts _ _ (letter_tells x p.0) in
+    let q : (ns x && not (indicator x) && not (white x) && not (x == 46) ≡ true) × (not (x == 45) ≡ true) =
+    and_parts _ _ (letter_tells x p.0) in
     let r : (ns x && not (indicator x) && not (white x) ≡ true) × (not (x == 46) ≡ true) = and_parts _ _ q.0 in
     let s : (ns x && not (indicator x) ≡ true) × (not (white x) ≡ true) = and_parts _ _ r.0 in
     let t : (ns x ≡ true) × (not (indicator x) ≡ true) = and_parts _ _ s.0 in
@@ -69,7 +77,8 @@ word_fits (x ∷ xs) n c bol after w h =
     let tail : List ℕ = lines_text plain_text xs [] ++ after in
     and_from _ _ (and_from _ _ (and_from _ _
     (no_marker_there bol (x ∷ tail) (unmarked x tail (not-true _ q.1) (not-true _ r.1)))
-    (and_from _ _ (and_from _ _ t.0 (or_left (not (indicator x)) (is_in x (codes "?:-") && first (safe c) (xs ++ after)) t.1)) (run_fits c x xs after w (not-true _ s.1) rest))) refl) refl
+    (and_from _ _ (and_from _ _ t.0 (or_left (not (indicator x))
+    (is_in x (codes "?:-") && first (safe c) (xs ++ after)) t.1)) (run_fits c x xs after w (not-true _ s.1) rest))) refl) refl
 
 -- ---- between double quotes
 
@@ -81,14 +90,17 @@ items_fit_quotes (c ∷ cs) t =
     and_from _ _ (item_quotes c p.0).0 (items_fit_quotes cs p.1)
 
 -- a text between double quotes fits
-quoted_fits : (value : List ℕ) (n : ℕ) (c : FlowContext) (bol : Bool) (after : List ℕ) → IsText value → flow_fits (scalar (double (items_of_text value) [])) n c bol after ≡ true
+quoted_fits : (value : List ℕ) (n : ℕ) (c : FlowContext) (bol : Bool) (after : List ℕ) → IsText value
+    → flow_fits (scalar (double (items_of_text value) [])) n c bol after ≡ true
 quoted_fits value n c bol after t = and_from _ _ (and_from _ _ (items_fit_quotes value t) refl) refl
 
 -- a key fits as a flow node
-pub word_flow_fits : (key : List ℕ) (n : ℕ) (c : FlowContext) (bol : Bool) (after : List ℕ) → Wide c → IsText key → flow_fits (word_flow key) n c bol after ≡ true
+pub word_flow_fits : (key : List ℕ) (n : ℕ) (c : FlowContext) (bol : Bool) (after : List ℕ) → Wide c → IsText key
+    → flow_fits (word_flow key) n c bol after ≡ true
 word_flow_fits key n c bol after w t = by (plain_in_style key) refl
   where
-    by : (b : Bool) → plain_in_style key ≡ b → flow_fits (scalar (cond b (plain key []) (double (items_of_text key) []))) n c bol after ≡ true
+    by : (b : Bool) → plain_in_style key ≡ b → flow_fits
+        (scalar (cond b (plain key []) (double (items_of_text key) []))) n c bol after ≡ true
     by true e = word_fits key n c bol after w e
     by false e = quoted_fits key n c bol after t
 
@@ -115,7 +127,8 @@ shown_nb c f h = elim (or_cases (shown c) (c == 10) h) [
   | inl s ↦ elim (or_cases (in_range 0x20 0x7e c) (nat_le 0xa0 c && printable c && not (is_in c (0x2028 ∷ 0x2029 ∷ 0xfeff ∷ []))) s) [
     | inl a ↦ (let r : (0x20 ≤ c) × (c ≤ 0x7e) = from_range 0x20 0x7e c a in
         and_from _ _ (or_left _ _ (or_left _ _ (or_left _ _ (or_right (is_in c (9 ∷ 10 ∷ 13 ∷ 0x85 ∷ [])) _ a))))
-        (not_from_false _ (or_from _ _ (or_from _ _ f (ne_eqb c 13 (λ e. omega (arith, r.0, e)))) (ne_eqb c 0xfeff (λ e. omega (arith, r.1, e))))))
+        (not_from_false _ (or_from _ _ (or_from _ _ f (ne_eqb c 13 (λ e. omega (arith, r.0, e))))
+        (ne_eqb c 0xfeff (λ e. omega (arith, r.1, e))))))
     | inr a ↦ (let p : (nat_le 0xa0 c && printable c ≡ true) × (not (is_in c (0x2028 ∷ 0x2029 ∷ 0xfeff ∷ [])) ≡ true) = and_parts _ _ a in
         let q : (nat_le 0xa0 c ≡ true) × (printable c ≡ true) = and_parts _ _ p.0 in
         let l : 0xa0 ≤ c = leb-true 0xa0 c q.0 in
@@ -138,25 +151,30 @@ held_nb (c ∷ cs) h =
     ]
 
 -- a line of a literal fits
-line_fits : (q c empties : ℕ) (held after : List ℕ) → nb c ≡ true → list_all nb held ≡ true → text_line_fits (suc q) (line_with (c ∷ held) empties) after ≡ true
+line_fits : (q c empties : ℕ) (held after : List ℕ) → nb c ≡ true → list_all nb held ≡ true
+    → text_line_fits (suc q) (line_with (c ∷ held) empties) after ≡ true
 line_fits q c empties held after h k =
     let tail : List ℕ = spaces q ++ (c ∷ held) ++ codes "\n" ++ block_empties_text (bare_empties empties) ++ after in
-    and_from _ _ (and_from _ _ (and_from _ _ (and_from _ _ refl (and_from _ _ h k)) (no_marker_there true (32 ∷ tail) (unmarked 32 tail refl refl))) refl) (bare_empties_fit (suc q) empties after)
+    and_from _ _ (and_from _ _ (and_from _ _ (and_from _ _ refl (and_from _ _ h k))
+    (no_marker_there true (32 ∷ tail) (unmarked 32 tail refl refl))) refl) (bare_empties_fit (suc q) empties after)
 
 -- the lines of a literal fit
-lines_fit : (q : ℕ) (fresh : Bool) (cs after : List ℕ) → list_all shown_or_feed cs ≡ true → text_lines_fit (suc q) (lines_in fresh cs) after ≡ true
+lines_fit : (q : ℕ) (fresh : Bool) (cs after : List ℕ) → list_all shown_or_feed cs ≡ true
+    → text_lines_fit (suc q) (lines_in fresh cs) after ≡ true
 lines_fit q fresh [] after h = refl
 lines_fit q fresh (c ∷ cs) after h =
     let p : (shown_or_feed c ≡ true) × (list_all shown_or_feed cs ≡ true) = and_parts _ _ h in
     elim (cases_Bool (c == 10)) [
       | inl e ↦ rw e (lines_fit q true cs after p.1)
       | inr e ↦ rw e (cond_both fresh _ _ (λ ls. text_lines_fit (suc q) ls after ≡ true)
-          (λ f. and_from _ _ (line_fits q c (empties_in false cs) (held_by cs) _ (shown_nb c e p.0) (held_nb cs p.1)) (lines_fit q false cs after p.1))
+          (λ f. and_from _ _ (line_fits q c (empties_in false cs) (held_by cs) _ (shown_nb c e p.0) (held_nb cs p.1))
+          (lines_fit q false cs after p.1))
           (λ f. lines_fit q false cs after p.1))
     ]
 
 -- a literal fits
-literal_fits : (i m : ℕ) (value after : List ℕ) → m ≤ i + 2 → literal_in_style value ≡ true → Below i after → block_fits m (literal_block (i + 2) value) after ≡ true
+literal_fits : (i m : ℕ) (value after : List ℕ) → m ≤ i + 2 → literal_in_style value ≡ true → Below i after
+    → block_fits m (literal_block (i + 2) value) after ≡ true
 literal_fits i m [] after l h b = absurd (false≢true h)
 literal_fits i m (c ∷ cs) after l h b =
     let p : (is_in 10 (c ∷ cs) && not (first space_or_feed (c ∷ cs)) ≡ true) × (list_all shown_or_feed (c ∷ cs) ≡ true) = and_parts _ _ h in
@@ -172,12 +190,18 @@ literal_fits i m (c ∷ cs) after l h b =
 
 -- a value fits as a node
 pub scalar_node_fits : (sep : Sep) (i m : ℕ) (shallow bol : Bool) (value after : List ℕ) → m ≤ i + 2 → IsText value
-    → ((rest : List ℕ) → sep_fits m false bol sep rest ≡ true) → Below i after → node_fits (scalar_node sep (i + 2) value) m shallow bol after ≡ true
+    → ((rest : List ℕ) → sep_fits m false bol sep rest ≡ true) → Below i after
+    → node_fits (scalar_node sep (i + 2) value) m shallow bol after ≡ true
 scalar_node_fits sep i m shallow bol value after l t s b = by (plain_in_style value) (literal_in_style value) refl refl
   where
     by : (p q : Bool) → plain_in_style value ≡ p → literal_in_style value ≡ q
-        → node_fits (cond p (flow sep (scalar (plain value [])) (feed ∷ [])) (cond q (block sep (literal_block (i + 2) value)) (flow sep (scalar (double (items_of_text value) [])) (feed ∷ [])))) m shallow bol after
+        → node_fits (cond p (flow sep (scalar (plain value [])) (feed ∷ []))
+        (cond q (block sep (literal_block (i + 2) value))
+        (flow sep (scalar (double (items_of_text value) [])) (feed ∷ [])))) m shallow bol after
         ≡ true
-    by true q e f = and_from _ _ (and_from _ _ (s (flow_text (scalar (plain value [])) ++ (10 ∷ after))) (word_fits value m outer (starts_line bol (sep_text sep)) (10 ∷ after) (λ x. refl) e)) refl
+    by true q e f = and_from _ _ (and_from _ _ (s (flow_text (scalar (plain value [])) ++ (10 ∷ after)))
+        (word_fits value m outer (starts_line bol (sep_text sep)) (10 ∷ after) (λ x. refl) e)) refl
     by false true e f = and_from _ _ (s (block_text (literal_block (i + 2) value) ++ after)) (literal_fits i m value after l f b)
-    by false false e f = and_from _ _ (and_from _ _ (s (flow_text (scalar (double (items_of_text value) [])) ++ (10 ∷ after))) (quoted_fits value m outer (starts_line bol (sep_text sep)) (10 ∷ after) t)) refl
+    by false false e f = and_from _ _ (and_from _ _
+        (s (flow_text (scalar (double (items_of_text value) [])) ++ (10 ∷ after)))
+        (quoted_fits value m outer (starts_line bol (sep_text sep)) (10 ∷ after) t)) refl

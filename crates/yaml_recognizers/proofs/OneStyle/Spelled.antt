@@ -1,6 +1,7 @@
 -- The presentation of a tree spells the tree's text in the one style.
 use Rattle.std.proofs.Common.{◌≡◌, refl, sym, ◌∙◌, ap, inl, inr, append_assoc, arith}
-use Rattle.std.specs.Prelude.{ℕ, zero, suc, ◌+◌, ◌/◌, ◌%◌, Bool, true, false, cond, not, ◌&&◌, ◌||◌, nat_le, ◌==◌, List, [], ◌∷◌, ◌++◌, codes, flat_map}
+use Rattle.std.specs.Prelude.{ℕ, zero, suc, ◌+◌, ◌/◌, ◌%◌, Bool, true, false, cond, not, ◌&&◌, ◌||◌, nat_le, ◌==◌}
+use Rattle.std.specs.Prelude.{List, [], ◌∷◌, ◌++◌, codes, flat_map}
 use Rattle.std.proofs.lemmas.List.{append-nil}
 use Rattle.std.proofs.lemmas.Bool.{cases_Bool, and_parts, or_parts, not-true}
 use Rattle.yaml_chars.specs.Classes.{in_range, is_in}
@@ -10,12 +11,20 @@ use Rattle.yaml_grammar.specs.Separation.{Sep, sep_text}
 use Rattle.yaml_grammar.specs.FlowScalars.{raw, escape, number, quoted_char_text, plain_text, plain, double, scalar_text}
 use Rattle.yaml_grammar.specs.FlowNodes.{scalar, flow_text}
 use Rattle.yaml_grammar.specs.BlockScalars.{chomping_text, block_empties_text, text_lines_text, block_text}
-use Rattle.yaml_grammar.specs.BlockNodes.{flow, block, Node, node_text, Indented, indented_text, items_text, Pair, pair_text, pairs_text, asked, keyed, node}
+use Rattle.yaml_grammar.specs.BlockNodes.{flow, block, Node, node_text, Indented, indented_text, items_text, Pair}
+use Rattle.yaml_grammar.specs.BlockNodes.{pair_text, pairs_text, asked, keyed, node}
 use Rattle.yaml_grammar.specs.Trees.{Tree, text, sequence, mapping, Elements, no_element, element, Members, no_member, member}
 use Rattle.yaml_grammar.specs.Streams.{stream_text}
-use Rattle.yaml_grammar.specs.Style.{plain_in_style, literal_in_style, shown, shown_or_feed, space_or_feed, hex, letter_escape, quoted_char, quoted_chars, in_double_quotes, literal_mark, literal_lines, feeds_at_end, scalar_lines, key_text, long_key, key_lines, elements_after, lines_after_dash, members_after, value_at, style_text}
+use Rattle.yaml_grammar.specs.Style.{plain_in_style, literal_in_style, shown, shown_or_feed, space_or_feed, hex}
+use Rattle.yaml_grammar.specs.Style.{letter_escape, quoted_char, quoted_chars, in_double_quotes, literal_mark}
+use Rattle.yaml_grammar.specs.Style.{literal_lines, feeds_at_end, scalar_lines, key_text, long_key, key_lines}
+use Rattle.yaml_grammar.specs.Style.{elements_after, lines_after_dash, members_after, value_at, style_text}
 use Rattle.yaml_recognizers.specs.Closings.{framed_text}
-use Rattle.yaml_recognizers.proofs.OneStyle.Presented.{feed, one_space, item_of, items_of_text, word_flow, bare_empties, held_by, empties_in, lines_in, chomping_of, literal_block, scalar_node, pair_of, element_of, value_of, items_from, pairs_from, Place, at_start, after_marker, place_sep, top_node, presentation_of, framed_presentation_of}
+use Rattle.yaml_recognizers.proofs.OneStyle.Presented.{feed, one_space, item_of, items_of_text, word_flow}
+use Rattle.yaml_recognizers.proofs.OneStyle.Presented.{bare_empties, held_by, empties_in, lines_in, chomping_of}
+use Rattle.yaml_recognizers.proofs.OneStyle.Presented.{literal_block, scalar_node, pair_of, element_of, value_of}
+use Rattle.yaml_recognizers.proofs.OneStyle.Presented.{items_from, pairs_from, Place, at_start, after_marker}
+use Rattle.yaml_recognizers.proofs.OneStyle.Presented.{place_sep, top_node, presentation_of, framed_presentation_of}
 
 -- ---- scalars on one line
 
@@ -57,7 +66,8 @@ quoted_spelled value = ap (λ t. 34 ∷ (t ++ (34 ∷ []))) (append-nil _ ∙ it
 pub word_flow_spelled : (key : List ℕ) → flow_text (word_flow key) ≡ key_text key
 word_flow_spelled key = by (plain_in_style key)
   where
-    by : (b : Bool) → flow_text (scalar (cond b (plain key []) (double (items_of_text key) []))) ≡ cond b key (34 ∷ (quoted_chars key ++ (34 ∷ [])))
+    by : (b : Bool) → flow_text (scalar (cond b (plain key []) (double (items_of_text key) [])))
+        ≡ cond b key (34 ∷ (quoted_chars key ++ (34 ∷ [])))
     by true = word_spelled key
     by false = quoted_spelled key
 
@@ -65,7 +75,8 @@ word_flow_spelled key = by (plain_in_style key)
 
 mutual
   -- from the start of a line on
-  fresh_spelled : (j : ℕ) (cs : List ℕ) → block_empties_text (bare_empties (empties_in true cs)) ++ text_lines_text j (lines_in true cs) ≡ literal_lines j true cs
+  fresh_spelled : (j : ℕ) (cs : List ℕ) → block_empties_text (bare_empties (empties_in true cs))
+      ++ text_lines_text j (lines_in true cs) ≡ literal_lines j true cs
   fresh_spelled j [] = refl
   fresh_spelled j (c ∷ cs) = elim (cases_Bool (c == 10)) [
     | inl e ↦ rw e (ap (λ t. 10 ∷ t) (fresh_spelled j cs))
@@ -73,7 +84,9 @@ mutual
   ]
 
   -- from a place within a line on
-  line_spelled : (j : ℕ) (cs : List ℕ) → held_by cs ++ (10 ∷ (block_empties_text (bare_empties (empties_in false cs)) ++ text_lines_text j (lines_in false cs))) ≡ literal_lines j false cs
+  line_spelled : (j : ℕ) (cs : List ℕ) → held_by cs
+      ++ (10 ∷ (block_empties_text (bare_empties (empties_in false cs)) ++ text_lines_text j (lines_in false cs)))
+      ≡ literal_lines j false cs
   line_spelled j [] = refl
   line_spelled j (c ∷ cs) = elim (cases_Bool (c == 10)) [
     | inl e ↦ rw e (ap (λ t. 10 ∷ t) (fresh_spelled j cs))
@@ -83,7 +96,8 @@ mutual
 -- ---- values
 
 -- the header of a literal is spelled as the one style writes it
-mark_spelled : (n : ℕ) (rest : List ℕ) → (124 ∷ (chomping_text (chomping_of n) ++ (10 ∷ []))) ++ rest ≡ (literal_mark n ++ (10 ∷ [])) ++ rest
+mark_spelled : (n : ℕ) (rest : List ℕ) → (124 ∷ (chomping_text (chomping_of n) ++ (10 ∷ []))) ++ rest
+    ≡ (literal_mark n ++ (10 ∷ [])) ++ rest
 mark_spelled zero rest = refl
 mark_spelled (suc zero) rest = refl
 mark_spelled (suc (suc n)) rest = refl
@@ -100,18 +114,23 @@ literal_spelled j value h =
     let p : (is_in 10 value && not (first space_or_feed value) ≡ true) × (list_all shown_or_feed value ≡ true) = and_parts _ _ h in
     let none : empties_in true value ≡ 0 = no_empties value (not-true _ (and_parts _ _ p.0).1) in
     let lines : text_lines_text j (lines_in true value) ≡ literal_lines j true value = (rw none at (fresh_spelled j value)) in
-    append-nil _ ∙ (mark_spelled (feeds_at_end value) (text_lines_text j (lines_in true value)) ∙ ap (λ t. (literal_mark (feeds_at_end value) ++ (10 ∷ [])) ++ t) lines)
+    append-nil _ ∙ (mark_spelled (feeds_at_end value) (text_lines_text j (lines_in true value))
+    ∙ ap (λ t. (literal_mark (feeds_at_end value) ++ (10 ∷ [])) ++ t) lines)
 
 -- a scalar is spelled as the one style writes it
 scalar_spelled : (sep : Sep) (j : ℕ) (value : List ℕ) → node_text (scalar_node sep j value) ≡ sep_text sep ++ scalar_lines j value
 scalar_spelled sep j value = by (plain_in_style value) (literal_in_style value) refl
   where
     by : (p l : Bool) → literal_in_style value ≡ l
-        → node_text (cond p (flow sep (scalar (plain value [])) (feed ∷ [])) (cond l (block sep (literal_block j value)) (flow sep (scalar (double (items_of_text value) [])) (feed ∷ []))))
-        ≡ sep_text sep ++ cond p (value ++ codes "\n") (cond l (literal_mark (feeds_at_end value) ++ codes "\n" ++ literal_lines j true value) (in_double_quotes value ++ codes "\n"))
+        → node_text (cond p (flow sep (scalar (plain value [])) (feed ∷ []))
+        (cond l (block sep (literal_block j value)) (flow sep (scalar (double (items_of_text value) [])) (feed ∷ []))))
+        ≡ sep_text sep ++ cond p (value ++ codes "\n")
+        (cond l (literal_mark (feeds_at_end value) ++ codes "\n" ++ literal_lines j true value)
+        (in_double_quotes value ++ codes "\n"))
     by true l e = ap (λ t. (sep_text sep ++ t) ++ (10 ∷ [])) (word_spelled value) ∙ append_assoc (sep_text sep) value (10 ∷ [])
     by false true e = ap (λ t. sep_text sep ++ t) (literal_spelled j value e)
-    by false false e = ap (λ t. (sep_text sep ++ t) ++ (10 ∷ [])) (quoted_spelled value) ∙ append_assoc (sep_text sep) (in_double_quotes value) (10 ∷ [])
+    by false false e = ap (λ t. (sep_text sep ++ t) ++ (10 ∷ [])) (quoted_spelled value)
+        ∙ append_assoc (sep_text sep) (in_double_quotes value) (10 ∷ [])
 
 -- ---- keys
 
@@ -119,7 +138,8 @@ scalar_spelled sep j value = by (plain_in_style value) (literal_in_style value) 
 pub pair_spelled : (key : List ℕ) (value : Node) (i : ℕ) → pair_text (pair_of key value) i ≡ key_lines i key ++ node_text value
 pair_spelled key value i = by (long_key key)
   where
-    by : (b : Bool) → pair_text (cond b (asked (node (flow one_space (word_flow key) (feed ∷ []))) (node value)) (keyed (word_flow key) [] value)) i
+    by : (b : Bool) → pair_text (cond b (asked (node (flow one_space (word_flow key) (feed ∷ []))) (node value))
+        (keyed (word_flow key) [] value)) i
         ≡ cond b (codes "? " ++ key_text key ++ codes "\n" ++ spaces i ++ codes ":") (key_text key ++ codes ":") ++ node_text value
     by true = ap (λ k. ((((codes "? " ++ k) ++ codes "\n") ++ spaces i) ++ codes ":") ++ node_text value) (word_flow_spelled key)
     by false = ap (λ k. (k ++ codes ":") ++ node_text value) (append-nil _ ∙ word_flow_spelled key)
@@ -151,10 +171,16 @@ mutual
   pub element_spelled : (t : Tree) (i : ℕ) → indented_text (element_of t i) i ≡ 32 ∷ lines_after_dash t i
   element_spelled (text value) i = scalar_spelled one_space (i + 2) value
   element_spelled (sequence no_element) i = refl
-  element_spelled (sequence (element t ts)) i = rw (two_more i, elements_spelled (element_of t (i + 2)) ts (i + 2), element_spelled t (i + 2))
+  element_spelled (sequence (element t ts)) i =
+      rw (two_more i, elements_spelled (element_of t (i + 2)) ts (i + 2), element_spelled t (i + 2))
   element_spelled (mapping no_member) i = refl
   element_spelled (mapping (member key t ms)) i =
-      rw (two_more i, members_spelled (pair_of key (value_of t (i + 2))) ms (i + 2), pair_spelled key (value_of t (i + 2)) (i + 2), value_spelled t (i + 2))
+      rw (
+        two_more i,
+        members_spelled (pair_of key (value_of t (i + 2))) ms (i + 2),
+        pair_spelled key (value_of t (i + 2)) (i + 2),
+        value_spelled t (i + 2),
+      )
 
   -- a value is spelled as the one style writes it after the `:` of its key
   value_spelled : (t : Tree) (i : ℕ) → node_text (value_of t i) ≡ value_at t i
@@ -163,18 +189,25 @@ mutual
   value_spelled (sequence (element t ts)) i = rw (elements_spelled (element_of t (i + 2)) ts (i + 2), element_spelled t (i + 2))
   value_spelled (mapping no_member) i = refl
   value_spelled (mapping (member key t ms)) i =
-      rw (members_spelled (pair_of key (value_of t (i + 2))) ms (i + 2), pair_spelled key (value_of t (i + 2)) (i + 2), value_spelled t (i + 2))
+      rw (
+        members_spelled (pair_of key (value_of t (i + 2))) ms (i + 2),
+        pair_spelled key (value_of t (i + 2)) (i + 2),
+        value_spelled t (i + 2),
+      )
 
   -- a first element and further ones are spelled as the one style writes them
-  elements_spelled : (one : Indented) (ts : Elements) (i : ℕ) → items_text (items_from one ts i) i ≡ 45 ∷ (indented_text one i ++ elements_after ts i)
+  elements_spelled : (one : Indented) (ts : Elements) (i : ℕ)
+      → items_text (items_from one ts i) i ≡ 45 ∷ (indented_text one i ++ elements_after ts i)
   elements_spelled one no_element i = ap (λ x. 45 ∷ x) (sym (append-nil _))
-  elements_spelled one (element t ts) i = rw (elements_spelled (element_of t i) ts i, element_spelled t i) (ap (λ x. 45 ∷ x) (item_joined (indented_text one i) (spaces i) (lines_after_dash t i) (elements_after ts i)))
+  elements_spelled one (element t ts) i = rw (elements_spelled (element_of t i) ts i, element_spelled t i)
+      (ap (λ x. 45 ∷ x) (item_joined (indented_text one i) (spaces i) (lines_after_dash t i) (elements_after ts i)))
 
   -- a first member and further ones are spelled as the one style writes them
   members_spelled : (one : Pair) (ms : Members) (i : ℕ) → pairs_text (pairs_from one ms i) i ≡ pair_text one i ++ members_after ms i
   members_spelled one no_member i = sym (append-nil _)
   members_spelled one (member key t ms) i =
-      rw (members_spelled (pair_of key (value_of t i)) ms i, pair_spelled key (value_of t i) i, value_spelled t i) (pair_joined (pair_text one i) (spaces i) (key_lines i key) (value_at t i) (members_after ms i))
+      rw (members_spelled (pair_of key (value_of t i)) ms i, pair_spelled key (value_of t i) i, value_spelled t i)
+      (pair_joined (pair_text one i) (spaces i) (key_lines i key) (value_at t i) (members_after ms i))
 
 -- what comes before a node at the top
 abbrev pub place_text : Place → List ℕ

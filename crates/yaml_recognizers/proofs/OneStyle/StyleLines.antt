@@ -5,7 +5,10 @@ use Rattle.std.proofs.lemmas.Bool.{cond_both, and_parts, and_from, not-true, not
 use Rattle.std.specs.List.{list_all}
 use Rattle.yaml_grammar.specs.Texts.{spaces}
 use Rattle.yaml_grammar.specs.Trees.{Tree, text, sequence, mapping, Elements, no_element, element, Members, no_member, member}
-use Rattle.yaml_grammar.specs.Style.{letter, word_char, hex, quoted_chars, in_double_quotes, plain_in_style, literal_in_style, literal_mark, literal_lines, feeds_at_end, scalar_lines, key_text, long_key, key_lines, elements_at, elements_after, lines_after_dash, members_at, members_after, value_at, style_text}
+use Rattle.yaml_grammar.specs.Style.{letter, word_char, hex, quoted_chars, in_double_quotes, plain_in_style}
+use Rattle.yaml_grammar.specs.Style.{literal_in_style, literal_mark, literal_lines, feeds_at_end, scalar_lines}
+use Rattle.yaml_grammar.specs.Style.{key_text, long_key, key_lines, elements_at, elements_after, lines_after_dash}
+use Rattle.yaml_grammar.specs.Style.{members_at, members_after, value_at, style_text}
 use Rattle.yaml_recognizers.proofs.OneStyle.Characters.{every_joined, of_letter, of_word, shown_low, Writes, quoted_chars_all}
 use Rattle.yaml_recognizers.proofs.OneStyle.Spelled.{item_regrouped, pair_regrouped}
 use Rattle.yaml_recognizers.proofs.OneStyle.Closings.{ends_from, dotless}
@@ -15,7 +18,8 @@ abbrev pub Lined : Bool → List ℕ → Bool → Type 0
 Lined bol source end = (dotless bol source ≡ true) × (ends_from bol source ≡ end)
 
 -- two texts without a dot at the start of a line, joined, have none
-joined : (bol middle end : Bool) (prefix after : List ℕ) → Lined bol prefix middle → Lined middle after end → Lined bol (prefix ++ after) end
+joined : (bol middle end : Bool) (prefix after : List ℕ) → Lined bol prefix middle → Lined middle after end
+    → Lined bol (prefix ++ after) end
 joined bol middle end [] after h k = (ap (λ b. dotless b after) h.1 ∙ k.0, ap (λ b. ends_from b after) h.1 ∙ k.1)
 joined bol middle end (c ∷ cs) after h k =
     let p : (not (bol && (c == 46)) ≡ true) × (dotless (c == 10) cs ≡ true) = and_parts _ _ h.0 in
@@ -77,7 +81,9 @@ word_lined (c ∷ cs) bol h =
 -- a hexadecimal digit is no line feed
 hex_feedless : (d : ℕ) → no_feed (hex d) ≡ true
 hex_feedless d =
-    cond_both (nat_lt d 10) (48 + d) (55 + d) (λ x. no_feed x ≡ true) (λ e. not_from_false _ (ne_eqb (48 + d) 10 (λ q. omega (arith, q)))) (λ e. not_from_false _ (ne_eqb (55 + d) 10 (λ q. omega (arith, q))))
+    cond_both (nat_lt d 10) (48 + d) (55 + d) (λ x. no_feed x ≡ true)
+    (λ e. not_from_false _ (ne_eqb (48 + d) 10 (λ q. omega (arith, q))))
+    (λ e. not_from_false _ (ne_eqb (55 + d) 10 (λ q. omega (arith, q))))
 
 -- a test that passes everything passes each list
 any : (cs : List ℕ) → list_all (λ c. true) cs ≡ true
@@ -87,10 +93,17 @@ any (c ∷ cs) = any cs
 -- a text between double quotes starts with no dot
 quoted_lined : (value : List ℕ) (bol : Bool) → Lined bol (in_double_quotes value) false
 quoted_lined value bol =
-    begun bol 34 (quoted_chars value ++ (34 ∷ [])) refl (every_joined no_feed (quoted_chars value) (34 ∷ []) (quoted_chars_all no_feed (λ c. true) value (λ c h. writes c) (any value)) refl)
+    begun bol 34 (quoted_chars value ++ (34 ∷ [])) refl
+    (every_joined no_feed (quoted_chars value) (34 ∷ [])
+    (quoted_chars_all no_feed (λ c. true) value (λ c h. writes c) (any value)) refl)
   where
     writes : (c : ℕ) → Writes no_feed c
-    writes c = record { signs = refl; letters = refl; shown = λ s. not_from_false _ (ne_eqb c 10 (λ q. omega (arith, shown_low c s, q))); digits = λ d l. hex_feedless d }
+    writes c = record {
+      signs = refl;
+      letters = refl;
+      shown = λ s. not_from_false _ (ne_eqb c 10 (λ q. omega (arith, shown_low c s, q)));
+      digits = λ d l. hex_feedless d;
+    }
 
 -- ---- literals
 
@@ -104,10 +117,12 @@ literal_lined j true [] = (refl, refl)
 literal_lined j false [] = (refl, refl)
 literal_lined j fresh (c ∷ cs) =
     cond_both (c == 10) _ _ (λ ls. Lined fresh ls true)
-    (λ e. let more : Lined true (literal_lines (suc j) true cs) true = literal_lined j true cs in (and_from _ _ (not_both fresh false refl) more.0, more.1))
+    (λ e. let more : Lined true (literal_lines (suc j) true cs) true = literal_lined j true cs in
+    (and_from _ _ (not_both fresh false refl) more.0, more.1))
     (λ e. by fresh (char_lined c (literal_lines (suc j) false cs) e (literal_lined j false cs)))
   where
-    by : (b : Bool) → Lined false (c ∷ literal_lines (suc j) false cs) true → Lined b (cond b (spaces (suc j)) [] ++ c ∷ literal_lines (suc j) false cs) true
+    by : (b : Bool) → Lined false (c ∷ literal_lines (suc j) false cs) true
+        → Lined b (cond b (spaces (suc j)) [] ++ c ∷ literal_lines (suc j) false cs) true
     by true h = after_spaces j true (c ∷ literal_lines (suc j) false cs) h
     by false h = h
 
@@ -129,7 +144,8 @@ scalar_lined i value bol =
     cond_both (plain_in_style value) _ _ (λ ls. Lined bol ls true)
     (λ e. joined bol false true value (codes "\n") (word_lined value bol e) (refl, refl))
     (λ e. cond_both (literal_in_style value) _ _ (λ ls. Lined bol ls true)
-    (λ l. joined bol true true (literal_mark (feeds_at_end value) ++ codes "\n") (literal_lines (i + 2) true value) (mark_lined bol (feeds_at_end value)) (rw two (literal_lined (suc i) true value)))
+    (λ l. joined bol true true (literal_mark (feeds_at_end value) ++ codes "\n") (literal_lines (i + 2) true value)
+    (mark_lined bol (feeds_at_end value)) (rw two (literal_lined (suc i) true value)))
     (λ l. joined bol false true (in_double_quotes value) (codes "\n") (quoted_lined value bol) (refl, refl)))
 
 -- a key starts with no dot
@@ -158,22 +174,28 @@ key_lines_lined i key bol =
     cond_both (long_key key) _ _ (λ ls. Lined bol ls false)
     (λ e. subst (λ ls. Lined bol ls false) (sym (append_assoc (codes "? " ++ key_text key ++ codes "\n") (spaces i) (codes ":")))
     (joined bol true false (codes "? " ++ key_text key ++ codes "\n") (spaces i ++ codes ":")
-    (joined bol false true (codes "? " ++ key_text key) (codes "\n") (joined bol false false (codes "? ") (key_text key) (asks bol) (key_lined key false)) (refl, refl)) led_colon))
+    (joined bol false true (codes "? " ++ key_text key) (codes "\n")
+    (joined bol false false (codes "? ") (key_text key) (asks bol) (key_lined key false)) (refl, refl)) led_colon))
     (λ e. joined bol false false (key_text key) (codes ":") (key_lined key bol) (colon false))
 
 -- ---- trees
 
 -- an empty collection starts with no dot
 empty_lined : (bol : Bool) (a b : ℕ) → a == 46 ≡ false → a == 10 ≡ false → b == 10 ≡ false → Lined bol (a ∷ b ∷ codes "\n") true
-empty_lined bol a b d e f = joined bol false true (a ∷ b ∷ []) (codes "\n") (begun bol a (b ∷ []) d (and_from _ _ (not_from_false _ e) (and_from _ _ (not_from_false _ f) refl))) (refl, refl)
+empty_lined bol a b d e f = joined bol false true (a ∷ b ∷ []) (codes "\n")
+    (begun bol a (b ∷ []) d (and_from _ _ (not_from_false _ e) (and_from _ _ (not_from_false _ f) refl))) (refl, refl)
 
 -- a sequence has no dot at the start of a line, if its elements have none
-elements_lined : (t : Tree) (i : ℕ) (bol : Bool) (ts : Elements) → Lined false (lines_after_dash t i) true → Lined true (elements_after ts i) true → Lined bol (elements_at (element t ts) i) true
-elements_lined t i bol ts h k = joined bol true true (codes "- " ++ lines_after_dash t i) (elements_after ts i) (joined bol false true (codes "- ") (lines_after_dash t i) (dashes bol) h) k
+elements_lined : (t : Tree) (i : ℕ) (bol : Bool) (ts : Elements) → Lined false (lines_after_dash t i) true
+    → Lined true (elements_after ts i) true → Lined bol (elements_at (element t ts) i) true
+elements_lined t i bol ts h k = joined bol true true (codes "- " ++ lines_after_dash t i) (elements_after ts i)
+    (joined bol false true (codes "- ") (lines_after_dash t i) (dashes bol) h) k
 
 -- a mapping has no dot at the start of a line, if its members have none
-members_lined : (key : List ℕ) (t : Tree) (i : ℕ) (bol : Bool) (ms : Members) → Lined false (value_at t i) true → Lined true (members_after ms i) true → Lined bol (members_at (member key t ms) i) true
-members_lined key t i bol ms h k = joined bol true true (key_lines i key ++ value_at t i) (members_after ms i) (joined bol false true (key_lines i key) (value_at t i) (key_lines_lined i key bol) h) k
+members_lined : (key : List ℕ) (t : Tree) (i : ℕ) (bol : Bool) (ms : Members) → Lined false (value_at t i) true
+    → Lined true (members_after ms i) true → Lined bol (members_at (member key t ms) i) true
+members_lined key t i bol ms h k = joined bol true true (key_lines i key ++ value_at t i) (members_after ms i)
+    (joined bol false true (key_lines i key) (value_at t i) (key_lines_lined i key bol) h) k
 
 mutual
   -- an element has no dot at the start of a line
@@ -188,21 +210,27 @@ mutual
   value_lined : (t : Tree) (i : ℕ) → Lined false (value_at t i) true
   value_lined (text value) i = scalar_lined i value false
   value_lined (sequence no_element) i = (refl, refl)
-  value_lined (sequence (element t ts)) i = led (i + 2) true (elements_at (element t ts) (i + 2)) (λ bol. elements_lined t (i + 2) bol ts (element_lined t (i + 2) false) (after_lined ts (i + 2)))
+  value_lined (sequence (element t ts)) i = led (i + 2) true (elements_at (element t ts) (i + 2))
+      (λ bol. elements_lined t (i + 2) bol ts (element_lined t (i + 2) false) (after_lined ts (i + 2)))
   value_lined (mapping no_member) i = (refl, refl)
-  value_lined (mapping (member key t ms)) i = led (i + 2) true (members_at (member key t ms) (i + 2)) (λ bol. members_lined key t (i + 2) bol ms (value_lined t (i + 2)) (pairs_lined ms (i + 2)))
+  value_lined (mapping (member key t ms)) i = led (i + 2) true (members_at (member key t ms) (i + 2))
+      (λ bol. members_lined key t (i + 2) bol ms (value_lined t (i + 2)) (pairs_lined ms (i + 2)))
 
   -- further elements have no dot at the start of a line
   after_lined : (ts : Elements) (i : ℕ) → Lined true (elements_after ts i) true
   after_lined no_element i = (refl, refl)
   after_lined (element t ts) i =
-      subst (λ ls. Lined true ls true) (sym (item_regrouped (spaces i) (lines_after_dash t i) (elements_after ts i))) (led i true (elements_at (element t ts) i) (λ bol. elements_lined t i bol ts (element_lined t i false) (after_lined ts i)))
+      subst (λ ls. Lined true ls true) (sym (item_regrouped (spaces i) (lines_after_dash t i) (elements_after ts i)))
+      (led i true (elements_at (element t ts) i)
+      (λ bol. elements_lined t i bol ts (element_lined t i false) (after_lined ts i)))
 
   -- further members have no dot at the start of a line
   pairs_lined : (ms : Members) (i : ℕ) → Lined true (members_after ms i) true
   pairs_lined no_member i = (refl, refl)
   pairs_lined (member key t ms) i =
-      subst (λ ls. Lined true ls true) (sym (pair_regrouped (spaces i) (key_lines i key) (value_at t i) (members_after ms i))) (led i true (members_at (member key t ms) i) (λ bol. members_lined key t i bol ms (value_lined t i) (pairs_lined ms i)))
+      subst (λ ls. Lined true ls true) (sym (pair_regrouped (spaces i) (key_lines i key) (value_at t i)
+      (members_after ms i))) (led i true (members_at (member key t ms) i)
+      (λ bol. members_lined key t i bol ms (value_lined t i) (pairs_lined ms i)))
 
 -- no line of a tree in the one style begins with a dot, and it ends with the end of a line
 pub style_lined : (t : Tree) → Lined true (style_text t) true

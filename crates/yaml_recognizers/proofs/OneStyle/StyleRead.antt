@@ -18,7 +18,11 @@ style_presented t h =
     record {
       text = style_is_text t h;
       events = stream_events (presentation_of t);
-      reads = record { presentation = presentation_of t; presents = record { fits = presentation_fits t h; spells = presentation_spelled t }; means = refl };
+      reads = record {
+        presentation = presentation_of t;
+        presents = record { fits = presentation_fits t h; spells = presentation_spelled t };
+        means = refl;
+      };
       tree = presentation_meant t h;
     }
 
@@ -28,7 +32,11 @@ framed_presented t h =
     record {
       text = framed_is_text t h;
       events = stream_events (framed_presentation_of t);
-      reads = record { presentation = framed_presentation_of t; presents = record { fits = framed_fits t h; spells = framed_spelled t }; means = refl };
+      reads = record {
+        presentation = framed_presentation_of t;
+        presents = record { fits = framed_fits t h; spells = framed_spelled t };
+        means = refl;
+      };
       tree = framed_meant t h;
     }
 

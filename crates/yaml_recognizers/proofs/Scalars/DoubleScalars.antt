@@ -1,12 +1,16 @@
 -- Double-quoted scalars: what fits is read, and what is read fits.
 use Rattle.std.proofs.Common.{◌≡◌, refl, sym, ◌∙◌, ap, subst, append_assoc, arith, ◌≤◌, inl, inr, take-append-drop}
 use Rattle.std.proofs.Math.Seq.{take-append_seam, drop-append_seam}
-use Rattle.std.specs.Prelude.{ℕ, Bool, true, false, cond, ◌||◌, ◌==◌, List, [], ◌∷◌, ◌++◌, length, take, drop, Some, None, codes, if◌then◌else◌}
-use Rattle.std.proofs.lemmas.Bool.{and_parts, and_from, or_cases, or_parts, or_from, eqb-true, false≢true, not_from_false, not-true, cond_both, cond-true, cond-false, cases_Bool}
+use Rattle.std.specs.Prelude.{ℕ, Bool, true, false, cond, ◌||◌, ◌==◌, List, [], ◌∷◌, ◌++◌, length, take, drop, Some}
+use Rattle.std.specs.Prelude.{None, codes, if◌then◌else◌}
+use Rattle.std.proofs.lemmas.Bool.{and_parts, and_from, or_cases, or_parts, or_from, eqb-true, false≢true}
+use Rattle.std.proofs.lemmas.Bool.{not_from_false, not-true, cond_both, cond-true, cond-false, cases_Bool}
 use Rattle.yaml_chars.specs.Classes.{white, nb_json, is_in}
 use Rattle.yaml_grammar.specs.Texts.{first}
 use Rattle.yaml_grammar.specs.Separation.{Break, lf, cr, cr_lf, break_text}
-use Rattle.yaml_grammar.specs.FlowScalars.{FlowContext, Line, QuotedChar, raw, escape, number, double, quoted_char_text, is_blank_char, digits_after, quoted_char_fits, lines_text, double_kind, quoted_lines, scalar_fits}
+use Rattle.yaml_grammar.specs.FlowScalars.{FlowContext, Line, QuotedChar, raw, escape, number, double}
+use Rattle.yaml_grammar.specs.FlowScalars.{quoted_char_text, is_blank_char, digits_after, quoted_char_fits}
+use Rattle.yaml_grammar.specs.FlowScalars.{lines_text, double_kind, quoted_lines, scalar_fits}
 use Rattle.yaml_recognizers.specs.Prefixes.{past}
 use Rattle.yaml_recognizers.specs.Reading.{Read, on}
 use Rattle.yaml_recognizers.specs.Joins.{at_break, read_join, after_blank}
@@ -32,12 +36,14 @@ counted_sign P c h a b d = elim (or_cases (c == 120) _ h) [
 -- no other escape has such a letter
 escape_uncounted : (c : ℕ) → quoted_char_fits (escape c) ≡ true → is_in c (codes "xuU") ≡ false
 escape_uncounted c h = elim (cases_Bool (is_in c (codes "xuU"))) [
-  | inl e ↦ absurd (counted_sign (λ x. quoted_char_fits (escape x) ≡ true → ⊥) c e (λ i. false≢true i) (λ i. false≢true i) (λ i. false≢true i) h)
+  | inl e ↦ absurd (counted_sign (λ x. quoted_char_fits (escape x) ≡ true → ⊥) c e (λ i. false≢true i)
+      (λ i. false≢true i) (λ i. false≢true i) h)
   | inr e ↦ e
 ]
 
 -- an escape with digits is read
-number_read : (c : ℕ) (digits rest : List ℕ) → quoted_char_fits (number c digits) ≡ true → read_number c (digits ++ rest) ≡ Some (number c digits, rest)
+number_read : (c : ℕ) (digits rest : List ℕ) → quoted_char_fits (number c digits) ≡ true
+    → read_number c (digits ++ rest) ≡ Some (number c digits, rest)
 number_read c digits rest h =
     let p = and_parts _ _ (and_parts _ _ (and_parts _ _ h).0).0 in
     let k : length digits ≡ digits_after c = eqb-true (length digits) (digits_after c) p.1 in
@@ -62,14 +68,16 @@ item_read (number c digits) rest h =
     let p = and_parts _ _ h in
     let q = and_parts _ _ p.0 in
     let r : (is_in c (codes "xuU") ≡ true) × (length digits == digits_after c ≡ true) = and_parts _ _ q.0 in
-    cond-true (is_in c (codes "xuU")) (read_number c (digits ++ rest)) (if quoted_char_fits (escape c) then Some (escape c, digits ++ rest) else None) r.0
+    cond-true (is_in c (codes "xuU")) (read_number c (digits ++ rest))
+    (if quoted_char_fits (escape c) then Some (escape c, digits ++ rest) else None) r.0
     ∙ number_read c digits rest h
 
 -- an escape with digits that is read fits
 number_sound : (c : ℕ) (cs : List ℕ) → Sound (OneOf double_kind quoted_char_fits (92 ∷ c ∷ cs)) (read_number c cs)
 number_sound c cs =
     let digits : List ℕ = take (digits_after c) cs in
-    cond_both (quoted_char_fits (number c digits)) (Some (number c digits, drop (digits_after c) cs)) None (Sound (OneOf double_kind quoted_char_fits (92 ∷ c ∷ cs)))
+    cond_both (quoted_char_fits (number c digits)) (Some (number c digits, drop (digits_after c) cs)) None
+    (Sound (OneOf double_kind quoted_char_fits (92 ∷ c ∷ cs)))
     (λ h. (ap (λ (t : List ℕ). 92 ∷ c ∷ t) (sym (take-append-drop (digits_after c) cs)), h))
     (λ _. tt)
 
@@ -77,18 +85,22 @@ number_sound c cs =
 escape_sound : (cs : List ℕ) → Sound (OneOf double_kind quoted_char_fits (92 ∷ cs)) (read_escape cs)
 escape_sound [] = tt
 escape_sound (c ∷ cs) =
-    cond_both (is_in c (codes "xuU")) (read_number c cs) (cond (quoted_char_fits (escape c)) (Some (escape c, cs)) None) (Sound (OneOf double_kind quoted_char_fits (92 ∷ c ∷ cs)))
+    cond_both (is_in c (codes "xuU")) (read_number c cs)
+    (cond (quoted_char_fits (escape c)) (Some (escape c, cs)) None) (Sound (OneOf double_kind quoted_char_fits (92 ∷ c ∷ cs)))
     (λ _. number_sound c cs)
-    (λ _. cond_both (quoted_char_fits (escape c)) (Some (escape c, cs)) None (Sound (OneOf double_kind quoted_char_fits (92 ∷ c ∷ cs))) (λ h. (refl, h)) (λ _. tt))
+    (λ _. cond_both (quoted_char_fits (escape c)) (Some (escape c, cs)) None
+    (Sound (OneOf double_kind quoted_char_fits (92 ∷ c ∷ cs))) (λ h. (refl, h)) (λ _. tt))
 
 -- one thing between double quotes that is read fits
 item_sound : (text : List ℕ) → Sound (OneOf double_kind quoted_char_fits text) (read_item text)
 unfolding read_item
 item_sound [] = tt
 item_sound (c ∷ cs) =
-    cond_both (c == 92) (read_escape cs) (cond (quoted_char_fits (raw c)) (Some (raw c, cs)) None) (Sound (OneOf double_kind quoted_char_fits (c ∷ cs)))
+    cond_both (c == 92) (read_escape cs) (cond (quoted_char_fits (raw c)) (Some (raw c, cs)) None)
+    (Sound (OneOf double_kind quoted_char_fits (c ∷ cs)))
     (λ e. subst (λ (x : ℕ). Sound (OneOf double_kind quoted_char_fits (x ∷ cs)) (read_escape cs)) (sym (eqb-true c 92 e)) (escape_sound cs))
-    (λ _. cond_both (quoted_char_fits (raw c)) (Some (raw c, cs)) None (Sound (OneOf double_kind quoted_char_fits (c ∷ cs))) (λ h. (refl, h)) (λ _. tt))
+    (λ _. cond_both (quoted_char_fits (raw c)) (Some (raw c, cs)) None
+    (Sound (OneOf double_kind quoted_char_fits (c ∷ cs))) (λ h. (refl, h)) (λ _. tt))
 
 -- one thing between double quotes has a character
 item_long : (i : QuotedChar) → 1 ≤ length (quoted_char_text i)
@@ -97,14 +109,17 @@ item_long (escape c) = omega arith
 item_long (number c digits) = omega arith
 
 -- one that is no whitespace starts with no whitespace and no break
-item_solid : (i : QuotedChar) (rest : List ℕ) → quoted_char_fits i ≡ true → is_blank_char i ≡ false → inked (quoted_char_text i ++ rest) ≡ true
+item_solid : (i : QuotedChar) (rest : List ℕ) → quoted_char_fits i ≡ true → is_blank_char i ≡ false
+    → inked (quoted_char_text i ++ rest) ≡ true
 item_solid (raw c) rest h w = not_from_false _ (or_from _ _ w (nb_json_unbroken c (raw_parts c h).0))
 item_solid (escape c) rest h w = refl
 item_solid (number c digits) rest h w = refl
 
 -- one that is whitespace starts with whitespace, and a break comes as after it
-item_white : (i : QuotedChar) (rest : List ℕ) → is_blank_char i ≡ true → (first white (quoted_char_text i ++ rest) ≡ true) × (at_break (quoted_char_text i ++ rest) ≡ at_break rest)
-item_white (raw c) rest w = white_is (λ x. (first white (x ∷ rest) ≡ true) × (at_break (x ∷ rest) ≡ at_break rest)) c w (refl, refl) (refl, refl)
+item_white : (i : QuotedChar) (rest : List ℕ) → is_blank_char i ≡ true
+    → (first white (quoted_char_text i ++ rest) ≡ true) × (at_break (quoted_char_text i ++ rest) ≡ at_break rest)
+item_white (raw c) rest w = white_is (λ x. (first white (x ∷ rest) ≡ true) × (at_break (x ∷ rest) ≡ at_break rest)) c
+    w (refl, refl) (refl, refl)
 item_white (escape c) rest w = absurd (false≢true w)
 item_white (number c digits) rest w = absurd (false≢true w)
 
@@ -138,24 +153,30 @@ closed_at [] h = absurd (false≢true h)
 closed_at (c ∷ cs) h = ap (λ x. x ∷ cs) (eqb-true c 34 h)
 
 -- a double-quoted scalar that fits is read
-pub double_read : (n : ℕ) (c : FlowContext) (bol : Bool) (prefix : List QuotedChar) (more : List (Line QuotedChar)) (after : List ℕ) → scalar_fits n c bol (double prefix more) after ≡ true
+pub double_read : (n : ℕ) (c : FlowContext) (bol : Bool) (prefix : List QuotedChar) (more : List (Line QuotedChar))
+    (after : List ℕ) → scalar_fits n c bol (double prefix more) after ≡ true
     → read_double n c (lines_text quoted_char_text prefix more ++ (34 ∷ after)) ≡ Some (double prefix more, after)
 unfolding read_double
 double_read n c bol prefix more after h =
     let p = and_parts _ _ h in
     let q = and_parts _ _ p.0 in
     ap (λ (r : Read (List QuotedChar × List (Line QuotedChar))). on r (λ found rest. Some (double found.0 found.1, rest)))
-    (quoted_read double_kind quoted_char_fits true read_item double_readable double_closes n c prefix more (34 ∷ after) (quote_ends n after) (closes_at after) q.0 q.1 p.1)
+    (quoted_read double_kind quoted_char_fits true read_item double_readable double_closes n c prefix more
+    (34 ∷ after) (quote_ends n after) (closes_at after) q.0 q.1 p.1)
 
 -- a double-quoted scalar that is found stands there
 found_stands : (n : ℕ) (c : FlowContext) (bol : Bool) (text : List ℕ) (found : List QuotedChar × List (Line QuotedChar)) (rest : List ℕ)
-    → QuotedOf double_kind quoted_char_fits true read_item double_readable double_closes n c text found rest → Stands n c bol (34 ∷ text) (double found.0 found.1) rest
+    → QuotedOf double_kind quoted_char_fits true read_item double_readable double_closes n c text found rest
+    → Stands n c bol (34 ∷ text) (double found.0 found.1) rest
 unfolding scalar_ends
 found_stands n c bol text found rest q =
     let after : q.after ≡ 34 ∷ rest = closed_at q.after q.closed ∙ ap (λ t. 34 ∷ t) (sym q.past) in
     record {
-      spells = ap (λ t. 34 ∷ t) (q.spells ∙ (ap (λ t. lines_text quoted_char_text found.0 found.1 ++ t) after ∙ sym (append_assoc (lines_text quoted_char_text found.0 found.1) (codes "\"") rest)));
-      fits = and_from _ _ (and_from _ _ q.prefix (subst (λ (t : List ℕ). quoted_lines double_kind quoted_char_fits true n found.0 found.1 t ≡ true) after q.lines)) q.short;
+      spells = ap (λ t. 34 ∷ t) (q.spells ∙ (ap (λ t. lines_text quoted_char_text found.0 found.1 ++ t) after
+          ∙ sym (append_assoc (lines_text quoted_char_text found.0 found.1) (codes "\"") rest)));
+      fits = and_from _ _ (and_from _ _ q.prefix
+          (subst (λ (t : List ℕ). quoted_lines double_kind quoted_char_fits true n found.0 found.1 t ≡ true) after
+          q.lines)) q.short;
       ends = refl;
     }
 

@@ -8,7 +8,8 @@ use Rattle.yaml_grammar.specs.FlowScalars.{FlowContext, outer, inner, block_key,
 use Rattle.yaml_recognizers.specs.Reading.{Read}
 use Rattle.yaml_recognizers.specs.Repeated.{repeated}
 use Rattle.yaml_recognizers.specs.Joins.{read_empty, after_blank, read_join}
-use Rattle.yaml_recognizers.specs.QuotedScalars.{read_held, read_quoted_line, read_quoted, read_single_one, single_closes, read_single, read_item, double_closes, read_double}
+use Rattle.yaml_recognizers.specs.QuotedScalars.{read_held, read_quoted_line, read_quoted, read_single_one}
+use Rattle.yaml_recognizers.specs.QuotedScalars.{single_closes, read_single, read_item, double_closes, read_double}
 use Rattle.yaml_recognizers.specs.PlainScalars.{read_run, read_plain_line, read_plain}
 use Rattle.yaml_recognizers.specs.FlowScalars.{read_scalar}
 
@@ -51,7 +52,8 @@ single_examples :
     × Refused 0 outer (codes "'a\n...\n'")
     × Refused 2 outer (codes "'a\n b'")
     × Refused 0 block_key (codes "'a\nb'")
-unfolding repeated read_empty after_blank read_join read_held read_quoted_line read_quoted read_single_one single_closes read_single read_scalar
+unfolding repeated read_empty after_blank read_join read_held read_quoted_line read_quoted read_single_one
+    single_closes read_single read_scalar
 single_examples = (refl, refl, refl, refl, refl, refl, refl, refl, refl, refl)
 
 -- ---- double-quoted
@@ -104,5 +106,28 @@ plain_examples :
     × Refused 0 outer (codes "*a")
     × Refused 0 inner (codes ":]")
 unfolding repeated read_empty after_blank read_join read_run read_plain_line read_plain read_scalar
-plain_examples =
-    (refl, refl, refl, refl, refl, refl, refl, refl, refl, refl, refl, refl, refl, refl, refl, refl, refl, refl, refl, refl, refl, refl, refl)
+plain_examples = (
+  refl,
+  refl,
+  refl,
+  refl,
+  refl,
+  refl,
+  refl,
+  refl,
+  refl,
+  refl,
+  refl,
+  refl,
+  refl,
+  refl,
+  refl,
+  refl,
+  refl,
+  refl,
+  refl,
+  refl,
+  refl,
+  refl,
+  refl,
+)

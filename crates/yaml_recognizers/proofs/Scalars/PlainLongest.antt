@@ -3,7 +3,8 @@ use Rattle.std.proofs.Common.{◌≡◌, sym, ◌∙◌, ap, subst, append_assoc
 use Rattle.std.specs.Prelude.{ℕ, zero, suc, Bool, true, false, cond, not, ◌||◌, List, [], ◌∷◌, ◌++◌, length, drop, flat_map, Some}
 use Rattle.std.proofs.lemmas.Bool.{and_parts, and_from, false≢true, cond-true}
 use Rattle.yaml_grammar.specs.Texts.{is_empty, no_marker}
-use Rattle.yaml_grammar.specs.FlowScalars.{FlowContext, one_line, Line, Scalar, plain, plain_text, line_text, lines_text, lines_after, plain_kind, plain_lines, scalar_text, scalar_fits}
+use Rattle.yaml_grammar.specs.FlowScalars.{FlowContext, one_line, Line, Scalar, plain, plain_text, line_text}
+use Rattle.yaml_grammar.specs.FlowScalars.{lines_text, lines_after, plain_kind, plain_lines, scalar_text, scalar_fits}
 use Rattle.yaml_recognizers.specs.Reading.{Read}
 use Rattle.yaml_recognizers.specs.Repeated.{and_more, repeated}
 use Rattle.yaml_recognizers.specs.Joins.{join_of, line_of}
@@ -11,49 +12,63 @@ use Rattle.yaml_recognizers.specs.PlainScalars.{read_run, read_plain_line, plain
 use Rattle.yaml_recognizers.proofs.Basics.Repeated.{repeated_shorter}
 use Rattle.yaml_recognizers.proofs.Scalars.Joins.{line_joins}
 use Rattle.yaml_recognizers.proofs.Scalars.PlainRuns.{run_goes_on}
-use Rattle.yaml_recognizers.proofs.Scalars.PlainScalars.{plain_regrouped, lines_spelled, join_stops, run_past, plain_line_goes_on, lines_long, line_shrinks}
+use Rattle.yaml_recognizers.proofs.Scalars.PlainScalars.{plain_regrouped, lines_spelled, join_stops, run_past}
+use Rattle.yaml_recognizers.proofs.Scalars.PlainScalars.{plain_line_goes_on, lines_long, line_shrinks}
 
 -- before a further line nothing goes on
-before_line : (n : ℕ) (c : FlowContext) (prev : ℕ) (before : List ℕ) (l : Line ℕ) (ls : List (Line ℕ)) (after : List ℕ) → plain_lines n c before (l ∷ ls) after ≡ true
+before_line : (n : ℕ) (c : FlowContext) (prev : ℕ) (before : List ℕ) (l : Line ℕ) (ls : List (Line ℕ))
+    (after : List ℕ) → plain_lines n c before (l ∷ ls) after ≡ true
     → read_run c prev (lines_after plain_kind (l ∷ ls) after) ≡ []
 before_line n c prev before l ls after h =
     let p = and_parts _ _ h in
     let q = and_parts _ _ p.0 in
     let r = and_parts _ _ q.0 in
     let j = line_joins plain_kind n before l (lines_after plain_kind ls after) r.1 in
-    ap (read_run c prev) (lines_spelled l ls after) ∙ join_stops c prev (join_of l) (l.held ++ lines_after plain_kind ls after) r.0 j.0.prefix
+    ap (read_run c prev) (lines_spelled l ls after)
+    ∙ join_stops c prev (join_of l) (l.held ++ lines_after plain_kind ls after) r.0 j.0.prefix
 
 -- a list without its first elements is no longer
 drop_shorter : (k : ℕ) (text : List ℕ) → length (drop k text) ≤ length text
 drop_shorter k text = omega (arith, length-drop k text)
 
 -- the lines after a run, where extra goes on after it: they reach at least as far
-lines_reach : (n : ℕ) (c : FlowContext) (fuel prev : ℕ) (before : List ℕ) (ls : List (Line ℕ)) (after : List ℕ) → length ls ≤ fuel → plain_lines n c before ls after ≡ true
+lines_reach : (n : ℕ) (c : FlowContext) (fuel prev : ℕ) (before : List ℕ) (ls : List (Line ℕ)) (after : List ℕ)
+    → length ls ≤ fuel → plain_lines n c before ls after ≡ true
     → let rest = lines_after plain_kind ls after in
     length (repeated (read_plain_line n c) fuel (drop (length (read_run c prev rest)) rest)).1 ≤ length after
 unfolding repeated
 lines_reach n c fuel prev before [] after m h =
-    omega (arith, repeated_shorter (read_plain_line n c) (line_shrinks n c) fuel (drop (length (read_run c prev after)) after), drop_shorter (length (read_run c prev after)) after)
+    omega (
+      arith,
+      repeated_shorter (read_plain_line n c) (line_shrinks n c) fuel
+          (drop (length (read_run c prev after)) after),
+      drop_shorter (length (read_run c prev after)) after,
+    )
 lines_reach n c zero prev before (l ∷ ls) after m h = absurd (omega arith)
 lines_reach n c (suc fuel) prev before (l ∷ ls) after m h =
     let rest : List ℕ = lines_after plain_kind ls after in
     let text : List ℕ = lines_after plain_kind (l ∷ ls) after in
     let extra : List ℕ = read_run c (last_of 32 l.held) rest in
     let here : drop (length (read_run c prev text)) text ≡ line_text plain_text l ++ rest =
-    ap (λ (r : List ℕ). drop (length r) text) (before_line n c prev before l ls after h) ∙ append_assoc (line_text plain_text l) (flat_map (line_text plain_text) ls) after in
-    let line : read_plain_line n c (line_text plain_text l ++ rest) ≡ Some (line_of (join_of l) (l.held ++ extra), drop (length extra) rest) =
+    ap (λ (r : List ℕ). drop (length r) text) (before_line n c prev before l ls after h)
+    ∙ append_assoc (line_text plain_text l) (flat_map (line_text plain_text) ls) after in
+    let line : read_plain_line n c (line_text plain_text l ++ rest)
+    ≡ Some (line_of (join_of l) (l.held ++ extra), drop (length extra) rest) =
     plain_line_goes_on n c before l ls after h in
     let more : length (repeated (read_plain_line n c) fuel (drop (length extra) rest)).1 ≤ length after =
     lines_reach n c fuel (last_of 32 l.held) l.held ls after (omega arith) (and_parts _ _ h).1 in
     subst (λ (t : List ℕ). length (repeated (read_plain_line n c) (suc fuel) t).1 ≤ length after) (sym here)
-    (subst (λ (r : Read (Line ℕ)). length (and_more (line_text plain_text l ++ rest) (λ t. repeated (read_plain_line n c) fuel t) r).1 ≤ length after) (sym line) more)
+    (subst (λ (r : Read (Line ℕ)). length (and_more (line_text plain_text l ++ rest)
+    (λ t. repeated (read_plain_line n c) fuel t) r).1 ≤ length after) (sym line) more)
 
 -- a plain scalar is read, and no more is left than this
 abbrev pub Reaches : List ℕ → Read Scalar → Type 0
-Reaches after r = (prefix : List ℕ) × (more : List (Line ℕ)) × (rest : List ℕ) × (r ≡ Some (plain prefix more, rest)) × (length rest ≤ length after)
+Reaches after r = (prefix : List ℕ) × (more : List (Line ℕ)) × (rest : List ℕ) × (r ≡ Some (plain prefix more, rest))
+    × (length rest ≤ length after)
 
 -- the lines that are read go at least as far as lines that fit
-lines_at_reach : (n : ℕ) (c : FlowContext) (prev : ℕ) (before : List ℕ) (ls : List (Line ℕ)) (after : List ℕ) → plain_lines n c before ls after ≡ true
+lines_at_reach : (n : ℕ) (c : FlowContext) (prev : ℕ) (before : List ℕ) (ls : List (Line ℕ)) (after : List ℕ)
+    → plain_lines n c before ls after ≡ true
     → is_empty ls || not (one_line c) ≡ true
     → let rest = lines_after plain_kind ls after in length (plain_lines_at n c (drop (length (read_run c prev rest)) rest)).1 ≤ length after
 lines_at_reach n c prev before ls after h k = by_line (one_line c) ls h k
@@ -63,7 +78,8 @@ lines_at_reach n c prev before ls after h k = by_line (one_line c) ls h k
     enough [] h = omega arith
     enough (l ∷ ls) h =
         let text : List ℕ = lines_after plain_kind (l ∷ ls) after in
-        let here : drop (length (read_run c prev text)) text ≡ text = ap (λ (r : List ℕ). drop (length r) text) (before_line n c prev before l ls after h) in
+        let here : drop (length (read_run c prev text)) text ≡ text =
+        ap (λ (r : List ℕ). drop (length r) text) (before_line n c prev before l ls after h) in
         rw here (omega (arith, lines_long (l ∷ ls), length-append (flat_map (line_text plain_text) (l ∷ ls)) after))
 
     by_line : (b : Bool) (ls : List (Line ℕ)) → plain_lines n c before ls after ≡ true → is_empty ls || not b ≡ true
@@ -77,7 +93,8 @@ lines_at_reach n c prev before ls after h k = by_line (one_line c) ls h k
         lines_reach n c (length text) prev before ls after (enough ls h) h
 
 -- where a plain scalar fits, one is read that reaches at least as far
-pub plain_reaches : (n : ℕ) (c : FlowContext) (bol : Bool) (prefix : List ℕ) (more : List (Line ℕ)) (after : List ℕ) → scalar_fits n c bol (plain prefix more) after ≡ true
+pub plain_reaches : (n : ℕ) (c : FlowContext) (bol : Bool) (prefix : List ℕ) (more : List (Line ℕ)) (after : List ℕ)
+    → scalar_fits n c bol (plain prefix more) after ≡ true
     → Reaches after (read_plain n c bol (scalar_text (plain prefix more) ++ after))
 unfolding read_plain
 plain_reaches n c bol [] more after h = absurd (false≢true (and_parts _ _ (and_parts _ _ (and_parts _ _ h).0).0).1)

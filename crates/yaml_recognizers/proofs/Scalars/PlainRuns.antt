@@ -1,7 +1,8 @@
 -- The plain characters of a line: a run that fits is read whole, and what is read fits and goes no further.
 use Rattle.std.proofs.Common.{◌≡◌, refl, sym, ◌∙◌, ap, subst, append-nil, inl, inr}
 use Rattle.std.specs.Prelude.{ℕ, Bool, true, false, cond, not, ◌&&◌, ◌||◌, ◌==◌, List, [], ◌∷◌, ◌++◌, length, drop}
-use Rattle.std.proofs.lemmas.Bool.{and_parts, and_from, and_left, or_cases, eqb-true, false≢true, not_from_false, not-true, cond_both, cases_Bool}
+use Rattle.std.proofs.lemmas.Bool.{and_parts, and_from, and_left, or_cases, eqb-true, false≢true, not_from_false}
+use Rattle.std.proofs.lemmas.Bool.{not-true, cond_both, cases_Bool}
 use Rattle.yaml_chars.specs.Classes.{white, line_break, ns}
 use Rattle.std.specs.List.{list_all}
 use Rattle.yaml_grammar.specs.Texts.{is_empty}
@@ -20,13 +21,15 @@ unsafe inner x h = and_left _ _ h
 unsafe flow_key x h = and_left _ _ h
 
 -- what is not safe and no `:` or `#` is not plain
-pub unplain : (c : FlowContext) (prev x : ℕ) (xs : List ℕ) → safe c x ≡ false → (x == 58) ≡ false → (x == 35) ≡ false → plain_next c prev x xs ≡ false
+pub unplain : (c : FlowContext) (prev x : ℕ) (xs : List ℕ) → safe c x ≡ false → (x == 58) ≡ false → (x == 35) ≡ false
+    → plain_next c prev x xs ≡ false
 unplain c prev x xs s d h = rw (s, d, h) refl
 
 -- whitespace is not plain
 pub white_unplain : (c : FlowContext) (prev x : ℕ) (xs : List ℕ) → white x ≡ true → plain_next c prev x xs ≡ false
 white_unplain c prev x xs h =
-    white_is (λ y. plain_next c prev y xs ≡ false) x h (unplain c prev 32 xs (unsafe c 32 refl) refl refl) (unplain c prev 9 xs (unsafe c 9 refl) refl refl)
+    white_is (λ y. plain_next c prev y xs ≡ false) x h (unplain c prev 32 xs (unsafe c 32 refl) refl refl)
+    (unplain c prev 9 xs (unsafe c 9 refl) refl refl)
 
 -- a break is not plain
 pub break_unplain : (c : FlowContext) (prev x : ℕ) (xs : List ℕ) → line_break x ≡ true → plain_next c prev x xs ≡ false
@@ -61,7 +64,8 @@ no_run_at_break c prev cr rest = no_run c prev 13 rest (break_unplain c prev 13 
 no_run_at_break c prev cr_lf rest = no_run c prev 13 (10 ∷ rest) (break_unplain c prev 13 (10 ∷ rest) refl) refl
 
 -- nor after white where none does at once
-pub white_stops : (c : FlowContext) (prev : ℕ) (blank tail : List ℕ) → list_all white blank ≡ true → ((x : ℕ) → white x ≡ true → read_run c x tail ≡ [])
+pub white_stops : (c : FlowContext) (prev : ℕ) (blank tail : List ℕ) → list_all white blank ≡ true
+    → ((x : ℕ) → white x ≡ true → read_run c x tail ≡ [])
     → (is_empty blank ≡ true → read_run c prev tail ≡ []) → read_run c prev (blank ++ tail) ≡ []
 unfolding read_run
 white_stops c prev [] tail w f g = g refl
@@ -97,7 +101,11 @@ run_goes_on c prev (x ∷ xs) after h =
     let extra : List ℕ = read_run c (last_of x xs) after in
     let p : (white x || plain_next c prev x (xs ++ after) ≡ true) × (plain_run c x xs after ≡ true) = and_parts _ _ h in
     let more : read_run c x (xs ++ after) ≡ xs ++ extra = run_goes_on c x xs after p.1 in
-    rw (more, pick (plain_next c prev x (xs ++ after)) (white x) (is_empty (xs ++ extra)) p.0 (λ e. last_plain c x xs after p.1 (both xs extra e)))
+    rw (
+      more,
+      pick (plain_next c prev x (xs ++ after)) (white x) (is_empty (xs ++ extra)) p.0
+          (λ e. last_plain c x xs after p.1 (both xs extra e)),
+    )
   where
     both : (ys zs : List ℕ) → is_empty (ys ++ zs) ≡ true → is_empty ys ≡ true
     both [] zs e = refl
@@ -116,7 +124,8 @@ unfolding read_run
 run_prefix c prev [] = refl
 run_prefix c prev (x ∷ xs) =
     let more : List ℕ = read_run c x xs in
-    cond_both (plain_next c prev x xs || (white x && not (is_empty more))) (x ∷ more) [] (λ (r : List ℕ). x ∷ xs ≡ r ++ drop (length r) (x ∷ xs))
+    cond_both (plain_next c prev x xs || (white x && not (is_empty more))) (x ∷ more) []
+    (λ (r : List ℕ). x ∷ xs ≡ r ++ drop (length r) (x ∷ xs))
     (λ _. ap (λ ys. x ∷ ys) (run_prefix c x xs)) (λ _. refl)
 
 -- and what is one of a run is whitespace or a plain character
@@ -141,7 +150,8 @@ run_fits c prev (x ∷ xs) h =
     (λ _ k. not_from_false _ (k refl)) h
 
 -- and it goes no further
-pub run_end : (c : FlowContext) (prev : ℕ) (text : List ℕ) → read_run c (last_of prev (read_run c prev text)) (drop (length (read_run c prev text)) text) ≡ []
+pub run_end : (c : FlowContext) (prev : ℕ) (text : List ℕ)
+    → read_run c (last_of prev (read_run c prev text)) (drop (length (read_run c prev text)) text) ≡ []
 unfolding read_run last_of
 run_end c prev [] = refl
 run_end c prev (x ∷ xs) =

@@ -17,17 +17,20 @@ use Rattle.yaml_recognizers.proofs.Scalars.PlainScalars.{line_shrinks}
 -- ---- characters
 
 -- a plain character
-pub step_char : (c : FlowContext) (prev x : ℕ) (xs : List ℕ) → plain_next c prev x xs ≡ true → read_run c prev (x ∷ xs) ≡ x ∷ read_run c x xs
+pub step_char : (c : FlowContext) (prev x : ℕ) (xs : List ℕ) → plain_next c prev x xs ≡ true
+    → read_run c prev (x ∷ xs) ≡ x ∷ read_run c x xs
 unfolding read_run
 step_char c prev x xs h = rw h refl
 
 -- white before a run that goes on
-pub step_white : (c : FlowContext) (prev x : ℕ) (xs : List ℕ) → white x ≡ true → is_empty (read_run c x xs) ≡ false → read_run c prev (x ∷ xs) ≡ x ∷ read_run c x xs
+pub step_white : (c : FlowContext) (prev x : ℕ) (xs : List ℕ) → white x ≡ true → is_empty (read_run c x xs) ≡ false
+    → read_run c prev (x ∷ xs) ≡ x ∷ read_run c x xs
 unfolding read_run
 step_white c prev x xs w h = rw (white_unplain c prev x xs w, w, h) refl
 
 -- white before nothing that does
-pub stop_white : (c : FlowContext) (prev x : ℕ) (xs : List ℕ) → white x ≡ true → is_empty (read_run c x xs) ≡ true → read_run c prev (x ∷ xs) ≡ []
+pub stop_white : (c : FlowContext) (prev x : ℕ) (xs : List ℕ) → white x ≡ true → is_empty (read_run c x xs) ≡ true
+    → read_run c prev (x ∷ xs) ≡ []
 unfolding read_run
 stop_white c prev x xs w h = rw (white_unplain c prev x xs w, w, h) refl
 
@@ -40,12 +43,14 @@ unfolding read_plain
 step_begin n c bol x xs h = cond-true _ _ _ h
 
 -- without such a character there is none
-pub no_begin : (n : ℕ) (c : FlowContext) (bol : Bool) (x : ℕ) (xs : List ℕ) → no_marker bol (x ∷ xs) && plain_first c x xs ≡ false → read_plain n c bol (x ∷ xs) ≡ None
+pub no_begin : (n : ℕ) (c : FlowContext) (bol : Bool) (x : ℕ) (xs : List ℕ)
+    → no_marker bol (x ∷ xs) && plain_first c x xs ≡ false → read_plain n c bol (x ∷ xs) ≡ None
 unfolding read_plain
 no_begin n c bol x xs h = cond-false _ _ _ h
 
 -- a further line, from its join
-pub line_after_join : (n : ℕ) (c : FlowContext) (text : List ℕ) (j : Join) (t : List ℕ) → read_join false n text ≡ Some (j, t) → read_plain_line n c text ≡ with_run j t (read_run c 32 t)
+pub line_after_join : (n : ℕ) (c : FlowContext) (text : List ℕ) (j : Join) (t : List ℕ)
+    → read_join false n text ≡ Some (j, t) → read_plain_line n c text ≡ with_run j t (read_run c 32 t)
 unfolding read_plain_line
 line_after_join n c text j t e = ap (λ (r : Read Join). on r (λ j rest. with_run j rest (read_run c 32 rest))) e
 
@@ -67,10 +72,12 @@ no_more_lines n c text e = by_line (one_line c)
     by_line false = all_none (read_plain_line n c) text e
 
 -- after a further line come the others
-pub one_more_line : (n : ℕ) (c : FlowContext) (text : List ℕ) (l : Line ℕ) (t : List ℕ) → one_line c ≡ false → read_plain_line n c text ≡ Some (l, t)
+pub one_more_line : (n : ℕ) (c : FlowContext) (text : List ℕ) (l : Line ℕ) (t : List ℕ) → one_line c ≡ false
+    → read_plain_line n c text ≡ Some (l, t)
     → plain_lines_at n c text ≡ (l ∷ (plain_lines_at n c t).0, (plain_lines_at n c t).1)
 one_more_line n c text l t k e = by_line (one_line c) k
   where
-    by_line : (b : Bool) → b ≡ false → let more = cond b ([], t) (all_of (read_plain_line n c) t) in cond b ([], text) (all_of (read_plain_line n c) text) ≡ (l ∷ more.0, more.1)
+    by_line : (b : Bool) → b ≡ false → let more = cond b ([], t) (all_of (read_plain_line n c) t) in
+        cond b ([], text) (all_of (read_plain_line n c) text) ≡ (l ∷ more.0, more.1)
     by_line true k = cc
     by_line false k = all_some (read_plain_line n c) (line_shrinks n c) text l t e

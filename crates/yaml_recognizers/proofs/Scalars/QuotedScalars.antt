@@ -1,12 +1,14 @@
 -- What is between quotes is read where it fits, and what is read fits: for any style, by what it holds.
 use Rattle.std.proofs.Common.{◌≡◌, refl, sym, ◌∙◌, ap, subst, append_assoc, length-append, arith, ◌≤◌, inl, inr}
-use Rattle.std.specs.Prelude.{ℕ, Bool, true, false, cond, not, ◌&&◌, ◌||◌, List, [], ◌∷◌, ◌++◌, length, flat_map, Some, None, codes, if◌then◌else◌}
+use Rattle.std.specs.Prelude.{ℕ, Bool, true, false, cond, not, ◌&&◌, ◌||◌, List, [], ◌∷◌, ◌++◌, length, flat_map}
+use Rattle.std.specs.Prelude.{Some, None, codes, if◌then◌else◌}
 use Rattle.std.specs.List.{list_all}
 use Rattle.std.proofs.lemmas.Bool.{and_parts, and_from, false≢true, cond_both, cond-true, cond-false, cases_Bool}
 use Rattle.yaml_chars.specs.Classes.{white}
 use Rattle.yaml_grammar.specs.Texts.{first, is_empty}
 use Rattle.yaml_grammar.specs.Separation.{Break, break_text}
-use Rattle.yaml_grammar.specs.FlowScalars.{FlowContext, one_line, Line, Kind, line_text, lines_text, flow_empties_text, ends, join_fits, lines_after, quoted_lines}
+use Rattle.yaml_grammar.specs.FlowScalars.{FlowContext, one_line, Line, Kind, line_text, lines_text}
+use Rattle.yaml_grammar.specs.FlowScalars.{flow_empties_text, ends, join_fits, lines_after, quoted_lines}
 use Rattle.yaml_recognizers.specs.Prefixes.{past}
 use Rattle.yaml_recognizers.specs.Reading.{Read, on}
 use Rattle.yaml_recognizers.specs.Repeated.{repeated}
@@ -15,7 +17,8 @@ use Rattle.yaml_recognizers.specs.QuotedScalars.{read_held, line_things, read_qu
 use Rattle.yaml_recognizers.proofs.Basics.Blanks.{inked, inked_not_at_break}
 use Rattle.yaml_recognizers.proofs.Basics.Reading.{Sound, sound_on, sound_to, sound_is}
 use Rattle.yaml_recognizers.proofs.Basics.Repeated.{Each, repeated_read, repeated_sound}
-use Rattle.yaml_recognizers.proofs.Scalars.Joins.{break_long, Joins, JoinOf, join_read, join_sound, line_joins, line_fits, joins_at_break, line_regrouped}
+use Rattle.yaml_recognizers.proofs.Scalars.Joins.{break_long, Joins, JoinOf, join_read, join_sound, line_joins}
+use Rattle.yaml_recognizers.proofs.Scalars.Joins.{line_fits, joins_at_break, line_regrouped}
 
 -- one thing that a line holds is at the start
 abbrev pub OneOf : {A : Type 0} → Kind A → (A → Bool) → List ℕ → A → List ℕ → Type 0
@@ -27,10 +30,12 @@ pub record Readable {A : Type 0} (kind : Kind A) (holds : A → Bool) (escapes :
   pub sound : (text : List ℕ) → Sound (OneOf kind holds text) (read_one text)
   pub long : (a : A) → 1 ≤ length (kind.spell a)
   pub solid : (a : A) (rest : List ℕ) → holds a ≡ true → kind.blank a ≡ false → inked (kind.spell a ++ rest) ≡ true
-  pub white : (a : A) (rest : List ℕ) → kind.blank a ≡ true → (first white (kind.spell a ++ rest) ≡ true) × (at_break (kind.spell a ++ rest) ≡ at_break rest)
+  pub white : (a : A) (rest : List ℕ) → kind.blank a ≡ true
+      → (first white (kind.spell a ++ rest) ≡ true) × (at_break (kind.spell a ++ rest) ≡ at_break rest)
   pub joins : (b : Break) (rest : List ℕ) → escapes ≡ true → read_one (92 ∷ (break_text b ++ rest)) ≡ None
 
-module _ {A : Type 0} (kind : Kind A) (holds : A → Bool) (escapes : Bool) (read_one : List ℕ → Read A) (readable : Readable kind holds escapes read_one) where
+module _ {A : Type 0} (kind : Kind A) (holds : A → Bool) (escapes : Bool) (read_one : List ℕ → Read A)
+    (readable : Readable kind holds escapes read_one) where
   -- ---- what a line holds, complete
 
   -- what ends with whitespace does so with more before it
@@ -38,7 +43,8 @@ module _ {A : Type 0} (kind : Kind A) (holds : A → Bool) (escapes : Bool) (rea
   longer x [] i = absurd (false≢true i)
   longer x (y ∷ ys) i = i
 
-  no_break : (xs : List A) (after : List ℕ) → list_all holds xs ≡ true → (is_empty xs ≡ true → at_break after ≡ false) → (ends kind.blank xs ≡ true → at_break after ≡ false)
+  no_break : (xs : List A) (after : List ℕ) → list_all holds xs ≡ true → (is_empty xs ≡ true → at_break after ≡ false)
+      → (ends kind.blank xs ≡ true → at_break after ≡ false)
       → at_break (flat_map kind.spell xs ++ after) ≡ false
   no_break [] after h e f = e refl
   no_break (x ∷ xs) after h e f =
@@ -55,16 +61,19 @@ module _ {A : Type 0} (kind : Kind A) (holds : A → Bool) (escapes : Bool) (rea
       alone (y ∷ ys) i b = absurd (false≢true i)
 
   -- a thing is read before those after it, where the last is no white before a break
-  pub held_next : (x : A) (xs : List A) (after : List ℕ) → list_all holds (x ∷ xs) ≡ true → (ends kind.blank (x ∷ xs) ≡ true → at_break after ≡ false)
+  pub held_next : (x : A) (xs : List A) (after : List ℕ) → list_all holds (x ∷ xs) ≡ true
+      → (ends kind.blank (x ∷ xs) ≡ true → at_break after ≡ false)
       → read_held read_one (kind.spell x ++ (flat_map kind.spell xs ++ after)) ≡ Some (x, flat_map kind.spell xs ++ after)
   unfolding read_held
   held_next x xs after h f =
       let rest : List ℕ = flat_map kind.spell xs ++ after in
       let e : at_break (kind.spell x ++ rest) ≡ false =
-      ap at_break (sym (append_assoc (kind.spell x) (flat_map kind.spell xs) after)) ∙ no_break (x ∷ xs) after h (λ i. absurd (false≢true i)) f in
+      ap at_break (sym (append_assoc (kind.spell x) (flat_map kind.spell xs) after))
+      ∙ no_break (x ∷ xs) after h (λ i. absurd (false≢true i)) f in
       cond-false (at_break (kind.spell x ++ rest)) None (read_one (kind.spell x ++ rest)) e ∙ readable.read x rest (and_parts _ _ h).0
 
-  held_each : (xs : List A) (after : List ℕ) → list_all holds xs ≡ true → read_held read_one after ≡ None → (ends kind.blank xs ≡ true → at_break after ≡ false)
+  held_each : (xs : List A) (after : List ℕ) → list_all holds xs ≡ true → read_held read_one after ≡ None
+      → (ends kind.blank xs ≡ true → at_break after ≡ false)
       → Each (read_held read_one) kind.spell xs after
   held_each [] after h n f = n
   held_each (x ∷ xs) after h n f = (held_next x xs after h f, held_each xs after (and_parts _ _ h).1 n (λ i. f (longer x xs i)))
@@ -79,13 +88,15 @@ module _ {A : Type 0} (kind : Kind A) (holds : A → Bool) (escapes : Bool) (rea
     pub blank : ends kind.blank before ≡ true → at_break after ≡ false
 
   -- what a line holds is read
-  pub held_read : (xs : List A) (after : List ℕ) → list_all holds xs ≡ true → StopsLine xs after → line_things read_one (flat_map kind.spell xs ++ after) ≡ (xs, after)
+  pub held_read : (xs : List A) (after : List ℕ) → list_all holds xs ≡ true → StopsLine xs after
+      → line_things read_one (flat_map kind.spell xs ++ after) ≡ (xs, after)
   held_read xs after h s =
       repeated_read (read_held read_one) kind.spell xs (length (flat_map kind.spell xs ++ after)) after
       (omega (arith, held_long xs, length-append (flat_map kind.spell xs) after)) (held_each xs after h s.none s.blank)
 
   -- a join does
-  unescaped_stops : (n : ℕ) (before : List A) (j : Join) (rest : List ℕ) → Joins n j rest → j.escaped ≡ false → ends kind.blank before ≡ false
+  unescaped_stops : (n : ℕ) (before : List A) (j : Join) (rest : List ℕ) → Joins n j rest → j.escaped ≡ false
+      → ends kind.blank before ≡ false
       → StopsLine before (join_text_then j rest)
   unfolding read_held
   unescaped_stops n before j rest h e f = record {
@@ -93,12 +104,14 @@ module _ {A : Type 0} (kind : Kind A) (holds : A → Bool) (escapes : Bool) (rea
     blank = λ b. absurd (false≢true (sym f ∙ b));
   }
 
-  escaped_stops : (before : List A) (j : Join) (rest : List ℕ) → j.escaped ≡ true → is_empty j.blank ≡ true → escapes ≡ true → StopsLine before (join_text_then j rest)
+  escaped_stops : (before : List A) (j : Join) (rest : List ℕ) → j.escaped ≡ true → is_empty j.blank ≡ true
+      → escapes ≡ true → StopsLine before (join_text_then j rest)
   unfolding read_held
   escaped_stops before j rest e b a = parts j.escaped j.blank e b
     where
       parts : (escaped : Bool) (blank : List ℕ) → escaped ≡ true → is_empty blank ≡ true
-          → StopsLine before ((blank ++ (if escaped then codes "\\" else []) ++ break_text j.stop) ++ (flow_empties_text j.empties ++ (j.lead ++ rest)))
+          → StopsLine before ((blank ++ (if escaped then codes "\\" else []) ++ break_text j.stop)
+          ++ (flow_empties_text j.empties ++ (j.lead ++ rest)))
       parts false blank e b = absurd (false≢true e)
       parts true (x ∷ xs) e b = absurd (false≢true b)
       parts true [] e b = record { none = readable.joins j.stop (flow_empties_text j.empties ++ (j.lead ++ rest)) a; blank = λ i. refl }
@@ -128,7 +141,8 @@ module _ {A : Type 0} (kind : Kind A) (holds : A → Bool) (escapes : Bool) (rea
   no_line n after e = rw e.join refl
 
   -- after what is on a line: the next one, or the closing quote
-  lines_stop : (n : ℕ) (before : List A) (ls : List (Line A)) (after : List ℕ) → EndsLines n after → quoted_lines kind holds escapes n before ls after ≡ true
+  lines_stop : (n : ℕ) (before : List A) (ls : List (Line A)) (after : List ℕ) → EndsLines n after
+      → quoted_lines kind holds escapes n before ls after ≡ true
       → StopsLine before (lines_after kind ls after)
   lines_stop n before [] after e h = record { none = e.held; blank = λ _. inked_not_at_break after e.inked }
   lines_stop n before (l ∷ ls) after e h =
@@ -143,7 +157,8 @@ module _ {A : Type 0} (kind : Kind A) (holds : A → Bool) (escapes : Bool) (rea
       subst (StopsLine before) (sym regrouped) (join_stops n before (join_of l) (flat_map kind.spell l.held ++ rest) j.0 j.2 s.0)
 
   line_inked : (held : List A) (ls : List (Line A)) (after : List ℕ) → list_all holds held ≡ true → first kind.blank held ≡ false
-      → is_empty ls || not (is_empty held) ≡ true → inked after ≡ true → inked (flat_map kind.spell held ++ lines_after kind ls after) ≡ true
+      → is_empty ls || not (is_empty held) ≡ true → inked after ≡ true
+      → inked (flat_map kind.spell held ++ lines_after kind ls after) ≡ true
   line_inked [] [] after h s a i = i
   line_inked [] (l ∷ ls) after h s a i = absurd (false≢true a)
   line_inked (x ∷ xs) ls after h s a i =
@@ -168,12 +183,14 @@ module _ {A : Type 0} (kind : Kind A) (holds : A → Bool) (escapes : Bool) (rea
       ∙ (ap (λ (x : Read Join). on x (λ j' rest'. let held' = line_things read_one rest' in Some (line_of j' held'.0, held'.1))) joined
       ∙ ap (λ (x : List A × List ℕ). Some (line_of (join_of l) x.0, x.1)) found)
 
-  lines_each : (n : ℕ) (before : List A) (ls : List (Line A)) (after : List ℕ) → EndsLines n after → quoted_lines kind holds escapes n before ls after ≡ true
+  lines_each : (n : ℕ) (before : List A) (ls : List (Line A)) (after : List ℕ) → EndsLines n after
+      → quoted_lines kind holds escapes n before ls after ≡ true
       → Each (read_quoted_line read_one escapes n) (line_text kind.spell) ls after
   lines_each n before [] after e h = no_line n after e
   lines_each n before (l ∷ ls) after e h = (quoted_line_read n before l ls after e h, lines_each n l.held ls after e (and_parts _ _ h).1)
 
-  lines_apart : (n : ℕ) (before : List A) (ls : List (Line A)) (after : List ℕ) → quoted_lines kind holds escapes n before ls after ≡ true → apart ls ≡ true
+  lines_apart : (n : ℕ) (before : List A) (ls : List (Line A)) (after : List ℕ)
+      → quoted_lines kind holds escapes n before ls after ≡ true → apart ls ≡ true
   lines_apart n before [] after h = refl
   lines_apart n before (l ∷ ls) after h =
       let p = and_parts _ _ h in and_from _ _ (and_parts _ _ p.0).1 (lines_apart n l.held ls after p.1)
@@ -182,13 +199,27 @@ module _ {A : Type 0} (kind : Kind A) (holds : A → Bool) (escapes : Bool) (rea
   pub lines_long : (ls : List (Line A)) → length ls ≤ length (flat_map (line_text kind.spell) ls)
   lines_long [] = omega arith
   lines_long (l ∷ ls) =
-      omega (arith, lines_long ls, length-append (line_text kind.spell l) (flat_map (line_text kind.spell) ls), line_long l.blank (if l.escaped then codes "\\" else []) l.stop (flow_empties_text l.empties) l.lead (flat_map kind.spell l.held))
+      omega (
+        arith,
+        lines_long ls,
+        length-append (line_text kind.spell l) (flat_map (line_text kind.spell) ls),
+        line_long l.blank (if l.escaped then codes "\\" else []) l.stop (flow_empties_text l.empties) l.lead
+            (flat_map kind.spell l.held),
+      )
     where
       line_long : (a b : List ℕ) (s : Break) (c d e : List ℕ) → 1 ≤ length (a ++ b ++ break_text s ++ c ++ d ++ e)
       line_long a b s c d e =
-          omega (arith, break_long s, length-append (a ++ b ++ break_text s ++ c ++ d) e, length-append (a ++ b ++ break_text s ++ c) d, length-append (a ++ b ++ break_text s) c, length-append (a ++ b) (break_text s))
+          omega (
+            arith,
+            break_long s,
+            length-append (a ++ b ++ break_text s ++ c ++ d) e,
+            length-append (a ++ b ++ break_text s ++ c) d,
+            length-append (a ++ b ++ break_text s) c,
+            length-append (a ++ b) (break_text s),
+          )
 
-  further_read : (n : ℕ) (c : FlowContext) (before : List A) (ls : List (Line A)) (after : List ℕ) → EndsLines n after → quoted_lines kind holds escapes n before ls after ≡ true
+  further_read : (n : ℕ) (c : FlowContext) (before : List A) (ls : List (Line A)) (after : List ℕ) → EndsLines n after
+      → quoted_lines kind holds escapes n before ls after ≡ true
       → is_empty ls || not (one_line c) ≡ true → further read_one escapes n c (lines_after kind ls after) ≡ (ls, after)
   further_read n c before ls after e h k =
       by_line (one_line c) ls k
@@ -197,21 +228,25 @@ module _ {A : Type 0} (kind : Kind A) (holds : A → Bool) (escapes : Bool) (rea
     where
       by_line : (b : Bool) (xs : List (Line A)) → is_empty xs || not b ≡ true
           → repeated (read_quoted_line read_one escapes n) (length (lines_after kind xs after)) (lines_after kind xs after) ≡ (xs, after)
-          → cond b ([], lines_after kind xs after) (repeated (read_quoted_line read_one escapes n) (length (lines_after kind xs after)) (lines_after kind xs after)) ≡ (xs, after)
+          → cond b ([], lines_after kind xs after) (repeated (read_quoted_line read_one escapes n)
+          (length (lines_after kind xs after)) (lines_after kind xs after)) ≡ (xs, after)
       by_line true [] k r = refl
       by_line true (x ∷ xs) k r = absurd (false≢true k)
       by_line false xs k r = r
 
   -- what fits between quotes is read
-  pub quoted_read : (closes : List ℕ → Bool) (n : ℕ) (c : FlowContext) (prefix : List A) (more : List (Line A)) (after : List ℕ) → EndsLines n after → closes after ≡ true
+  pub quoted_read : (closes : List ℕ → Bool) (n : ℕ) (c : FlowContext) (prefix : List A) (more : List (Line A))
+      (after : List ℕ) → EndsLines n after → closes after ≡ true
       → list_all holds prefix ≡ true → quoted_lines kind holds escapes n prefix more after ≡ true → is_empty more || not (one_line c) ≡ true
       → read_quoted read_one closes escapes n c (lines_text kind.spell prefix more ++ after) ≡ Some ((prefix, more), past after)
   unfolding read_quoted
   quoted_read closes n c prefix more after e x h l k =
       let rest : List ℕ = lines_after kind more after in
-      let regrouped : lines_text kind.spell prefix more ++ after ≡ flat_map kind.spell prefix ++ rest = append_assoc (flat_map kind.spell prefix) (flat_map (line_text kind.spell) more) after in
+      let regrouped : lines_text kind.spell prefix more ++ after ≡ flat_map kind.spell prefix ++ rest =
+      append_assoc (flat_map kind.spell prefix) (flat_map (line_text kind.spell) more) after in
       ap (read_quoted read_one closes escapes n c) regrouped
-      ∙ (ap (λ (f : List A × List ℕ). read_closing_quote closes f.0 (further read_one escapes n c f.1)) (held_read prefix rest h (lines_stop n prefix more after e l))
+      ∙ (ap (λ (f : List A × List ℕ). read_closing_quote closes f.0 (further read_one escapes n c f.1))
+      (held_read prefix rest h (lines_stop n prefix more after e l))
       ∙ (ap (read_closing_quote closes prefix) (further_read n c prefix more after e l k)
       ∙ cond-true _ _ _ (and_from _ _ x (lines_apart n prefix more after l))))
 
@@ -225,13 +260,15 @@ module _ {A : Type 0} (kind : Kind A) (holds : A → Bool) (escapes : Bool) (rea
     pub prefix : first white text ≡ false → first kind.blank xs ≡ false
 
   -- one thing that is read fits
-  pub held_sound : (text : List ℕ) (a : A) (t : List ℕ) → read_held read_one text ≡ Some (a, t) → (at_break text ≡ false) × OneOf kind holds text a t
+  pub held_sound : (text : List ℕ) (a : A) (t : List ℕ) → read_held read_one text ≡ Some (a, t)
+      → (at_break text ≡ false) × OneOf kind holds text a t
   unfolding read_held
   held_sound text a t h =
       sound_is (λ x rest. (at_break text ≡ false) × OneOf kind holds text x rest) (read_held read_one text) (a, t)
       (cond_both (at_break text) None (read_one text) (Sound (λ x rest. (at_break text ≡ false) × OneOf kind holds text x rest))
       (λ _. tt)
-      (λ f. sound_to (OneOf kind holds text) (λ x rest. (at_break text ≡ false) × OneOf kind holds text x rest) (read_one text) (readable.sound text) (λ x rest o. (f, o))))
+      (λ f. sound_to (OneOf kind holds text) (λ x rest. (at_break text ≡ false) × OneOf kind holds text x rest)
+      (read_one text) (readable.sound text) (λ x rest o. (f, o))))
       h
 
   white_first : (text : List ℕ) (a : A) (t : List ℕ) → text ≡ kind.spell a ++ t → first white text ≡ false → kind.blank a ≡ false
@@ -240,7 +277,8 @@ module _ {A : Type 0} (kind : Kind A) (holds : A → Bool) (escapes : Bool) (rea
     | inr b ↦ b
   ]
 
-  held_step : (text : List ℕ) (a : A) (t : List ℕ) (more : List A) (rest : List ℕ) → read_held read_one text ≡ Some (a, t) → HeldOf t more rest → HeldOf text (a ∷ more) rest
+  held_step : (text : List ℕ) (a : A) (t : List ℕ) (more : List A) (rest : List ℕ)
+      → read_held read_one text ≡ Some (a, t) → HeldOf t more rest → HeldOf text (a ∷ more) rest
   held_step text a t [] rest h m =
       let o = held_sound text a t h in
       record {
@@ -302,22 +340,27 @@ module _ {A : Type 0} (kind : Kind A) (holds : A → Bool) (escapes : Bool) (rea
   -- after what ends with white only where no break comes after it
   pub record LinesOf (n : ℕ) (text : List ℕ) (ls : List (Line A)) (rest : List ℕ) : Type 0 where
     pub spells : text ≡ flat_map (line_text kind.spell) ls ++ rest
-    pub fit : (before : List A) → (ends kind.blank before ≡ true → at_break text ≡ false) → apart ls ≡ true → quoted_lines kind holds escapes n before ls rest ≡ true
+    pub fit : (before : List A) → (ends kind.blank before ≡ true → at_break text ≡ false) → apart ls ≡ true
+        → quoted_lines kind holds escapes n before ls rest ≡ true
 
-  no_blank_end : (text : List ℕ) (before : List A) → (ends kind.blank before ≡ true → at_break text ≡ false) → at_break text ≡ true → ends kind.blank before ≡ false
+  no_blank_end : (text : List ℕ) (before : List A) → (ends kind.blank before ≡ true → at_break text ≡ false)
+      → at_break text ≡ true → ends kind.blank before ≡ false
   no_blank_end text before f b = elim (cases_Bool (ends kind.blank before)) [
     | inl e ↦ absurd (false≢true (sym (f e) ∙ b))
     | inr e ↦ e
   ]
 
-  lines_step : (n : ℕ) (text : List ℕ) (l : Line A) (t : List ℕ) (ls : List (Line A)) (rest : List ℕ) → read_quoted_line read_one escapes n text ≡ Some (l, t)
+  lines_step : (n : ℕ) (text : List ℕ) (l : Line A) (t : List ℕ) (ls : List (Line A)) (rest : List ℕ)
+      → read_quoted_line read_one escapes n text ≡ Some (l, t)
       → LinesOf n t ls rest → LinesOf n text (l ∷ ls) rest
   lines_step n text l t ls rest h m =
       let o : LineOf n text l t = sound_is (LineOf n text) (read_quoted_line read_one escapes n text) (l, t) (quoted_line_sound n text) h in
       let after : List ℕ = lines_after kind ls rest in
-      let joins : Joins n (join_of l) (flat_map kind.spell l.held ++ after) = subst (λ (u : List ℕ). Joins n (join_of l) (flat_map kind.spell l.held ++ u)) m.spells o.joins in
+      let joins : Joins n (join_of l) (flat_map kind.spell l.held ++ after) =
+      subst (λ (u : List ℕ). Joins n (join_of l) (flat_map kind.spell l.held ++ u)) m.spells o.joins in
       record {
-        spells = o.spells ∙ (ap (λ u. line_text kind.spell l ++ u) m.spells ∙ sym (append_assoc (line_text kind.spell l) (flat_map (line_text kind.spell) ls) rest));
+        spells = o.spells ∙ (ap (λ u. line_text kind.spell l ++ u) m.spells
+            ∙ sym (append_assoc (line_text kind.spell l) (flat_map (line_text kind.spell) ls) rest));
         fit = λ before f a.
             let p : (is_empty ls || not (is_empty l.held) ≡ true) × (apart ls ≡ true) = and_parts _ _ a in
             let j : join_fits kind n before l after ≡ true =
@@ -325,12 +368,15 @@ module _ {A : Type 0} (kind : Kind A) (holds : A → Bool) (escapes : Bool) (rea
             and_from _ _ (and_from _ _ (and_from _ _ (and_from _ _ o.allowed j) o.held) p.0) (m.fit l.held o.blank p.1);
       }
 
-  lines_sound : (n fuel : ℕ) (text : List ℕ) → LinesOf n text (repeated (read_quoted_line read_one escapes n) fuel text).0 (repeated (read_quoted_line read_one escapes n) fuel text).1
+  lines_sound : (n fuel : ℕ) (text : List ℕ) → LinesOf n text
+      (repeated (read_quoted_line read_one escapes n) fuel text).0 (repeated (read_quoted_line read_one escapes n) fuel text).1
   lines_sound n fuel text =
-      repeated_sound (read_quoted_line read_one escapes n) (LinesOf n) (λ t. record { spells = refl; fit = λ before f a. refl }) (lines_step n) fuel text
+      repeated_sound (read_quoted_line read_one escapes n) (LinesOf n)
+      (λ t. record { spells = refl; fit = λ before f a. refl }) (lines_step n) fuel text
 
   further_sound : (n : ℕ) (c : FlowContext) (text : List ℕ)
-      → LinesOf n text (further read_one escapes n c text).0 (further read_one escapes n c text).1 × (is_empty (further read_one escapes n c text).0 || not (one_line c) ≡ true)
+      → LinesOf n text (further read_one escapes n c text).0 (further read_one escapes n c text).1
+      × (is_empty (further read_one escapes n c text).0 || not (one_line c) ≡ true)
   further_sound n c text = by_line (one_line c)
     where
       any : (b : Bool) → b || true ≡ true
@@ -340,10 +386,14 @@ module _ {A : Type 0} (kind : Kind A) (holds : A → Bool) (escapes : Bool) (rea
       by_line : (b : Bool) → let r = cond b ([], text) (repeated (read_quoted_line read_one escapes n) (length text) text) in
           LinesOf n text r.0 r.1 × (is_empty r.0 || not b ≡ true)
       by_line true = (record { spells = refl; fit = λ before f a. refl }, refl)
-      by_line false = (lines_sound n (length text) text, any (is_empty (repeated (read_quoted_line read_one escapes n) (length text) text).0))
+      by_line false = (
+        lines_sound n (length text) text,
+        any (is_empty (repeated (read_quoted_line read_one escapes n) (length text) text).0),
+      )
 
   -- what is between quotes at the start, before what closes it
-  pub record QuotedOf (closes : List ℕ → Bool) (n : ℕ) (c : FlowContext) (text : List ℕ) (found : List A × List (Line A)) (rest : List ℕ) : Type 0 where
+  pub record QuotedOf (closes : List ℕ → Bool) (n : ℕ) (c : FlowContext) (text : List ℕ)
+      (found : List A × List (Line A)) (rest : List ℕ) : Type 0 where
     pub after : List ℕ
     pub past : rest ≡ past after
     pub closed : closes after ≡ true
@@ -353,7 +403,8 @@ module _ {A : Type 0} (kind : Kind A) (holds : A → Bool) (escapes : Bool) (rea
     pub short : is_empty found.1 || not (one_line c) ≡ true
 
   -- what is read between quotes fits
-  pub quoted_sound : (closes : List ℕ → Bool) (n : ℕ) (c : FlowContext) (text : List ℕ) → Sound (QuotedOf closes n c text) (read_quoted read_one closes escapes n c text)
+  pub quoted_sound : (closes : List ℕ → Bool) (n : ℕ) (c : FlowContext) (text : List ℕ)
+      → Sound (QuotedOf closes n c text) (read_quoted read_one closes escapes n c text)
   unfolding read_quoted
   quoted_sound closes n c text =
       let prefix : List A × List ℕ = line_things read_one text in

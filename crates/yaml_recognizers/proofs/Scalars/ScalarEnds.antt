@@ -1,13 +1,19 @@
 -- A flow scalar ends before what comes after it in a node: a key's `:`, a comma, a closing bracket, or comments with a
 -- line after them that is less deep.
 use Rattle.std.proofs.Common.{ap, append_assoc, arith, inl, inr, refl, subst, sym, ◌<◌, ◌∙◌, ◌≡◌, ◌⊎◌}
-use Rattle.std.specs.Prelude.{Bool, List, None, Option, Some, [], cond, false, is_some, length, nat_lt, not, suc, true, zero, ℕ, ◌&&◌, ◌++◌, ◌==◌, ◌||◌, ◌∷◌}
-use Rattle.std.proofs.lemmas.Bool.{and_from, and_left, and_parts, and_right, cases_Bool, cond-false, cond-true, cond_both, eqb-true, false≢true, lt-ltb, ltb-true, not-false, not-true, not_from_false, not_from_true, or_cases}
+use Rattle.std.specs.Prelude.{Bool, List, None, Option, Some, [], cond, false, is_some, length, nat_lt, not, suc}
+use Rattle.std.specs.Prelude.{true, zero, ℕ, ◌&&◌, ◌++◌, ◌==◌, ◌||◌, ◌∷◌}
+use Rattle.std.proofs.lemmas.Bool.{and_from, and_left, and_parts, and_right, cases_Bool, cond-false, cond-true}
+use Rattle.std.proofs.lemmas.Bool.{cond_both, eqb-true, false≢true, lt-ltb, ltb-true, not-false, not-true}
+use Rattle.std.proofs.lemmas.Bool.{not_from_false, not_from_true, or_cases}
 use Rattle.yaml_chars.specs.Classes.{line_break, ns, space, white}
 use Rattle.yaml_grammar.specs.BlockScalars.{spaces_before}
 use Rattle.yaml_grammar.specs.FlowNodes.{is_plain, scalar}
-use Rattle.yaml_grammar.specs.FlowScalars.{FlowEmptyLine, FlowContext, Line, Scalar, block_key, double, flow_key, inner, one_line, outer, plain, plain_next, safe, single}
-use Rattle.yaml_grammar.specs.Separation.{Break, LineEnd, Sep, break_text, comment_fits, comment_line_fits, comment_text, comments_fit, comments_text, gap_fits, gap_text, indents, inline, line_end_text, lines, stop_fits}
+use Rattle.yaml_grammar.specs.FlowScalars.{FlowEmptyLine, FlowContext, Line, Scalar, block_key, double, flow_key}
+use Rattle.yaml_grammar.specs.FlowScalars.{inner, one_line, outer, plain, plain_next, safe, single}
+use Rattle.yaml_grammar.specs.Separation.{Break, LineEnd, Sep, break_text, comment_fits, comment_line_fits}
+use Rattle.yaml_grammar.specs.Separation.{comment_text, comments_fit, comments_text, gap_fits, gap_text, indents}
+use Rattle.yaml_grammar.specs.Separation.{inline, line_end_text, lines, stop_fits}
 use Rattle.std.specs.List.{list_all}
 use Rattle.yaml_grammar.specs.Texts.{begins, first, is_empty, marker, no_marker, optional, spaces}
 use Rattle.yaml_recognizers.specs.Comments.{read_break}
@@ -65,7 +71,8 @@ unfolding read_plain_line read_join after_blank
 no_line_after n c text b rest e h =
     let found : List FlowEmptyLine × List ℕ = repeated (read_empty n) (length rest) rest in
     let finish : Read Join → Read (Line ℕ) = λ r. on r (λ j t. with_run j t (read_run c 32 t)) in
-    ap (λ (r : Read Break). finish (on r (λ stop t. with_lead false n (take_while white text) stop (repeated (read_empty n) (length t) t)))) e
+    ap (λ (r : Read Break). finish (on r (λ stop t.
+    with_lead false n (take_while white text) stop (repeated (read_empty n) (length t) t)))) e
     ∙ last (indents n (take_while white found.1) && no_marker true found.1) _ (drop_while white found.1) h
   where
     last : (b : Bool) (j : Join) (t : List ℕ) → b && not (is_empty (read_run c 32 t)) ≡ false
@@ -76,12 +83,14 @@ no_line_after n c text b rest e h =
 -- ---- white, and then what is neither white nor a break
 
 -- a test that fails on whitespace and on what comes after it fails on the first character
-white_first : (p : ℕ → Bool) (blank tail : List ℕ) → list_all white blank ≡ true → p 32 ≡ false → p 9 ≡ false → first p tail ≡ false → first p (blank ++ tail) ≡ false
+white_first : (p : ℕ → Bool) (blank tail : List ℕ) → list_all white blank ≡ true → p 32 ≡ false → p 9 ≡ false
+    → first p tail ≡ false → first p (blank ++ tail) ≡ false
 white_first p [] tail w s t h = h
 white_first p (x ∷ xs) tail w s t h = white_is (λ y. p y ≡ false) x (and_parts _ _ w).0 s t
 
 -- whitespace, and a text that starts with no run, break or quote, end a scalar
-pub blank_ends : (n : ℕ) (c : FlowContext) (blank tail : List ℕ) → list_all white blank ≡ true → ((prev : ℕ) → read_run c prev tail ≡ []) → at_break tail ≡ false
+pub blank_ends : (n : ℕ) (c : FlowContext) (blank tail : List ℕ) → list_all white blank ≡ true
+    → ((prev : ℕ) → read_run c prev tail ≡ []) → at_break tail ≡ false
     → first quote tail ≡ false → Ends n c (blank ++ tail)
 blank_ends n c blank tail w r b q = record {
   run = λ prev. white_stops c prev blank tail w (λ x _. r x) (λ _. r prev);
@@ -100,7 +109,8 @@ colon_unplain c prev rest h = rw h (none (safe c 58))
     none false = refl
 
 -- a `:` that no safe character follows
-pub colon_ends : (n : ℕ) (c : FlowContext) (gap rest : List ℕ) → list_all white gap ≡ true → first (safe c) rest ≡ false → Ends n c (gap ++ (58 ∷ rest))
+pub colon_ends : (n : ℕ) (c : FlowContext) (gap rest : List ℕ) → list_all white gap ≡ true
+    → first (safe c) rest ≡ false → Ends n c (gap ++ (58 ∷ rest))
 colon_ends n c gap rest g h = blank_ends n c gap (58 ∷ rest) g (λ prev. no_run c prev 58 rest (colon_unplain c prev rest h) refl) refl refl
 
 -- a closing character is a comma or a closing bracket
@@ -132,7 +142,8 @@ closing_barrier : (d : FlowContext) (tail : List ℕ) → between_brackets d ≡
 closing_barrier d [] i h = absurd (false≢true h)
 closing_barrier d (x ∷ xs) i h =
     let none : (prev : ℕ) → plain_next d prev x xs ≡ false =
-    λ prev. unplain d prev x xs (closing_unsafe d x i h) (closing_is (λ y. (y == 58) ≡ false) x h refl refl refl) (closing_is (λ y. (y == 35) ≡ false) x h refl refl refl) in
+    λ prev. unplain d prev x xs (closing_unsafe d x i h) (closing_is (λ y. (y == 58) ≡ false) x h refl refl refl)
+    (closing_is (λ y. (y == 35) ≡ false) x h refl refl refl) in
     let w : white x ≡ false = closing_is (λ y. white y ≡ false) x h refl refl refl in
     record {
       run = λ prev. no_run d prev x xs (none prev) w;
@@ -153,7 +164,8 @@ colon_barrier d rest h = record {
 -- ---- comments
 
 -- the tail of a line's end: a comment, a break, or the end of the text
-tail_runs : (c : FlowContext) (x : ℕ) (comment : Option (List ℕ)) (stop : Option Break) (rest : List ℕ) → stop_fits stop rest ≡ true → white x ≡ true
+tail_runs : (c : FlowContext) (x : ℕ) (comment : Option (List ℕ)) (stop : Option Break) (rest : List ℕ)
+    → stop_fits stop rest ≡ true → white x ≡ true
     → read_run c x (optional comment_text comment ++ (optional break_text stop ++ rest)) ≡ []
 tail_runs c x (Some text) stop rest h w =
     no_run c x 35 (text ++ (optional break_text stop ++ rest)) (hash (safe c 35) (ns x) (white_is (λ y. ns y ≡ false) x w refl refl)) refl
@@ -185,7 +197,8 @@ tail_break None None (x ∷ xs) f = absurd (false≢true f)
 tail_break None (Some b) rest f = inr (b, break_read b rest f)
 
 -- a test that fails on `#` and on breaks fails on the start of a line's end
-tail_first : (p : ℕ → Bool) (comment : Option (List ℕ)) (stop : Option Break) (rest : List ℕ) → stop_fits stop rest ≡ true → p 35 ≡ false → p 10 ≡ false → p 13 ≡ false
+tail_first : (p : ℕ → Bool) (comment : Option (List ℕ)) (stop : Option Break) (rest : List ℕ)
+    → stop_fits stop rest ≡ true → p 35 ≡ false → p 10 ≡ false → p 13 ≡ false
     → first p (optional comment_text comment ++ (optional break_text stop ++ rest)) ≡ false
 tail_first p (Some text) stop rest f h a b = h
 tail_first p None None [] f h a b = refl
@@ -196,13 +209,16 @@ tail_first p None (Some s) rest f h a b = break_first p s rest a b
 after_white : (bol : Bool) (e : LineEnd) (rest : List ℕ) → LineParts bol e rest
     → drop_while white (line_end_text e ++ rest) ≡ optional comment_text e.comment ++ (optional break_text e.stop ++ rest)
 after_white bol e rest p =
-    ap (drop_while white) (line_regrouped e rest) ∙ drop_while_all white e.blank _ p.blank_white (tail_not_white e.comment e.stop rest p.stop_fit)
+    ap (drop_while white) (line_regrouped e rest)
+    ∙ drop_while_all white e.blank _ p.blank_white (tail_not_white e.comment e.stop rest p.stop_fit)
 
 -- no line of a plain scalar begins with a line of comments
-line_stuck : (n : ℕ) (c : FlowContext) (bol : Bool) (e : LineEnd) (rest : List ℕ) → comment_line_fits bol e rest ≡ true → goes_on n c (line_end_text e ++ rest) ≡ false
+line_stuck : (n : ℕ) (c : FlowContext) (bol : Bool) (e : LineEnd) (rest : List ℕ)
+    → comment_line_fits bol e rest ≡ true → goes_on n c (line_end_text e ++ rest) ≡ false
 line_stuck n c bol e rest h =
     let p = line_parts bol e rest h in
-    let none : read_run c 32 (drop_while white (line_end_text e ++ rest)) ≡ [] = ap (read_run c 32) (after_white bol e rest p) ∙ tail_runs c 32 e.comment e.stop rest p.stop_fit refl in
+    let none : read_run c 32 (drop_while white (line_end_text e ++ rest)) ≡ [] =
+    ap (read_run c 32) (after_white bol e rest p) ∙ tail_runs c 32 e.comment e.stop rest p.stop_fit refl in
     and_right _ _ (ap (λ (r : List ℕ). not (is_empty r)) none)
 
 -- an empty line is a whole line of comments, or none
@@ -218,14 +234,16 @@ empty_or_none n bol e rest h =
       | inr b ↦ elim (cases_Bool (begins (spaces n) blank || list_all space blank)) [
         | inl i ↦ inr (
           record { blank = blank; stop = b.0 },
-          cond-true _ _ _ i ∙ ap (λ (r : Read Break). on r (λ stop t. Some (record { blank = blank; stop = stop }, t))) (ap read_break (after_white bol e rest p) ∙ b.1),
+          cond-true _ _ _ i ∙ ap (λ (r : Read Break).
+              on r (λ stop t. Some (record { blank = blank; stop = stop }, t))) (ap read_break (after_white bol e rest p) ∙ b.1),
         )
         | inr i ↦ inl (cond-false _ _ _ i)
       ]
     ]
 
 -- nor after the empty lines at the start of comments
-comments_stuck : (n : ℕ) (c : FlowContext) (fuel : ℕ) (es : List LineEnd) (after : List ℕ) → comments_fit true es after ≡ true → at_break after ≡ false
+comments_stuck : (n : ℕ) (c : FlowContext) (fuel : ℕ) (es : List LineEnd) (after : List ℕ)
+    → comments_fit true es after ≡ true → at_break after ≡ false
     → goes_on n c after ≡ false → goes_on n c (repeated (read_empty n) fuel (comments_text es ++ after)).1 ≡ false
 unfolding repeated
 comments_stuck n c zero [] after h b g = g
@@ -251,7 +269,8 @@ nothing_after n c [] h = record { run = no_run_at_end c; line = no_line_here n c
 nothing_after n c (x ∷ xs) h = absurd (false≢true h)
 
 -- no quote comes after comments, if none comes after them all
-comments_unquoted : (es : List LineEnd) (after : List ℕ) → comments_fit false es after ≡ true → first quote after ≡ false → first quote (comments_text es ++ after) ≡ false
+comments_unquoted : (es : List LineEnd) (after : List ℕ) → comments_fit false es after ≡ true
+    → first quote after ≡ false → first quote (comments_text es ++ after) ≡ false
 comments_unquoted [] after h q = q
 comments_unquoted (e ∷ es) after h q =
     let rest : List ℕ = comments_text es ++ after in
@@ -261,7 +280,8 @@ comments_unquoted (e ∷ es) after h q =
     ∙ white_first quote e.blank tail p.blank_white refl refl (tail_first quote e.comment e.stop rest p.stop_fit refl refl refl)
 
 -- comments, where what comes after them is no empty line and begins no line of the scalar
-pub comments_end : (n : ℕ) (c : FlowContext) (es : List LineEnd) (after : List ℕ) → comments_fit false es after ≡ true → at_break after ≡ false
+pub comments_end : (n : ℕ) (c : FlowContext) (es : List LineEnd) (after : List ℕ) → comments_fit false es after ≡ true
+    → at_break after ≡ false
     → goes_on n c after ≡ false → Ends n c (comments_text es ++ after)
 comments_end n c [] after h b g = nothing_after n c after h
 comments_end n c (e ∷ es) after h b g =
@@ -272,19 +292,24 @@ comments_end n c (e ∷ es) after h b g =
     let text : List ℕ = line_end_text e ++ rest in
     let whole : Ends n c text = record {
       run = λ prev. ap (read_run c prev) (line_regrouped e rest)
-          ∙ white_stops c prev e.blank tail p.blank_white (λ x w. tail_runs c x e.comment e.stop rest p.stop_fit w) (tail_bare c prev e.blank e.comment e.stop rest p.comment_fit p.stop_fit);
+          ∙ white_stops c prev e.blank tail p.blank_white (λ x w. tail_runs c x e.comment e.stop rest p.stop_fit w)
+          (tail_bare c prev e.blank e.comment e.stop rest p.comment_fit p.stop_fit);
       line = elim (tail_break e.comment e.stop rest p.stop_fit) [
         | inl i ↦ no_line_here n c text (ap (first line_break) (after_white false e rest p) ∙ i)
-        | inr i ↦ no_line_after n c text i.0 rest (ap read_break (after_white false e rest p) ∙ i.1) (comments_stuck n c (length rest) es after q.1 b g)
+        | inr i ↦ no_line_after n c text i.0 rest (ap read_break (after_white false e rest p) ∙ i.1)
+            (comments_stuck n c (length rest) es after q.1 b g)
       ];
-      quote = ap (first quote) (line_regrouped e rest) ∙ white_first quote e.blank tail p.blank_white refl refl (tail_first quote e.comment e.stop rest p.stop_fit refl refl refl);
+      quote = ap (first quote) (line_regrouped e rest)
+          ∙ white_first quote e.blank tail p.blank_white refl refl
+          (tail_first quote e.comment e.stop rest p.stop_fit refl refl refl);
     } in
     subst (Ends n c) (sym (append_assoc (line_end_text e) (comments_text es) after)) whole
 
 -- ---- in flow collections
 
 -- a gap, and a barrier
-gap_ends : (n m : ℕ) (d : FlowContext) (gap : Option Sep) (tail : List ℕ) → gap_fits m false gap tail ≡ true → Barrier d tail → Ends n d (gap_text gap ++ tail)
+gap_ends : (n m : ℕ) (d : FlowContext) (gap : Option Sep) (tail : List ℕ) → gap_fits m false gap tail ≡ true
+    → Barrier d tail → Ends n d (gap_text gap ++ tail)
 gap_ends n m d None tail h b = blank_ends n d [] tail refl b.run b.bare b.unquoted
 gap_ends n m d (Some (inline blank)) tail h b = blank_ends n d blank tail (and_parts _ _ h).0 b.run b.bare b.unquoted
 gap_ends n m d (Some (lines es lead)) tail h b =
@@ -296,7 +321,8 @@ gap_ends n m d (Some (lines es lead)) tail h b =
     (comments_end n d es (lead ++ tail) p.0 (white_at_break lead tail w ∙ b.bare) stuck)
 
 -- no quote comes after a gap, if none comes at its end
-gap_unquoted : (m : ℕ) (gap : Option Sep) (tail : List ℕ) → gap_fits m false gap tail ≡ true → first quote tail ≡ false → first quote (gap_text gap ++ tail) ≡ false
+gap_unquoted : (m : ℕ) (gap : Option Sep) (tail : List ℕ) → gap_fits m false gap tail ≡ true
+    → first quote tail ≡ false → first quote (gap_text gap ++ tail) ≡ false
 gap_unquoted m None tail h q = q
 gap_unquoted m (Some (inline blank)) tail h q = white_first quote blank tail (and_parts _ _ h).0 refl refl q
 gap_unquoted m (Some (lines es lead)) tail h q =
@@ -309,12 +335,14 @@ colon_after : (n m : ℕ) (d : FlowContext) (s : Scalar) (gap : Option Sep) (res
     → not (is_plain (scalar s) && first (safe d) rest) ≡ true → scalar_ends n d s (gap_text gap ++ (58 ∷ rest)) ≡ true
 unfolding scalar_ends
 colon_after n m d (plain prefix more) gap rest g h =
-    ends_scalar n d (plain prefix more) (gap_text gap ++ (58 ∷ rest)) (gap_ends n m d gap (58 ∷ rest) g (colon_barrier d rest (not-true _ h)))
+    ends_scalar n d (plain prefix more) (gap_text gap ++ (58 ∷ rest))
+    (gap_ends n m d gap (58 ∷ rest) g (colon_barrier d rest (not-true _ h)))
 colon_after n m d (single prefix more) gap rest g h = not_from_false _ (gap_unquoted m gap (58 ∷ rest) g refl)
 colon_after n m d (double prefix more) gap rest g h = refl
 
 -- after a scalar between brackets: a gap, and then a comma, a closing bracket, or the `:` of a value
-pub ends_between_brackets : (n m : ℕ) (d : FlowContext) (s : Scalar) (gap : Option Sep) (rest : List ℕ) → between_brackets d ≡ true → gap_fits m false gap rest ≡ true
+pub ends_between_brackets : (n m : ℕ) (d : FlowContext) (s : Scalar) (gap : Option Sep) (rest : List ℕ)
+    → between_brackets d ≡ true → gap_fits m false gap rest ≡ true
     → first closing rest || is_colon d (is_plain (scalar s)) rest ≡ true → scalar_ends n d s (gap_text gap ++ rest) ≡ true
 ends_between_brackets n m d s gap [] i g h = absurd (false≢true h)
 ends_between_brackets n m d s gap (x ∷ xs) i g h = elim (or_cases (closing x) _ h) [
@@ -340,7 +368,8 @@ wide_first c [] h = refl
 wide_first c (x ∷ xs) h = wide_safe c x h
 
 -- after a key: white, and a `:` that no ns follows
-pub ends_before_colon : (n : ℕ) (c : FlowContext) (s : Scalar) (gap rest : List ℕ) → between_brackets c ≡ false → list_all white gap ≡ true → first ns rest ≡ false
+pub ends_before_colon : (n : ℕ) (c : FlowContext) (s : Scalar) (gap rest : List ℕ) → between_brackets c ≡ false
+    → list_all white gap ≡ true → first ns rest ≡ false
     → scalar_ends n c s (gap ++ (58 ∷ rest)) ≡ true
 ends_before_colon n c s gap rest i g h = ends_scalar n c s (gap ++ (58 ∷ rest)) (colon_ends n c gap rest g (wide_first c rest i ∙ h))
 
@@ -349,9 +378,11 @@ narrow : (n : ℕ) (text : List ℕ) → nat_lt (spaces_before text) n ≡ true 
 narrow zero text h = absurd (omega (arith, ltb-true (spaces_before text) 0 h))
 narrow (suc n) [] h = refl
 narrow (suc n) (x ∷ xs) h = elim (cases_Bool (x == 32)) [
-  | inl e ↦ (let i : suc (spaces_before xs) < suc n = ltb-true _ _ (subst (λ (b : Bool). nat_lt (cond b (suc (spaces_before xs)) 0) (suc n) ≡ true) e h) in
+  | inl e ↦ (let i : suc (spaces_before xs) < suc n =
+      ltb-true _ _ (subst (λ (b : Bool). nat_lt (cond b (suc (spaces_before xs)) 0) (suc n) ≡ true) e h) in
       rw e (and_right _ _ (narrow n xs (lt-ltb _ _ (omega arith)))))
-  | inr e ↦ rw e (cond_both (x == 9) (x ∷ take_while white xs) [] (λ (t : List ℕ). begins (spaces (suc n)) t ≡ false) (λ _. rw e) (λ _. refl))
+  | inr e ↦ rw e (cond_both (x == 9) (x ∷ take_while white xs) [] (λ (t : List ℕ). begins (spaces (suc n)) t ≡ false)
+      (λ _. rw e) (λ _. refl))
 ]
 
 -- no further line goes on where the text is less deep
@@ -363,7 +394,8 @@ less_deep_stops n c (x ∷ xs) h = elim (or_cases (marker (x ∷ xs)) _ h) [
 ]
 
 -- after a node: comments, and a line that is less deep, where the comments leave no line of white after them
-pub ends_before_comments : (n : ℕ) (c : FlowContext) (s : Scalar) (es : List LineEnd) (after : List ℕ) → comments_fit false es after ≡ true → at_break after ≡ false
+pub ends_before_comments : (n : ℕ) (c : FlowContext) (s : Scalar) (es : List LineEnd) (after : List ℕ)
+    → comments_fit false es after ≡ true → at_break after ≡ false
     → less_deep n after ≡ true → scalar_ends n c s (comments_text es ++ after) ≡ true
 ends_before_comments n c s es after h b d =
     ends_scalar n c s (comments_text es ++ after) (comments_end n c es after h b (less_deep_stops n c after d))

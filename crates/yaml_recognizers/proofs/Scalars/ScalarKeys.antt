@@ -7,7 +7,10 @@ use Rattle.yaml_chars.specs.Classes.{line_break}
 use Rattle.std.specs.List.{list_all}
 use Rattle.yaml_grammar.specs.Texts.{first, is_empty, no_marker}
 use Rattle.yaml_grammar.specs.Separation.{Break, lf, cr, cr_lf, break_text}
-use Rattle.yaml_grammar.specs.FlowScalars.{FlowContext, one_line, Line, Scalar, plain, single, double, safe, plain_text, single_text, quoted_char_text, join_text, flow_empties_text, line_text, lines_text, scalar_text, plain_first, plain_next, plain_run, plain_line, scalar_fits}
+use Rattle.yaml_grammar.specs.FlowScalars.{FlowContext, one_line, Line, Scalar, plain, single, double, safe}
+use Rattle.yaml_grammar.specs.FlowScalars.{plain_text, single_text, quoted_char_text, join_text, flow_empties_text}
+use Rattle.yaml_grammar.specs.FlowScalars.{line_text, lines_text, scalar_text, plain_first, plain_next, plain_run}
+use Rattle.yaml_grammar.specs.FlowScalars.{plain_line, scalar_fits}
 use Rattle.yaml_recognizers.specs.PlainScalars.{read_run, last_char, plain_ends}
 use Rattle.yaml_recognizers.specs.FlowScalars.{read_scalar, scalar_ends, Stands}
 use Rattle.yaml_recognizers.specs.WholeScalars.{stands_on_one_line}
@@ -40,7 +43,8 @@ module _ (c d : FlowContext) (same : (x : ℕ) → safe c x ≡ safe d x) where
   read_run_same prev (x ∷ xs) = rw (next_same prev x xs, read_run_same x xs) refl
 
   -- what fits in one of them on one line fits in the other, at each indentation
-  pub fits_same : (s : Scalar) (n m : ℕ) (bol : Bool) (after : List ℕ) → stands_on_one_line s ≡ true → scalar_fits n c bol s after ≡ true → scalar_fits m d bol s after ≡ true
+  pub fits_same : (s : Scalar) (n m : ℕ) (bol : Bool) (after : List ℕ) → stands_on_one_line s ≡ true
+      → scalar_fits n c bol s after ≡ true → scalar_fits m d bol s after ≡ true
   fits_same (plain prefix (l ∷ ls)) n m bol after k h = absurd (false≢true k)
   fits_same (single prefix (l ∷ ls)) n m bol after k h = absurd (false≢true k)
   fits_same (double prefix (l ∷ ls)) n m bol after k h = absurd (false≢true k)
@@ -53,7 +57,8 @@ module _ (c d : FlowContext) (same : (x : ℕ) → safe c x ≡ safe d x) where
       and_from _ _ (and_from _ _ (and_from _ _ r.0 (sym (line_same prefix after) ∙ r.1)) refl) refl
 
   -- where d is a key's context it ends there too
-  pub ends_same : (s : Scalar) (n m : ℕ) (after : List ℕ) → one_line d ≡ true → scalar_ends n c s after ≡ true → scalar_ends m d s after ≡ true
+  pub ends_same : (s : Scalar) (n m : ℕ) (after : List ℕ) → one_line d ≡ true → scalar_ends n c s after ≡ true
+      → scalar_ends m d s after ≡ true
   unfolding scalar_ends plain_ends
   ends_same (plain prefix more) n m after k h =
       and_from _ _ (ap is_empty (sym (read_run_same (last_char prefix more) after)) ∙ (and_parts _ _ h).0) (or_left _ _ k)
@@ -65,10 +70,15 @@ module _ (c d : FlowContext) (same : (x : ℕ) → safe c x ≡ safe d x) where
       → read_scalar n c bol text ≡ Some (s, rest) → read_scalar m d bol text ≡ Some (s, rest)
   read_as_key n m bol text s rest k o h =
       let here : Stands n c bol text s rest = sound n c bol text s rest h in
-      complete m d bol text s rest (record { spells = here.spells; fits = fits_same s n m bol rest o here.fits; ends = ends_same s n m rest k here.ends })
+      complete m d bol text s rest (record {
+        spells = here.spells;
+        fits = fits_same s n m bol rest o here.fits;
+        ends = ends_same s n m rest k here.ends;
+      })
 
 -- what fits as a key is on one line
-pub key_on_one_line : (s : Scalar) (n : ℕ) (c : FlowContext) (bol : Bool) (after : List ℕ) → one_line c ≡ true → scalar_fits n c bol s after ≡ true → stands_on_one_line s ≡ true
+pub key_on_one_line : (s : Scalar) (n : ℕ) (c : FlowContext) (bol : Bool) (after : List ℕ) → one_line c ≡ true
+    → scalar_fits n c bol s after ≡ true → stands_on_one_line s ≡ true
 key_on_one_line s n c bol after k h = by_style s h
   where
     only : (e o : Bool) → o ≡ true → e || not o ≡ true → e ≡ true
@@ -82,12 +92,18 @@ key_on_one_line s n c bol after k h = by_style s h
     by_style (double prefix more) h = only (is_empty more) (one_line c) k (and_parts _ _ h).1
 
 -- and is read in each context with the same safe characters where it ends there
-pub key_read_wider : (c d : FlowContext) (same : (x : ℕ) → safe c x ≡ safe d x) (n m : ℕ) (bol : Bool) (text : List ℕ) (s : Scalar) (rest : List ℕ) → one_line c ≡ true
+pub key_read_wider : (c d : FlowContext) (same : (x : ℕ) → safe c x ≡ safe d x) (n m : ℕ) (bol : Bool) (text : List ℕ)
+    (s : Scalar) (rest : List ℕ) → one_line c ≡ true
     → read_scalar n c bol text ≡ Some (s, rest) → scalar_ends m d s rest ≡ true → read_scalar m d bol text ≡ Some (s, rest)
 key_read_wider c d same n m bol text s rest k h e =
     let here : Stands n c bol text s rest = sound n c bol text s rest h in
     complete m d bol text s rest
-    (record { spells = here.spells; fits = fits_same c d same s n m bol rest (key_on_one_line s n c bol rest k here.fits) here.fits; ends = e })
+    (record {
+      spells = here.spells;
+      fits = fits_same c d same s n m bol rest
+          (key_on_one_line s n c bol rest k here.fits) here.fits;
+      ends = e;
+    })
 
 -- ---- a scalar whose text has no break is on one line
 
@@ -97,7 +113,8 @@ every_parts p [] ys h = (refl, h)
 every_parts p (x ∷ xs) ys h = let q = and_parts _ _ h in let more = every_parts p xs ys q.1 in (and_from _ _ q.0 more.0, more.1)
 
 -- a scalar of several lines has a break
-lines_broken : {A : Type 0} (spell : A → List ℕ) (prefix : List A) (l : Line A) (ls : List (Line A)) → list_all (λ x. not (line_break x)) (lines_text spell prefix (l ∷ ls)) ≡ true → ⊥
+lines_broken : {A : Type 0} (spell : A → List ℕ) (prefix : List A) (l : Line A) (ls : List (Line A))
+    → list_all (λ x. not (line_break x)) (lines_text spell prefix (l ∷ ls)) ≡ true → ⊥
 lines_broken spell prefix l ls h =
     let sign : List ℕ = if l.escaped then codes "\\" else [] in
     let more = every_parts _ (flat_map spell prefix) _ h in

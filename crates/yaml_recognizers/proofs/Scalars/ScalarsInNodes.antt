@@ -27,7 +27,8 @@ no_blank_line (c ∷ cs) h = unbroken (drop_while white (c ∷ cs)) (or_parts _ 
     unbroken (x ∷ xs) h = h
 
 -- a scalar ends before what may follow it between brackets
-between_brackets : (n : ℕ) (c : FlowContext) (s : Scalar) (after : List ℕ) → BetweenBrackets c (is_plain (scalar s)) after → scalar_ends n c s after ≡ true
+between_brackets : (n : ℕ) (c : FlowContext) (s : Scalar) (after : List ℕ)
+    → BetweenBrackets c (is_plain (scalar s)) after → scalar_ends n c s after ≡ true
 between_brackets n c s after b =
     subst (λ (t : List ℕ). scalar_ends n c s t ≡ true) (sym b.is)
     (ends_between_brackets n b.fits.0 c s b.gap b.rest b.within (gap_fits_too b.fits.0 false b.gap b.rest b.fits.1) b.stop)
@@ -45,7 +46,8 @@ before_comments n c s after b =
     (ends_before_comments n c s b.comments b.rest p.0 (no_blank_line b.rest (not-true _ p.1)) b.shallow)
 
 -- what comes after a scalar in a node ends it
-pub stops_end : (n : ℕ) (c : FlowContext) (s : Scalar) (after : List ℕ) → Stops n c (is_plain (scalar s)) after → scalar_ends n c s after ≡ true
+pub stops_end : (n : ℕ) (c : FlowContext) (s : Scalar) (after : List ℕ) → Stops n c (is_plain (scalar s)) after
+    → scalar_ends n c s after ≡ true
 stops_end n c s after (inl b) = between_brackets n c s after b
 stops_end n c s after (inr (inl b)) = before_colon n c s after b
 stops_end n c s after (inr (inr b)) = before_comments n c s after b

@@ -1,7 +1,8 @@
 -- Single-quoted scalars: what fits is read, and what is read fits.
 use Rattle.std.proofs.Common.{◌≡◌, refl, sym, ◌∙◌, ap, subst, append_assoc, arith, ◌≤◌, inl, inr}
 use Rattle.std.specs.Prelude.{ℕ, Bool, true, false, cond, ◌==◌, List, [], ◌∷◌, ◌++◌, length, Some, None, codes}
-use Rattle.std.proofs.lemmas.Bool.{and_parts, and_from, or_cases, or_from, eqb-true, false≢true, not_from_false, not-true, cond_both, cond-false, cases_Bool}
+use Rattle.std.proofs.lemmas.Bool.{and_parts, and_from, or_cases, or_from, eqb-true, false≢true, not_from_false}
+use Rattle.std.proofs.lemmas.Bool.{not-true, cond_both, cond-false, cases_Bool}
 use Rattle.yaml_chars.specs.Classes.{white, line_break, nb_json}
 use Rattle.yaml_grammar.specs.Texts.{first}
 use Rattle.yaml_grammar.specs.FlowScalars.{FlowContext, Line, single, single_text, lines_text, single_kind, quoted_lines, scalar_fits}
@@ -49,7 +50,8 @@ one_sound : (text : List ℕ) → Sound (OneOf single_kind nb_json text) (read_s
 unfolding read_single_one
 one_sound [] = tt
 one_sound (c ∷ cs) =
-    cond_both (c == 39) (cond (first quote cs) (Some (39, past cs)) None) (cond (nb_json c) (Some (c, cs)) None) (Sound (OneOf single_kind nb_json (c ∷ cs)))
+    cond_both (c == 39) (cond (first quote cs) (Some (39, past cs)) None) (cond (nb_json c) (Some (c, cs)) None)
+    (Sound (OneOf single_kind nb_json (c ∷ cs)))
     (λ e. cond_both (first quote cs) (Some (39, past cs)) None (Sound (OneOf single_kind nb_json (c ∷ cs)))
     (λ q. (ap (λ x. x ∷ cs) (eqb-true c 39 e) ∙ ap (λ t. 39 ∷ t) (quote_ahead cs q), refl))
     (λ _. tt))
@@ -69,7 +71,8 @@ one_solid c rest h w = cond_both (c == 39) (codes "''") (c ∷ []) (λ (t : List
 -- one that is whitespace starts with whitespace, and a break comes as after it
 one_white : (c : ℕ) (rest : List ℕ) → white c ≡ true
     → (first white (single_text c ++ rest) ≡ true) × (at_break (single_text c ++ rest) ≡ at_break rest)
-one_white c rest w = white_is (λ x. (first white (single_text x ++ rest) ≡ true) × (at_break (single_text x ++ rest) ≡ at_break rest)) c w (refl, refl) (refl, refl)
+one_white c rest w = white_is (λ x. (first white (single_text x ++ rest) ≡ true)
+    × (at_break (single_text x ++ rest) ≡ at_break rest)) c w (refl, refl) (refl, refl)
 
 -- what is between single quotes is read one thing at a time
 pub single_readable : Readable single_kind nb_json false read_single_one
@@ -83,7 +86,8 @@ single_readable = record {
 }
 
 -- the closing quote ends the lines
-quote_ends : (n : ℕ) (rest : List ℕ) → first quote rest ≡ false → EndsLines single_kind nb_json false read_single_one single_readable n (39 ∷ rest)
+quote_ends : (n : ℕ) (rest : List ℕ) → first quote rest ≡ false
+    → EndsLines single_kind nb_json false read_single_one single_readable n (39 ∷ rest)
 unfolding read_held read_single_one read_join after_blank
 quote_ends n rest h = record { held = cond-false (first quote rest) (Some (39, past rest)) None h; inked = refl; join = refl }
 
@@ -98,25 +102,30 @@ unfolding single_closes
 closed_at text h = let p = and_parts _ _ h in (quote_ahead text p.0, not-true _ p.1)
 
 -- a single-quoted scalar that fits is read
-pub single_read : (n : ℕ) (c : FlowContext) (bol : Bool) (prefix : List ℕ) (more : List (Line ℕ)) (after : List ℕ) → scalar_fits n c bol (single prefix more) after ≡ true
+pub single_read : (n : ℕ) (c : FlowContext) (bol : Bool) (prefix : List ℕ) (more : List (Line ℕ)) (after : List ℕ)
+    → scalar_fits n c bol (single prefix more) after ≡ true
     → first quote after ≡ false → read_single n c (lines_text single_text prefix more ++ (39 ∷ after)) ≡ Some (single prefix more, after)
 unfolding read_single
 single_read n c bol prefix more after h f =
     let p = and_parts _ _ h in
     let q = and_parts _ _ p.0 in
     ap (λ (r : Read (List ℕ × List (Line ℕ))). on r (λ found rest. Some (single found.0 found.1, rest)))
-    (quoted_read single_kind nb_json false read_single_one single_readable single_closes n c prefix more (39 ∷ after) (quote_ends n after f) (closes_at after f) q.0 q.1 p.1)
+    (quoted_read single_kind nb_json false read_single_one single_readable single_closes n c prefix more (39 ∷ after)
+    (quote_ends n after f) (closes_at after f) q.0 q.1 p.1)
 
 -- a single-quoted scalar that is found stands there
 found_stands : (n : ℕ) (c : FlowContext) (bol : Bool) (text : List ℕ) (found : List ℕ × List (Line ℕ)) (rest : List ℕ)
-    → QuotedOf single_kind nb_json false read_single_one single_readable single_closes n c text found rest → Stands n c bol (39 ∷ text) (single found.0 found.1) rest
+    → QuotedOf single_kind nb_json false read_single_one single_readable single_closes n c text found rest
+    → Stands n c bol (39 ∷ text) (single found.0 found.1) rest
 unfolding scalar_ends
 found_stands n c bol text found rest q =
     let e = closed_at q.after q.closed in
     let after : q.after ≡ 39 ∷ rest = e.0 ∙ ap (λ t. 39 ∷ t) (sym q.past) in
     record {
-      spells = ap (λ t. 39 ∷ t) (q.spells ∙ (ap (λ t. lines_text single_text found.0 found.1 ++ t) after ∙ sym (append_assoc (lines_text single_text found.0 found.1) (codes "'") rest)));
-      fits = and_from _ _ (and_from _ _ q.prefix (subst (λ (t : List ℕ). quoted_lines single_kind nb_json false n found.0 found.1 t ≡ true) after q.lines)) q.short;
+      spells = ap (λ t. 39 ∷ t) (q.spells ∙ (ap (λ t. lines_text single_text found.0 found.1 ++ t) after
+          ∙ sym (append_assoc (lines_text single_text found.0 found.1) (codes "'") rest)));
+      fits = and_from _ _ (and_from _ _ q.prefix
+          (subst (λ (t : List ℕ). quoted_lines single_kind nb_json false n found.0 found.1 t ≡ true) after q.lines)) q.short;
       ends = not_from_false _ (ap (first quote) q.past ∙ e.1);
     }
 

@@ -3,16 +3,19 @@ use Rattle.std.proofs.Common.{ap, append_assoc, arith, length-append, refl, subs
 use Rattle.std.specs.Prelude.{Bool, List, None, Option, Some, [], false, length, not, suc, true, zero, ℕ, ◌&&◌, ◌++◌, ◌==◌, ◌||◌, ◌∷◌}
 use Rattle.std.proofs.lemmas.Bool.{and_parts, cond_both, false≢true, not-true, or_parts}
 use Rattle.yaml_chars.specs.Classes.{line_break, nb, white}
-use Rattle.yaml_grammar.specs.Separation.{Break, LineEnd, break_text, comment_fits, comment_line_fits, comment_text, comments_text, cr, cr_lf, lf, line_end_text, stop_fits}
+use Rattle.yaml_grammar.specs.Separation.{Break, LineEnd, break_text, comment_fits, comment_line_fits, comment_text}
+use Rattle.yaml_grammar.specs.Separation.{comments_text, cr, cr_lf, lf, line_end_text, stop_fits}
 use Rattle.std.specs.List.{list_all}
 use Rattle.yaml_grammar.specs.Texts.{first, is_empty, optional}
 use Rattle.yaml_recognizers.specs.CanonicalComments.{canonical_comments, hash, is_line_end, stops}
-use Rattle.yaml_recognizers.specs.Comments.{all_comments, more_comments, read_after_blank, read_comments, read_line_end, read_stop, line_end_with_stop}
+use Rattle.yaml_recognizers.specs.Comments.{all_comments, more_comments, read_after_blank, read_comments}
+use Rattle.yaml_recognizers.specs.Comments.{read_line_end, read_stop, line_end_with_stop}
 use Rattle.yaml_recognizers.specs.Ends.{solid}
 use Rattle.yaml_recognizers.specs.Prefixes.{drop_while, past, take_while}
 use Rattle.yaml_recognizers.specs.Reading.{Read}
 use Rattle.yaml_recognizers.proofs.Basics.Prefixes.{drop_while_all, take_while_all}
-use Rattle.yaml_recognizers.proofs.Separation.LineEnds.{comments_parts, fits_end, line_parts, lines_long, no_comments_parts, stop_not_nb, tail_not_white}
+use Rattle.yaml_recognizers.proofs.Separation.LineEnds.{comments_parts, fits_end, line_parts, lines_long}
+use Rattle.yaml_recognizers.proofs.Separation.LineEnds.{no_comments_parts, stop_not_nb, tail_not_white}
 use Rattle.yaml_recognizers.proofs.Basics.Solid.{solid_parts}
 
 -- ---- breaks
@@ -23,7 +26,8 @@ not_one true h = sym h
 not_one false h = refl
 
 -- a stop that fits is read
-pub stop_read : (stop : Option Break) (after : List ℕ) → stop_fits stop after ≡ true → read_stop (optional break_text stop ++ after) ≡ Some (stop, after)
+pub stop_read : (stop : Option Break) (after : List ℕ) → stop_fits stop after ≡ true
+    → read_stop (optional break_text stop ++ after) ≡ Some (stop, after)
 stop_read None [] h = refl
 stop_read None (c ∷ cs) h = cc
 stop_read (Some lf) after h = refl
@@ -35,7 +39,8 @@ stop_read (Some cr_lf) after h = refl
 
 -- no comment begins there
 stop_unread : (bol : Bool) (blank : List ℕ) (stop : Option Break) (after : List ℕ) → stop_fits stop after ≡ true
-    → read_after_blank bol blank (optional break_text stop ++ after) ≡ line_end_with_stop blank None (read_stop (optional break_text stop ++ after))
+    → read_after_blank bol blank (optional break_text stop ++ after)
+    ≡ line_end_with_stop blank None (read_stop (optional break_text stop ++ after))
 stop_unread bol blank None [] h = refl
 stop_unread bol blank None (c ∷ cs) h = cc
 stop_unread bol blank (Some lf) after h = refl
@@ -43,18 +48,26 @@ stop_unread bol blank (Some cr) after h = refl
 stop_unread bol blank (Some cr_lf) after h = refl
 
 -- a line's end that isn't empty is made of its parts
-stopped_at : (e : LineEnd) (after : List ℕ) → not (is_empty (line_end_text e)) ≡ true → line_end_with_stop e.blank e.comment (Some (e.stop, after)) ≡ Some (e, after)
+stopped_at : (e : LineEnd) (after : List ℕ) → not (is_empty (line_end_text e)) ≡ true
+    → line_end_with_stop e.blank e.comment (Some (e.stop, after)) ≡ Some (e, after)
 stopped_at e after h = rw (not-true _ h)
 
 -- after its white, by whether there is a comment
 after_blank_read : (bol : Bool) (blank : List ℕ) (comment : Option (List ℕ)) (stop : Option Break) (after : List ℕ)
     → comment_fits (bol || not (is_empty blank)) comment ≡ true → stop_fits stop after ≡ true
-    → read_after_blank bol blank (optional comment_text comment ++ (optional break_text stop ++ after)) ≡ line_end_with_stop blank comment (Some (stop, after))
-after_blank_read bol blank None stop after h f = stop_unread bol blank stop after f ∙ ap (line_end_with_stop blank None) (stop_read stop after f)
+    → read_after_blank bol blank (optional comment_text comment ++ (optional break_text stop ++ after))
+    ≡ line_end_with_stop blank comment (Some (stop, after))
+after_blank_read bol blank None stop after h f = stop_unread bol blank stop after f
+    ∙ ap (line_end_with_stop blank None) (stop_read stop after f)
 after_blank_read bol blank (Some text) stop after h f =
     let q : (bol || not (is_empty blank) ≡ true) × (list_all nb text ≡ true) = and_parts _ _ h in
     let rest : List ℕ = optional break_text stop ++ after in
-    rw (q.0, take_while_all nb text rest q.1 (stop_not_nb stop after f), drop_while_all nb text rest q.1 (stop_not_nb stop after f), stop_read stop after f)
+    rw (
+      q.0,
+      take_while_all nb text rest q.1 (stop_not_nb stop after f),
+      drop_while_all nb text rest q.1 (stop_not_nb stop after f),
+      stop_read stop after f,
+    )
 
 -- a line's end that fits is read
 pub line_end_read : (bol : Bool) (e : LineEnd) (after : List ℕ) → comment_line_fits bol e after ≡ true
@@ -65,7 +78,8 @@ line_end_read bol e after h =
     let f : first white tail ≡ false = tail_not_white e.comment e.stop after p.stop_fit in
     let regrouped : line_end_text e ++ after ≡ e.blank ++ tail = simp append_assoc in
     ap (read_line_end bol) regrouped
-    ∙ (rw (take_while_all white e.blank tail p.blank_white f, drop_while_all white e.blank tail p.blank_white f) (after_blank_read bol e.blank e.comment e.stop after p.comment_fit p.stop_fit)
+    ∙ (rw (take_while_all white e.blank tail p.blank_white f, drop_while_all white e.blank tail p.blank_white f)
+    (after_blank_read bol e.blank e.comment e.stop after p.comment_fit p.stop_fit)
     ∙ stopped_at e after p.some)
 
 -- ---- where no line ends
@@ -82,7 +96,9 @@ none_after bol blank [] h = absurd (false≢true (sym h))
 none_after bol blank (c ∷ cs) h =
     let p : (line_break c ≡ false) × ((c == 35) && stops (drop_while nb cs) ≡ false) = or_parts _ _ h in
     let q : (c == 10 ≡ false) × (c == 13 ≡ false) = or_parts _ _ p.0 in
-    cond_both ((c == 35) && (bol || not (is_empty blank))) (line_end_with_stop blank (Some (take_while nb cs)) (read_stop (drop_while nb cs))) (line_end_with_stop blank None (read_stop (c ∷ cs))) (λ (r : Read LineEnd). r ≡ None)
+    cond_both ((c == 35) && (bol || not (is_empty blank)))
+    (line_end_with_stop blank (Some (take_while nb cs)) (read_stop (drop_while nb cs)))
+    (line_end_with_stop blank None (read_stop (c ∷ cs))) (λ (r : Read LineEnd). r ≡ None)
     (λ e. let i : c == 35 ≡ true = (and_parts _ _ e).0 in
     let n : stops (drop_while nb cs) ≡ false = subst (λ (b : Bool). b && stops (drop_while nb cs) ≡ false) i p.1 in
     ap (line_end_with_stop blank (Some (take_while nb cs))) (stop_none (drop_while nb cs) n))
@@ -106,7 +122,8 @@ not_line_end (x ∷ (y ∷ ys)) rest w h =
     let q : (white x ≡ true) × (list_all white (y ∷ ys) ≡ true) = and_parts _ _ w in rw q.0 (not_line_end (y ∷ ys) rest q.1 h)
 
 -- no line's end begins before something solid
-pub solid_no_line : (bol : Bool) (lead after : List ℕ) → list_all white lead ≡ true → first solid after ≡ true → read_line_end bol (lead ++ after) ≡ None
+pub solid_no_line : (bol : Bool) (lead after : List ℕ) → list_all white lead ≡ true → first solid after ≡ true
+    → read_line_end bol (lead ++ after) ≡ None
 solid_no_line bol lead [] w f = absurd (false≢true f)
 solid_no_line bol lead (x ∷ xs) w f =
     let p : (white x ≡ false) × (x == 10 ≡ false) × (x == 13 ≡ false) × (x == 35 ≡ false) = solid_parts x f in
@@ -120,25 +137,30 @@ pub comments_read : (fuel : ℕ) (bol : Bool) (es : List LineEnd) (after : List 
 comments_read zero bol es after m h n k = absurd (omega arith)
 comments_read (suc fuel) bol [] after m h n k = rw k refl
 comments_read (suc fuel) bol (e ∷ es) after m h n k =
-    let p : (comment_line_fits bol e (comments_text es ++ after) ≡ true) × (canonical_comments true es after ≡ true) = comments_parts bol e es after h in
+    let p : (comment_line_fits bol e (comments_text es ++ after) ≡ true) × (canonical_comments true es after ≡ true) =
+    comments_parts bol e es after h in
     let regrouped : comments_text (e ∷ es) ++ after ≡ line_end_text e ++ (comments_text es ++ after) = simp append_assoc in
-    let first_read : read_line_end bol (comments_text (e ∷ es) ++ after) ≡ Some (e, comments_text es ++ after) = ap (read_line_end bol) regrouped ∙ line_end_read bol e _ p.0 in
+    let first_read : read_line_end bol (comments_text (e ∷ es) ++ after) ≡ Some (e, comments_text es ++ after) =
+    ap (read_line_end bol) regrouped ∙ line_end_read bol e _ p.0 in
     let more : read_comments fuel true (comments_text es ++ after) ≡ (es, after) = comments_read fuel true es after (omega arith) p.1 n n in
     ap (more_comments (comments_text (e ∷ es) ++ after) (λ rest. read_comments fuel true rest)) first_read ∙ ap (λ m. (e ∷ m.0, m.1)) more
 
 -- canonical comments are read
-pub comments_all : (bol : Bool) (es : List LineEnd) (after : List ℕ) → canonical_comments bol es after ≡ true → all_comments bol (comments_text es ++ after) ≡ (es, after)
+pub comments_all : (bol : Bool) (es : List LineEnd) (after : List ℕ) → canonical_comments bol es after ≡ true
+    → all_comments bol (comments_text es ++ after) ≡ (es, after)
 comments_all bol es after h =
     let n : is_line_end after ≡ false = fits_end bol es after h in
     comments_read (suc (length (comments_text es ++ after))) bol es after
     (omega (arith, lines_long bol es after h, length-append (comments_text es) after)) h (no_line true after n) (no_line bol after n)
 
 -- before something solid there are none
-pub no_comments : (bol : Bool) (lead rest : List ℕ) → list_all white lead ≡ true → first solid rest ≡ true → all_comments bol (lead ++ rest) ≡ ([], lead ++ rest)
+pub no_comments : (bol : Bool) (lead rest : List ℕ) → list_all white lead ≡ true → first solid rest ≡ true
+    → all_comments bol (lead ++ rest) ≡ ([], lead ++ rest)
 no_comments bol lead rest w h = rw (no_line bol (lead ++ rest) (not_line_end lead rest w h))
 
 -- if more comes after comments, there are some, or a line starts
-pub at_line : (bol : Bool) (es : List LineEnd) (rest : List ℕ) → canonical_comments bol es rest ≡ true → is_empty rest ≡ false → bol || not (is_empty es) ≡ true
+pub at_line : (bol : Bool) (es : List LineEnd) (rest : List ℕ) → canonical_comments bol es rest ≡ true
+    → is_empty rest ≡ false → bol || not (is_empty es) ≡ true
 at_line true es rest h e = refl
 at_line false [] rest h e = absurd (false≢true (sym e ∙ (no_comments_parts false rest h).0))
 at_line false (x ∷ xs) rest h e = refl

@@ -4,7 +4,8 @@ use Rattle.std.specs.Prelude.{Bool, List, None, Option, Some, [], false, not, tr
 use Rattle.std.proofs.lemmas.Bool.{and_from, and_parts, false≢true, not_from_false, or_left}
 use Rattle.std.proofs.lemmas.Grind.{flat_map-append}
 use Rattle.yaml_chars.specs.Classes.{white}
-use Rattle.yaml_grammar.specs.Separation.{LineEnd, Sep, comment_line_fits, comments_fit, comments_text, gap_fits, gap_text, indents, inline, line_end_text, lines, sep_fits, sep_text}
+use Rattle.yaml_grammar.specs.Separation.{LineEnd, Sep, comment_line_fits, comments_fit, comments_text, gap_fits}
+use Rattle.yaml_grammar.specs.Separation.{gap_text, indents, inline, line_end_text, lines, sep_fits, sep_text}
 use Rattle.std.specs.List.{list_all}
 use Rattle.yaml_grammar.specs.Texts.{first, is_empty}
 use Rattle.yaml_recognizers.specs.CanonicalComments.{canonical_comments, canonical_gap, canonical_sep, is_line_end}
@@ -20,21 +21,25 @@ pub comments_joined : (es ls : List LineEnd) → comments_text (es ++ ls) ≡ co
 comments_joined es ls = flat_map-append line_end_text es ls
 
 -- the same before more text
-pub joined_before : (es ls : List LineEnd) (after : List ℕ) → comments_text (es ++ ls) ++ after ≡ comments_text es ++ (comments_text ls ++ after)
+pub joined_before : (es ls : List LineEnd) (after : List ℕ)
+    → comments_text (es ++ ls) ++ after ≡ comments_text es ++ (comments_text ls ++ after)
 joined_before es ls after = rw comments_joined (append_assoc (comments_text es) (comments_text ls) after)
 
 -- comments that fit one after another fit together
-pub joined_fit : (bol : Bool) (es ls : List LineEnd) (after : List ℕ) → comments_fit bol es (comments_text ls ++ after) ≡ true → comments_fit true ls after ≡ true
+pub joined_fit : (bol : Bool) (es ls : List LineEnd) (after : List ℕ)
+    → comments_fit bol es (comments_text ls ++ after) ≡ true → comments_fit true ls after ≡ true
     → comments_fit bol (es ++ ls) after ≡ true
 joined_fit true [] ls after h l = l
 joined_fit false [] [] after h l = h
 joined_fit false [] (e ∷ es) after h l = absurd (false≢true (sym (lines_filled true e es after l) ∙ h))
 joined_fit bol (e ∷ es) ls after h l =
-    let p : (comment_line_fits bol e (comments_text es ++ (comments_text ls ++ after)) ≡ true) × (comments_fit true es (comments_text ls ++ after) ≡ true) = and_parts _ _ h in
+    let p : (comment_line_fits bol e (comments_text es ++ (comments_text ls ++ after)) ≡ true)
+    × (comments_fit true es (comments_text ls ++ after) ≡ true) = and_parts _ _ h in
     and_from _ _ (rw (joined_before es ls after) p.0) (joined_fit true es ls after p.1 l)
 
 -- so they are canonical if no further line comes after them
-pub comments_form_fit : (bol : Bool) (es ls : List LineEnd) (after : List ℕ) → comments_fit bol es (comments_text ls ++ after) ≡ true → comments_fit true ls after ≡ true
+pub comments_form_fit : (bol : Bool) (es ls : List LineEnd) (after : List ℕ)
+    → comments_fit bol es (comments_text ls ++ after) ≡ true → comments_fit true ls after ≡ true
     → not (is_line_end after) ≡ true → canonical_comments bol (es ++ ls) after ≡ true
 comments_form_fit bol es ls after h l n = and_from _ _ (joined_fit bol es ls after h l) n
 
@@ -77,6 +82,7 @@ sep_form_fits n key bol (lines (e ∷ es) lead) rest h s =
     and_from _ _ (and_from _ _ (and_from _ _ q.0 refl) (and_from _ _ q.1 (not_from_false _ (not_line_end lead rest w s)))) p.1
 
 -- so is that of a gap
-pub gap_form_fits : (n : ℕ) (key : Bool) (gap : Option Sep) (rest : List ℕ) → gap_fits n key gap rest ≡ true → first solid rest ≡ true → canonical_gap n key (gap_form gap) rest ≡ true
+pub gap_form_fits : (n : ℕ) (key : Bool) (gap : Option Sep) (rest : List ℕ) → gap_fits n key gap rest ≡ true
+    → first solid rest ≡ true → canonical_gap n key (gap_form gap) rest ≡ true
 gap_form_fits n key None rest h s = h
 gap_form_fits n key (Some sep) rest h s = sep_form_fits n key false sep rest h s

@@ -18,7 +18,8 @@ use Rattle.yaml_recognizers.proofs.Separation.LineEnds.{comments_parts, line_lon
 use Rattle.yaml_recognizers.proofs.Basics.Solid.{solid_not_white, solid_parts, solid_undropped, solid_untaken}
 
 -- a separation that isn't empty begins with no safe character
-pub sep_unsafe : (n : ℕ) (key : Bool) (d : FlowContext) (sep : Sep) (after : List ℕ) → canonical_gap n key (Some sep) after ≡ true → first (safe d) (sep_text sep ++ after) ≡ false
+pub sep_unsafe : (n : ℕ) (key : Bool) (d : FlowContext) (sep : Sep) (after : List ℕ)
+    → canonical_gap n key (Some sep) after ≡ true → first (safe d) (sep_text sep ++ after) ≡ false
 sep_unsafe n key d (inline []) after h = absurd (false≢true h)
 sep_unsafe n key d (inline (b ∷ bs)) after h = white_unsafe d b (and_parts _ _ (and_parts _ _ h).0).0
 sep_unsafe n true d (lines es lead) after h = absurd (false≢true h)
@@ -50,16 +51,24 @@ gap_read n true (Some (lines es lead)) after h f = absurd (false≢true h)
 gap_read n false (Some (lines [] lead)) after h f = absurd (false≢true h)
 gap_read n false (Some (lines (e ∷ es) lead)) after h f =
     let p : (canonical_comments false (e ∷ es) (lead ++ after) ≡ true) × (indents n lead ≡ true) = and_parts _ _ h in
-    let q : (comment_line_fits false e (comments_text es ++ (lead ++ after)) ≡ true) × (canonical_comments true es (lead ++ after) ≡ true) = comments_parts false e es (lead ++ after) p.0 in
+    let q : (comment_line_fits false e (comments_text es ++ (lead ++ after)) ≡ true)
+    × (canonical_comments true es (lead ++ after) ≡ true) = comments_parts false e es (lead ++ after) p.0 in
     let w : list_all white lead ≡ true = (and_parts _ _ p.1).0 in
     let rest : List ℕ = comments_text es ++ (lead ++ after) in
     let text : List ℕ = line_end_text e ++ rest in
     let regrouped : gap_text (Some (lines (e ∷ es) lead)) ++ after ≡ text = simp append_assoc in
     let no_line : read_line_end true (lead ++ after) ≡ None = solid_no_line true lead after w f in
-    let enough : length es < length text = omega (arith, line_long false e rest q.0, lines_long true es (lead ++ after) q.1, length-append (line_end_text e) rest, length-append (comments_text es) (lead ++ after)) in
+    let enough : length es < length text = omega (
+      arith,
+      line_long false e rest q.0,
+      lines_long true es (lead ++ after) q.1,
+      length-append (line_end_text e) rest,
+      length-append (comments_text es) (lead ++ after),
+    ) in
     ap (read_gap n false) regrouped
     ∙ (ap (gap_from n text) (line_end_read false e rest q.0)
     ∙ (ap (gap_after n text e) (comments_read (length text) true es (lead ++ after) enough q.1 no_line no_line)
-    ∙ (ap (λ t. lines_gap n text (e ∷ es) t (drop_while white (lead ++ after))) (take_while_all white lead after w (solid_not_white after f))
+    ∙ (ap (λ t. lines_gap n text (e ∷ es) t (drop_while white (lead ++ after)))
+    (take_while_all white lead after w (solid_not_white after f))
     ∙ (ap (lines_gap n text (e ∷ es) lead) (drop_while_all white lead after w (solid_not_white after f))
     ∙ rw p.1 refl))))

@@ -5,7 +5,9 @@ use Rattle.std.proofs.lemmas.Bool.{and_from, and_parts, cases_Bool, eqb-true, fa
 use Rattle.yaml_chars.specs.Classes.{nb, ns, space, white}
 use Rattle.yaml_grammar.specs.BlockScalars.{past_spaces}
 use Rattle.yaml_grammar.specs.FlowScalars.{FlowContext, block_key, flow_key, inner, outer, safe}
-use Rattle.yaml_grammar.specs.Separation.{Break, LineEnd, break_text, comment_fits, comment_line_fits, comment_text, comments_fit, comments_text, cr, cr_lf, lf, line_end_fits, line_end_text, stop_fits}
+use Rattle.yaml_grammar.specs.Separation.{Break, LineEnd, break_text, comment_fits, comment_line_fits, comment_text}
+use Rattle.yaml_grammar.specs.Separation.{comments_fit, comments_text, cr, cr_lf, lf, line_end_fits, line_end_text}
+use Rattle.yaml_grammar.specs.Separation.{stop_fits}
 use Rattle.std.specs.List.{list_all}
 use Rattle.yaml_grammar.specs.Texts.{first, is_empty, optional}
 use Rattle.yaml_recognizers.specs.CanonicalComments.{canonical_comments, is_line_end}
@@ -24,12 +26,14 @@ pub record LineParts (bol : Bool) (e : LineEnd) (rest : List ℕ) : Type 0 where
 pub line_parts : (bol : Bool) (e : LineEnd) (rest : List ℕ) → comment_line_fits bol e rest ≡ true → LineParts bol e rest
 line_parts bol e rest h =
     let p : (not (is_empty (line_end_text e)) ≡ true) × (line_end_fits bol e rest ≡ true) = and_parts _ _ h in
-    let q : (list_all white e.blank && comment_fits (bol || not (is_empty e.blank)) e.comment ≡ true) × (stop_fits e.stop rest ≡ true) = and_parts _ _ p.1 in
+    let q : (list_all white e.blank && comment_fits (bol || not (is_empty e.blank)) e.comment ≡ true)
+    × (stop_fits e.stop rest ≡ true) = and_parts _ _ p.1 in
     let r : (list_all white e.blank ≡ true) × (comment_fits (bol || not (is_empty e.blank)) e.comment ≡ true) = and_parts _ _ q.0 in
     record { some = p.0; blank_white = r.0; comment_fit = r.1; stop_fit = q.1 }
 
 -- the text of a line's end, from its whitespace
-pub line_regrouped : (e : LineEnd) (rest : List ℕ) → line_end_text e ++ rest ≡ e.blank ++ (optional comment_text e.comment ++ (optional break_text e.stop ++ rest))
+pub line_regrouped : (e : LineEnd) (rest : List ℕ)
+    → line_end_text e ++ rest ≡ e.blank ++ (optional comment_text e.comment ++ (optional break_text e.stop ++ rest))
 line_regrouped e rest = simp append_assoc
 
 -- the first line, and the further ones
@@ -41,15 +45,18 @@ comments_parts bol e es after h =
     (q.0, and_from _ _ q.1 p.1)
 
 -- comments that fit, from the first line
-pub comments_from : (bol : Bool) (e : LineEnd) (es : List LineEnd) (after : List ℕ) → comment_line_fits bol e (comments_text es ++ after) ≡ true
+pub comments_from : (bol : Bool) (e : LineEnd) (es : List LineEnd) (after : List ℕ)
+    → comment_line_fits bol e (comments_text es ++ after) ≡ true
     → canonical_comments true es after ≡ true → canonical_comments bol (e ∷ es) after ≡ true
 comments_from bol e es after h m =
     let p : (comments_fit true es after ≡ true) × (not (is_line_end after) ≡ true) = and_parts _ _ m in
     and_from _ _ (and_from _ _ h p.0) p.1
 
 -- no line of comments: the start of a line, or the text's end
-pub no_comments_parts : (bol : Bool) (after : List ℕ) → canonical_comments bol [] after ≡ true → (bol || is_empty after ≡ true) × (is_line_end after ≡ false)
-no_comments_parts bol after h = let p : (bol || is_empty after ≡ true) × (not (is_line_end after) ≡ true) = and_parts _ _ h in (p.0, not-true _ p.1)
+pub no_comments_parts : (bol : Bool) (after : List ℕ) → canonical_comments bol [] after ≡ true
+    → (bol || is_empty after ≡ true) × (is_line_end after ≡ false)
+no_comments_parts bol after h = let p : (bol || is_empty after ≡ true) × (not (is_line_end after) ≡ true) =
+    and_parts _ _ h in (p.0, not-true _ p.1)
 
 -- after canonical comments no further line starts
 pub fits_end : (bol : Bool) (es : List LineEnd) (after : List ℕ) → canonical_comments bol es after ≡ true → is_line_end after ≡ false
@@ -58,7 +65,8 @@ fits_end bol es after h = not-true _ (and_parts _ _ h).1
 -- ---- what they begin with
 
 -- what comes after the white of a line's end is no white
-stop_not_white : (stop : Option Break) (after : List ℕ) → stop_fits stop after ≡ true → first white (optional break_text stop ++ after) ≡ false
+stop_not_white : (stop : Option Break) (after : List ℕ) → stop_fits stop after ≡ true
+    → first white (optional break_text stop ++ after) ≡ false
 stop_not_white None [] h = refl
 stop_not_white None (c ∷ cs) h = cc
 stop_not_white (Some lf) after h = refl
@@ -66,7 +74,8 @@ stop_not_white (Some cr) after h = refl
 stop_not_white (Some cr_lf) after h = refl
 
 -- a stop starts with no nb
-pub stop_not_nb : (stop : Option Break) (after : List ℕ) → stop_fits stop after ≡ true → first nb (optional break_text stop ++ after) ≡ false
+pub stop_not_nb : (stop : Option Break) (after : List ℕ) → stop_fits stop after ≡ true
+    → first nb (optional break_text stop ++ after) ≡ false
 stop_not_nb None [] h = refl
 stop_not_nb None (c ∷ cs) h = cc
 stop_not_nb (Some lf) after h = refl
@@ -95,7 +104,8 @@ white_space [] h = refl
 white_space (c ∷ cs) h = (or_parts (c == 32) (c == 9) h).0
 
 -- nor does it, once its spaces are passed
-blank_unsolid : (blank tail : List ℕ) → list_all white blank ≡ true → first solid tail ≡ false → first white tail ≡ false → first solid (past_spaces (blank ++ tail)) ≡ false
+blank_unsolid : (blank tail : List ℕ) → list_all white blank ≡ true → first solid tail ≡ false
+    → first white tail ≡ false → first solid (past_spaces (blank ++ tail)) ≡ false
 blank_unsolid [] tail w h f = rw (spaces_passed 0 tail (white_space tail f)) h
 blank_unsolid (c ∷ cs) tail w h f = elim (cases_Bool (c == 32)) [
   | inl e ↦ rw e (blank_unsolid cs tail (and_parts _ _ w).1 h f)
@@ -103,21 +113,26 @@ blank_unsolid (c ∷ cs) tail w h f = elim (cases_Bool (c == 32)) [
 ]
 
 -- a comment line starts with nothing solid
-pub line_unsolid : (bol : Bool) (e : LineEnd) (rest : List ℕ) → comment_line_fits bol e rest ≡ true → first solid (past_spaces (line_end_text e ++ rest)) ≡ false
+pub line_unsolid : (bol : Bool) (e : LineEnd) (rest : List ℕ) → comment_line_fits bol e rest ≡ true
+    → first solid (past_spaces (line_end_text e ++ rest)) ≡ false
 line_unsolid bol e rest h =
     let p = line_parts bol e rest h in
     subst (λ (t : List ℕ). first solid (past_spaces t) ≡ false) (sym (line_regrouped e rest))
-    (blank_unsolid e.blank _ p.blank_white (tail_unsolid e.comment e.stop rest p.stop_fit) (tail_not_white e.comment e.stop rest p.stop_fit))
+    (blank_unsolid e.blank _ p.blank_white (tail_unsolid e.comment e.stop rest p.stop_fit)
+    (tail_not_white e.comment e.stop rest p.stop_fit))
 
 -- nor do comments
-pub comments_unsolid : (bol : Bool) (e : LineEnd) (es : List LineEnd) (rest : List ℕ) → canonical_comments bol (e ∷ es) rest ≡ true → first solid (past_spaces (comments_text (e ∷ es) ++ rest)) ≡ false
+pub comments_unsolid : (bol : Bool) (e : LineEnd) (es : List LineEnd) (rest : List ℕ)
+    → canonical_comments bol (e ∷ es) rest ≡ true → first solid (past_spaces (comments_text (e ∷ es) ++ rest)) ≡ false
 comments_unsolid bol e es rest h =
     let regrouped : comments_text (e ∷ es) ++ rest ≡ line_end_text e ++ (comments_text es ++ rest) = simp append_assoc in
     subst (λ (t : List ℕ). first solid (past_spaces t) ≡ false) (sym regrouped) (line_unsolid bol e _ (comments_parts bol e es rest h).0)
 
 -- a line's end starts with no ns
-line_first : (blank : List ℕ) (comment : Option (List ℕ)) (stop : Option Break) (rest : List ℕ) → list_all white blank ≡ true → comment_fits (not (is_empty blank)) comment ≡ true
-    → not (is_empty ((blank ++ optional comment_text comment) ++ optional break_text stop)) ≡ true → first ns (blank ++ (optional comment_text comment ++ (optional break_text stop ++ rest))) ≡ false
+line_first : (blank : List ℕ) (comment : Option (List ℕ)) (stop : Option Break) (rest : List ℕ)
+    → list_all white blank ≡ true → comment_fits (not (is_empty blank)) comment ≡ true
+    → not (is_empty ((blank ++ optional comment_text comment) ++ optional break_text stop)) ≡ true
+    → first ns (blank ++ (optional comment_text comment ++ (optional break_text stop ++ rest))) ≡ false
 line_first (c ∷ cs) comment stop rest w f s = white_no_ns c (and_parts _ _ w).0
 line_first [] (Some text) stop rest w f s = absurd (false≢true f)
 line_first [] None None rest w f s = absurd (false≢true s)
@@ -129,10 +144,12 @@ line_first [] None (Some cr_lf) rest w f s = refl
 pub line_no_ns : (e : LineEnd) (rest : List ℕ) → comment_line_fits false e rest ≡ true → first ns (line_end_text e ++ rest) ≡ false
 line_no_ns e rest h =
     let p = line_parts false e rest h in
-    subst (λ (t : List ℕ). first ns t ≡ false) (sym (line_regrouped e rest)) (line_first e.blank e.comment e.stop rest p.blank_white p.comment_fit p.some)
+    subst (λ (t : List ℕ). first ns t ≡ false) (sym (line_regrouped e rest))
+    (line_first e.blank e.comment e.stop rest p.blank_white p.comment_fit p.some)
 
 -- nor do comments after something
-pub comments_no_ns : (es : List LineEnd) (rest : List ℕ) → canonical_comments false es rest ≡ true → first ns (comments_text es ++ rest) ≡ false
+pub comments_no_ns : (es : List LineEnd) (rest : List ℕ) → canonical_comments false es rest ≡ true
+    → first ns (comments_text es ++ rest) ≡ false
 comments_no_ns [] [] h = refl
 comments_no_ns [] (c ∷ cs) h = absurd (false≢true h)
 comments_no_ns (e ∷ es) rest h =
@@ -154,8 +171,10 @@ white_unsafe d x h = elim (or_cases (x == 32) (x == 9) h) [
 ]
 
 -- a line's end that isn't empty starts with no safe character
-parts_unsafe : (d : FlowContext) (blank : List ℕ) (comment : Option (List ℕ)) (stop : Option Break) (after : List ℕ) → list_all white blank ≡ true
-    → comment_fits (false || not (is_empty blank)) comment ≡ true → not (is_empty (blank ++ optional comment_text comment ++ optional break_text stop)) ≡ true
+parts_unsafe : (d : FlowContext) (blank : List ℕ) (comment : Option (List ℕ)) (stop : Option Break) (after : List ℕ)
+    → list_all white blank ≡ true
+    → comment_fits (false || not (is_empty blank)) comment ≡ true
+    → not (is_empty (blank ++ optional comment_text comment ++ optional break_text stop)) ≡ true
     → first (safe d) (blank ++ optional comment_text comment ++ optional break_text stop ++ after) ≡ false
 parts_unsafe d (b ∷ bs) comment stop after w c e = white_unsafe d b (and_parts _ _ w).0
 parts_unsafe d [] (Some t) stop after w c e = absurd (false≢true c)
@@ -165,7 +184,8 @@ parts_unsafe d [] None (Some cr) after w c e = (blank_unsafe d).3
 parts_unsafe d [] None (Some cr_lf) after w c e = (blank_unsafe d).3
 
 -- the end of a line starts with nothing safe
-pub line_unsafe : (d : FlowContext) (e : LineEnd) (after : List ℕ) → comment_line_fits false e after ≡ true → first (safe d) (line_end_text e ++ after) ≡ false
+pub line_unsafe : (d : FlowContext) (e : LineEnd) (after : List ℕ) → comment_line_fits false e after ≡ true
+    → first (safe d) (line_end_text e ++ after) ≡ false
 line_unsafe d e after h =
     let p = line_parts false e after h in
     parts_unsafe d e.blank e.comment e.stop after p.blank_white p.comment_fit p.some
@@ -183,8 +203,10 @@ line_long bol e after h =
     not_empty_long _ (line_parts bol e after h).some
 
 -- comments have at least a character each
-pub lines_long : (bol : Bool) (es : List LineEnd) (after : List ℕ) → canonical_comments bol es after ≡ true → length es ≤ length (comments_text es)
+pub lines_long : (bol : Bool) (es : List LineEnd) (after : List ℕ) → canonical_comments bol es after ≡ true
+    → length es ≤ length (comments_text es)
 lines_long bol [] after h = omega arith
 lines_long bol (e ∷ es) after h =
-    let p : (comment_line_fits bol e (comments_text es ++ after) ≡ true) × (canonical_comments true es after ≡ true) = comments_parts bol e es after h in
+    let p : (comment_line_fits bol e (comments_text es ++ after) ≡ true) × (canonical_comments true es after ≡ true) =
+    comments_parts bol e es after h in
     omega (arith, line_long bol e _ p.0, lines_long true es after p.1, length-append (line_end_text e) (comments_text es))

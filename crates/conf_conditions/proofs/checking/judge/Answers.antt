@@ -7,7 +7,8 @@ use Rattle.conf_conditions.proofs.checking.judge.Goals as goal
 
 pub returns-in-Test : goal.returns-in-Test
 returns-in-Test g c =
-    let seen : test_at (chars c.deref.result.now) (chars c.deref-in-Test.result.now) (tree_of c.tree.result.now) ≡ condition_of c.args.condition.now =
+    let seen : test_at (chars c.deref.result.now) (chars c.deref-in-Test.result.now) (tree_of c.tree.result.now)
+    ≡ condition_of c.args.condition.now =
     ap (λ n. test_at (chars n) (chars c.deref-in-Test.result.now) (tree_of c.tree.result.now)) c.deref.ensures
     ∙ ap (λ p. test_at (text_of c.in-Test.name) (chars p) (tree_of c.tree.result.now)) c.deref-in-Test.ensures
     ∙ ap (λ t. test_at (text_of c.in-Test.name) (text_of c.in-Test.path) (tree_of t)) c.tree.ensures.same

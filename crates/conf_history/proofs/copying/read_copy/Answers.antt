@@ -19,7 +19,14 @@ records-init g c =
     let walk = c.in_ok-walk.walk in
     let first = c.in_ok-walk.ensures.first in
     record {
-      walked = (piece_or_rest walk.pieces ∷ [], walk.state, [], first, c.in_ok-copy.ensures.items ∙ c.piece.ensures ∙ sym (append-nil (piece_or_rest walk.pieces)));
+      walked = (
+        piece_or_rest walk.pieces ∷ [],
+        walk.state,
+        [],
+        first,
+        c.in_ok-copy.ensures.items ∙ c.piece.ensures
+            ∙ sym (append-nil (piece_or_rest walk.pieces)),
+      );
       limits = first.limits;
     }
 
@@ -27,7 +34,8 @@ pub returns-in_err-advance-clause-refused : goal.returns-in_err-advance-clause-r
 returns-in_err-advance-clause-refused g c =
     let given = g.R.Read.remaining c.args.reader.now in
     let walked = c.records.invariant.walked in
-    let fails = refuses-all given None c.in_err-advance.field-0.0 (c.in_err-advance.ensures.walks given walked.0 walked.1 walked.2 walked.3) in
+    let fails = refuses-all given None c.in_err-advance.field-0.0
+    (c.in_err-advance.ensures.walks given walked.0 walked.1 walked.2 walked.3) in
     let p = err_from_is_err_and c.from_residual-in_err-advance.result c.from_residual-in_err-advance.ensures.1 in
     rw (p.1, p.2) fails
 
@@ -38,7 +46,8 @@ perform_piece-requires g c =
     let walk = c.advance.new.self in
     let left = g.R.Read.remaining c.advance.new.reader in
     let going : IsAtPiece given left walk walked.0 walked.1 walked.2 =
-    subst (λ b. AfterAdvance given left walk walked.0 walked.1 walked.2 (Ok b)) c.if-branch.true (c.in_ok-advance.ensures.walks given walked.0 walked.1 walked.2 walked.3) in
+    subst (λ b. AfterAdvance given left walk walked.0 walked.1 walked.2 (Ok b)) c.if-branch.true
+    (c.in_ok-advance.ensures.walks given walked.0 walked.1 walked.2 walked.3) in
     has-room given left walk walked.0 walked.1 walked.2 going
 
 pub records-smaller : goal.records-smaller
@@ -48,9 +57,12 @@ records-smaller g c =
     let walk = c.advance.new.self in
     let left = g.R.Read.remaining c.advance.new.reader in
     let going : IsAtPiece given left walk walked.0 walked.1 walked.2 =
-    subst (λ b. AfterAdvance given left walk walked.0 walked.1 walked.2 (Ok b)) c.if-branch.true (c.in_ok-advance.ensures.walks given walked.0 walked.1 walked.2 walked.3) in
+    subst (λ b. AfterAdvance given left walk walked.0 walked.1 walked.2 (Ok b)) c.if-branch.true
+    (c.in_ok-advance.ensures.walks given walked.0 walked.1 walked.2 walked.3) in
     let done = c.in_ok-perform_piece.ensures.ok in
-    subst (λ (p : Place). store_limit - c.perform_piece.new.self.place.byte < store_limit - p.byte) c.in_ok-advance.ensures.place (passes given left walk walked.0 walked.1 walked.2 going c.perform_piece.new.self done.0 done.1)
+    subst (λ (p : Place). store_limit - c.perform_piece.new.self.place.byte < store_limit - p.byte)
+    c.in_ok-advance.ensures.place (passes given left walk walked.0 walked.1 walked.2 going
+    c.perform_piece.new.self done.0 done.1)
 
 pub records-preserved : goal.records-preserved
 records-preserved g c =
@@ -59,7 +71,8 @@ records-preserved g c =
     let walk = c.advance.new.self in
     let left = g.R.Read.remaining c.advance.new.reader in
     let going : IsAtPiece given left walk walked.0 walked.1 walked.2 =
-    subst (λ b. AfterAdvance given left walk walked.0 walked.1 walked.2 (Ok b)) c.if-branch.true (c.in_ok-advance.ensures.walks given walked.0 walked.1 walked.2 walked.3) in
+    subst (λ b. AfterAdvance given left walk walked.0 walked.1 walked.2 (Ok b)) c.if-branch.true
+    (c.in_ok-advance.ensures.walks given walked.0 walked.1 walked.2 walked.3) in
     let done = c.in_ok-perform_piece.ensures.ok in
     let next = performs-on given left walk walked.0 walked.1 walked.2 going c.perform_piece.new.self done.0 done.1 in
     let piece = piece_or_rest walk.pieces in
@@ -70,7 +83,8 @@ records-preserved g c =
         walked.1,
         walked.2 ++ done.0 ∷ [],
         next,
-        c.in_ok-extend_from_slice.ensures.items ∙ ap (λ copy. copy ++ c.piece-in-records.result.now) walked.4 ∙ ap (λ l. concat walked.0 ++ l) copied ∙ sym (concat-last walked.0 piece),
+        c.in_ok-extend_from_slice.ensures.items ∙ ap (λ copy. copy ++ c.piece-in-records.result.now) walked.4
+            ∙ ap (λ l. concat walked.0 ++ l) copied ∙ sym (concat-last walked.0 piece),
       );
       limits = next.limits;
     }
@@ -82,8 +96,10 @@ returns-in_err-perform_piece-clause-refused g c =
     let walk = c.advance.new.self in
     let left = g.R.Read.remaining c.advance.new.reader in
     let going : IsAtPiece given left walk walked.0 walked.1 walked.2 =
-    subst (λ b. AfterAdvance given left walk walked.0 walked.1 walked.2 (Ok b)) c.if-branch.true (c.in_ok-advance.ensures.walks given walked.0 walked.1 walked.2 walked.3) in
-    let fails = refuses-piece given left walk walked.0 walked.1 walked.2 c.one_list_of_pieces.ensures.some going None tt c.in_err-perform_piece.field-0.0 c.in_err-perform_piece.ensures.refused in
+    subst (λ b. AfterAdvance given left walk walked.0 walked.1 walked.2 (Ok b)) c.if-branch.true
+    (c.in_ok-advance.ensures.walks given walked.0 walked.1 walked.2 walked.3) in
+    let fails = refuses-piece given left walk walked.0 walked.1 walked.2 c.one_list_of_pieces.ensures.some going None
+    tt c.in_err-perform_piece.field-0.0 c.in_err-perform_piece.ensures.refused in
     let p = err_from_is_err_and c.from_residual-in_err-perform_piece.result c.from_residual-in_err-perform_piece.ensures.1 in
     rw (p.1, p.2) fails
 
@@ -94,5 +110,6 @@ returns-clause-ok g c =
     let walk = c.advance.new.self in
     let left = g.R.Read.remaining c.advance.new.reader in
     let ended : IsAtEndOf given left walk walked.0 walked.1 walked.2 =
-    subst (λ b. AfterAdvance given left walk walked.0 walked.1 walked.2 (Ok b)) c.if-branch.false (c.in_ok-advance.ensures.walks given walked.0 walked.1 walked.2 walked.3) in
+    subst (λ b. AfterAdvance given left walk walked.0 walked.1 walked.2 (Ok b)) c.if-branch.false
+    (c.in_ok-advance.ensures.walks given walked.0 walked.1 walked.2 walked.3) in
     reads-copy given left walk walked.0 walked.1 walked.2 c.records.copy.items walked.4 ended

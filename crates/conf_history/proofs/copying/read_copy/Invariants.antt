@@ -10,7 +10,8 @@ use Rattle.conf_history.proofs.copying.read_copy.Given as goal
 abbrev pub invariant-records : goal.invariant-records
 invariant-records g l = record {
   walked : (pieces : List (List ℕ)) × (start : Contents) × (commands : List Command)
-      × IsBetween (g.R.Read.remaining l.fn.reader) (g.R.Read.remaining l.reader) l.walk pieces start commands × (l.copy.items ≡ concat pieces);
+      × IsBetween (g.R.Read.remaining l.fn.reader) (g.R.Read.remaining l.reader) l.walk pieces start commands
+      × (l.copy.items ≡ concat pieces);
   limits : HasLimits l.walk.pieces;
 }
 

@@ -13,7 +13,8 @@ returns-in-Import g c =
     let end = c.write_import.new.sink in
     on_ok_weaker c.write_import.result
     (λ written. subst (λ v. g.S.Sink.Takes start (command_words c.args.form (command_of v)) end) (sym c.in-Import.is)
-    (subst (λ x. g.S.Sink.Takes start (codes " import " ++ chars x ++ value_words c.args.form (tree_of c.in-Import.tree)) end) c.deref.ensures written))
+    (subst (λ x. g.S.Sink.Takes start (codes " import " ++ chars x
+    ++ value_words c.args.form (tree_of c.in-Import.tree)) end) c.deref.ensures written))
     c.write_import.ensures
 
 pub returns-in-Set : goal.returns-in-Set
@@ -22,8 +23,11 @@ returns-in-Set g c =
     let end = c.write_set.new.sink in
     on_ok_weaker c.write_set.result
     (λ written. subst (λ v. g.S.Sink.Takes start (command_words c.args.form (command_of v)) end) (sym c.in-Set.is)
-    (subst (λ x. g.S.Sink.Takes start (codes " set " ++ text_of c.in-Set.name ++ codes " " ++ in_double_quotes (chars x) ++ value_words c.args.form (tree_of c.in-Set.value)) end) c.deref-in-Set-2.ensures
-    (subst (λ x. g.S.Sink.Takes start (codes " set " ++ chars x ++ codes " " ++ in_double_quotes (chars c.deref-in-Set-2.result.now) ++ value_words c.args.form (tree_of c.in-Set.value)) end) c.deref-in-Set.ensures written)))
+    (subst (λ x. g.S.Sink.Takes start (codes " set " ++ text_of c.in-Set.name ++ codes " "
+    ++ in_double_quotes (chars x) ++ value_words c.args.form (tree_of c.in-Set.value)) end) c.deref-in-Set-2.ensures
+    (subst (λ x. g.S.Sink.Takes start (codes " set " ++ chars x ++ codes " "
+    ++ in_double_quotes (chars c.deref-in-Set-2.result.now) ++ value_words c.args.form (tree_of c.in-Set.value))
+    end) c.deref-in-Set.ensures written)))
     c.write_set.ensures
 
 pub returns-in-Delete : goal.returns-in-Delete
@@ -32,8 +36,10 @@ returns-in-Delete g c =
     let end = c.write_delete.new.sink in
     on_ok_weaker c.write_delete.result
     (λ written. subst (λ v. g.S.Sink.Takes start (command_words c.args.form (command_of v)) end) (sym c.in-Delete.is)
-    (subst (λ x. g.S.Sink.Takes start (codes " delete " ++ text_of c.in-Delete.name ++ codes " " ++ in_double_quotes (chars x)) end) c.deref-in-Delete-2.ensures
-    (subst (λ x. g.S.Sink.Takes start (codes " delete " ++ chars x ++ codes " " ++ in_double_quotes (chars c.deref-in-Delete-2.result.now)) end) c.deref-in-Delete.ensures written)))
+    (subst (λ x. g.S.Sink.Takes start (codes " delete " ++ text_of c.in-Delete.name ++ codes " "
+    ++ in_double_quotes (chars x)) end) c.deref-in-Delete-2.ensures
+    (subst (λ x. g.S.Sink.Takes start (codes " delete " ++ chars x ++ codes " "
+    ++ in_double_quotes (chars c.deref-in-Delete-2.result.now)) end) c.deref-in-Delete.ensures written)))
     c.write_delete.ensures
 
 pub returns-in-Batch : goal.returns-in-Batch
@@ -42,5 +48,6 @@ returns-in-Batch g c =
     let end = c.write_batch.new.sink in
     on_ok_weaker c.write_batch.result
     (λ written. subst (λ v. g.S.Sink.Takes start (command_words c.args.form (command_of v)) end) (sym c.in-Batch.is)
-    (subst (λ x. g.S.Sink.Takes start (codes " batch" ++ edits_words c.args.form [] (map edit_of x)) end) c.deref-in-Batch.ensures.value written))
+    (subst (λ x. g.S.Sink.Takes start (codes " batch" ++ edits_words c.args.form [] (map edit_of x)) end)
+    c.deref-in-Batch.ensures.value written))
     c.write_batch.ensures

@@ -9,6 +9,7 @@ pub returns : goal.returns
 returns g c =
     on_ok_weaker c.write_at.result
     (subst
-    (λ cs. g.S.Sink.Takes c.args.sink.now (cs ++ chars c.args.name.now ++ codes " " ++ in_double_quotes (chars c.args.path.now)) c.write_at.new.sink)
+    (λ cs. g.S.Sink.Takes c.args.sink.now (cs ++ chars c.args.name.now ++ codes " "
+    ++ in_double_quotes (chars c.args.path.now)) c.write_at.new.sink)
     (ascii (codes " delete ") refl))
     c.write_at.ensures

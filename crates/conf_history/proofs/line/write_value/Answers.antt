@@ -13,7 +13,8 @@ write_json-requires g c = subst (λ v. depth (tree_of v) ≤ own_limits.depth) (
 pub returns-in-Names : goal.returns-in-Names
 returns-in-Names g c =
     let t = tree_of c.args.value.now in
-    subst (λ form. g.S.Sink.Takes c.args.sink.now (value_words form t) c.args.sink.now) (sym c.in-Names.is) (g.met.S.Sink.takes_none c.args.sink.now)
+    subst (λ form. g.S.Sink.Takes c.args.sink.now (value_words form t) c.args.sink.now) (sym c.in-Names.is)
+    (g.met.S.Sink.takes_none c.args.sink.now)
 
 pub returns-in_ok-put_char-in-Values : goal.returns-in_ok-put_char-in-Values
 returns-in_ok-put_char-in-Values g c =

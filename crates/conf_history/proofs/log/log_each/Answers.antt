@@ -13,12 +13,14 @@ use Rattle.conf_history.specs.Walks.{IsAtPiece, AfterGoing}
 use Rattle.conf_history.specs.declared.place.Place.{Place}
 use Rattle.conf_history.proofs.WalkLemmas.{has-room, performs-on, passes}
 use Rattle.conf_history.proofs.ReadingLemmas.{before-number, next-number, refuses-before, refuses-after}
-use Rattle.conf_history.proofs.LogLemmas.{begins-empty, begin-fails, start-fails, next-fails, piece-fails, number-fails, logs-all, logged-more}
+use Rattle.conf_history.proofs.LogLemmas.{begins-empty, begin-fails, start-fails, next-fails, piece-fails}
+use Rattle.conf_history.proofs.LogLemmas.{number-fails, logs-all, logged-more}
 use Rattle.conf_history.proofs.log.log_each.Goals as goal
 
 pub returns-in_err-walk-clause-refused : goal.returns-in_err-walk-clause-refused
 returns-in_err-walk-clause-refused g c =
-    let fails = begin-fails c.args.form (g.R.Read.remaining c.args.reader.now) (g.W.Write.contents c.args.writer.now) c.args.at c.in_err-walk.field-0.0 c.in_err-walk.ensures.refused in
+    let fails = begin-fails c.args.form (g.R.Read.remaining c.args.reader.now)
+    (g.W.Write.contents c.args.writer.now) c.args.at c.in_err-walk.field-0.0 c.in_err-walk.ensures.refused in
     let p = err_from_is_err_and c.from_residual.result c.from_residual.ensures.1 in
     rw (p.1, p.2) fails
 
@@ -29,7 +31,8 @@ returns-in_err-check_start-clause-refused g c =
     let begun = c.in_ok-walk.ensures.ok in
     let ensures = c.in_err-check_start.ensures in
     let f = c.in_err-check_start.field-0.0 in
-    let refused = refuses-before given (g.R.Read.remaining c.begin.new.reader) walk begun.0 walk.state [] c.one_list_of_pieces.ensures.some begun.1 refl c.args.at f ensures.fault ensures.before in
+    let refused = refuses-before given (g.R.Read.remaining c.begin.new.reader) walk begun.0 walk.state
+    [] c.one_list_of_pieces.ensures.some begun.1 refl c.args.at f ensures.fault ensures.before in
     let fails = start-fails c.args.form given (g.W.Write.contents c.args.writer.now) c.args.at f ensures.fault refused in
     let p = err_from_is_err_and c.from_residual-in_err-check_start.result c.from_residual-in_err-check_start.ensures.1 in
     rw (p.1, p.2) fails
@@ -40,7 +43,13 @@ records-init g c =
     let begun = c.in_ok-walk.ensures.ok in
     let held = g.W.Write.contents c.args.writer.now in
     record {
-      walked = (begun.0, walk.state, [], begun.1, subst (Appends held held) (sym (begins-empty c.args.form begun.0 walk.state)) (Appends-nil held));
+      walked = (
+        begun.0,
+        walk.state,
+        [],
+        begun.1,
+        subst (Appends held held) (sym (begins-empty c.args.form begun.0 walk.state)) (Appends-nil held),
+      );
       limits = begun.1.limits;
       up_to = c.in_ok-check_start.ensures.ok;
     }
@@ -55,7 +64,8 @@ returns-in_err-goes_on-clause-refused g c =
     let walk = c.goes_on.new.self in
     let left = g.R.Read.remaining c.goes_on.new.reader in
     let some = c.one_list_of_pieces.ensures.some in
-    let fails = next-fails c.args.form given left walk walked.0 walked.1 walked.2 some held mid walked.4 (g.R.Read.remaining c.records.reader) c.records.walk walked.3 c.args.at c.in_err-goes_on.field-0.0
+    let fails = next-fails c.args.form given left walk walked.0 walked.1 walked.2 some held mid walked.4
+    (g.R.Read.remaining c.records.reader) c.records.walk walked.3 c.args.at c.in_err-goes_on.field-0.0
     (c.in_err-goes_on.ensures.walks given walked.0 walked.1 walked.2 walked.3) in
     let p = err_from_is_err_and c.from_residual-in_err-goes_on.result c.from_residual-in_err-goes_on.ensures.1 in
     rw (p.1, p.2) fails
@@ -71,7 +81,8 @@ log_piece-requires g c =
     let left = g.R.Read.remaining c.goes_on.new.reader in
     let some = c.one_list_of_pieces.ensures.some in
     let going : (c.args.at ≢ Some walk.state.count) × IsAtPiece given left walk walked.0 walked.1 walked.2 =
-    subst (λ b. AfterGoing c.args.at given left walk walked.0 walked.1 walked.2 (Ok b)) c.if-branch.true (c.in_ok-goes_on.ensures.walks given walked.0 walked.1 walked.2 walked.3) in
+    subst (λ b. AfterGoing c.args.at given left walk walked.0 walked.1 walked.2 (Ok b)) c.if-branch.true
+    (c.in_ok-goes_on.ensures.walks given walked.0 walked.1 walked.2 walked.3) in
     has-room given left walk walked.0 walked.1 walked.2 going.1
 
 pub records-smaller : goal.records-smaller
@@ -85,9 +96,12 @@ records-smaller g c =
     let left = g.R.Read.remaining c.goes_on.new.reader in
     let some = c.one_list_of_pieces.ensures.some in
     let going : (c.args.at ≢ Some walk.state.count) × IsAtPiece given left walk walked.0 walked.1 walked.2 =
-    subst (λ b. AfterGoing c.args.at given left walk walked.0 walked.1 walked.2 (Ok b)) c.if-branch.true (c.in_ok-goes_on.ensures.walks given walked.0 walked.1 walked.2 walked.3) in
+    subst (λ b. AfterGoing c.args.at given left walk walked.0 walked.1 walked.2 (Ok b)) c.if-branch.true
+    (c.in_ok-goes_on.ensures.walks given walked.0 walked.1 walked.2 walked.3) in
     let done = c.in_ok-log_piece.ensures.ok in
-    subst (λ (p : Place). store_limit - c.log_piece.new.walk.place.byte < store_limit - p.byte) c.in_ok-goes_on.ensures.place (passes given left walk walked.0 walked.1 walked.2 going.1 c.log_piece.new.walk done.0 done.1)
+    subst (λ (p : Place). store_limit - c.log_piece.new.walk.place.byte < store_limit - p.byte)
+    c.in_ok-goes_on.ensures.place (passes given left walk walked.0 walked.1 walked.2 going.1 c.log_piece.new.walk
+    done.0 done.1)
 
 pub records-preserved : goal.records-preserved
 records-preserved g c =
@@ -100,7 +114,8 @@ records-preserved g c =
     let left = g.R.Read.remaining c.goes_on.new.reader in
     let some = c.one_list_of_pieces.ensures.some in
     let going : (c.args.at ≢ Some walk.state.count) × IsAtPiece given left walk walked.0 walked.1 walked.2 =
-    subst (λ b. AfterGoing c.args.at given left walk walked.0 walked.1 walked.2 (Ok b)) c.if-branch.true (c.in_ok-goes_on.ensures.walks given walked.0 walked.1 walked.2 walked.3) in
+    subst (λ b. AfterGoing c.args.at given left walk walked.0 walked.1 walked.2 (Ok b)) c.if-branch.true
+    (c.in_ok-goes_on.ensures.walks given walked.0 walked.1 walked.2 walked.3) in
     let new = c.log_piece.new.walk in
     let done = c.in_ok-log_piece.ensures.ok in
     let next = performs-on given left walk walked.0 walked.1 walked.2 going.1 new done.0 done.1 in
@@ -112,10 +127,12 @@ records-preserved g c =
         walked.1,
         walked.2 ++ done.0 ∷ [],
         next,
-        logged-more c.args.form given left walk walked.0 walked.1 walked.2 some held mid walked.4 (g.W.Write.contents c.log_piece.new.writer) done.0 going.1.read.performed done.2,
+        logged-more c.args.form given left walk walked.0 walked.1 walked.2 some held mid walked.4
+            (g.W.Write.contents c.log_piece.new.writer) done.0 going.1.read.performed done.2,
       );
       limits = next.limits;
-      up_to = next-number c.args.at walk.state.count new.state.count going.0 one (λ number is. subst (λ n. n ≤ number) (sym count) (inv.up_to number is));
+      up_to = next-number c.args.at walk.state.count new.state.count going.0 one
+          (λ number is. subst (λ n. n ≤ number) (sym count) (inv.up_to number is));
     }
 
 pub returns-in_err-log_piece-clause-refused : goal.returns-in_err-log_piece-clause-refused
@@ -129,10 +146,13 @@ returns-in_err-log_piece-clause-refused g c =
     let left = g.R.Read.remaining c.goes_on.new.reader in
     let some = c.one_list_of_pieces.ensures.some in
     let going : (c.args.at ≢ Some walk.state.count) × IsAtPiece given left walk walked.0 walked.1 walked.2 =
-    subst (λ b. AfterGoing c.args.at given left walk walked.0 walked.1 walked.2 (Ok b)) c.if-branch.true (c.in_ok-goes_on.ensures.walks given walked.0 walked.1 walked.2 walked.3) in
+    subst (λ b. AfterGoing c.args.at given left walk walked.0 walked.1 walked.2 (Ok b)) c.if-branch.true
+    (c.in_ok-goes_on.ensures.walks given walked.0 walked.1 walked.2 walked.3) in
     let count : walk.state.count ≡ c.records.walk.state.count = ap (λ (t : Contents). t.count) c.in_ok-goes_on.ensures.state in
-    let before = before-number c.args.at walk.state.count going.0 (λ number is. subst (λ n. n ≤ number) (sym count) (inv.up_to number is)) in
-    let fails = piece-fails c.args.form given left walk walked.0 walked.1 walked.2 some held mid walked.4 c.args.at before (g.W.Write.contents c.log_piece.new.writer) going.1
+    let before = before-number c.args.at walk.state.count going.0
+    (λ number is. subst (λ n. n ≤ number) (sym count) (inv.up_to number is)) in
+    let fails = piece-fails c.args.form given left walk walked.0 walked.1 walked.2 some held mid walked.4 c.args.at
+    before (g.W.Write.contents c.log_piece.new.writer) going.1
     c.in_err-log_piece.field-0.0 c.in_err-log_piece.ensures.refused in
     let p = err_from_is_err_and c.from_residual-in_err-log_piece.result c.from_residual-in_err-log_piece.ensures.1 in
     rw (p.1, p.2) fails
@@ -148,12 +168,15 @@ returns-in_err-check_end-clause-refused g c =
     let left = g.R.Read.remaining c.goes_on.new.reader in
     let some = c.one_list_of_pieces.ensures.some in
     let ended : AfterGoing c.args.at given left walk walked.0 walked.1 walked.2 (Ok false) =
-    subst (λ b. AfterGoing c.args.at given left walk walked.0 walked.1 walked.2 (Ok b)) c.if-branch.false (c.in_ok-goes_on.ensures.walks given walked.0 walked.1 walked.2 walked.3) in
+    subst (λ b. AfterGoing c.args.at given left walk walked.0 walked.1 walked.2 (Ok b)) c.if-branch.false
+    (c.in_ok-goes_on.ensures.walks given walked.0 walked.1 walked.2 walked.3) in
     let count : walk.state.count ≡ c.records.walk.state.count = ap (λ (t : Contents). t.count) c.in_ok-goes_on.ensures.state in
     let ensures = c.in_err-check_end.ensures in
     let f = c.in_err-check_end.field-0.0 in
-    let refused = refuses-after given left walk walked.0 walked.1 walked.2 c.args.at ended (λ number is. subst (λ n. n ≤ number) (sym count) (inv.up_to number is)) f ensures.fault ensures.other in
-    let fails = number-fails c.args.form given left walk walked.0 walked.1 walked.2 some held mid walked.4 c.args.at ended f ensures.fault refused in
+    let refused = refuses-after given left walk walked.0 walked.1 walked.2 c.args.at ended
+    (λ number is. subst (λ n. n ≤ number) (sym count) (inv.up_to number is)) f ensures.fault ensures.other in
+    let fails = number-fails c.args.form given left walk walked.0 walked.1 walked.2 some held mid walked.4 c.args.at
+    ended f ensures.fault refused in
     let p = err_from_is_err_and c.from_residual-in_err-check_end.result c.from_residual-in_err-check_end.ensures.1 in
     rw (p.1, p.2) fails
 
@@ -168,5 +191,6 @@ returns-clause-ok g c =
     let left = g.R.Read.remaining c.goes_on.new.reader in
     let some = c.one_list_of_pieces.ensures.some in
     let ended : AfterGoing c.args.at given left walk walked.0 walked.1 walked.2 (Ok false) =
-    subst (λ b. AfterGoing c.args.at given left walk walked.0 walked.1 walked.2 (Ok b)) c.if-branch.false (c.in_ok-goes_on.ensures.walks given walked.0 walked.1 walked.2 walked.3) in
+    subst (λ b. AfterGoing c.args.at given left walk walked.0 walked.1 walked.2 (Ok b)) c.if-branch.false
+    (c.in_ok-goes_on.ensures.walks given walked.0 walked.1 walked.2 walked.3) in
     logs-all c.args.form given left walk walked.0 walked.1 walked.2 some held mid walked.4 c.args.at ended c.in_ok-check_end.ensures.ok

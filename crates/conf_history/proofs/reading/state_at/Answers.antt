@@ -10,7 +10,8 @@ use Rattle.conf_state.proofs.RunLaws.{step-one}
 use Rattle.conf_history.specs.Walks.{IsAtPiece, AfterGoing}
 use Rattle.conf_history.specs.declared.place.Place.{Place}
 use Rattle.conf_history.proofs.WalkLemmas.{has-room, performs-on, passes}
-use Rattle.conf_history.proofs.ReadingLemmas.{before-number, next-number, refuses-all, refuses-before, refuses-piece, refuses-after, reads-state}
+use Rattle.conf_history.proofs.ReadingLemmas.{before-number, next-number, refuses-all, refuses-before, refuses-piece}
+use Rattle.conf_history.proofs.ReadingLemmas.{refuses-after, reads-state}
 use Rattle.conf_history.proofs.reading.state_at.Goals as goal
 
 pub returns-in_err-check_start-clause-refused : goal.returns-in_err-check_start-clause-refused
@@ -19,7 +20,8 @@ returns-in_err-check_start-clause-refused g c =
     let walk = c.in_ok-walk.walk in
     let begun = c.in_ok-walk.ensures.ok in
     let ensures = c.in_err-check_start.ensures in
-    let fails = refuses-before given (g.R.Read.remaining c.begin.new.reader) walk begun.0 walk.state [] c.one_list_of_pieces.ensures.some begun.1 refl c.args.at c.in_err-check_start.field-0.0 ensures.fault ensures.before in
+    let fails = refuses-before given (g.R.Read.remaining c.begin.new.reader) walk begun.0 walk.state
+    [] c.one_list_of_pieces.ensures.some begun.1 refl c.args.at c.in_err-check_start.field-0.0 ensures.fault ensures.before in
     let p = err_from_is_err_and c.from_residual-in_err-check_start.result c.from_residual-in_err-check_start.ensures.1 in
     rw (p.1, p.2) fails
 
@@ -27,7 +29,8 @@ pub returns-in_err-goes_on-clause-refused : goal.returns-in_err-goes_on-clause-r
 returns-in_err-goes_on-clause-refused g c =
     let given = g.R.Read.remaining c.args.reader.now in
     let walked = c.records.invariant.walked in
-    let fails = refuses-all given c.args.at c.in_err-goes_on.field-0.0 (c.in_err-goes_on.ensures.walks given walked.0 walked.1 walked.2 walked.3) in
+    let fails = refuses-all given c.args.at c.in_err-goes_on.field-0.0
+    (c.in_err-goes_on.ensures.walks given walked.0 walked.1 walked.2 walked.3) in
     let p = err_from_is_err_and c.from_residual-in_err-goes_on.result c.from_residual-in_err-goes_on.ensures.1 in
     rw (p.1, p.2) fails
 
@@ -39,7 +42,8 @@ perform_piece-requires g c =
     let walk = c.goes_on.new.self in
     let left = g.R.Read.remaining c.goes_on.new.reader in
     let going : (c.args.at ≢ Some walk.state.count) × IsAtPiece given left walk walked.0 walked.1 walked.2 =
-    subst (λ b. AfterGoing c.args.at given left walk walked.0 walked.1 walked.2 (Ok b)) c.if-branch.true (c.in_ok-goes_on.ensures.walks given walked.0 walked.1 walked.2 walked.3) in
+    subst (λ b. AfterGoing c.args.at given left walk walked.0 walked.1 walked.2 (Ok b)) c.if-branch.true
+    (c.in_ok-goes_on.ensures.walks given walked.0 walked.1 walked.2 walked.3) in
     has-room given left walk walked.0 walked.1 walked.2 going.1
 
 pub records-smaller : goal.records-smaller
@@ -50,9 +54,12 @@ records-smaller g c =
     let walk = c.goes_on.new.self in
     let left = g.R.Read.remaining c.goes_on.new.reader in
     let going : (c.args.at ≢ Some walk.state.count) × IsAtPiece given left walk walked.0 walked.1 walked.2 =
-    subst (λ b. AfterGoing c.args.at given left walk walked.0 walked.1 walked.2 (Ok b)) c.if-branch.true (c.in_ok-goes_on.ensures.walks given walked.0 walked.1 walked.2 walked.3) in
+    subst (λ b. AfterGoing c.args.at given left walk walked.0 walked.1 walked.2 (Ok b)) c.if-branch.true
+    (c.in_ok-goes_on.ensures.walks given walked.0 walked.1 walked.2 walked.3) in
     let done = c.in_ok-perform_piece.ensures.ok in
-    subst (λ (p : Place). store_limit - c.perform_piece.new.self.place.byte < store_limit - p.byte) c.in_ok-goes_on.ensures.place (passes given left walk walked.0 walked.1 walked.2 going.1 c.perform_piece.new.self done.0 done.1)
+    subst (λ (p : Place). store_limit - c.perform_piece.new.self.place.byte < store_limit - p.byte)
+    c.in_ok-goes_on.ensures.place (passes given left walk walked.0 walked.1 walked.2 going.1
+    c.perform_piece.new.self done.0 done.1)
 
 pub records-preserved : goal.records-preserved
 records-preserved g c =
@@ -62,7 +69,8 @@ records-preserved g c =
     let walk = c.goes_on.new.self in
     let left = g.R.Read.remaining c.goes_on.new.reader in
     let going : (c.args.at ≢ Some walk.state.count) × IsAtPiece given left walk walked.0 walked.1 walked.2 =
-    subst (λ b. AfterGoing c.args.at given left walk walked.0 walked.1 walked.2 (Ok b)) c.if-branch.true (c.in_ok-goes_on.ensures.walks given walked.0 walked.1 walked.2 walked.3) in
+    subst (λ b. AfterGoing c.args.at given left walk walked.0 walked.1 walked.2 (Ok b)) c.if-branch.true
+    (c.in_ok-goes_on.ensures.walks given walked.0 walked.1 walked.2 walked.3) in
     let new = c.perform_piece.new.self in
     let done = c.in_ok-perform_piece.ensures.ok in
     let next = performs-on given left walk walked.0 walked.1 walked.2 going.1 new done.0 done.1 in
@@ -71,7 +79,8 @@ records-preserved g c =
     record {
       walked = (walked.0 ++ piece_or_rest walk.pieces ∷ [], walked.1, walked.2 ++ done.0 ∷ [], next);
       limits = next.limits;
-      up_to = next-number c.args.at walk.state.count new.state.count going.0 one (λ number is. subst (λ n. n ≤ number) (sym count) (inv.up_to number is));
+      up_to = next-number c.args.at walk.state.count new.state.count going.0 one
+          (λ number is. subst (λ n. n ≤ number) (sym count) (inv.up_to number is));
     }
 
 pub returns-in_err-perform_piece-clause-refused : goal.returns-in_err-perform_piece-clause-refused
@@ -82,10 +91,13 @@ returns-in_err-perform_piece-clause-refused g c =
     let walk = c.goes_on.new.self in
     let left = g.R.Read.remaining c.goes_on.new.reader in
     let going : (c.args.at ≢ Some walk.state.count) × IsAtPiece given left walk walked.0 walked.1 walked.2 =
-    subst (λ b. AfterGoing c.args.at given left walk walked.0 walked.1 walked.2 (Ok b)) c.if-branch.true (c.in_ok-goes_on.ensures.walks given walked.0 walked.1 walked.2 walked.3) in
+    subst (λ b. AfterGoing c.args.at given left walk walked.0 walked.1 walked.2 (Ok b)) c.if-branch.true
+    (c.in_ok-goes_on.ensures.walks given walked.0 walked.1 walked.2 walked.3) in
     let count : walk.state.count ≡ c.records.walk.state.count = ap (λ (t : Contents). t.count) c.in_ok-goes_on.ensures.state in
-    let before = before-number c.args.at walk.state.count going.0 (λ number is. subst (λ n. n ≤ number) (sym count) (inv.up_to number is)) in
-    let fails = refuses-piece given left walk walked.0 walked.1 walked.2 c.one_list_of_pieces.ensures.some going.1 c.args.at before c.in_err-perform_piece.field-0.0 c.in_err-perform_piece.ensures.refused in
+    let before = before-number c.args.at walk.state.count going.0
+    (λ number is. subst (λ n. n ≤ number) (sym count) (inv.up_to number is)) in
+    let fails = refuses-piece given left walk walked.0 walked.1 walked.2 c.one_list_of_pieces.ensures.some going.1
+    c.args.at before c.in_err-perform_piece.field-0.0 c.in_err-perform_piece.ensures.refused in
     let p = err_from_is_err_and c.from_residual-in_err-perform_piece.result c.from_residual-in_err-perform_piece.ensures.1 in
     rw (p.1, p.2) fails
 
@@ -97,10 +109,12 @@ returns-in_err-check_end-clause-refused g c =
     let walk = c.goes_on.new.self in
     let left = g.R.Read.remaining c.goes_on.new.reader in
     let ended : AfterGoing c.args.at given left walk walked.0 walked.1 walked.2 (Ok false) =
-    subst (λ b. AfterGoing c.args.at given left walk walked.0 walked.1 walked.2 (Ok b)) c.if-branch.false (c.in_ok-goes_on.ensures.walks given walked.0 walked.1 walked.2 walked.3) in
+    subst (λ b. AfterGoing c.args.at given left walk walked.0 walked.1 walked.2 (Ok b)) c.if-branch.false
+    (c.in_ok-goes_on.ensures.walks given walked.0 walked.1 walked.2 walked.3) in
     let count : walk.state.count ≡ c.records.walk.state.count = ap (λ (t : Contents). t.count) c.in_ok-goes_on.ensures.state in
     let ensures = c.in_err-check_end.ensures in
-    let fails = refuses-after given left walk walked.0 walked.1 walked.2 c.args.at ended (λ number is. subst (λ n. n ≤ number) (sym count) (inv.up_to number is))
+    let fails = refuses-after given left walk walked.0 walked.1 walked.2 c.args.at ended
+    (λ number is. subst (λ n. n ≤ number) (sym count) (inv.up_to number is))
     c.in_err-check_end.field-0.0 ensures.fault ensures.other in
     let p = err_from_is_err_and c.from_residual-in_err-check_end.result c.from_residual-in_err-check_end.ensures.1 in
     rw (p.1, p.2) fails
@@ -113,5 +127,7 @@ returns-clause-ok g c =
     let walk = c.goes_on.new.self in
     let left = g.R.Read.remaining c.goes_on.new.reader in
     let ended : AfterGoing c.args.at given left walk walked.0 walked.1 walked.2 (Ok false) =
-    subst (λ b. AfterGoing c.args.at given left walk walked.0 walked.1 walked.2 (Ok b)) c.if-branch.false (c.in_ok-goes_on.ensures.walks given walked.0 walked.1 walked.2 walked.3) in
-    reads-state given left walk walked.0 walked.1 walked.2 c.one_list_of_pieces.ensures.some c.args.at ended c.in_ok-check_end.ensures.ok c.in_ok-check_end.ensures.limits
+    subst (λ b. AfterGoing c.args.at given left walk walked.0 walked.1 walked.2 (Ok b)) c.if-branch.false
+    (c.in_ok-goes_on.ensures.walks given walked.0 walked.1 walked.2 walked.3) in
+    reads-state given left walk walked.0 walked.1 walked.2 c.one_list_of_pieces.ensures.some c.args.at ended
+    c.in_ok-check_end.ensures.ok c.in_ok-check_end.ensures.limits

@@ -22,7 +22,8 @@ pieces-smaller g c =
     let new = c.advance.new.self in
     let so_far = c.pieces.invariant.so_far in
     let next : AdvancesToPiece store_limit store_limit mid left now new =
-    subst (λ b. Advances store_limit store_limit mid left now new (Ok b)) c.in-Ok-true.field-0-test (own-limits mid left now new (Ok c.in-Ok-true.field-0) so_far.limits c.in-Ok-true.ensures) in
+    subst (λ b. Advances store_limit store_limit mid left now new (Ok b)) c.in-Ok-true.field-0-test
+    (own-limits mid left now new (Ok c.in-Ok-true.field-0) so_far.limits c.in-Ok-true.ensures) in
     counts-smaller given mid left c.args.pieces.now now new c.pieces.count so_far next
 
 pub pieces-preserved : goal.pieces-preserved
@@ -34,7 +35,8 @@ pieces-preserved g c =
     let new = c.advance.new.self in
     let so_far = c.pieces.invariant.so_far in
     let next : AdvancesToPiece store_limit store_limit mid left now new =
-    subst (λ b. Advances store_limit store_limit mid left now new (Ok b)) c.in-Ok-true.field-0-test (own-limits mid left now new (Ok c.in-Ok-true.field-0) so_far.limits c.in-Ok-true.ensures) in
+    subst (λ b. Advances store_limit store_limit mid left now new (Ok b)) c.in-Ok-true.field-0-test
+    (own-limits mid left now new (Ok c.in-Ok-true.field-0) so_far.limits c.in-Ok-true.ensures) in
     let more = counts-more given mid left c.args.pieces.now now new c.pieces.count so_far next in
     record {
       so_far = more;

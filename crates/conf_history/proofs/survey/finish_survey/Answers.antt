@@ -24,5 +24,6 @@ returns-clause-ok g c = λ given pieces start commands p here base.
     let counted = c.in_ok-following.ensures given (concat pieces ++ piece_or_rest walk.pieces) past.0 past.1 in
     let found = c.into_survey.ensures in
     subst (λ s. ReadsSurvey given left s c.into_survey.result.findings) (sym found.state)
-    (surveyed-bad given left walk pieces start commands mid c.count_pieces.new.pieces (record { piece = c.args.piece; following = c.in_ok-following.following })
+    (surveyed-bad given left walk pieces start commands mid c.count_pieces.new.pieces
+    (record { piece = c.args.piece; following = c.in_ok-following.following })
     p here counted c.args.base base found.limits c.into_survey.result.findings found.findings)

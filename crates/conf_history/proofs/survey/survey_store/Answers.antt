@@ -28,7 +28,8 @@ perform_piece-requires g c =
     let walk = c.advance.new.self in
     let left = g.R.Read.remaining c.advance.new.reader in
     let going : IsAtPiece given left walk walked.0 walked.1 walked.2 =
-    subst (λ b. AfterAdvance given left walk walked.0 walked.1 walked.2 (Ok b)) c.if-branch.true (c.in_ok-advance.ensures.walks given walked.0 walked.1 walked.2 walked.3) in
+    subst (λ b. AfterAdvance given left walk walked.0 walked.1 walked.2 (Ok b)) c.if-branch.true
+    (c.in_ok-advance.ensures.walks given walked.0 walked.1 walked.2 walked.3) in
     has-room given left walk walked.0 walked.1 walked.2 going
 
 pub records-smaller : goal.records-smaller
@@ -39,9 +40,12 @@ records-smaller g c =
     let walk = c.advance.new.self in
     let left = g.R.Read.remaining c.advance.new.reader in
     let going : IsAtPiece given left walk walked.0 walked.1 walked.2 =
-    subst (λ b. AfterAdvance given left walk walked.0 walked.1 walked.2 (Ok b)) c.if-branch.true (c.in_ok-advance.ensures.walks given walked.0 walked.1 walked.2 walked.3) in
+    subst (λ b. AfterAdvance given left walk walked.0 walked.1 walked.2 (Ok b)) c.if-branch.true
+    (c.in_ok-advance.ensures.walks given walked.0 walked.1 walked.2 walked.3) in
     let done = c.in-Ok.ensures.ok in
-    subst (λ (p : Place). store_limit - c.perform_piece.new.self.place.byte < store_limit - p.byte) c.in_ok-advance.ensures.place (passes given left walk walked.0 walked.1 walked.2 going c.perform_piece.new.self done.0 done.1)
+    subst (λ (p : Place). store_limit - c.perform_piece.new.self.place.byte < store_limit - p.byte)
+    c.in_ok-advance.ensures.place (passes given left walk walked.0 walked.1 walked.2 going
+    c.perform_piece.new.self done.0 done.1)
 
 pub records-preserved : goal.records-preserved
 records-preserved g c =
@@ -51,7 +55,8 @@ records-preserved g c =
     let walk = c.advance.new.self in
     let left = g.R.Read.remaining c.advance.new.reader in
     let going : IsAtPiece given left walk walked.0 walked.1 walked.2 =
-    subst (λ b. AfterAdvance given left walk walked.0 walked.1 walked.2 (Ok b)) c.if-branch.true (c.in_ok-advance.ensures.walks given walked.0 walked.1 walked.2 walked.3) in
+    subst (λ b. AfterAdvance given left walk walked.0 walked.1 walked.2 (Ok b)) c.if-branch.true
+    (c.in_ok-advance.ensures.walks given walked.0 walked.1 walked.2 walked.3) in
     let done = c.in-Ok.ensures.ok in
     let next = performs-on given left walk walked.0 walked.1 walked.2 going c.perform_piece.new.self done.0 done.1 in
     record {
@@ -67,9 +72,11 @@ finish_survey-requires-clause-limits g c =
     let walk = c.advance.new.self in
     let left = g.R.Read.remaining c.advance.new.reader in
     let going : IsAtPiece given left walk walked.0 walked.1 walked.2 =
-    subst (λ b. AfterAdvance given left walk walked.0 walked.1 walked.2 (Ok b)) c.if-branch.true (c.in_ok-advance.ensures.walks given walked.0 walked.1 walked.2 walked.3) in
+    subst (λ b. AfterAdvance given left walk walked.0 walked.1 walked.2 (Ok b)) c.if-branch.true
+    (c.in_ok-advance.ensures.walks given walked.0 walked.1 walked.2 walked.3) in
     let same = c.in-Err-Damaged.ensures.unchanged refl in
-    let kept : IsAtPiece given left c.perform_piece.new.self walked.0 walked.1 walked.2 = subst (λ (w : Walk). IsAtPiece given left w walked.0 walked.1 walked.2) (sym same) going in
+    let kept : IsAtPiece given left c.perform_piece.new.self walked.0 walked.1 walked.2 =
+    subst (λ (w : Walk). IsAtPiece given left w walked.0 walked.1 walked.2) (sym same) going in
     kept.read.limits
 
 pub finish_survey-requires-clause-base : goal.finish_survey-requires-clause-base
@@ -80,9 +87,11 @@ finish_survey-requires-clause-base g c =
     let walk = c.advance.new.self in
     let left = g.R.Read.remaining c.advance.new.reader in
     let going : IsAtPiece given left walk walked.0 walked.1 walked.2 =
-    subst (λ b. AfterAdvance given left walk walked.0 walked.1 walked.2 (Ok b)) c.if-branch.true (c.in_ok-advance.ensures.walks given walked.0 walked.1 walked.2 walked.3) in
+    subst (λ b. AfterAdvance given left walk walked.0 walked.1 walked.2 (Ok b)) c.if-branch.true
+    (c.in_ok-advance.ensures.walks given walked.0 walked.1 walked.2 walked.3) in
     let same = c.in-Err-Damaged.ensures.unchanged refl in
-    let kept : IsAtPiece given left c.perform_piece.new.self walked.0 walked.1 walked.2 = subst (λ (w : Walk). IsAtPiece given left w walked.0 walked.1 walked.2) (sym same) going in
+    let kept : IsAtPiece given left c.perform_piece.new.self walked.0 walked.1 walked.2 =
+    subst (λ (w : Walk). IsAtPiece given left w walked.0 walked.1 walked.2) (sym same) going in
     counted-from walked.0 walked.1 walked.2 c.perform_piece.new.self.state kept.read.performed c.count-base.result walked.4
 
 pub returns-in-Err-Damaged-clause-ok : goal.returns-in-Err-Damaged-clause-ok
@@ -93,12 +102,16 @@ returns-in-Err-Damaged-clause-ok g c =
     let walk = c.advance.new.self in
     let left = g.R.Read.remaining c.advance.new.reader in
     let going : IsAtPiece given left walk walked.0 walked.1 walked.2 =
-    subst (λ b. AfterAdvance given left walk walked.0 walked.1 walked.2 (Ok b)) c.if-branch.true (c.in_ok-advance.ensures.walks given walked.0 walked.1 walked.2 walked.3) in
+    subst (λ b. AfterAdvance given left walk walked.0 walked.1 walked.2 (Ok b)) c.if-branch.true
+    (c.in_ok-advance.ensures.walks given walked.0 walked.1 walked.2 walked.3) in
     let same = c.in-Err-Damaged.ensures.unchanged refl in
-    let kept : IsAtPiece given left c.perform_piece.new.self walked.0 walked.1 walked.2 = subst (λ (w : Walk). IsAtPiece given left w walked.0 walked.1 walked.2) (sym same) going in
+    let kept : IsAtPiece given left c.perform_piece.new.self walked.0 walked.1 walked.2 =
+    subst (λ (w : Walk). IsAtPiece given left w walked.0 walked.1 walked.2) (sym same) going in
     let here : IsBadHere walk c.in-Err-Damaged.bad =
     subst (RefusesPiece walk) c.in-Err-Damaged.field-0-is c.in-Err-Damaged.ensures.refused in
-    c.finish_survey.ensures.ok given walked.0 walked.1 walked.2 kept (subst (IsBadHere c.perform_piece.new.self) (sym c.in-Err-Damaged.bad-is) (subst (λ (w : Walk). IsBadHere w c.in-Err-Damaged.bad) (sym same) here)) walked.4
+    c.finish_survey.ensures.ok given walked.0 walked.1 walked.2 kept
+    (subst (IsBadHere c.perform_piece.new.self) (sym c.in-Err-Damaged.bad-is)
+    (subst (λ (w : Walk). IsBadHere w c.in-Err-Damaged.bad) (sym same) here)) walked.4
 
 pub returns-in-Err-Damaged-clause-refused : goal.returns-in-Err-Damaged-clause-refused
 returns-in-Err-Damaged-clause-refused g c =
@@ -108,9 +121,11 @@ returns-in-Err-Damaged-clause-refused g c =
     let walk = c.advance.new.self in
     let left = g.R.Read.remaining c.advance.new.reader in
     let going : IsAtPiece given left walk walked.0 walked.1 walked.2 =
-    subst (λ b. AfterAdvance given left walk walked.0 walked.1 walked.2 (Ok b)) c.if-branch.true (c.in_ok-advance.ensures.walks given walked.0 walked.1 walked.2 walked.3) in
+    subst (λ b. AfterAdvance given left walk walked.0 walked.1 walked.2 (Ok b)) c.if-branch.true
+    (c.in_ok-advance.ensures.walks given walked.0 walked.1 walked.2 walked.3) in
     let same = c.in-Err-Damaged.ensures.unchanged refl in
-    let kept : IsAtPiece given left c.perform_piece.new.self walked.0 walked.1 walked.2 = subst (λ (w : Walk). IsAtPiece given left w walked.0 walked.1 walked.2) (sym same) going in
+    let kept : IsAtPiece given left c.perform_piece.new.self walked.0 walked.1 walked.2 =
+    subst (λ (w : Walk). IsAtPiece given left w walked.0 walked.1 walked.2) (sym same) going in
     c.finish_survey.ensures.refused given walked.0 walked.1 walked.2 kept
 
 pub into_survey-requires : goal.into_survey-requires
@@ -121,7 +136,8 @@ into_survey-requires g c =
     let walk = c.advance.new.self in
     let left = g.R.Read.remaining c.advance.new.reader in
     let ended : IsAtEndOf given left walk walked.0 walked.1 walked.2 =
-    subst (λ b. AfterAdvance given left walk walked.0 walked.1 walked.2 (Ok b)) c.if-branch.false (c.in_ok-advance.ensures.walks given walked.0 walked.1 walked.2 walked.3) in
+    subst (λ b. AfterAdvance given left walk walked.0 walked.1 walked.2 (Ok b)) c.if-branch.false
+    (c.in_ok-advance.ensures.walks given walked.0 walked.1 walked.2 walked.3) in
     counted-from walked.0 walked.1 walked.2 walk.state ended.performed c.count-base.result walked.4
 
 pub returns-clause-ok : goal.returns-clause-ok
@@ -132,7 +148,9 @@ returns-clause-ok g c =
     let walk = c.advance.new.self in
     let left = g.R.Read.remaining c.advance.new.reader in
     let ended : IsAtEndOf given left walk walked.0 walked.1 walked.2 =
-    subst (λ b. AfterAdvance given left walk walked.0 walked.1 walked.2 (Ok b)) c.if-branch.false (c.in_ok-advance.ensures.walks given walked.0 walked.1 walked.2 walked.3) in
+    subst (λ b. AfterAdvance given left walk walked.0 walked.1 walked.2 (Ok b)) c.if-branch.false
+    (c.in_ok-advance.ensures.walks given walked.0 walked.1 walked.2 walked.3) in
     let found = c.into_survey.ensures in
     subst (λ s. ReadsSurvey given left s c.into_survey.result.findings) (sym found.state)
-    (surveyed-whole given left walk walked.0 walked.1 walked.2 ended c.count-base.result walked.4 found.limits c.into_survey.result.findings found.findings)
+    (surveyed-whole given left walk walked.0 walked.1 walked.2 ended c.count-base.result walked.4 found.limits
+    c.into_survey.result.findings found.findings)

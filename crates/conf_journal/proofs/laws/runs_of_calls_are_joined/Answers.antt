@@ -6,7 +6,8 @@ use Rattle.conf_journal.proofs.laws.runs_of_calls_are_joined.Goals as goal
 pub returns-clause-images : goal.returns-clause-images
 returns-clause-images g c h old between new folder first second =
     let d = g.D.Disk in
-    LeavesOnly-joined d.model old between new (IsImage folder) (IsImage folder) (IsImage folder) first second (λ image is. is) (λ image is. is)
+    LeavesOnly-joined d.model old between new (IsImage folder) (IsImage folder) (IsImage folder) first second
+    (λ image is. is) (λ image is. is)
 
 pub returns-clause-old_store : goal.returns-clause-old_store
 returns-clause-old_store g c h old between new first second =

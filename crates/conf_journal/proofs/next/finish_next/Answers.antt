@@ -11,8 +11,11 @@ use Rattle.conf_journal.proofs.Stores.{finished-leaves}
 use Rattle.conf_journal.proofs.next.finish_next.Goals as goal
 
 -- what is left before the first sync, or after it
-before_or_after : (folder : Folder) (image : Image) → LeftDuring (Sync Next ∷ RenameNext ∷ SyncFolder ∷ []) folder image → IsImage folder image ⊎ IsImage (after RenameNext (after (Sync Next) folder)) image
-before_or_after folder image is = ⊎_elim (λ was. inl was) (λ rest. inr (left-grown (RenameNext ∷ SyncFolder ∷ []) tt (after (Sync Next) folder) image rest)) is
+before_or_after : (folder : Folder) (image : Image)
+    → LeftDuring (Sync Next ∷ RenameNext ∷ SyncFolder ∷ []) folder image
+    → IsImage folder image ⊎ IsImage (after RenameNext (after (Sync Next) folder)) image
+before_or_after folder image is = ⊎_elim (λ was. inl was)
+    (λ rest. inr (left-grown (RenameNext ∷ SyncFolder ∷ []) tt (after (Sync Next) folder) image rest)) is
 
 pub swap_next-requires : goal.swap_next-requires
 swap_next-requires g c h = c.in_ok-sync_next.ensures.synced h (c.requires h)
@@ -30,7 +33,8 @@ returns-clause-any_moment g c h =
 
 pub returns-in_err-sync_next-clause-store : goal.returns-in_err-sync_next-clause-store
 returns-in_err-sync_next-clause-store g c h =
-    LeavesOnly-weaker _ _ _ _ _ (returns-in_err-sync_next-clause-any_moment g c h) (finished-leaves _ (g.met.D.Disk.whole c.args.disk.now h) (c.requires h))
+    LeavesOnly-weaker _ _ _ _ _ (returns-in_err-sync_next-clause-any_moment g c h)
+    (finished-leaves _ (g.met.D.Disk.whole c.args.disk.now h) (c.requires h))
 
 pub returns-clause-store : goal.returns-clause-store
 returns-clause-store g c h =
@@ -49,5 +53,7 @@ returns-clause-reads g c h =
 
 pub returns-clause-holds : goal.returns-clause-holds
 returns-clause-holds g c h =
-    subst (λ (image : Image). OnOk c.swap_next.result ((bytes : List ℕ) → image.next ≡ Some bytes → HoldsStore (g.D.Disk.model.folder c.swap_next.new.disk) (Some (synced_file bytes))))
+    subst (λ (image : Image). OnOk c.swap_next.result
+    ((bytes : List ℕ) → image.next ≡ Some bytes
+    → HoldsStore (g.D.Disk.model.folder c.swap_next.new.disk) (Some (synced_file bytes))))
     (c.sync_next.ensures.reads h) (c.swap_next.ensures.holds h)

@@ -11,7 +11,8 @@ use Rattle.conf_journal.proofs.next.stage_next.Goals as goal
 
 pub returns-in_err-begin_next-clause-any_moment : goal.returns-in_err-begin_next-clause-any_moment
 returns-in_err-begin_next-clause-any_moment g c h =
-    run-grown g.D.Disk tt (run-known g.D.Disk (RemoveNext ∷ CreateNext ∷ []) (Append Next c.args.bytes.now ∷ []) tt (c.begin_next.ensures.any_moment h))
+    run-grown g.D.Disk tt (run-known g.D.Disk (RemoveNext ∷ CreateNext ∷ []) (Append Next c.args.bytes.now ∷ []) tt
+    (c.begin_next.ensures.any_moment h))
 
 pub returns-in_err-append_next-clause-any_moment : goal.returns-in_err-append_next-clause-any_moment
 returns-in_err-append_next-clause-any_moment g c h =
@@ -34,7 +35,8 @@ returns-in_err-append_next-clause-store g c h =
 
 pub returns-clause-store : goal.returns-clause-store
 returns-clause-store g c h =
-    staging-run g.D.Disk (RemoveNext ∷ CreateNext ∷ Append Next c.args.bytes.now ∷ Sync Next ∷ []) tt tt (g.met.D.Disk.whole c.args.disk.now h)
+    staging-run g.D.Disk (RemoveNext ∷ CreateNext ∷ Append Next c.args.bytes.now ∷ Sync Next ∷ []) tt tt
+    (g.met.D.Disk.whole c.args.disk.now h)
     (returns-clause-any_moment g c h)
 
 pub returns-clause-reads : goal.returns-clause-reads
@@ -54,7 +56,9 @@ returns-clause-synced g c h =
     c.sync_next.ensures.synced h (file_there folder.files folder.now.next bytes there)
 
 pub returns-clause-fails : goal.returns-clause-fails
-returns-clause-fails g c = fails-then c.in_ok-begin_next.ensures.fails (fails-then c.in_ok-append_next.ensures.fails c.sync_next.ensures.fails)
+returns-clause-fails g c = fails-then c.in_ok-begin_next.ensures.fails
+    (fails-then c.in_ok-append_next.ensures.fails c.sync_next.ensures.fails)
 
 pub returns-clause-left_alone : goal.returns-clause-left_alone
-returns-clause-left_alone g c h = ap (λ (image : Image). image.store) (c.sync_next.ensures.reads h) ∙ c.append_next.ensures.left_alone h ∙ c.begin_next.ensures.left_alone h
+returns-clause-left_alone g c h = ap (λ (image : Image). image.store) (c.sync_next.ensures.reads h)
+    ∙ c.append_next.ensures.left_alone h ∙ c.begin_next.ensures.left_alone h

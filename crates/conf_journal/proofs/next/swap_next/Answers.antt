@@ -13,12 +13,15 @@ pub returns-clause-any_moment : goal.returns-clause-any_moment
 returns-clause-any_moment g c h =
     let d = g.D.Disk in
     let only = g.met.D.Disk.only_now in
-    run-grown d tt (run-then d (c.in_ok-rename_next.ensures.goes.change h) (run-call d only h [] c.rename_next.ensures.goes) (run-call d only h [] c.sync_folder.ensures.goes))
+    run-grown d tt (run-then d (c.in_ok-rename_next.ensures.goes.change h)
+    (run-call d only h [] c.rename_next.ensures.goes) (run-call d only h [] c.sync_folder.ensures.goes))
 
 pub returns-in_err-rename_next-clause-store : goal.returns-in_err-rename_next-clause-store
 returns-in_err-rename_next-clause-store g c h =
-    LeavesOnly-weaker _ _ _ _ _ (returns-in_err-rename_next-clause-any_moment g c h) (after_rename-leaves (g.D.Disk.model.folder c.args.disk.now) (c.requires h))
+    LeavesOnly-weaker _ _ _ _ _ (returns-in_err-rename_next-clause-any_moment g c h)
+    (after_rename-leaves (g.D.Disk.model.folder c.args.disk.now) (c.requires h))
 
 pub returns-clause-store : goal.returns-clause-store
 returns-clause-store g c h =
-    LeavesOnly-weaker _ _ _ _ _ (returns-clause-any_moment g c h) (after_rename-leaves (g.D.Disk.model.folder c.args.disk.now) (c.requires h))
+    LeavesOnly-weaker _ _ _ _ _ (returns-clause-any_moment g c h)
+    (after_rename-leaves (g.D.Disk.model.folder c.args.disk.now) (c.requires h))

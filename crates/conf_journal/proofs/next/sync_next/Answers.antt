@@ -11,12 +11,14 @@ returns-clause-any_moment g c h = run-grown g.D.Disk tt (run-call g.D.Disk g.met
 
 pub returns-clause-reads : goal.returns-clause-reads
 returns-clause-reads g c h =
-    sync-reads_same Next (g.D.Disk.model.folder c.args.disk.now) (g.D.Disk.model.folder c.sync.new.self) c.sync.result (c.sync.ensures.goes.change h)
+    sync-reads_same Next (g.D.Disk.model.folder c.args.disk.now) (g.D.Disk.model.folder c.sync.new.self) c.sync.result
+    (c.sync.ensures.goes.change h)
 
 pub returns-clause-synced : goal.returns-clause-synced
 returns-clause-synced g c h some =
     let old = c.args.disk.now in
-    performed-synced Next (g.D.Disk.model.folder old) (g.D.Disk.model.folder c.sync.new.self) c.sync.result (g.met.D.Disk.whole old h) some (c.sync.ensures.goes.change h)
+    performed-synced Next (g.D.Disk.model.folder old) (g.D.Disk.model.folder c.sync.new.self) c.sync.result
+    (g.met.D.Disk.whole old h) some (c.sync.ensures.goes.change h)
 
 pub returns-clause-store : goal.returns-clause-store
 returns-clause-store g c h =

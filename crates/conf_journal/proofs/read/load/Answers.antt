@@ -14,7 +14,8 @@ pub returns-in_err-sync-clause-any_moment : goal.returns-in_err-sync-clause-any_
 returns-in_err-sync-clause-any_moment g c h =
     let d = g.D.Disk in
     let only = g.met.D.Disk.only_now in
-    run-grown d tt (run-then d (c.in_ok-sync_folder.ensures.goes.change h) (run-call d only h [] c.sync_folder.ensures.goes) (run-call d only h [] c.sync.ensures.goes))
+    run-grown d tt (run-then d (c.in_ok-sync_folder.ensures.goes.change h)
+    (run-call d only h [] c.sync_folder.ensures.goes) (run-call d only h [] c.sync.ensures.goes))
 
 pub returns-clause-any_moment : goal.returns-clause-any_moment
 returns-clause-any_moment g c h =
@@ -33,10 +34,12 @@ pub returns-in_err-sync_folder-clause-failures : goal.returns-in_err-sync_folder
 returns-in_err-sync_folder-clause-failures g c = counts-passed c.in_err-sync_folder.ensures.goes.failures (search rules)
 
 pub returns-in_err-sync-clause-failures : goal.returns-in_err-sync-clause-failures
-returns-in_err-sync-clause-failures g c = counts-then c.in_ok-sync_folder.ensures.goes.failures (counts-passed c.in_err-sync.ensures.goes.failures (search rules))
+returns-in_err-sync-clause-failures g c = counts-then c.in_ok-sync_folder.ensures.goes.failures
+    (counts-passed c.in_err-sync.ensures.goes.failures (search rules))
 
 pub returns-clause-failures : goal.returns-clause-failures
-returns-clause-failures g c = counts-then c.in_ok-sync_folder.ensures.goes.failures (counts-then c.in_ok-sync.ensures.goes.failures c.read.ensures.failures)
+returns-clause-failures g c = counts-then c.in_ok-sync_folder.ensures.goes.failures
+    (counts-then c.in_ok-sync.ensures.goes.failures c.read.ensures.failures)
 
 pub returns-clause-reads : goal.returns-clause-reads
 returns-clause-reads g c h =
@@ -50,4 +53,5 @@ returns-in_err-sync-clause-spent g c h at =
 
 pub returns-clause-spent : goal.returns-clause-spent
 returns-clause-spent g c h at =
-    c.read.ensures.same h ∙ c.sync.ensures.goes.spent h (c.in_ok-sync_folder.ensures.goes.failures.steady ∙ at) ∙ c.sync_folder.ensures.goes.spent h at
+    c.read.ensures.same h ∙ c.sync.ensures.goes.spent h (c.in_ok-sync_folder.ensures.goes.failures.steady ∙ at)
+    ∙ c.sync_folder.ensures.goes.spent h at

@@ -21,9 +21,12 @@ returns-in-Some g c =
     let s = c.args.state.now in
     let end = c.put_text-in-Some.new.self in
     let prefix = subst (λ cs. g.S.Sink.Takes start cs c.put_text.new.self) (ascii (codes "---\n") refl) c.in_ok-put_text.ensures in
-    let store = subst (λ cs. g.S.Sink.Takes c.put_text.new.self cs c.put_text-2.new.self) (ascii (codes "store: confstore-2\n") refl) c.in_ok-put_text-2.ensures in
-    let number = subst (λ n. g.S.Sink.Takes c.put_text-2.new.self (line (codes "at") (text (decimal n))) c.write_number.new.sink) c.count.ensures.count c.in_ok-write_number.ensures in
-    let key = subst (λ cs. g.S.Sink.Takes c.write_number.new.sink cs c.put_text-3.new.self) (ascii (codes "configs:") refl) c.in_ok-put_text-3.ensures in
+    let store = subst (λ cs. g.S.Sink.Takes c.put_text.new.self cs c.put_text-2.new.self)
+    (ascii (codes "store: confstore-2\n") refl) c.in_ok-put_text-2.ensures in
+    let number = subst (λ n. g.S.Sink.Takes c.put_text-2.new.self
+    (line (codes "at") (text (decimal n))) c.write_number.new.sink) c.count.ensures.count c.in_ok-write_number.ensures in
+    let key = subst (λ cs. g.S.Sink.Takes c.write_number.new.sink cs c.put_text-3.new.self)
+    (ascii (codes "configs:") refl) c.in_ok-put_text-3.ensures in
     let first = ascii (codes "\n") refl ∙ some_start s.configs _ _ (sym c.names.ensures ∙ c.in-Some.ensures.steps) in
     on_ok_weaker c.put_text-in-Some.result
     (λ written. both _ _ _ _ _ (both _ _ _ _ _ (both _ _ _ _ _ (both _ _ _ _ _ prefix store) number) key)
@@ -37,9 +40,12 @@ returns-in-None g c =
     let s = c.args.state.now in
     let end = c.put_text-in-None.new.self in
     let prefix = subst (λ cs. g.S.Sink.Takes start cs c.put_text.new.self) (ascii (codes "---\n") refl) c.in_ok-put_text.ensures in
-    let store = subst (λ cs. g.S.Sink.Takes c.put_text.new.self cs c.put_text-2.new.self) (ascii (codes "store: confstore-2\n") refl) c.in_ok-put_text-2.ensures in
-    let number = subst (λ n. g.S.Sink.Takes c.put_text-2.new.self (line (codes "at") (text (decimal n))) c.write_number.new.sink) c.count.ensures.count c.in_ok-write_number.ensures in
-    let key = subst (λ cs. g.S.Sink.Takes c.write_number.new.sink cs c.put_text-3.new.self) (ascii (codes "configs:") refl) c.in_ok-put_text-3.ensures in
+    let store = subst (λ cs. g.S.Sink.Takes c.put_text.new.self cs c.put_text-2.new.self)
+    (ascii (codes "store: confstore-2\n") refl) c.in_ok-put_text-2.ensures in
+    let number = subst (λ n. g.S.Sink.Takes c.put_text-2.new.self
+    (line (codes "at") (text (decimal n))) c.write_number.new.sink) c.count.ensures.count c.in_ok-write_number.ensures in
+    let key = subst (λ cs. g.S.Sink.Takes c.write_number.new.sink cs c.put_text-3.new.self)
+    (ascii (codes "configs:") refl) c.in_ok-put_text-3.ensures in
     let none = ascii (codes " {}\n") refl ∙ none_start s.configs (sym c.names.ensures ∙ c.in-None.ensures.steps.0) in
     on_ok_weaker c.put_text-in-None.result
     (λ written. both _ _ _ _ _ (both _ _ _ _ _ (both _ _ _ _ _ (both _ _ _ _ _ prefix store) number) key)

@@ -17,16 +17,22 @@ pub returns-then-not-keys_are-clause-read : goal.returns-then-not-keys_are-claus
 returns-then-not-keys_are-clause-read c =
     let ms = members_of c.in-Map.pairs.items in
     let seen = ap base_of (ap tree_of c.in-Map.is ∙ tree_of-Map c.in-Map.pairs) in
-    let other : keys_are base_keys ms ≡ false = asked _ base_keys c.deref.result.now _ _ false c.keys_are.ensures base_texts c.deref.ensures.value c.if-not-keys_are.true in
+    let other : keys_are base_keys ms ≡ false =
+    asked _ base_keys c.deref.result.now _ _ false c.keys_are.ensures base_texts c.deref.ensures.value
+    c.if-not-keys_are.true in
     sym (seen ∙ base_other ms other)
 
 pub contents_from-requires : goal.contents_from-requires
 contents_from-requires c =
-    record { kept = parts_kept (members_of c.in-Map.pairs.items) (subst IsKept (ap tree_of c.in-Map.is ∙ tree_of-Map c.in-Map.pairs) c.requires.kept) }
+    record {
+      kept = parts_kept (members_of c.in-Map.pairs.items)
+          (subst IsKept (ap tree_of c.in-Map.is ∙ tree_of-Map c.in-Map.pairs) c.requires.kept);
+    }
 
 pub returns-clause-read : goal.returns-clause-read
 returns-clause-read c =
     let ms = members_of c.in-Map.pairs.items in
     let seen = ap base_of (ap tree_of c.in-Map.is ∙ tree_of-Map c.in-Map.pairs) in
-    let keyed : keys_are base_keys ms ≡ true = asked _ base_keys c.deref.result.now _ _ true c.keys_are.ensures base_texts c.deref.ensures.value c.if-not-keys_are.false in
+    let keyed : keys_are base_keys ms ≡ true = asked _ base_keys c.deref.result.now _ _ true c.keys_are.ensures
+    base_texts c.deref.ensures.value c.if-not-keys_are.false in
     c.contents_from.ensures.read ∙ sym (seen ∙ base_keyed ms keyed)

@@ -11,4 +11,5 @@ returns-in-Some c =
     IfOk-weaker c.good_edit.result _ _ (λ edit e. e ∙ ap if_good read) c.good_edit.ensures
 
 pub returns-in-None : goal.returns-in-None
-returns-in-None c = ap if_good (c.in-None.ensures.read ∙ ap (λ key. edit_under key (members_of c.args.pairs.items)) (ascii (codes "tree") refl))
+returns-in-None c = ap if_good (c.in-None.ensures.read
+    ∙ ap (λ key. edit_under key (members_of c.args.pairs.items)) (ascii (codes "tree") refl))

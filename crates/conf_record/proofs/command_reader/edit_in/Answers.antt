@@ -7,4 +7,7 @@ use Rattle.conf_record.proofs.command_reader.edit_in.Goals as goal
 
 pub edit_from-requires : goal.edit_from-requires
 edit_from-requires c =
-    record { kept = parts_kept (members_of c.in-Map.pairs.items) (subst IsKept (ap tree_of c.in-Map.is ∙ tree_of-Map c.in-Map.pairs) c.requires.kept) }
+    record {
+      kept = parts_kept (members_of c.in-Map.pairs.items)
+          (subst IsKept (ap tree_of c.in-Map.is ∙ tree_of-Map c.in-Map.pairs) c.requires.kept);
+    }

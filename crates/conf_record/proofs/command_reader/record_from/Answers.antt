@@ -16,5 +16,6 @@ returns-in-Seq c = sym (ap record_of (ap tree_of c.in-Seq.is ∙ tree_of-Seq c.i
 
 pub command_from-requires : goal.command_from-requires
 command_from-requires c =
-    let kept = parts_kept (members_of c.in-Map.pairs.items) (subst IsKept (ap tree_of c.in-Map.is ∙ tree_of-Map c.in-Map.pairs) c.requires.kept) in
+    let kept = parts_kept (members_of c.in-Map.pairs.items)
+    (subst IsKept (ap tree_of c.in-Map.is ∙ tree_of-Map c.in-Map.pairs) c.requires.kept) in
     record { kept = (subst (λ ps. AreKept (values (members_of ps))) c.in-Some.ensures.rest.1 kept).1 }

@@ -9,7 +9,8 @@ pub returns-clause-bases : goal.returns-clause-bases
 returns-clause-bases c = λ s. subst ClosesOnce (base_framed s) (c.closed_once.ensures.once (base_tree s))
 
 pub returns-clause-records : goal.returns-clause-records
-returns-clause-records c = λ command number. subst ClosesOnce (record_framed command number) (c.closed_once.ensures.once (record_tree command number))
+returns-clause-records c = λ command number.
+    subst ClosesOnce (record_framed command number) (c.closed_once.ensures.once (record_tree command number))
 
 pub returns-clause-torn : goal.returns-clause-torn
 returns-clause-torn c = records_tear c.closed_once.ensures.pieces

@@ -23,7 +23,8 @@ entries-preserved c =
     let t = tree_of entry.tree in (
       entries_pushed lines entry.rest.now before c.push.new.self.items part name t c.in_ok-push.ensures.items
           (ap chars c.in_ok-name.ensures) (ap tree_of c.in_ok-config.ensures)
-          (entries_and lines c.entries.left.now entry.rest.now (entries_of before) name t c.entries.invariant.0 c.in_ok-entry.ensures.written),
+          (entries_and lines c.entries.left.now entry.rest.now
+          (entries_of before) name t c.entries.invariant.0 c.in_ok-entry.ensures.written),
       search rules,
     )
 

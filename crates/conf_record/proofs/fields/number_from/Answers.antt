@@ -19,14 +19,17 @@ returns-in_err-number-clause-read c =
     let bs = c.args.digits.now in
     c.from_residual.ensures
     ∙ sym (number_from_digits-none bs c.utf8.digits (λ n spelled small.
-    no_number n (sym c.in_err-number.was ∙ c.ok.ensures.value ∙ ap result_ok (parse-decimal 64 n bs c.parse.result small small spelled c.parse.ensures.value.0))))
+    no_number n (sym c.in_err-number.was ∙ c.ok.ensures.value
+    ∙ ap result_ok (parse-decimal 64 n bs c.parse.result small small spelled c.parse.ensures.value.0))))
 
 pub returns-then-not-is_same-clause-read : goal.returns-then-not-is_same-clause-read
 returns-then-not-is_same-clause-read c =
     let bs = c.args.digits.now in
     sym (number_from_digits-none bs c.utf8.digits (λ n spelled small.
-    let same = one_number _ _ (sym c.in_ok-number.was ∙ c.ok.ensures.value ∙ ap result_ok (parse-decimal 64 n bs c.parse.result small small spelled c.parse.ensures.value.0)) in
-    both_ways _ (sym c.is_same.ensures ∙ c.if-not-is_same.true) (same_self c.format.result.now bs (c.format.ensures.text ∙ ap decimal same ∙ sym spelled))))
+    let same = one_number _ _ (sym c.in_ok-number.was ∙ c.ok.ensures.value
+    ∙ ap result_ok (parse-decimal 64 n bs c.parse.result small small spelled c.parse.ensures.value.0)) in
+    both_ways _ (sym c.is_same.ensures ∙ c.if-not-is_same.true)
+    (same_self c.format.result.now bs (c.format.ensures.text ∙ ap decimal same ∙ sym spelled))))
 
 pub returns-clause-read : goal.returns-clause-read
 returns-clause-read c =

@@ -23,4 +23,5 @@ returns c =
     let first = c.remove-first.result in
     let counted = c.args.pairs.ok in
     let some : vec_len c.args.pairs ≡ 0 → ⊥ = eqb-false _ _ (sym c.is_empty.ensures ∙ c.if-is_empty.false) in
-    first_there c.args.pairs.items first (λ none. some (omega (arith, counted, none))) c.remove-first.ensures.value ∙ ap (λ rest. first ∷ rest) (sym c.remove-first.ensures.items)
+    first_there c.args.pairs.items first (λ none. some (omega (arith, counted, none))) c.remove-first.ensures.value
+    ∙ ap (λ rest. first ∷ rest) (sym c.remove-first.ensures.items)

@@ -15,7 +15,8 @@ use Rattle.conf_record.proofs.laws.records_read.Goals as goal
 
 -- a closed document gives its tree
 document_gives : FramedReads → (t : Tree) → FramedGood t → Gives (closed_document t) own_limits t
-document_gives reads t framed = subst (λ source. Gives source own_limits t) (framed_document t) (reads t own_limits framed.good framed.short)
+document_gives reads t framed = subst (λ source. Gives source own_limits t) (framed_document t)
+    (reads t own_limits framed.good framed.short)
 
 some_same : {A : Type 0} (x y : A) → Some x ≡ Some y → y ≡ x
 some_same x y e = cc
@@ -41,7 +42,8 @@ returns-clause-one_base c = λ s other kept reads.
     some_same s other (sym (base_tells s kept.numbered) ∙ ap base_of same ∙ reads.tells)
 
 -- the record of a small command is read back
-small_reads : FramedReads → (command : Command) (number : ℕ) → IsCommand command → IsSmallCommand command → number ≤ count_limit → FitsRecord command number
+small_reads : FramedReads → (command : Command) (number : ℕ) → IsCommand command → IsSmallCommand command
+    → number ≤ count_limit → FitsRecord command number
     → ReadsRecord (record_text command number) command number
 unfolding record_text
 small_reads reads command number is ok numbered fits = record {
@@ -62,5 +64,6 @@ unfolding record_text
 returns-clause-one_record c = λ s new command other room number read kept is done numbered fits reads.
     let ok = accepted s new command room kept done in
     let own = document_gives c.style_reads.ensures.framed (record_tree command number) (record_good command number is ok numbered fits) in
-    let same = c.one_tree.ensures (closed_document (record_tree command number)) own_limits own_limits (record_tree command number) reads.tree own reads.gives in
+    let same = c.one_tree.ensures (closed_document (record_tree command number)) own_limits own_limits
+    (record_tree command number) reads.tree own reads.gives in
     pair_same (command, number) (other, read) (sym (record_tells command number ok numbered) ∙ ap record_of same ∙ reads.tells)

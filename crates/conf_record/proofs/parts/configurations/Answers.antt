@@ -7,7 +7,8 @@ use Rattle.conf_record.proofs.parts.configurations.Goals as goal
 pub loop-name-init : goal.loop-name-init
 loop-name-init c = (
   subst (λ done. MovedSoFar c.args.pairs.items done (into_iter_items c.into_iter-name-iterator.result)) (sym c.in_ok-configs.ensures.items)
-      (subst (MovedSoFar c.args.pairs.items []) (sym c.into_iter-name-iterator.ensures.into_iter_gives.0) (none_moved c.args.pairs.items c.requires)),
+      (subst (MovedSoFar c.args.pairs.items []) (sym c.into_iter-name-iterator.ensures.into_iter_gives.0)
+      (none_moved c.args.pairs.items c.requires)),
   search rules,
 )
 
@@ -19,7 +20,9 @@ loop-name-preserved c =
     let gone = c.in-Some.ensures.steps.1 in
     let one = ap length c.in-Some.ensures.steps.0 in
     let was = c.loop-name.invariant.1 in (
-      one_moved c.args.pairs.items c.loop-name.configs.items (into_iter_items c.next.new.self) c.in-Some.name c.in_ok-name.name c.in-Some.tree c.part.result c.in_ok-name.ensures c.part.ensures
+      one_moved c.args.pairs.items c.loop-name.configs.items
+          (into_iter_items c.next.new.self) c.in-Some.name c.in_ok-name.name c.in-Some.tree c.part.result
+          c.in_ok-name.ensures c.part.ensures
           (subst (MovedSoFar c.args.pairs.items c.loop-name.configs.items) c.in-Some.ensures.steps.0 c.loop-name.invariant.0)
           c.push.new.self.items c.in_ok-push.ensures.items,
       omega arith,

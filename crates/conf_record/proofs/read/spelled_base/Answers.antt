@@ -28,9 +28,11 @@ returns-in_ok-configs-in-Some-base_from-clause-some c =
     let t = tree_of c.in-Some.tree in
     let given = subst (λ o. IfSome o (λ tree. IsRead bytes own_limits (tree_of tree))) c.in-Some.is c.in_ok-tree.ensures.some in
     let parts = ap state_of_parts (sym c.in-Some-base_from.is) ∙ c.base_from.ensures.read in
-    let moved = subst (λ es. Some (record { configs = es; count = c.in-Some-base_from.count }) ≡ base_of t) (sym c.in_ok-configs-in-Some-base_from.ensures) parts in
+    let moved = subst (λ es. Some (record { configs = es; count = c.in-Some-base_from.count }) ≡ base_of t)
+    (sym c.in_ok-configs-in-Some-base_from.ensures) parts in
     IfOk-weaker c.from_parts.result _ _
-    (λ read e. one_base c.bytes_give_one.ensures bytes t given c.in_ok-configs-in-Some-base_from.configs.items c.in-Some-base_from.count moved read e) c.from_parts.ensures.some
+    (λ read e. one_base c.bytes_give_one.ensures bytes t given c.in_ok-configs-in-Some-base_from.configs.items
+    c.in-Some-base_from.count moved read e) c.from_parts.ensures.some
 
 pub returns-in_ok-configs-in-Some-base_from-clause-none : goal.returns-in_ok-configs-in-Some-base_from-clause-none
 returns-in_ok-configs-in-Some-base_from-clause-none c =
@@ -38,12 +40,15 @@ returns-in_ok-configs-in-Some-base_from-clause-none c =
     let t = tree_of c.in-Some.tree in
     let given = subst (λ o. IfSome o (λ tree. IsRead bytes own_limits (tree_of tree))) c.in-Some.is c.in_ok-tree.ensures.some in
     let parts = ap state_of_parts (sym c.in-Some-base_from.is) ∙ c.base_from.ensures.read in
-    let moved = subst (λ es. Some (record { configs = es; count = c.in-Some-base_from.count }) ≡ base_of t) (sym c.in_ok-configs-in-Some-base_from.ensures) parts in
+    let moved = subst (λ es. Some (record { configs = es; count = c.in-Some-base_from.count }) ≡ base_of t)
+    (sym c.in_ok-configs-in-Some-base_from.ensures) parts in
     IfOk-weaker c.from_parts.result _ _
-    (λ read e. no_base c.bytes_give_one.ensures bytes t given c.in_ok-configs-in-Some-base_from.configs.items c.in-Some-base_from.count moved read e) c.from_parts.ensures.none
+    (λ read e. no_base c.bytes_give_one.ensures bytes t given c.in_ok-configs-in-Some-base_from.configs.items
+    c.in-Some-base_from.count moved read e) c.from_parts.ensures.none
 
 pub returns-in-None-base_from-clause-none : goal.returns-in-None-base_from-clause-none
 returns-in-None-base_from-clause-none c =
     let bytes = c.args.bytes.now in
     let given = subst (λ o. IfSome o (λ tree. IsRead bytes own_limits (tree_of tree))) c.in-Some.is c.in_ok-tree.ensures.some in
-    no_parts c.bytes_give_one.ensures bytes (tree_of c.in-Some.tree) given (ap state_of_parts (sym c.in-None-base_from.is) ∙ c.base_from.ensures.read)
+    no_parts c.bytes_give_one.ensures bytes (tree_of c.in-Some.tree) given
+    (ap state_of_parts (sym c.in-None-base_from.is) ∙ c.base_from.ensures.read)

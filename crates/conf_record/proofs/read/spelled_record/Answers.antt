@@ -15,13 +15,15 @@ pub returns-in-Some-clause-some : goal.returns-in-Some-clause-some
 returns-in-Some-clause-some c =
     let bytes = c.args.bytes.now in
     let given = subst (λ o. IfSome o (λ tree. IsRead bytes own_limits (tree_of tree))) c.in-Some.is c.in_ok-tree.ensures.some in
-    IfOk-weaker c.record_from.result _ _ (λ read e. one_record c.bytes_give_one.ensures bytes (tree_of c.in-Some.tree) given read e) c.record_from.ensures
+    IfOk-weaker c.record_from.result _ _ (λ read e.
+    one_record c.bytes_give_one.ensures bytes (tree_of c.in-Some.tree) given read e) c.record_from.ensures
 
 pub returns-in-Some-clause-none : goal.returns-in-Some-clause-none
 returns-in-Some-clause-none c =
     let bytes = c.args.bytes.now in
     let given = subst (λ o. IfSome o (λ tree. IsRead bytes own_limits (tree_of tree))) c.in-Some.is c.in_ok-tree.ensures.some in
-    IfOk-weaker c.record_from.result _ _ (λ read e. no_record c.bytes_give_one.ensures bytes (tree_of c.in-Some.tree) given read e) c.record_from.ensures
+    IfOk-weaker c.record_from.result _ _ (λ read e.
+    no_record c.bytes_give_one.ensures bytes (tree_of c.in-Some.tree) given read e) c.record_from.ensures
 
 pub returns-in-None-clause-none : goal.returns-in-None-clause-none
 returns-in-None-clause-none c = λ command number r.

@@ -24,7 +24,8 @@ pub returns-then-is_empty-clause-takes : goal.returns-then-is_empty-clause-takes
 returns-then-is_empty-clause-takes g c =
     let none = none_left c.args.edits.now (eqb-true _ _ (sym c.if-is_empty.ensures)) in
     on_ok_weaker c.put_text.result
-    (subst (λ cs. g.S.Sink.Takes c.args.sink.now cs c.put_text.new.self) (ascii (codes "batch: []\n") refl ∙ no_edit_lines (map edit_of c.args.edits.now) none))
+    (subst (λ cs. g.S.Sink.Takes c.args.sink.now cs c.put_text.new.self)
+    (ascii (codes "batch: []\n") refl ∙ no_edit_lines (map edit_of c.args.edits.now) none))
     c.put_text.ensures
 
 pub returns-then-is_empty-clause-kept : goal.returns-then-is_empty-clause-kept
@@ -53,9 +54,11 @@ returns-clause-takes g c =
     let l = c.loop-edit in
     let none = drop_all l.edit-index c.args.edits.now (omega arith) in
     let ends = l.invariant.0 l.sink
-    (subst (λ es. g.S.Sink.Takes l.sink (elements_after (edit_elements (map edit_of es)) 2) l.sink) (sym none) (g.met.S.Sink.takes_none l.sink)) in
+    (subst (λ es. g.S.Sink.Takes l.sink (elements_after (edit_elements (map edit_of es)) 2) l.sink) (sym none)
+    (g.met.S.Sink.takes_none l.sink)) in
     let some = some_left c.args.edits.now (eqb-false _ _ (sym c.if-is_empty.ensures)) in
-    let start = subst (λ cs. g.S.Sink.Takes c.args.sink.now cs c.put_text-2.new.self) (ascii (codes "batch:\n") refl) c.in_ok-put_text.ensures in
+    let start = subst (λ cs. g.S.Sink.Takes c.args.sink.now cs c.put_text-2.new.self)
+    (ascii (codes "batch:\n") refl) c.in_ok-put_text.ensures in
     subst (λ cs. g.S.Sink.Takes c.args.sink.now cs l.sink) (edit_lines (map edit_of c.args.edits.now) some)
     (g.met.S.Sink.takes_both _ _ _ _ _ start ends)
 

@@ -19,7 +19,8 @@ returns-clause-takes g c =
     let named = c.write_text_member.new.sink in
     let indented = c.put_spaces.new.self in
     let end = c.write_text_member-2.new.sink in
-    let first = subst (λ key. Takes start (key ++ value_at (text name) i) named) (ascii (codes "delete:") refl) c.in_ok-write_text_member.ensures in
+    let first = subst (λ key. Takes start (key ++ value_at (text name) i) named)
+    (ascii (codes "delete:") refl) c.in_ok-write_text_member.ensures in
     on_ok_weaker c.write_text_member-2.result
     (λ written. subst (λ cs. Takes start cs end) (delete_lines_at i name path)
     (both _ _ _ _ _ first (both _ _ _ _ _ c.in_ok-put_spaces.ensures

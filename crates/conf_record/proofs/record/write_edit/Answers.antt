@@ -16,7 +16,8 @@ returns-in-Import-clause-takes g c =
     let end = c.write_import.new.sink in
     on_ok_weaker c.write_import.result
     (λ written. subst (λ edit. g.S.Sink.Takes start (members_at (edit_members (edit_of edit)) c.args.indent) end) (sym c.in-Import.is)
-    (subst (λ bs. g.S.Sink.Takes start (members_at (edit_members (import_as (chars bs) (tree_of c.in-Import.tree))) c.args.indent) end) c.deref.ensures written))
+    (subst (λ bs. g.S.Sink.Takes start (members_at
+    (edit_members (import_as (chars bs) (tree_of c.in-Import.tree))) c.args.indent) end) c.deref.ensures written))
     c.write_import.ensures.takes
 
 pub returns-in-Import-clause-kept : goal.returns-in-Import-clause-kept
@@ -30,8 +31,11 @@ returns-in-Set-clause-takes g c =
     let value = tree_of c.in-Set.value in
     on_ok_weaker c.write_set.result
     (λ written. subst (λ edit. g.S.Sink.Takes start (members_at (edit_members (edit_of edit)) c.args.indent) end) (sym c.in-Set.is)
-    (subst (λ bs. g.S.Sink.Takes start (members_at (edit_members (set_at (text_of c.in-Set.name) (chars bs) value)) c.args.indent) end) c.deref-in-Set-2.ensures
-    (subst (λ bs. g.S.Sink.Takes start (members_at (edit_members (set_at (chars bs) (chars c.deref-in-Set-2.result.now) value)) c.args.indent) end) c.deref-in-Set.ensures written)))
+    (subst (λ bs. g.S.Sink.Takes start (members_at
+    (edit_members (set_at (text_of c.in-Set.name) (chars bs) value)) c.args.indent) end) c.deref-in-Set-2.ensures
+    (subst (λ bs. g.S.Sink.Takes start (members_at
+    (edit_members (set_at (chars bs) (chars c.deref-in-Set-2.result.now) value)) c.args.indent) end)
+    c.deref-in-Set.ensures written)))
     c.write_set.ensures.takes
 
 pub returns-in-Set-clause-kept : goal.returns-in-Set-clause-kept
@@ -47,8 +51,11 @@ returns-in-Delete-clause-takes g c =
     let end = c.write_delete.new.sink in
     on_ok_weaker c.write_delete.result
     (λ written. subst (λ edit. g.S.Sink.Takes start (members_at (edit_members (edit_of edit)) c.args.indent) end) (sym c.in-Delete.is)
-    (subst (λ bs. g.S.Sink.Takes start (members_at (edit_members (delete_at (text_of c.in-Delete.name) (chars bs))) c.args.indent) end) c.deref-in-Delete-2.ensures
-    (subst (λ bs. g.S.Sink.Takes start (members_at (edit_members (delete_at (chars bs) (chars c.deref-in-Delete-2.result.now))) c.args.indent) end) c.deref-in-Delete.ensures written)))
+    (subst (λ bs. g.S.Sink.Takes start (members_at
+    (edit_members (delete_at (text_of c.in-Delete.name) (chars bs))) c.args.indent) end) c.deref-in-Delete-2.ensures
+    (subst (λ bs. g.S.Sink.Takes start (members_at
+    (edit_members (delete_at (chars bs) (chars c.deref-in-Delete-2.result.now))) c.args.indent) end)
+    c.deref-in-Delete.ensures written)))
     c.write_delete.ensures.takes
 
 pub returns-in-Delete-clause-kept : goal.returns-in-Delete-clause-kept

@@ -18,8 +18,10 @@ returns-clause-takes g c =
     let start = c.args.sink.now in
     let between = c.write_text_member.new.sink in
     let end = c.write_value_member.new.sink in
-    let first = subst (λ key. Takes start (key ++ value_at (text name) i) between) (ascii (codes "import:") refl) c.in_ok-write_text_member.ensures in
+    let first = subst (λ key. Takes start (key ++ value_at (text name) i) between)
+    (ascii (codes "import:") refl) c.in_ok-write_text_member.ensures in
     on_ok_weaker c.write_value_member.result
     (λ written. subst (λ cs. Takes start cs end) (import_at i name tree)
-    (g.met.S.Sink.takes_both _ _ _ _ _ first (subst (λ key. Takes between (spaces i ++ key ++ value_at tree i) end) (ascii (codes "tree:") refl) written)))
+    (g.met.S.Sink.takes_both _ _ _ _ _ first (subst (λ key. Takes between (spaces i ++ key ++ value_at tree i) end)
+    (ascii (codes "tree:") refl) written)))
     c.write_value_member.ensures.takes

@@ -17,5 +17,6 @@ returns g c =
     on_ok_weaker c.put_text-3.result
     (λ written. subst (λ cs. g.S.Sink.Takes start cs end)
     (number_line (decimal n) (decimal_is_IsNumeral n (omega arith)).0.1)
-    (both _ _ _ _ _ (both _ _ _ _ _ key digits) (subst (λ cs. g.S.Sink.Takes c.put_text-2.new.self cs end) (ascii (codes "\"\n") refl) written)))
+    (both _ _ _ _ _ (both _ _ _ _ _ key digits)
+    (subst (λ cs. g.S.Sink.Takes c.put_text-2.new.self cs end) (ascii (codes "\"\n") refl) written)))
     c.put_text-3.ensures

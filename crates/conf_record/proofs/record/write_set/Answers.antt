@@ -23,8 +23,10 @@ returns-clause-takes g c =
     let indented = c.put_spaces.new.self in
     let pathed = c.write_text_member-2.new.sink in
     let end = c.write_value_member.new.sink in
-    let first = subst (λ key. Takes start (key ++ value_at (text name) i) named) (ascii (codes "set:") refl) c.in_ok-write_text_member.ensures in
-    let second = subst (λ key. Takes indented (key ++ value_at (text path) i) pathed) (ascii (codes "path:") refl) c.in_ok-write_text_member-2.ensures in
+    let first = subst (λ key. Takes start (key ++ value_at (text name) i) named)
+    (ascii (codes "set:") refl) c.in_ok-write_text_member.ensures in
+    let second = subst (λ key. Takes indented (key ++ value_at (text path) i) pathed)
+    (ascii (codes "path:") refl) c.in_ok-write_text_member-2.ensures in
     on_ok_weaker c.write_value_member.result
     (λ written. subst (λ cs. Takes start cs end) (set_lines_at i name path value)
     (both _ _ _ _ _ first (both _ _ _ _ _ (both _ _ _ _ _ c.in_ok-put_spaces.ensures second)

@@ -10,4 +10,5 @@ returns c =
     let lines = c.args.lines.now in
     let own = lines_of c.in-Some.members (codes "tree: ") in
     subst (IsWritten lines) (sym c.from.ensures)
-    (alone_written lines c.in-Some.end.now own (edit_of c.in_ok-edit.edit) c.in-Some.ensures (c.is_end.ensures c.if-not-is_end.false) c.in_ok-edit.ensures)
+    (alone_written lines c.in-Some.end.now own (edit_of c.in_ok-edit.edit) c.in-Some.ensures
+    (c.is_end.ensures c.if-not-is_end.false) c.in_ok-edit.ensures)

@@ -13,4 +13,6 @@ some_left (e ∷ es) some none = cc
 pub returns : goal.returns
 returns c =
     let edits = c.in_ok-edits.edits in
-    batch_written c.args.elements.now (map edit_of edits.items) (some_left edits.items (λ none. eqb-false (vec_len edits) 0 (sym c.if-is_empty.ensures) (omega (arith, edits.ok, none)))) c.in_ok-edits.ensures
+    batch_written c.args.elements.now (map edit_of edits.items)
+    (some_left edits.items (λ none. eqb-false (vec_len edits) 0 (sym c.if-is_empty.ensures)
+    (omega (arith, edits.ok, none)))) c.in_ok-edits.ensures

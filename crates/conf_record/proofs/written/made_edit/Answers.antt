@@ -19,7 +19,8 @@ returns-in_ok-value-in-Set c =
     let path = text_of c.in_ok-path-in-Set.path in
     let value = tree_of c.in_ok-value-in-Set.value in
     subst (λ members. IsWrittenAs (lines_of members (codes "tree: ")) (set_at name path value)) (sym c.in-Set.is)
-    (set_written c.in-Set.name c.in-Set.path c.in-Set.value name path value c.in_ok-name-in-Set.ensures c.in_ok-path-in-Set.ensures c.in_ok-value-in-Set.ensures)
+    (set_written c.in-Set.name c.in-Set.path c.in-Set.value name path value c.in_ok-name-in-Set.ensures
+    c.in_ok-path-in-Set.ensures c.in_ok-value-in-Set.ensures)
 
 pub returns-in_ok-path-in-Delete : goal.returns-in_ok-path-in-Delete
 returns-in_ok-path-in-Delete c =

@@ -10,6 +10,7 @@ returns c =
     let command = command_of c.in_ok-command.command in
     let number = c.in-Some.number in
     let cut = c.in_ok-command.ensures in
-    let same = sym c.in-Ok.ensures.cases.0 ∙ whole_record c.in-Ok.text.now lines command number c.in-Some.ensures.number c.in-Some.ensures.lines cut.written in
+    let same = sym c.in-Ok.ensures.cases.0 ∙ whole_record c.in-Ok.text.now lines command number
+    c.in-Some.ensures.number c.in-Some.ensures.lines cut.written in
     let fits = short_fits bytes command number same (omega arith) in
     written_is bytes command number (c.records_read.ensures.small command number cut.is cut.small c.in-Some.ensures.number fits) same

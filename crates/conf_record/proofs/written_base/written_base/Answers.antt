@@ -20,6 +20,7 @@ returns-in-Some-2 c =
     let is = subst (λ made. IfSome made (λ s. (s ≡ contents) × IsState s)) c.in-Some-2.is c.in_ok-state.ensures.some in
     let numbered = ap (λ s. s.count) is.0 in
     let small : c.in-Some.count ≤ 18446744073709551615 = omega (arith, is.1.numbered, numbered) in
-    let whole = whole_base c.in-Ok.text.now c.in-Some.lines.now (entries_of parts.items) c.in-Some.count some small c.in-Some.ensures c.in_ok-parts.ensures in
+    let whole = whole_base c.in-Ok.text.now c.in-Some.lines.now
+    (entries_of parts.items) c.in-Some.count some small c.in-Some.ensures c.in_ok-parts.ensures in
     let same = sym c.in-Ok.ensures.cases.0 ∙ whole ∙ ap base_bytes (sym is.0) in
     subst (λ bytes. IsBase bytes state) (sym same) (c.documents_are_read.ensures.bases state is.1)

@@ -20,12 +20,14 @@ pub returns-in-Err-clause-ok : goal.returns-in-Err-clause-ok
 returns-in-Err-clause-ok g c =
     let now = stored_of c.args.store.now in
     let request = getting (chars c.args.name.now) (chars c.args.path.now) in
-    subst (λ r. IfOk r (Replies now request)) (sym c.refused.ensures) (get-no_config now (chars c.args.name.now) (chars c.args.path.now) c.in-Err.fault c.in-Err.ensures.refused)
+    subst (λ r. IfOk r (Replies now request)) (sym c.refused.ensures)
+    (get-no_config now (chars c.args.name.now) (chars c.args.path.now) c.in-Err.fault c.in-Err.ensures.refused)
 
 pub returns-in-Err-clause-memory : goal.returns-in-Err-clause-memory
 returns-in-Err-clause-memory g c =
     let f = c.in-Err.fault in
-    subst OnlyMemory (sym c.refused.ensures) (refused-memory (answered f) (named-memory c.args.store.now.state (chars c.args.name.now) f c.in-Err.ensures.refused))
+    subst OnlyMemory (sym c.refused.ensures) (refused-memory (answered f)
+    (named-memory c.args.store.now.state (chars c.args.name.now) f c.in-Err.ensures.refused))
 
 pub returns-in-Err-parse-clause-ok : goal.returns-in-Err-parse-clause-ok
 returns-in-Err-parse-clause-ok g c =
@@ -35,21 +37,25 @@ returns-in-Err-parse-clause-ok g c =
     let path = chars c.args.path.now in
     let request = getting name path in
     subst (λ r. IfOk r (Replies now request)) (sym c.refused-in-Err-parse.ensures)
-    (⊎_elim (λ memory. let same : f ≡ OutOfMemory = cc memory in subst (λ k. IfOk (refused_as (path_answered k)) (Replies now request)) (sym same) tt)
+    (⊎_elim (λ memory. let same : f ≡ OutOfMemory = cc memory in
+    subst (λ k. IfOk (refused_as (path_answered k)) (Replies now request)) (sym same) tt)
     (λ is. get-no_path now name path (tree_of c.in_default.field-0.now) f c.in_default.ensures.ok (sym is)) c.in-Err-parse.ensures.met)
 
 pub returns-in-Err-parse-clause-memory : goal.returns-in-Err-parse-clause-memory
-returns-in-Err-parse-clause-memory g c = subst OnlyMemory (sym c.refused-in-Err-parse.ensures) (refused-memory (path_answered c.in-Err-parse.fault) (path-memory c.in-Err-parse.fault))
+returns-in-Err-parse-clause-memory g c = subst OnlyMemory (sym c.refused-in-Err-parse.ensures)
+    (refused-memory (path_answered c.in-Err-parse.fault) (path-memory c.in-Err-parse.fault))
 
 pub answer-requires : goal.answer-requires
-answer-requires g c = value-shallow c.args.store.now.state (chars c.args.name.now) c.in-Ok.path (tree_of c.in-Ok-get.value.now) c.in_default.ensures.limits c.in-Ok-get.ensures.ok
+answer-requires g c = value-shallow c.args.store.now.state (chars c.args.name.now) c.in-Ok.path
+    (tree_of c.in-Ok-get.value.now) c.in_default.ensures.limits c.in-Ok-get.ensures.ok
 
 pub returns-in-Ok-get-clause-ok : goal.returns-in-Ok-get-clause-ok
 returns-in-Ok-get-clause-ok g c =
     let parsed : path_of (chars c.args.path.now) ≡ Ok c.in-Ok.path = ⊎_elim (λ never. cc never) (λ is. sym is) c.in-Ok.ensures.met in
     get-value (stored_of c.args.store.now) (chars c.args.name.now) (chars c.args.path.now) c.in-Ok.path parsed
     (tree_of c.in-Ok-get.value.now) c.in_ok-answer-in-Ok-get.field-0 c.in-Ok-get.ensures.ok
-    (c.in_ok-answer-in-Ok-get.ensures ∙ ap (λ k. framed_text_bytes (one k (tree_of c.in-Ok-get.value.now))) (ascii (codes "value") refl)) c.in_default.ensures.limits
+    (c.in_ok-answer-in-Ok-get.ensures ∙ ap (λ k. framed_text_bytes (one k (tree_of c.in-Ok-get.value.now)))
+    (ascii (codes "value") refl)) c.in_default.ensures.limits
 
 pub returns-clause-ok : goal.returns-clause-ok
 returns-clause-ok g c =
@@ -62,4 +68,6 @@ returns-clause-ok g c =
 pub returns-clause-memory : goal.returns-clause-memory
 returns-clause-memory g c =
     let f = c.in-Err-get.fault in
-    subst OnlyMemory (sym c.refused-in-Err-get.ensures) (refused-memory (answered f) (placed-memory c.args.store.now.state (chars c.args.name.now) c.in-Ok.path f c.in-Err-get.ensures.refused))
+    subst OnlyMemory (sym c.refused-in-Err-get.ensures)
+    (refused-memory (answered f) (placed-memory c.args.store.now.state
+    (chars c.args.name.now) c.in-Ok.path f c.in-Err-get.ensures.refused))

@@ -13,4 +13,5 @@ loop-name-preserved g c =
 
 pub returns-clause-names : goal.returns-clause-names
 returns-clause-names g c =
-    names-all c.loop-name.names.items c.loop-name.name-iterator (names_of c.args.store.now.state.configs) c.loop-name.invariant c.in-None.ensures.steps.0
+    names-all c.loop-name.names.items c.loop-name.name-iterator
+    (names_of c.args.store.now.state.configs) c.loop-name.invariant c.in-None.ensures.steps.0

@@ -15,5 +15,7 @@ pub returns : goal.returns
 returns c =
     let elements = c.args.elements.now in
     let parts = c.in-Some.parts.items in
-    let all = subst (λ cut. IfSome cut (λ parts. ArePartLines elements (parts_seen parts.items) (codes "...\n"))) c.in-Some.is c.in_ok-parts.ensures in
-    batch_lines elements (parts_seen parts) (some_left parts (λ none. eqb-false (vec_len c.in-Some.parts) 0 (sym c.if-is_empty.ensures) (omega (arith, c.in-Some.parts.ok, none)))) all
+    let all = subst (λ cut. IfSome cut (λ parts. ArePartLines elements (parts_seen parts.items) (codes "...\n")))
+    c.in-Some.is c.in_ok-parts.ensures in
+    batch_lines elements (parts_seen parts) (some_left parts
+    (λ none. eqb-false (vec_len c.in-Some.parts) 0 (sym c.if-is_empty.ensures) (omega (arith, c.in-Some.parts.ok, none)))) all

@@ -19,9 +19,11 @@ loop-left-preserved c =
     let elements = c.args.elements.now in
     let part = c.in-Some-2.part in
     let own = lines_of c.in-Some.members (codes "text: ") in
-    let spells : SpellsPart own (part_seen part) = subst (λ found. IfSome found (λ part. SpellsPart own (part_seen part))) c.in-Some-2.is c.in_ok-part.ensures in
+    let spells : SpellsPart own (part_seen part) =
+    subst (λ found. IfSome found (λ part. SpellsPart own (part_seen part))) c.in-Some-2.is c.in_ok-part.ensures in
     let seen = ap parts_seen c.in_ok-push.ensures.items ∙ map-append part_seen l.parts.items (part ∷ []) in (
       subst (λ ps. ArePartLines elements ps c.in-Some.after.now) (sym seen)
-          (one_part_line elements l.left.now c.in-Some.after.now own (parts_seen l.parts.items) (part_seen part) l.invariant.0 c.in-Some.ensures spells),
+          (one_part_line elements l.left.now c.in-Some.after.now own (parts_seen l.parts.items)
+          (part_seen part) l.invariant.0 c.in-Some.ensures spells),
       search rules,
     )

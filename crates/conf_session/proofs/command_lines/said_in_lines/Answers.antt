@@ -12,7 +12,8 @@ returns-in-Some c =
     let marked : c.in-Ok.text.now ≡ codes "---\n" ++ lines = search rules in
     IfOk-weaker c.command_in.result _ _
     (λ found is. IfSome_then found is (λ said command.
-    lines_say c.unambiguous.ensures true piece lines (said_of said) (sym c.in-Ok.ensures.cases.0 ∙ marked) c.in-Ok.ensures.cases.1 (omega arith) command))
+    lines_say c.unambiguous.ensures true piece lines (said_of said)
+    (sym c.in-Ok.ensures.cases.0 ∙ marked) c.in-Ok.ensures.cases.1 (omega arith) command))
     c.command_in.ensures
 
 pub returns-in-None : goal.returns-in-None
@@ -20,5 +21,6 @@ returns-in-None c =
     let piece = c.args.piece.now in
     IfOk-weaker c.command_in-in-None.result _ _
     (λ found is. IfSome_then found is (λ said command.
-    lines_say c.unambiguous.ensures false piece c.in-Ok.text.now (said_of said) (sym c.in-Ok.ensures.cases.0) c.in-Ok.ensures.cases.1 (omega arith) command))
+    lines_say c.unambiguous.ensures false piece c.in-Ok.text.now (said_of said)
+    (sym c.in-Ok.ensures.cases.0) c.in-Ok.ensures.cases.1 (omega arith) command))
     c.command_in-in-None.ensures

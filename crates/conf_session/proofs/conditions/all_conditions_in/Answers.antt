@@ -14,7 +14,8 @@ loop-element-preserved c =
     let gone = c.in-Some.ensures.steps.1 in
     let one = ap length c.in-Some.ensures.steps.0 in
     let was = c.loop-element.invariant.1 in (
-      one-found c.args.elements.items c.loop-element.conditions.items c.in-Some.element (into_iter_items c.next.new.self) c.in-Some-2.condition
+      one-found c.args.elements.items c.loop-element.conditions.items c.in-Some.element
+          (into_iter_items c.next.new.self) c.in-Some-2.condition
           (ap (option_map condition_of) (sym c.in-Some-2.is) ∙ c.in_ok-condition.ensures)
           (subst (FoundSoFar c.args.elements.items c.loop-element.conditions.items) c.in-Some.ensures.steps.0 c.loop-element.invariant.0)
           c.push.new.self.items c.in_ok-push.ensures.items,
@@ -23,4 +24,5 @@ loop-element-preserved c =
 
 pub returns : goal.returns
 returns c =
-    all-found c.args.elements.items c.loop-element.conditions.items (into_iter_items c.loop-element.element-iterator) (c.loop-element.invariant.1 ∙ c.in-None.ensures.steps.0) c.loop-element.invariant.0
+    all-found c.args.elements.items c.loop-element.conditions.items (into_iter_items c.loop-element.element-iterator)
+    (c.loop-element.invariant.1 ∙ c.in-None.ensures.steps.0) c.loop-element.invariant.0

@@ -6,4 +6,5 @@ use Rattle.conf_record.proofs.PieceLemmas.{parts_kept}
 use Rattle.conf_session.proofs.conditions.condition_in.Goals as goal
 
 pub condition_from-requires : goal.condition_from-requires
-condition_from-requires c = parts_kept (members_of c.in-Map.pairs.items) (subst IsKept (ap tree_of c.in-Map.is ∙ tree_of-Map c.in-Map.pairs) c.requires)
+condition_from-requires c = parts_kept (members_of c.in-Map.pairs.items)
+    (subst IsKept (ap tree_of c.in-Map.is ∙ tree_of-Map c.in-Map.pairs) c.requires)

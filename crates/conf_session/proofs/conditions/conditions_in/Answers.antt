@@ -6,4 +6,5 @@ use Rattle.conf_record.proofs.PieceLemmas.{items_kept}
 use Rattle.conf_session.proofs.conditions.conditions_in.Goals as goal
 
 pub some_conditions-requires : goal.some_conditions-requires
-some_conditions-requires c = items_kept (elements_of c.in-Seq.elements.items) (subst IsKept (ap tree_of c.in-Seq.is ∙ tree_of-Seq c.in-Seq.elements) c.requires)
+some_conditions-requires c = items_kept (elements_of c.in-Seq.elements.items)
+    (subst IsKept (ap tree_of c.in-Seq.is ∙ tree_of-Seq c.in-Seq.elements) c.requires)

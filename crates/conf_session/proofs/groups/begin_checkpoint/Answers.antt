@@ -22,8 +22,10 @@ returns-in_default-clause-tends g c =
       begun ∷ [],
       refl,
       λ bytes grown has le. ((grown, has, le), tt),
-      begins d.model c.args.store.now new c.begin_checkpoint.ensures.state (λ h. c.begin_checkpoint.ensures.any_moment h c.requires.sound) c.requires.flushed
-          (λ t image h le is. g.met.D.Disk.counts_now new.disk t image h le is) c.in_default.ensures.ok c.begin_checkpoint.ensures.reads c.in_default.ensures.stages
+      begins d.model c.args.store.now new c.begin_checkpoint.ensures.state
+          (λ h. c.begin_checkpoint.ensures.any_moment h c.requires.sound) c.requires.flushed
+          (λ t image h le is. g.met.D.Disk.counts_now new.disk t image h le is) c.in_default.ensures.ok
+          c.begin_checkpoint.ensures.reads c.in_default.ensures.stages
           (λ h from waiting has. c.in_default.ensures.waits h c.requires.sound from waiting has),
     )
 
@@ -37,7 +39,8 @@ returns-in-OutOfMemory-clause-tends g c =
       refl,
       λ bytes grown has le. tt,
       subst (λ (t : StoreView _). PerformsTurns d.model store t []) (sym same)
-          (stays d.model store c.requires.sound (λ image h is. g.met.D.Disk.only_now store.disk image h is) c.requires.flushed c.requires.now),
+          (stays d.model store c.requires.sound (λ image h is. g.met.D.Disk.only_now store.disk image h is)
+          c.requires.flushed c.requires.now),
     )
 
 pub returns-in_default-fault : goal.returns-in_default-fault
@@ -48,6 +51,10 @@ returns-in_default-fault g c =
     let device : f ≡ Device = is-device f c.in-Err.ensures.refused opened c.in_default-fault.not-OutOfMemory in
     record {
       tends = stops-short d.model c.args.store.now c.begin_checkpoint.new.self f c.requires.sound (λ e. absurd (opened e)) (inr device)
-          (λ e. c.in-Err.ensures.device (ap Err e)) c.begin_checkpoint.ensures.state (λ h. c.begin_checkpoint.ensures.any_moment h c.requires.sound);
-      failures = record { cause = λ e. c.begin_checkpoint.ensures.cause (c.in-Err.is ∙ ap Err device); risen = c.begin_checkpoint.ensures.risen };
+          (λ e. c.in-Err.ensures.device (ap Err e)) c.begin_checkpoint.ensures.state
+          (λ h. c.begin_checkpoint.ensures.any_moment h c.requires.sound);
+      failures = record {
+        cause = λ e. c.begin_checkpoint.ensures.cause (c.in-Err.is ∙ ap Err device);
+        risen = c.begin_checkpoint.ensures.risen;
+      };
     }

@@ -11,7 +11,10 @@ use Rattle.conf_session.proofs.groups.perform_group.Goals as goal
 pub put-requires-clause-acknowledged : goal.put-requires-clause-acknowledged
 put-requires-clause-acknowledged g c =
     let new = c.answer_group.new in
-    group-acknowledged g.D.Disk.model (g.S.AnswerSink.taken c.args.sink.now) (piece_or_rest c.args.input.now ++ ahead c.args.input.now) (ahead new.input) c.args.store.now new.store c.args.answers.now new.answers c.requires.sent c.requires.none c.in-Ok.ensures.ends.1
+    group-acknowledged g.D.Disk.model (g.S.AnswerSink.taken c.args.sink.now)
+    (piece_or_rest c.args.input.now ++ ahead c.args.input.now)
+    (ahead new.input) c.args.store.now new.store c.args.answers.now new.answers c.requires.sent c.requires.none
+    c.in-Ok.ensures.ends.1
 
 pub put-requires-in-Err-OutOfMemory-clause-acknowledged : goal.put-requires-in-Err-OutOfMemory-clause-acknowledged
 put-requires-in-Err-OutOfMemory-clause-acknowledged g c =
@@ -19,9 +22,11 @@ put-requires-in-Err-OutOfMemory-clause-acknowledged g c =
     let new = c.answer_group.new in
     let bytes = piece_or_rest c.args.input.now ++ ahead c.args.input.now in
     let ends : EndsGroup d.model bytes new.input c.args.store.now new.store c.args.answers.now new.answers (Err OutOfMemory) =
-    subst (λ (f : SessionFault). EndsGroup d.model bytes new.input c.args.store.now new.store c.args.answers.now new.answers (Err f)) c.in-Err-OutOfMemory.field-0-is
+    subst (λ (f : SessionFault). EndsGroup d.model bytes new.input c.args.store.now new.store c.args.answers.now
+    new.answers (Err f)) c.in-Err-OutOfMemory.field-0-is
     c.in-Err-OutOfMemory.ensures.ends in
-    group-acknowledged d.model (g.S.AnswerSink.taken c.args.sink.now) bytes ends.0 c.args.store.now new.store c.args.answers.now new.answers c.requires.sent c.requires.none ends.1
+    group-acknowledged d.model (g.S.AnswerSink.taken c.args.sink.now) bytes ends.0 c.args.store.now new.store
+    c.args.answers.now new.answers c.requires.sent c.requires.none ends.1
 
 pub put-requires-in-Err-OutOfMemory-clause-small : goal.put-requires-in-Err-OutOfMemory-clause-small
 put-requires-in-Err-OutOfMemory-clause-small g c = c.answer_group.ensures.small

@@ -22,7 +22,8 @@ pieces-init g c =
       room = c.requires.can.room;
       read = refl;
       less = omega arith;
-      so_far = submits-none d.model store (piece_of c.args.input.now ++ ahead c.args.input.now) c.args.answers.now c.requires.can.sound c.requires.can.room.within
+      so_far = submits-none d.model store (piece_of c.args.input.now ++ ahead c.args.input.now) c.args.answers.now
+          c.requires.can.sound c.requires.can.room.within
           (λ image h is. g.met.D.Disk.only_now store.disk image h is) c.requires.can.means;
       risen = omega arith;
     }
@@ -32,8 +33,10 @@ returns-in_err-submit_piece-clause-submits g c =
     let d = g.D.Disk in
     let inv = c.pieces.invariant in
     let bytes = piece_of c.args.input.now ++ ahead c.args.input.now in
-    let ends = submits-failing d.model bytes (piece_of c.pieces.input) (ahead c.pieces.input) c.args.store.now c.pieces.store c.submit_piece.new.store
-    c.args.answers.now c.pieces.answers c.submit_piece.new.answers inv.so_far inv.piece.piece inv.piece.short c.in_err-submit_piece.ensures.kept
+    let ends = submits-failing d.model bytes (piece_of c.pieces.input)
+    (ahead c.pieces.input) c.args.store.now c.pieces.store c.submit_piece.new.store
+    c.args.answers.now c.pieces.answers c.submit_piece.new.answers inv.so_far inv.piece.piece inv.piece.short
+    c.in_err-submit_piece.ensures.kept
     c.in_err-submit_piece.field-0.0 c.in_err-submit_piece.ensures.fails c.pieces.input in
     let p = err_from_is_err_and c.from_residual.result c.from_residual.ensures.1 in
     rw (p.1, p.2) ends
@@ -44,7 +47,8 @@ returns-then-is_full-clause-submits g c =
     let inv = c.pieces.invariant in
     let bytes = piece_of c.args.input.now ++ ahead c.args.input.now in (
       inv.piece.sound,
-      submits-more d.model bytes (piece_of c.pieces.input) (ahead c.pieces.input) c.args.store.now c.pieces.store c.args.answers.now c.pieces.answers inv.so_far
+      submits-more d.model bytes (piece_of c.pieces.input)
+          (ahead c.pieces.input) c.args.store.now c.pieces.store c.args.answers.now c.pieces.answers inv.so_far
           inv.piece.piece inv.piece.short c.submit_piece.new.store c.submit_piece.new.answers c.in_ok-submit_piece.ensures.ok,
     )
 
@@ -69,11 +73,14 @@ pieces-preserved g c =
       piece = record { sound = advances.sound; piece = advances.piece; short = advances.short };
       no_last = not-full after.last _ c.is_full.result c.is_full.ensures c.if-is_full.false;
       room = subst (λ (n : ℕ). HasRoomFor after (length (piece_of then ++ ahead then)) n) (sym advances.total)
-          (subst (λ (l : List ℕ). HasRoomFor after (length l) (bytes_read c.pieces.input)) advances.joined c.in_ok-submit_piece.ensures.room);
+          (subst (λ (l : List ℕ). HasRoomFor after (length l) (bytes_read c.pieces.input)) advances.joined
+          c.in_ok-submit_piece.ensures.room);
       read = advances.total ∙ inv.read;
       less = omega (arith, shorter, inv.less);
-      so_far = subst (λ (l : List ℕ). GathersPieces (PerformsAll false d.model) bytes l c.args.store.now new c.args.answers.now after) advances.joined
-          (submits-more d.model bytes (piece_of c.pieces.input) (ahead c.pieces.input) c.args.store.now c.pieces.store c.args.answers.now c.pieces.answers inv.so_far
+      so_far = subst (λ (l : List ℕ). GathersPieces
+          (PerformsAll false d.model) bytes l c.args.store.now new c.args.answers.now after) advances.joined
+          (submits-more d.model bytes (piece_of c.pieces.input)
+          (ahead c.pieces.input) c.args.store.now c.pieces.store c.args.answers.now c.pieces.answers inv.so_far
           inv.piece.piece inv.piece.short new after one);
       risen = omega (arith, inv.risen, c.submit_piece.ensures.failures.risen);
     }
@@ -85,9 +92,11 @@ returns-in_err-advance_ahead-clause-submits g c =
     let bytes = piece_of c.args.input.now ++ ahead c.args.input.now in
     let new = c.submit_piece.new.store in
     let after = c.submit_piece.new.answers in
-    let so_far = submits-more d.model bytes (piece_of c.pieces.input) (ahead c.pieces.input) c.args.store.now c.pieces.store c.args.answers.now c.pieces.answers inv.so_far
+    let so_far = submits-more d.model bytes (piece_of c.pieces.input)
+    (ahead c.pieces.input) c.args.store.now c.pieces.store c.args.answers.now c.pieces.answers inv.so_far
     inv.piece.piece inv.piece.short new after c.in_ok-submit_piece.ensures.ok in
-    let ends = submits-starved d.model bytes (ahead c.pieces.input) c.args.store.now new c.args.answers.now after so_far c.pieces.input c.advance_ahead.new.self
+    let ends = submits-starved d.model bytes (ahead c.pieces.input) c.args.store.now new c.args.answers.now after
+    so_far c.pieces.input c.advance_ahead.new.self
     c.in_err-advance_ahead.field-0.0 c.in_err-advance_ahead.ensures c.advance_ahead.new.self in
     let p = err_from_is_err_and c.from_residual-in_err-advance_ahead.result c.from_residual-in_err-advance_ahead.ensures.1 in
     rw (p.1, p.2) ends
@@ -97,18 +106,21 @@ returns-in_err-advance_ahead-clause-submits g c =
 pub returns-in_err-submit_piece-clause-failures : goal.returns-in_err-submit_piece-clause-failures
 returns-in_err-submit_piece-clause-failures g c =
     let d = g.D.Disk in
-    let all = failures-after d.model c.args.store.now c.pieces.store c.submit_piece.new.store (Err c.in_err-submit_piece.field-0.0) c.pieces.invariant.risen c.in_err-submit_piece.ensures.failures in
+    let all = failures-after d.model c.args.store.now c.pieces.store c.submit_piece.new.store
+    (Err c.in_err-submit_piece.field-0.0) c.pieces.invariant.risen c.in_err-submit_piece.ensures.failures in
     let p = err_from_is_err_and c.from_residual.result c.from_residual.ensures.1 in
     rw (p.1, p.2) all
 
 pub returns-then-is_full-clause-failures : goal.returns-then-is_full-clause-failures
 returns-then-is_full-clause-failures g c =
-    failures-none g.D.Disk.model c.args.store.now c.submit_piece.new.store _ (omega (arith, c.pieces.invariant.risen, c.submit_piece.ensures.failures.risen)) (λ e. cc e)
+    failures-none g.D.Disk.model c.args.store.now c.submit_piece.new.store _
+    (omega (arith, c.pieces.invariant.risen, c.submit_piece.ensures.failures.risen)) (λ e. cc e)
 
 pub returns-in_err-advance_ahead-clause-failures : goal.returns-in_err-advance_ahead-clause-failures
 returns-in_err-advance_ahead-clause-failures g c =
     let p = err_from_is_err_and c.from_residual-in_err-advance_ahead.result c.from_residual-in_err-advance_ahead.ensures.1 in
-    failures-none g.D.Disk.model c.args.store.now c.submit_piece.new.store c.from_residual-in_err-advance_ahead.result (omega (arith, c.pieces.invariant.risen, c.submit_piece.ensures.failures.risen))
+    failures-none g.D.Disk.model c.args.store.now c.submit_piece.new.store c.from_residual-in_err-advance_ahead.result
+    (omega (arith, c.pieces.invariant.risen, c.submit_piece.ensures.failures.risen))
     (λ e.
     let device : c.in_err-advance_ahead.field-0.0 ≡ Device = cc (e, p.1, p.2) in
     subst (λ (f : SessionFault). AdvancesAhead c.pieces.input c.advance_ahead.new.self (Err f)) device c.in_err-advance_ahead.ensures)

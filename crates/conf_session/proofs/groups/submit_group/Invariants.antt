@@ -14,7 +14,8 @@ invariant-pieces g l = let d = g.D.Disk in record {
   room : HasRoomFor l.answers (length (piece_of l.input ++ ahead l.input)) (bytes_read l.input);
   read : bytes_read l.input ≡ bytes_read l.fn.input;
   less : length (ahead l.input) ≤ length (ahead l.fn.input);
-  so_far : GathersPieces (PerformsAll false d.model) (piece_of l.fn.input ++ ahead l.fn.input) (piece_of l.input ++ ahead l.input) l.fn.store l.store l.fn.answers l.answers;
+  so_far : GathersPieces (PerformsAll false d.model) (piece_of l.fn.input ++ ahead l.fn.input)
+      (piece_of l.input ++ ahead l.input) l.fn.store l.store l.fn.answers l.answers;
   risen : d.model.failure_count l.fn.store.disk ≤ d.model.failure_count l.store.disk;
 }
 

@@ -6,19 +6,32 @@ use Rattle.conf_session.proofs.groups.tend_checkpoint.Goals as goal
 pub returns-in_default-clause-tends : goal.returns-in_default-clause-tends
 returns-in_default-clause-tends g c =
     let d = g.D.Disk in
-    let store = c.args.store.now in
-    ([], refl, λ e. refl, λ h bytes e. tt, stays d.model store c.requires.sound (λ image h is. g.met.D.Disk.only_now store.disk image h is) c.requires.flushed c.requires.now)
+    let store = c.args.store.now in (
+      [],
+      refl,
+      λ e. refl,
+      λ h bytes e. tt,
+      stays d.model store c.requires.sound
+          (λ image h is. g.met.D.Disk.only_now store.disk image h is) c.requires.flushed c.requires.now,
+    )
 
 pub returns-then-running-clause-tends : goal.returns-then-running-clause-tends
 returns-then-running-clause-tends g c =
     let d = g.D.Disk in
-    tends-slice d.model c.args.store.now c.write_slice.new.store c.args.checkpoints c.in-After.bytes c.in-After.is c.write_slice.result c.write_slice.ensures.tends
+    tends-slice d.model c.args.store.now c.write_slice.new.store c.args.checkpoints c.in-After.bytes c.in-After.is
+    c.write_slice.result c.write_slice.ensures.tends
 
 pub returns-then-grown-bytes-clause-tends : goal.returns-then-grown-bytes-clause-tends
 returns-then-grown-bytes-clause-tends g c =
     let d = g.D.Disk in
-    let store = c.args.store.now in
-    ([], refl, λ e. refl, λ h bytes e. tt, stays d.model store c.requires.sound (λ image h is. g.met.D.Disk.only_now store.disk image h is) c.requires.flushed c.requires.now)
+    let store = c.args.store.now in (
+      [],
+      refl,
+      λ e. refl,
+      λ h bytes e. tt,
+      stays d.model store c.requires.sound
+          (λ image h is. g.met.D.Disk.only_now store.disk image h is) c.requires.flushed c.requires.now,
+    )
 
 pub returns-clause-tends : goal.returns-clause-tends
 returns-clause-tends g c =

@@ -11,7 +11,8 @@ use Rattle.conf_session.proofs.part_lines.made_set.Goals as goal
 
 pub part-value-requires : goal.part-value-requires
 part-value-requires c =
-    subst IsKept (sym (tree_of-Text c.in_ok-new.field-0 ∙ ap (λ bs. text (chars bs)) c.in_ok-new.ensures)) (short_kept c.args.value.now c.utf8.value (omega arith))
+    subst IsKept (sym (tree_of-Text c.in_ok-new.field-0 ∙ ap (λ bs. text (chars bs)) c.in_ok-new.ensures))
+    (short_kept c.args.value.now c.utf8.value (omega arith))
 
 pub returns : goal.returns
 returns c =

@@ -20,8 +20,10 @@ returns-in_ok-value-in-Set c =
     let name = c.in_ok-name-in-Set.name.now in
     let path = c.in_ok-path-in-Set.path.now in
     let value = c.in_ok-value-in-Set.value.now in
-    subst (λ lines. SpellsPart (lines_of lines (codes "text: ")) (plain (set_at (chars name) (chars path) (text (chars value))))) (sym c.in-Set.is)
-    (set_spelled c.in-Set.name c.in-Set.path c.in-Set.value name path value c.in_ok-name-in-Set.ensures c.in_ok-path-in-Set.ensures c.in_ok-value-in-Set.ensures)
+    subst (λ lines. SpellsPart (lines_of lines (codes "text: "))
+    (plain (set_at (chars name) (chars path) (text (chars value))))) (sym c.in-Set.is)
+    (set_spelled c.in-Set.name c.in-Set.path c.in-Set.value name path value c.in_ok-name-in-Set.ensures
+    c.in_ok-path-in-Set.ensures c.in_ok-value-in-Set.ensures)
 
 pub returns-in_ok-path-in-Delete : goal.returns-in_ok-path-in-Delete
 returns-in_ok-path-in-Delete c =

@@ -6,4 +6,5 @@ use Rattle.conf_record.proofs.PieceLemmas.{parts_kept}
 use Rattle.conf_session.proofs.parts.part_of.Goals as goal
 
 pub part_from-requires : goal.part_from-requires
-part_from-requires c = parts_kept (members_of c.in-Map.pairs.items) (subst IsKept (ap tree_of c.in-Map.is ∙ tree_of-Map c.in-Map.pairs) c.requires)
+part_from-requires c = parts_kept (members_of c.in-Map.pairs.items)
+    (subst IsKept (ap tree_of c.in-Map.is ∙ tree_of-Map c.in-Map.pairs) c.requires)

@@ -23,4 +23,5 @@ loop-element-preserved c =
 
 pub returns : goal.returns
 returns c =
-    all-found c.args.elements.items c.loop-element.parts.items (into_iter_items c.loop-element.element-iterator) (c.loop-element.invariant.1 ∙ c.in-None.ensures.steps.0) c.loop-element.invariant.0
+    all-found c.args.elements.items c.loop-element.parts.items (into_iter_items c.loop-element.element-iterator)
+    (c.loop-element.invariant.1 ∙ c.in-None.ensures.steps.0) c.loop-element.invariant.0

@@ -17,5 +17,8 @@ returns-in_ok-name-in-Ok-clause-ok c = (
 )
 
 pub returns-in-Err-clause-refused : goal.returns-in-Err-clause-refused
-returns-in-Err-clause-refused c some =
-    (some, subst (λ b. Refuses b config_limits c.in-Err.fault) (c.as_bytes.ensures.value ∙ sym (encodes-chars c.args.source.now c.utf8.source)) c.in-Err.ensures.refused)
+returns-in-Err-clause-refused c some = (
+  some,
+  subst (λ b. Refuses b config_limits c.in-Err.fault)
+      (c.as_bytes.ensures.value ∙ sym (encodes-chars c.args.source.now c.utf8.source)) c.in-Err.ensures.refused,
+)

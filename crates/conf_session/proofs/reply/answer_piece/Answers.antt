@@ -15,5 +15,6 @@ pub returns : goal.returns
 returns g c =
     let d = g.D.Disk in
     let said = said_of c.in_ok-said.said in
-    handles-retold d.model c.args.store.now c.answer_said.new.store (MeansRequest said) (Asks c.args.piece.now) (λ request is. (said, c.in_ok-said.ensures, is))
+    handles-retold d.model c.args.store.now c.answer_said.new.store (MeansRequest said) (Asks c.args.piece.now)
+    (λ request is. (said, c.in_ok-said.ensures, is))
     c.answer_said.result c.answer_said.ensures

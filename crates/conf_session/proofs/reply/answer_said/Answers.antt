@@ -17,22 +17,31 @@ use Rattle.conf_session.proofs.reply.answer_said.Goals as goal
 pub returns-in-Single : goal.returns-in-Single
 returns-in-Single g c =
     let d = g.D.Disk in
-    handles-retold d.model c.args.store.now c.change_read.new.store (IsRequest c.read_single-read.result) (MeansRequest (said_of c.args.said))
-    (λ request is. subst (λ s. MeansRequest s request) (sym (ap said_of c.in-Single.is)) (c.read_single-read.ensures.asked request is)) c.change_read.result c.change_read.ensures
+    handles-retold d.model c.args.store.now c.change_read.new.store (IsRequest c.read_single-read.result)
+    (MeansRequest (said_of c.args.said))
+    (λ request is. subst (λ s. MeansRequest s request) (sym (ap said_of c.in-Single.is))
+    (c.read_single-read.ensures.asked request is)) c.change_read.result c.change_read.ensures
 
 pub returns-in-Batch : goal.returns-in-Batch
 returns-in-Batch g c =
     let d = g.D.Disk in
-    handles-retold d.model c.args.store.now c.change_read-in-Batch.new.store (IsRequest c.read_batch-read.result) (MeansRequest (said_of c.args.said))
-    (λ request is. subst (λ s. MeansRequest s request) (sym (ap said_of c.in-Batch.is)) (c.read_batch-read.ensures.asked request is)) c.change_read-in-Batch.result c.change_read-in-Batch.ensures
+    handles-retold d.model c.args.store.now c.change_read-in-Batch.new.store (IsRequest c.read_batch-read.result)
+    (MeansRequest (said_of c.args.said))
+    (λ request is. subst (λ s. MeansRequest s request) (sym (ap said_of c.in-Batch.is))
+    (c.read_batch-read.ensures.asked request is)) c.change_read-in-Batch.result c.change_read-in-Batch.ensures
 
 pub returns-in-Conditional : goal.returns-in-Conditional
 returns-in-Conditional g c =
     let d = g.D.Disk in
     let conditions = conditions_of c.in-Conditional.conditions.items in
-    handles-retold d.model c.args.store.now c.change_if.new.store (IfMet (conditions_of c.deref.result.now) (IsRequest c.read_change-read.result)) (MeansRequest (said_of c.args.said))
-    (λ request is. subst (λ s. MeansRequest s request) (sym (ap said_of c.in-Conditional.is))
-    (is.0, c.read_change-read.ensures.asked is.0 is.1, is.2 ∙ ap (λ cs. if_met (conditions_of cs) is.0) c.deref.ensures.value)) c.change_if.result c.change_if.ensures
+    handles-retold d.model c.args.store.now c.change_if.new.store
+    (IfMet (conditions_of c.deref.result.now) (IsRequest c.read_change-read.result)) (MeansRequest (said_of c.args.said))
+    (λ request is. subst (λ s. MeansRequest s request) (sym (ap said_of c.in-Conditional.is)) (
+      is.0,
+      c.read_change-read.ensures.asked is.0 is.1,
+      is.2
+          ∙ ap (λ cs. if_met (conditions_of cs) is.0) c.deref.ensures.value,
+    )) c.change_if.result c.change_if.ensures
 
 pub returns-in-Checkpoint : goal.returns-in-Checkpoint
 returns-in-Checkpoint g c =
@@ -47,25 +56,33 @@ returns-in-Get g c =
     let name = chars c.deref-in-Get.result.now in
     let path = chars c.deref-in-Get-2.result.now in
     let same : get_at name path ≡ said_of c.args.said =
-    ap (λ b. get_at (chars b) path) c.deref-in-Get.ensures ∙ ap (λ b. get_at (chars (text_bytes c.in-Get.name)) (chars b)) c.deref-in-Get-2.ensures ∙ sym (ap said_of c.in-Get.is) in
-    handles-reading d.model store c.requires.means (MeansRequest (said_of c.args.said)) (λ image h is. g.met.D.Disk.only_now store.disk image h is)
-    (getting name path) (subst (λ s. MeansRequest s (getting name path)) same refl) tt c.get_answer.result c.get_answer.ensures.ok c.get_answer.ensures.memory
+    ap (λ b. get_at (chars b) path) c.deref-in-Get.ensures
+    ∙ ap (λ b. get_at (chars (text_bytes c.in-Get.name)) (chars b)) c.deref-in-Get-2.ensures ∙ sym (ap said_of c.in-Get.is) in
+    handles-reading d.model store c.requires.means (MeansRequest (said_of c.args.said))
+    (λ image h is. g.met.D.Disk.only_now store.disk image h is)
+    (getting name path) (subst (λ s. MeansRequest s (getting name path)) same refl) tt c.get_answer.result
+    c.get_answer.ensures.ok c.get_answer.ensures.memory
 
 pub returns-in-Export : goal.returns-in-Export
 returns-in-Export g c =
     let d = g.D.Disk in
     let store = c.args.store.now in
     let name = chars c.deref-in-Export.result.now in
-    let same : export_of name ≡ said_of c.args.said = ap (λ b. export_of (chars b)) c.deref-in-Export.ensures ∙ sym (ap said_of c.in-Export.is) in
-    handles-reading d.model store c.requires.means (MeansRequest (said_of c.args.said)) (λ image h is. g.met.D.Disk.only_now store.disk image h is)
-    (exporting name) (subst (λ s. MeansRequest s (exporting name)) same refl) tt c.export_answer.result c.export_answer.ensures.ok c.export_answer.ensures.memory
+    let same : export_of name ≡ said_of c.args.said = ap (λ b. export_of (chars b)) c.deref-in-Export.ensures
+    ∙ sym (ap said_of c.in-Export.is) in
+    handles-reading d.model store c.requires.means (MeansRequest (said_of c.args.said))
+    (λ image h is. g.met.D.Disk.only_now store.disk image h is)
+    (exporting name) (subst (λ s. MeansRequest s (exporting name)) same refl) tt c.export_answer.result
+    c.export_answer.ensures.ok c.export_answer.ensures.memory
 
 pub returns-in-Nothing : goal.returns-in-Nothing
 returns-in-Nothing g c =
     let d = g.D.Disk in
     let store = c.args.store.now in
-    handles-reading d.model store c.requires.means (MeansRequest (said_of c.args.said)) (λ image h is. g.met.D.Disk.only_now store.disk image h is)
-    bad (subst (λ s. MeansRequest s bad) (sym (ap said_of c.in-Nothing.is)) refl) tt (Ok (Refused BadCommand)) (record { bytes = refl; accepted = refl; refused = refl; short = refusal-short BadCommand }) tt
+    handles-reading d.model store c.requires.means (MeansRequest (said_of c.args.said))
+    (λ image h is. g.met.D.Disk.only_now store.disk image h is)
+    bad (subst (λ s. MeansRequest s bad) (sym (ap said_of c.in-Nothing.is)) refl) tt (Ok (Refused BadCommand))
+    (record { bytes = refl; accepted = refl; refused = refl; short = refusal-short BadCommand }) tt
 
 pub returns-in_err-names_answer-in-Names : goal.returns-in_err-names_answer-in-Names
 returns-in_err-names_answer-in-Names g c =
@@ -78,5 +95,7 @@ pub returns-in_ok-names_answer-in-Names : goal.returns-in_ok-names_answer-in-Nam
 returns-in_ok-names_answer-in-Names g c =
     let d = g.D.Disk in
     let store = c.args.store.now in
-    handles-reading d.model store c.requires.means (MeansRequest (said_of c.args.said)) (λ image h is. g.met.D.Disk.only_now store.disk image h is)
-    naming (subst (λ s. MeansRequest s naming) (sym (ap said_of c.in-Names.is)) refl) tt (Ok c.in_ok-names_answer-in-Names.field-0) c.in_ok-names_answer-in-Names.ensures tt
+    handles-reading d.model store c.requires.means (MeansRequest (said_of c.args.said))
+    (λ image h is. g.met.D.Disk.only_now store.disk image h is)
+    naming (subst (λ s. MeansRequest s naming) (sym (ap said_of c.in-Names.is)) refl) tt
+    (Ok c.in_ok-names_answer-in-Names.field-0) c.in_ok-names_answer-in-Names.ensures tt

@@ -11,7 +11,9 @@ use Rattle.conf_session.specs.Requests.{changing}
 use Rattle.conf_session.specs.Answers.{longest}
 use Rattle.conf_session.specs.Replies.{Did, Performs}
 use Rattle.conf_session.specs.Runs.{stored_of}
-use Rattle.conf_session.proofs.RequestLemmas.{longest-of, count-after, accepted-reply, refused-reply, refused-outcome, did-refused, command-performed, command-refused, did-asked, handles-none}
+use Rattle.conf_session.proofs.RequestLemmas.{longest-of, count-after, accepted-reply, refused-reply, refused-outcome}
+use Rattle.conf_session.proofs.RequestLemmas.{did-refused, command-performed, command-refused, did-asked}
+use Rattle.conf_session.proofs.RequestLemmas.{handles-none}
 use Rattle.conf_session.proofs.RefusalLemmas.{ended-by-device}
 use Rattle.conf_session.proofs.reply.change.Goals as goal
 
@@ -29,17 +31,22 @@ returns-in-Ok g c =
     let new = c.submit.new.self in
     let command = command_of c.args.command in
     let ok = c.in-Ok.ensures.ok.0 in
-    let here : outcome (longest (stored_of old)) old.state command ≡ Ok new.state = ap (λ n. outcome n old.state command) (longest-of old) ∙ ok.step in
-    let next : c.saturating_add-next.result ≡ min (old.state.count + 1) count_limit = c.saturating_add-next.ensures ∙ ap (λ n. min (n + 1) count_limit) c.count.ensures.count in
-    let same = count-after old.state new.state command (room_for (journal_length old) old.state command) c.saturating_add-next.result ok.step ok.count next in
+    let here : outcome (longest (stored_of old)) old.state command ≡ Ok new.state =
+    ap (λ n. outcome n old.state command) (longest-of old) ∙ ok.step in
+    let next : c.saturating_add-next.result ≡ min (old.state.count + 1) count_limit = c.saturating_add-next.ensures
+    ∙ ap (λ n. min (n + 1) count_limit) c.count.ensures.count in
+    let same = count-after old.state new.state command
+    (room_for (journal_length old) old.state command) c.saturating_add-next.result ok.step ok.count next in
     record {
       did = λ off. (
         changing command,
         refl,
         (
-          accepted-reply (stored_of old) c.count.ensures.limits new.state command c.in_ok-answer.answer c.saturating_add-next.result here same c.in_ok-answer.ensures,
+          accepted-reply (stored_of old) c.count.ensures.limits new.state command c.in_ok-answer.answer
+              c.saturating_add-next.result here same c.in_ok-answer.ensures,
           ok.reopen,
-          command-performed d.model old new command ok.step (λ on. ok) (λ h on. c.in-Ok.ensures.reads h off) (λ h on. c.in-Ok.ensures.stages h off) (λ h. c.in-Ok.ensures.any_moment h off)
+          command-performed d.model old new command ok.step (λ on. ok) (λ h on. c.in-Ok.ensures.reads h off)
+              (λ h on. c.in-Ok.ensures.stages h off) (λ h. c.in-Ok.ensures.any_moment h off)
               (λ h on. c.in-Ok.ensures.waits h off),
         ),
       );
@@ -59,20 +66,28 @@ returns-in-Err g c =
           (did-refused d.model old new (changing command) f (λ e. false≢true (sym off ∙ c.submit.ensures.reopen.0 (c.in-Err.is ∙ ap Err e)))
           (λ e.
           let broken : new.reopen ≡ true = c.in-Err.ensures.device (ap Err e) in
-          let done : outcome (journal_length old) old.state command ≡ Ok new.state = subst (RefusesCommand old command new) e c.in-Err.ensures.refused in (
+          let done : outcome (journal_length old) old.state command ≡ Ok new.state =
+          subst (RefusesCommand old command new) e c.in-Err.ensures.refused in (
             broken,
-            command-performed d.model old new command done (λ on. absurd (cc (on, broken))) (λ h on. absurd (cc (on, broken))) (λ h on. absurd (cc (on, broken))) (λ h. c.in-Err.ensures.any_moment h off)
+            command-performed d.model old new command done (λ on. absurd (cc (on, broken)))
+                (λ h on. absurd (cc (on, broken))) (λ h on. absurd (cc (on, broken))) (λ h. c.in-Err.ensures.any_moment h off)
                 (λ h on. absurd (cc (on, broken))),
           ))
           c.in-Err.ensures.unchanged
           (λ reason other is.
           let refused = refused-outcome old new command f reason is c.in-Err.ensures.refused in
-          let here : outcome (longest (stored_of old)) old.state command ≡ Err f = ap (λ n. outcome n old.state command) (longest-of old) ∙ refused in
+          let here : outcome (longest (stored_of old)) old.state command ≡ Err f =
+          ap (λ n. outcome n old.state command) (longest-of old) ∙ refused in
           let same = c.in-Err.ensures.unchanged other in (
             refused-reply (stored_of old) c.count.ensures.limits command f reason here is,
             ap (λ (s : StoreView g.row.D.Denot). s.reopen) same ∙ off,
             subst (λ s. Performs false d.model old s (changing command)) (sym same)
-                (command-refused d.model old off command f refused (λ image h is. g.met.D.Disk.only_now old.disk image h is) c.requires.means),
+                (command-refused d.model old off command f refused
+                (λ image h is. g.met.D.Disk.only_now old.disk image h is) c.requires.means),
           ))));
-      failures = record { cause = λ e. c.submit.ensures.cause (c.in-Err.is ∙ ap Err (ended-by-device f (sym c.refused.ensures ∙ e))); risen = c.submit.ensures.risen };
+      failures = record {
+        cause = λ e. c.submit.ensures.cause
+            (c.in-Err.is ∙ ap Err (ended-by-device f (sym c.refused.ensures ∙ e)));
+        risen = c.submit.ensures.risen;
+      };
     }

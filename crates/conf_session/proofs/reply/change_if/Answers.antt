@@ -8,7 +8,8 @@ use Rattle.conf_session.proofs.reply.change_if.Goals as goal
 pub returns-in-Ok : goal.returns-in-Ok
 returns-in-Ok g c =
     let d = g.D.Disk in
-    handles-met d.model c.args.store.now c.change_read.new.store (conditions_of c.args.conditions.now) (IsRequest c.args.read) c.in-Ok.ensures.ok
+    handles-met d.model c.args.store.now c.change_read.new.store (conditions_of c.args.conditions.now)
+    (IsRequest c.args.read) c.in-Ok.ensures.ok
     c.change_read.result c.change_read.ensures
 
 pub returns-in-Err : goal.returns-in-Err

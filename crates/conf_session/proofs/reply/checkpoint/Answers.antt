@@ -37,7 +37,8 @@ returns-in-Ok g c =
             short = answer-short (stored_of old) checkpointing c.count.ensures.limits;
           },
           ok.0,
-          checkpointed d.model old new c.checkpoint.ensures.state (λ on. (ok.1, ok.2)) (λ h on. c.in-Ok.ensures.reads h) (λ h. c.in-Ok.ensures.any_moment h off) (λ h on. c.in-Ok.ensures.flushed h),
+          checkpointed d.model old new c.checkpoint.ensures.state (λ on. (ok.1, ok.2))
+              (λ h on. c.in-Ok.ensures.reads h) (λ h. c.in-Ok.ensures.any_moment h off) (λ h on. c.in-Ok.ensures.flushed h),
         ),
       );
       failures = record { cause = λ e. absurd (cc e); risen = c.checkpoint.ensures.risen };
@@ -55,11 +56,16 @@ returns-in-Err-Device g c =
         refl,
         (
           broken,
-          checkpointed d.model old new c.checkpoint.ensures.state (λ on. absurd (cc (on, broken))) (λ h on. absurd (cc (on, broken))) (λ h. c.in-Err-Device.ensures.any_moment h off)
+          checkpointed d.model old new c.checkpoint.ensures.state (λ on. absurd (cc (on, broken)))
+              (λ h on. absurd (cc (on, broken))) (λ h. c.in-Err-Device.ensures.any_moment h off)
               (λ h on. absurd (cc (on, broken))),
         ),
       );
-      failures = record { cause = λ e. c.checkpoint.ensures.cause (c.in-Err-Device.is ∙ ap Err c.in-Err-Device.field-0-is); risen = c.checkpoint.ensures.risen };
+      failures = record {
+        cause = λ e. c.checkpoint.ensures.cause
+            (c.in-Err-Device.is ∙ ap Err c.in-Err-Device.field-0-is);
+        risen = c.checkpoint.ensures.risen;
+      };
     }
 
 pub returns-in-Err-Reopen : goal.returns-in-Err-Reopen

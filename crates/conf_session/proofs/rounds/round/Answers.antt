@@ -5,7 +5,8 @@ use Rattle.std.proofs.lemmas.Result.{err_from_is_err_and}
 use Rattle.conf_session.specs.Answers.{answer_bytes as answer_to}
 use Rattle.conf_session.specs.Runs.{stored_of}
 use Rattle.conf_session.specs.Rounds.{answer_bytes, piece_bytes}
-use Rattle.conf_session.proofs.RoundLemmas.{RoundSoFar, round-none, round-more, next-piece, all-pieces, one-more, ends-failing, ends-flushed, ends-failed}
+use Rattle.conf_session.proofs.RoundLemmas.{RoundSoFar, round-none, round-more, next-piece, all-pieces, one-more}
+use Rattle.conf_session.proofs.RoundLemmas.{ends-failing, ends-flushed, ends-failed}
 use Rattle.conf_session.proofs.rounds.round.Goals as goal
 
 pub turns-init : goal.turns-init
@@ -30,8 +31,10 @@ returns-in_err-take_piece-clause-rounds g c =
     let i = c.turns.piece-index in
     let piece = c.piece-item.result in
     let next = next-piece c.args.pieces.now i piece c.piece-item.is c.turns-test.true in
-    let ends = ends-failing d.model c.args.store.now c.turns.store c.take_piece.new.store (answer_bytes c.turns.answers.items) (piece_bytes c.args.pieces.now) i
-    piece.bytes.items c.in_err-take_piece.field-0.0 inv.so_far next.0 next.1 (length c.turns.answers.items) inv.few (c.in_err-take_piece.ensures.fails inv.sound) in
+    let ends = ends-failing d.model c.args.store.now c.turns.store c.take_piece.new.store
+    (answer_bytes c.turns.answers.items) (piece_bytes c.args.pieces.now) i
+    piece.bytes.items c.in_err-take_piece.field-0.0 inv.so_far next.0 next.1 (length c.turns.answers.items) inv.few
+    (c.in_err-take_piece.ensures.fails inv.sound) in
     let p = err_from_is_err_and c.from_residual.result c.from_residual.ensures.1 in
     rw (p.1, p.2) ends
 
@@ -53,9 +56,11 @@ turns-preserved g c =
       sound = one.sound;
       so_far = subst (λ (ps : List (List ℕ)). RoundSoFar d.model old new ps (answer_bytes c.take_piece.new.answers.items)) (sym next.1)
           (subst (λ (l : List (List ℕ)). RoundSoFar d.model old new (take i all ++ piece ∷ []) l) (sym one.answered)
-          (round-more d.model old now (take i all) (answer_bytes c.turns.answers.items) inv.so_far new piece r one.takes.asks one.takes.performs one.sound));
+          (round-more d.model old now (take i all) (answer_bytes c.turns.answers.items) inv.so_far new piece r
+          one.takes.asks one.takes.performs one.sound));
       risen = omega (arith, inv.risen, c.take_piece.ensures.risen);
-      few = one-more c.turns.answers.items c.take_piece.new.answers.items (answer_to (stored_of now) r) one.answered ∙ ap (λ n. n + 1) inv.few;
+      few = one-more c.turns.answers.items c.take_piece.new.answers.items (answer_to (stored_of now) r) one.answered
+          ∙ ap (λ n. n + 1) inv.few;
     }
 
 pub returns-in-Ok-clause-rounds : goal.returns-in-Ok-clause-rounds
@@ -67,7 +72,8 @@ returns-in-Ok-clause-rounds g c =
     let long = all-pieces c.args.pieces.now in
     let upto : i ≤ length c.args.pieces.now = c.turns.auto.piece-index-end in
     let past : length c.args.pieces.now ≤ i = c.turns-test.false in
-    ends-flushed d.model c.args.store.now c.turns.store (take i all) (answer_bytes c.turns.answers.items) inv.so_far all i (omega (arith, long, upto)) refl (omega (arith, long, upto, past))
+    ends-flushed d.model c.args.store.now c.turns.store (take i all)
+    (answer_bytes c.turns.answers.items) inv.so_far all i (omega (arith, long, upto)) refl (omega (arith, long, upto, past))
     c.flush_all.new.store c.turns.answers refl c.in-Ok.ensures.flushes
 
 pub returns-in-Err-clause-rounds : goal.returns-in-Err-clause-rounds
@@ -78,5 +84,6 @@ returns-in-Err-clause-rounds g c =
     let all = piece_bytes c.args.pieces.now in
     let long = all-pieces c.args.pieces.now in
     let upto : i ≤ length c.args.pieces.now = c.turns.auto.piece-index-end in
-    ends-failed d.model c.args.store.now c.turns.store (take i all) (answer_bytes c.turns.answers.items) inv.so_far all i (omega (arith, long, upto)) refl
+    ends-failed d.model c.args.store.now c.turns.store (take i all)
+    (answer_bytes c.turns.answers.items) inv.so_far all i (omega (arith, long, upto)) refl
     c.flush_all.new.store c.in-Err.field-0 c.in-Err.ensures.flushes

@@ -16,8 +16,13 @@ pub returns-then-not-closes_once : goal.returns-then-not-closes_once
 returns-then-not-closes_once g c =
     let d = g.D.Disk in
     let store = c.args.store.now in
-    handles-reading d.model store c.requires.means (RoundAsks c.args.piece.now.bytes.items) (λ image h is. g.met.D.Disk.only_now store.disk image h is) bad
-    (inr (λ closes. false≢true (sym c.if-not-closes_once.true ∙ c.closes_once.ensures.1 (subst ClosesOnce (sym c.deref.ensures.value) closes)), refl)) tt
+    handles-reading d.model store c.requires.means (RoundAsks c.args.piece.now.bytes.items)
+    (λ image h is. g.met.D.Disk.only_now store.disk image h is) bad
+    (inr (
+      λ closes. false≢true (sym c.if-not-closes_once.true
+          ∙ c.closes_once.ensures.1 (subst ClosesOnce (sym c.deref.ensures.value) closes)),
+      refl,
+    )) tt
     (Ok (Refused BadCommand)) (record { bytes = refl; accepted = refl; refused = refl; short = refusal-short BadCommand }) tt
 
 pub returns : goal.returns

@@ -11,5 +11,6 @@ pub returns : goal.returns
 returns c =
     let first = get_or c.args.pairs.now 0 c.index-pairs-0.result in
     let some : length c.args.pairs.now ≡ 0 → ⊥ = eqb-false _ _ (sym c.is_empty.ensures ∙ c.if-is_empty.false) in
-    c.is_same.ensures ∙ ap (λ b. same_text (chars b) (chars (codes "if"))) c.deref.ensures ∙ ap (same_text (chars (text_bytes first.0))) (ascii (codes "if") refl)
+    c.is_same.ensures ∙ ap (λ b. same_text (chars b) (chars (codes "if"))) c.deref.ensures
+    ∙ ap (same_text (chars (text_bytes first.0))) (ascii (codes "if") refl)
     ∙ sym (first-if c.args.pairs.now c.index-pairs-0.result some)

@@ -12,5 +12,6 @@ use Rattle.conf_session.proofs.said.is_empty_text.Goals as goal
 pub returns-in-Some : goal.returns-in-Some
 returns-in-Some c =
     let all : values (members_of c.args.pairs.items) ≡ text (chars (text_bytes c.in-Some.text)) ∷ [] = search rules in
-    c.is_same.ensures ∙ ap (λ b. same_text (chars b) (chars [])) c.deref.ensures ∙ ap (same_text (chars (text_bytes c.in-Some.text))) chars-nil
+    c.is_same.ensures ∙ ap (λ b. same_text (chars b) (chars [])) c.deref.ensures
+    ∙ ap (same_text (chars (text_bytes c.in-Some.text))) chars-nil
     ∙ sym (ap is_empty_text all)

@@ -17,5 +17,6 @@ pub returns-in-None-clause-present : goal.returns-in-None-clause-present
 returns-in-None-clause-present c =
     let ps = c.args.places.now.entries in
     let absent =
-    lookup-present c.args.name.now ps c.get_mut.ensures.unique ∙ ap in_place (sym c.get_mut.ensures.value ∙ ap option_copied_mut c.in-None.is) in
+    lookup-present c.args.name.now ps c.get_mut.ensures.unique
+    ∙ ap in_place (sym c.get_mut.ensures.value ∙ ap option_copied_mut c.in-None.is) in
     ap (λ m. present m.entries) c.get_mut.follows.holds-at-none ∙ sym (cut-absent c.args.name.now (present ps) absent)

@@ -12,7 +12,8 @@ returns-then-not-is_empty g c =
     let e = g.E.Editor in
     let editor = c.args.editor.now in
     let old = c.args.target.now in
-    let some : 0 < length c.args.path.now = some_bytes (length c.args.path.now) c.is_empty.result c.is_empty.ensures c.if-not-is_empty.true in
+    let some : 0 < length c.args.path.now = some_bytes
+    (length c.args.path.now) c.is_empty.result c.is_empty.ensures c.if-not-is_empty.true in
     subst (λ made. e.Ends editor old made c.edit.result c.edit.new.target)
     (sym (delete-edits (e.configs editor old) (text_of c.args.name) c.args.path.now c.utf8.path some)) c.edit.ensures
 
@@ -34,7 +35,8 @@ returns g c =
     let editor = c.args.editor.now in
     let old = c.args.target.now in
     let es = e.configs editor old in
-    let empty = empty-pointer c.args.path.now (no_bytes (length c.args.path.now) c.is_empty.result c.is_empty.ensures c.if-not-is_empty.false) in
+    let empty = empty-pointer c.args.path.now (no_bytes
+    (length c.args.path.now) c.is_empty.result c.is_empty.ensures c.if-not-is_empty.false) in
     let there : is_some (config_named es (text_of c.args.name)) ≡ true =
     ap (λ bs. is_some (config_named es (chars bs))) (sym c.deref.ensures) ∙ sym c.has.ensures ∙ c.if-not-has.false in
     subst (λ made. e.Ends editor old made c.remove.result c.remove.new.target)

@@ -13,7 +13,8 @@ returns-in_err-check_limits g c =
     let p = err_from_is_err_and c.from_residual.result c.from_residual.ensures.1 in
     rw (p.1, p.2)
     (subst (λ made. e.Ends editor old made (Err c.in_err-check_limits.field-0.0) old)
-    (sym (import-refused (e.configs editor old) (text_of c.args.name) (tree_of c.args.config) c.in_err-check_limits.field-0.0 c.in_err-check_limits.ensures.refused))
+    (sym (import-refused (e.configs editor old) (text_of c.args.name)
+    (tree_of c.args.config) c.in_err-check_limits.field-0.0 c.in_err-check_limits.ensures.refused))
     (g.met.E.Editor.refused editor old c.in_err-check_limits.field-0.0))
 
 pub returns : goal.returns

@@ -26,7 +26,8 @@ returns g c =
     let editor = c.args.editor.now in
     let old = c.args.target.now in
     let es = e.configs editor old in
-    let empty = empty-pointer c.args.path.now (no_bytes (length c.args.path.now) c.is_empty.result c.is_empty.ensures c.if-not-is_empty.false) in
+    let empty = empty-pointer c.args.path.now (no_bytes
+    (length c.args.path.now) c.is_empty.result c.is_empty.ensures c.if-not-is_empty.false) in
     let there : is_some (config_named es (text_of c.args.name)) ≡ true =
     ap (λ bs. is_some (config_named es (chars bs))) (sym c.deref.ensures) ∙ sym c.has.ensures ∙ c.if-not-has.false in
     subst (λ made. e.Ends editor old made c.import.result c.import.new.target)

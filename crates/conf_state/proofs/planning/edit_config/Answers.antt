@@ -13,7 +13,8 @@ returns-clause-ok c =
     let plan = c.in_ok-plan.plan in
     let is = c.in_ok-plan.ensures.ok in
     let old = tree_of c.args.config.now in
-    let same = same_edit (tree_after_edit c.args.edit old plan.path) is.new (tree_of c.perform.new.config) is.made c.in_ok-perform.ensures.ok in
+    let same = same_edit (tree_after_edit c.args.edit old plan.path) is.new
+    (tree_of c.perform.new.config) is.made c.in_ok-perform.ensures.ok in
     plan-made c.args.edit old (chars c.args.pointer.now) plan is c.in_ok-plan.ensures.path ∙ ap Ok same
 
 pub returns-clause-changes : goal.returns-clause-changes
@@ -21,5 +22,6 @@ returns-clause-changes c =
     let plan = c.in_ok-plan.plan in
     let is = c.in_ok-plan.ensures.ok in
     let old = tree_of c.args.config.now in
-    let same = same_edit (tree_after_edit c.args.edit old plan.path) is.new (tree_of c.perform.new.config) is.made c.in_ok-perform.ensures.ok in
+    let same = same_edit (tree_after_edit c.args.edit old plan.path) is.new
+    (tree_of c.perform.new.config) is.made c.in_ok-perform.ensures.ok in
     subst (Changes plan.change old) same is.changes

@@ -20,23 +20,41 @@ whole c some =
     let edits = map edit_of c.args.edits.items in
     let all = ap (λ es. all_edited es edits) (sym c.take_configs-held.ensures.same) ∙ c.in_ok-draft.ensures.ok in
     batch-all s edits Enough some ∙ ap (λ r. and_then r (next_state s Enough)) all
-    ∙ ap (λ n. next_state (record { configs = []; count = n }) Enough (drafted left.configs c.in_ok-draft.draft)) (sym c.take_configs-held.ensures.count)
+    ∙ ap (λ n. next_state (record { configs = []; count = n }) Enough (drafted left.configs c.in_ok-draft.draft))
+    (sym c.take_configs-held.ensures.count)
 
 pub returns-clause-ok : goal.returns-clause-ok
 returns-clause-ok c =
-    let some : 0 < length (map edit_of c.args.edits.items) = omega (arith, some_bytes (vec_len c.args.edits) c.is_empty.result c.is_empty.ensures c.if-is_empty.false, length-map c.args.edits.items edit_of, c.args.edits.ok) in
+    let some : 0 < length (map edit_of c.args.edits.items) =
+    omega (
+      arith,
+      some_bytes (vec_len c.args.edits) c.is_empty.result c.is_empty.ensures c.if-is_empty.false,
+      length-map c.args.edits.items edit_of,
+      c.args.edits.ok,
+    ) in
     on_ok_weaker c.fill.result (λ is. whole (goal.at.returns-clause-ok c).In_ok-draft some ∙ is) c.fill.ensures.ok
 
 pub returns-clause-refused : goal.returns-clause-refused
 returns-clause-refused c =
-    let some : 0 < length (map edit_of c.args.edits.items) = omega (arith, some_bytes (vec_len c.args.edits) c.is_empty.result c.is_empty.ensures c.if-is_empty.false, length-map c.args.edits.items edit_of, c.args.edits.ok) in
+    let some : 0 < length (map edit_of c.args.edits.items) =
+    omega (
+      arith,
+      some_bytes (vec_len c.args.edits) c.is_empty.result c.is_empty.ensures c.if-is_empty.false,
+      length-map c.args.edits.items edit_of,
+      c.args.edits.ok,
+    ) in
     IfErr-weaker c.fill.result _ _ (λ fault is. inr (whole (goal.at.returns-clause-refused c).In_ok-draft some ∙ is)) c.fill.ensures.refused
 
 pub returns-in_err-draft-clause-refused : goal.returns-in_err-draft-clause-refused
 returns-in_err-draft-clause-refused c =
     let s = c.args.state.now in
     let edits = map edit_of c.args.edits.items in
-    let some : 0 < length edits = omega (arith, some_bytes (vec_len c.args.edits) c.is_empty.result c.is_empty.ensures c.if-is_empty.false, length-map c.args.edits.items edit_of, c.args.edits.ok) in
+    let some : 0 < length edits = omega (
+      arith,
+      some_bytes (vec_len c.args.edits) c.is_empty.result c.is_empty.ensures c.if-is_empty.false,
+      length-map c.args.edits.items edit_of,
+      c.args.edits.ok,
+    ) in
     let p = err_from_is_err_and c.from_residual.result c.from_residual.ensures.1 in
     rw (p.1, p.2)
     (or_so (λ is. batch-all s edits Enough some ∙ ap (λ r. and_then r (next_state s Enough))

@@ -21,8 +21,10 @@ returns c =
       within = fit.within;
       absent = fit.absent;
       entries = ap entries_of ok ∙ put_under-named c.args.name utf8 c.args.config es c.requires;
-      plain = subst ArePlain (sym ok) (plain_put_under c.args.name c.args.config es (good_name-ascii (string_bytes c.args.name) utf8 fit.named) c.requires);
-      bytes = c.entry_length-length.ensures ∙ ap (λ bs. min (entry_length (chars bs) (tree_of c.args.config)) 18446744073709551615) c.deref-2.ensures;
+      plain = subst ArePlain (sym ok) (plain_put_under c.args.name c.args.config es
+          (good_name-ascii (string_bytes c.args.name) utf8 fit.named) c.requires);
+      bytes = c.entry_length-length.ensures ∙ ap
+          (λ bs. min (entry_length (chars bs) (tree_of c.args.config)) 18446744073709551615) c.deref-2.ensures;
     }
 
 pub returns-then-not-is_fit : goal.returns-then-not-is_fit

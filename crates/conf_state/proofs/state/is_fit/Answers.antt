@@ -19,7 +19,8 @@ returns-then-not-good_name-clause-unfit c = λ e. inl (sym c.good_name.ensures.n
 
 pub returns-then-is_err-clause-unfit : goal.returns-then-is_err-clause-unfit
 returns-then-is_err-clause-unfit c = λ e.
-    inr (inl (refused_over (tree_of c.args.config.now) c.check_limits.result (sym c.is_err.ensures.value ∙ c.if-is_err.true) c.check_limits.ensures.refused))
+    inr (inl (refused_over (tree_of c.args.config.now) c.check_limits.result
+    (sym c.is_err.ensures.value ∙ c.if-is_err.true) c.check_limits.ensures.refused))
 
 pub returns-clause-fit : goal.returns-clause-fit
 returns-clause-fit c = λ e. record {

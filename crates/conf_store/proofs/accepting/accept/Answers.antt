@@ -17,13 +17,17 @@ returns-in-Ok-clause-ok c =
     let s = c.args.state.now in
     let command = command_of c.args.command in
     let longest = max c.args.size (staged_length (staged_of c.args.state.now c.args.staging.now)) in
-    let number : c.saturating_add-number.result ≡ next_number s = c.saturating_add-number.ensures ∙ ap (λ n. min (n + 1) count_limit) c.count.ensures.count in
+    let number : c.saturating_add-number.result ≡ next_number s = c.saturating_add-number.ensures
+    ∙ ap (λ n. min (n + 1) count_limit) c.count.ensures.count in
     let most : c.max-longest.result ≡ longest = search (rules, c.max-longest.ensures, c.len.ensures) in
     let measured = c.record_length-bytes.ensures ∙ ap (λ n. min (byte_len (record_text command n)) greatest) number in
-    let room = room-measured longest s command c.of-room.result c.record_length-bytes.result c.max-longest.result c.of-room.ensures most measured in (
-      accepted c.steps_are_counted_or_refused.ensures.room c.steps_are_counted_or_refused.ensures.count c.documents_are_read.ensures.records c.documents_close.ensures.records s c.step.new.state command c.of-room.result
+    let room = room-measured longest s command c.of-room.result c.record_length-bytes.result c.max-longest.result
+    c.of-room.ensures most measured in (
+      accepted c.steps_are_counted_or_refused.ensures.room c.steps_are_counted_or_refused.ensures.count
+          c.documents_are_read.ensures.records c.documents_close.ensures.records s c.step.new.state command c.of-room.result
           (string_bytes c.in_ok-record.record) longest c.count.ensures.limits c.count-in-Ok.ensures.limits
-          (λ enough. (let made = c.in_ok-record.ensures enough in (made.0, made.1 ∙ ap (record_bytes command) number))) c.in-Ok.ensures.ok room,
+          (λ enough. (let made = c.in_ok-record.ensures enough in
+          (made.0, made.1 ∙ ap (record_bytes command) number))) c.in-Ok.ensures.ok room,
       c.count-in-Ok.ensures.count,
     )
 
@@ -32,11 +36,15 @@ returns-in-Err-clause-refused c =
     let s = c.args.state.now in
     let command = command_of c.args.command in
     let longest = max c.args.size (staged_length (staged_of c.args.state.now c.args.staging.now)) in
-    let number : c.saturating_add-number.result ≡ next_number s = c.saturating_add-number.ensures ∙ ap (λ n. min (n + 1) count_limit) c.count.ensures.count in
+    let number : c.saturating_add-number.result ≡ next_number s = c.saturating_add-number.ensures
+    ∙ ap (λ n. min (n + 1) count_limit) c.count.ensures.count in
     let most : c.max-longest.result ≡ longest = search (rules, c.max-longest.ensures, c.len.ensures) in
     let measured = c.record_length-bytes.ensures ∙ ap (λ n. min (byte_len (record_text command n)) greatest) number in
-    let room = room-measured longest s command c.of-room.result c.record_length-bytes.result c.max-longest.result c.of-room.ensures most measured in
-    ⊎_elim (λ memory. inl memory) (λ e. inr (refused-outcome longest s command c.of-room.result c.in-Err.fault room e)) c.in-Err.ensures.refused
+    let room = room-measured longest s command c.of-room.result c.record_length-bytes.result c.max-longest.result
+    c.of-room.ensures most measured in
+    ⊎_elim (λ memory. inl memory) (λ e. inr (refused-outcome longest s command c.of-room.result c.in-Err.fault room
+    e)) c.in-Err.ensures.refused
 
 pub returns-in-Err-clause-of_state : goal.returns-in-Err-clause-of_state
-returns-in-Err-clause-of_state c = of-state c.steps_are_counted_or_refused.ensures.refused c.args.state.now (command_of c.args.command) _ c.in-Err.fault c.in-Err.ensures.refused
+returns-in-Err-clause-of_state c = of-state c.steps_are_counted_or_refused.ensures.refused c.args.state.now
+    (command_of c.args.command) _ c.in-Err.fault c.in-Err.ensures.refused

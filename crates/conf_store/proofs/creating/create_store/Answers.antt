@@ -5,18 +5,23 @@ use Rattle.conf_store.proofs.creating.create_store.Goals as goal
 pub returns-in-Ok-write_base-clause-leaves : goal.returns-in-Ok-write_base-clause-leaves
 returns-in-Ok-write_base-clause-leaves g c h =
     let d = g.D.Disk in
-    creation-leaves d.model c.args.disk c.find_no_store.new.disk c.write_base.new.disk c.reading_is_an_image.ensures c.held_store_is_the_only_one.ensures.left
-    (base_bytes c.args.state.now) (c.in-Ok.ensures.missing h) (c.in-Ok.ensures.holds h) (c.write_base.ensures.leaves h) (c.find_no_store.ensures.any_moment h)
+    creation-leaves d.model c.args.disk c.find_no_store.new.disk c.write_base.new.disk c.reading_is_an_image.ensures
+    c.held_store_is_the_only_one.ensures.left
+    (base_bytes c.args.state.now) (c.in-Ok.ensures.missing h) (c.in-Ok.ensures.holds h)
+    (c.write_base.ensures.leaves h) (c.find_no_store.ensures.any_moment h)
 
 pub returns-in-Err-Device-clause-leaves : goal.returns-in-Err-Device-clause-leaves
 returns-in-Err-Device-clause-leaves g c h =
     let d = g.D.Disk in
-    creation-leaves d.model c.args.disk c.find_no_store.new.disk c.write_base.new.disk c.reading_is_an_image.ensures c.held_store_is_the_only_one.ensures.left
-    (base_bytes c.args.state.now) (c.in-Ok.ensures.missing h) (c.in-Ok.ensures.holds h) (c.write_base.ensures.leaves h) (c.find_no_store.ensures.any_moment h)
+    creation-leaves d.model c.args.disk c.find_no_store.new.disk c.write_base.new.disk c.reading_is_an_image.ensures
+    c.held_store_is_the_only_one.ensures.left
+    (base_bytes c.args.state.now) (c.in-Ok.ensures.missing h) (c.in-Ok.ensures.holds h)
+    (c.write_base.ensures.leaves h) (c.find_no_store.ensures.any_moment h)
 
 pub returns-in-Err-Device-clause-refused : goal.returns-in-Err-Device-clause-refused
 returns-in-Err-Device-clause-refused g c h =
     let d = g.D.Disk in
     let new = c.write_base.new.disk in
     creation-reads d.model c.args.disk c.find_no_store.new.disk new c.reading_is_an_image.ensures c.held_store_is_the_only_one.ensures.left
-    (base_bytes c.args.state.now) (c.in-Ok.ensures.missing h) (c.in-Ok.ensures.holds h) (c.write_base.ensures.leaves h) (λ t image le is. g.met.D.Disk.counts_now new t image h le is)
+    (base_bytes c.args.state.now) (c.in-Ok.ensures.missing h) (c.in-Ok.ensures.holds h)
+    (c.write_base.ensures.leaves h) (λ t image le is. g.met.D.Disk.counts_now new t image h le is)

@@ -33,7 +33,8 @@ base-reads bytes s r =
       };
     }
 
-records-read : (count : ℕ) (pieces : List (List ℕ)) (cs : List first.Command) → first.AreRecords count pieces cs → AreRecords count pieces (as_commands cs)
+records-read : (count : ℕ) (pieces : List (List ℕ)) (cs : List first.Command) → first.AreRecords count pieces cs
+    → AreRecords count pieces (as_commands cs)
 records-read count [] [] are = are
 records-read count [] (c ∷ cs) are = are
 records-read count (piece ∷ pieces) [] are = are

@@ -21,8 +21,10 @@ loop-left-preserved c =
     let more : (count - left) + 64 ≡ count - (left - 64) = omega (arith, within) in
     record {
       within = omega (arith, within);
-      so_far = subst (λ bs. AppendsWithin c.args.text.now bs c.append.new.text) (replicate-append-replicate (count - left) 64 32 ∙ ap spaces more)
-          (AppendsWithin-joined c.args.text.now c.loop-left.text c.append.new.text (spaces (count - left)) (spaces 64) c.loop-left.invariant.so_far c.append.ensures);
+      so_far = subst (λ bs. AppendsWithin c.args.text.now bs c.append.new.text)
+          (replicate-append-replicate (count - left) 64 32 ∙ ap spaces more)
+          (AppendsWithin-joined c.args.text.now c.loop-left.text c.append.new.text (spaces (count - left))
+          (spaces 64) c.loop-left.invariant.so_far c.append.ensures);
     }
 
 pub range-requires-clause-end_boundary : goal.range-requires-clause-end_boundary
@@ -42,5 +44,6 @@ returns c =
     c.range.ensures.value ∙ ap (λ n. take n (spaces 64)) same ∙ take-replicate left 64 32 (omega arith) in
     let all : (count - left) + left ≡ count = omega (arith, within) in
     subst (λ bs. AppendsWithin c.args.text.now bs c.append-2.new.text) (replicate-append-replicate (count - left) left 32 ∙ ap spaces all)
-    (AppendsWithin-joined c.args.text.now c.loop-left.text c.append-2.new.text (spaces (count - left)) (spaces left) c.loop-left.invariant.so_far
+    (AppendsWithin-joined c.args.text.now c.loop-left.text c.append-2.new.text (spaces (count - left))
+    (spaces left) c.loop-left.invariant.so_far
     (subst (λ bs. AppendsWithin c.loop-left.text bs c.append-2.new.text) prefix c.append-2.ensures))

@@ -13,10 +13,13 @@ parts-preserved c =
     let short = c.is_full.ensures.short c.parts-test.true in
     let none = none-left (length old.slice) slice_limit old.rest short c.parts.invariant.far in
     record {
-      same = loop-same old.slice old.rest mid.slice mid.rest new.slice new.rest (joined (texts configs c.load_next.new.self)) (joined (texts configs c.parts.pending))
+      same = loop-same old.slice old.rest mid.slice mid.rest new.slice new.rest
+          (joined (texts configs c.load_next.new.self)) (joined (texts configs c.parts.pending))
           none c.load_next.ensures.slice c.load_next.ensures.same c.cut_more-in-parts.ensures.same ∙ c.parts.invariant.same;
-      ready = (let before = c.parts.invariant.ready in let loaded = c.load_next.ensures.slice_room in let cut = c.cut_more-in-parts.ensures.slice_room in omega (arith, before, loaded, cut));
-      within = subst (λ n. AreWithin n (texts configs c.load_next.new.self)) (sym c.cut_more-in-parts.ensures.part_room) c.load_next.ensures.within;
+      ready = (let before = c.parts.invariant.ready in let loaded = c.load_next.ensures.slice_room in
+          let cut = c.cut_more-in-parts.ensures.slice_room in omega (arith, before, loaded, cut));
+      within = subst (λ n. AreWithin n (texts configs c.load_next.new.self))
+          (sym c.cut_more-in-parts.ensures.part_room) c.load_next.ensures.within;
       short = c.cut_more-in-parts.ensures.short;
       far = c.cut_more-in-parts.ensures.far;
     }

@@ -9,28 +9,32 @@ pub returns-in-Err-Device-clause-stays : goal.returns-in-Err-Device-clause-stays
 returns-in-Err-Device-clause-stays g c h =
     let d = g.D.Disk in
     let new = c.read.new.self in
-    read-stays d.model c.args.disk.now new (λ t image le is. g.met.D.Disk.counts_now new t image h le is) (λ image is. g.met.D.Disk.only_now c.args.disk.now image h is)
+    read-stays d.model c.args.disk.now new (λ t image le is. g.met.D.Disk.counts_now new t image h le is)
+    (λ image is. g.met.D.Disk.only_now c.args.disk.now image h is)
     (c.read.ensures.time h) (c.read.ensures.same h)
 
 pub returns-in-Err-OutOfMemory-clause-stays : goal.returns-in-Err-OutOfMemory-clause-stays
 returns-in-Err-OutOfMemory-clause-stays g c h =
     let d = g.D.Disk in
     let new = c.read.new.self in
-    read-stays d.model c.args.disk.now new (λ t image le is. g.met.D.Disk.counts_now new t image h le is) (λ image is. g.met.D.Disk.only_now c.args.disk.now image h is)
+    read-stays d.model c.args.disk.now new (λ t image le is. g.met.D.Disk.counts_now new t image h le is)
+    (λ image is. g.met.D.Disk.only_now c.args.disk.now image h is)
     (c.read.ensures.time h) (c.read.ensures.same h)
 
 pub returns-in-Ok-find_state-clause-stays : goal.returns-in-Ok-find_state-clause-stays
 returns-in-Ok-find_state-clause-stays g c h =
     let d = g.D.Disk in
     let new = c.read.new.self in
-    read-stays d.model c.args.disk.now new (λ t image le is. g.met.D.Disk.counts_now new t image h le is) (λ image is. g.met.D.Disk.only_now c.args.disk.now image h is)
+    read-stays d.model c.args.disk.now new (λ t image le is. g.met.D.Disk.counts_now new t image h le is)
+    (λ image is. g.met.D.Disk.only_now c.args.disk.now image h is)
     (c.read.ensures.time h) (c.read.ensures.same h)
 
 pub returns-in-Err-clause-stays : goal.returns-in-Err-clause-stays
 returns-in-Err-clause-stays g c h =
     let d = g.D.Disk in
     let new = c.read.new.self in
-    read-stays d.model c.args.disk.now new (λ t image le is. g.met.D.Disk.counts_now new t image h le is) (λ image is. g.met.D.Disk.only_now c.args.disk.now image h is)
+    read-stays d.model c.args.disk.now new (λ t image le is. g.met.D.Disk.counts_now new t image h le is)
+    (λ image is. g.met.D.Disk.only_now c.args.disk.now image h is)
     (c.read.ensures.time h) (c.read.ensures.same h)
 
 -- ---- nothing has changed
@@ -50,14 +54,18 @@ returns-in-Err-clause-same g c = c.read.ensures.same
 -- ---- what was found
 
 pub returns-in-Ok-find_state-clause-found : goal.returns-in-Ok-find_state-clause-found
-returns-in-Ok-find_state-clause-found g c h = (c.in-Ok-find_state.ensures.ok (bytes_under (g.D.Disk.model.folder c.args.disk.now) Store) (c.in-Ok.ensures.content h)).recovers
+returns-in-Ok-find_state-clause-found g c h =
+    (c.in-Ok-find_state.ensures.ok (bytes_under (g.D.Disk.model.folder c.args.disk.now) Store)
+    (c.in-Ok.ensures.content h)).recovers
 
 pub returns-in-Ok-find_state-clause-means : goal.returns-in-Ok-find_state-clause-means
 returns-in-Ok-find_state-clause-means g c h =
-    found-means (bytes_under (g.D.Disk.model.folder c.args.disk.now) Store) _ _ _ _ (c.in-Ok-find_state.ensures.ok (bytes_under (g.D.Disk.model.folder c.args.disk.now) Store) (c.in-Ok.ensures.content h))
+    found-means (bytes_under (g.D.Disk.model.folder c.args.disk.now) Store) _ _ _ _
+    (c.in-Ok-find_state.ensures.ok (bytes_under (g.D.Disk.model.folder c.args.disk.now) Store) (c.in-Ok.ensures.content h))
 
 pub returns-in-Err-clause-refused : goal.returns-in-Err-clause-refused
-returns-in-Err-clause-refused g c h = c.in-Err.ensures.refused (bytes_under (g.D.Disk.model.folder c.args.disk.now) Store) (c.in-Ok.ensures.content h)
+returns-in-Err-clause-refused g c h = c.in-Err.ensures.refused
+    (bytes_under (g.D.Disk.model.folder c.args.disk.now) Store) (c.in-Ok.ensures.content h)
 
 pub returns-in-Err-clause-no_meaning : goal.returns-in-Err-clause-no_meaning
 returns-in-Err-clause-no_meaning g c h =

@@ -15,7 +15,8 @@ returns-in-Ok-clause-sets g c = record {
 
 pub returns-in-Ok-clause-leaves : goal.returns-in-Ok-clause-leaves
 returns-in-Ok-clause-leaves g c =
-    subst (λ (before : g.row.E.Denot). TellsDropped g.E.Listener.hears before c.change_if.new.errors) c.in-Ok.ensures.silent c.change_if.ensures.told
+    subst (λ (before : g.row.E.Denot). TellsDropped g.E.Listener.hears before c.change_if.new.errors)
+    c.in-Ok.ensures.silent c.change_if.ensures.told
 
 pub returns-in-Err-clause-sets : goal.returns-in-Err-clause-sets
 returns-in-Err-clause-sets g c = record {

@@ -19,9 +19,11 @@ returns-in-Ok-made-clause-made g c =
       closed = closed;
       makes = c.in-Ok-made.ensures.ok;
       back = c.close-disk.ensures;
-      reads = λ h. subst (λ (disk : g.row.D.Denot). ReadsChanged c.in-Ok.store c.args.change (store_file d.model c.in-Ok.store.disk) (store_file d.model disk)) (sym c.close-disk.ensures)
+      reads = λ h. subst (λ (disk : g.row.D.Denot). ReadsChanged c.in-Ok.store c.args.change
+          (store_file d.model c.in-Ok.store.disk) (store_file d.model disk)) (sym c.close-disk.ensures)
           (c.in-Ok-made.ensures.reads h c.in-Ok.ensures.opens.no_reopen);
-      images = λ h. subst (λ (disk : g.row.D.Denot). AllImagesMean (d.model.folder disk) closed.state) (sym c.close-disk.ensures) (c.in-Ok-made.ensures.now h);
+      images = λ h. subst (λ (disk : g.row.D.Denot). AllImagesMean (d.model.folder disk) closed.state)
+          (sym c.close-disk.ensures) (c.in-Ok-made.ensures.now h);
     }
 
 pub returns-in-Ok-made-clause-crashes : goal.returns-in-Ok-made-clause-crashes
@@ -50,7 +52,8 @@ returns-in-Err-made-clause-refused g c =
       back = c.close-disk.ensures;
       same = c.in-Err-made.ensures.unchanged;
       cause = λ is. subst (λ (disk : g.row.D.Denot). HasFailed (count c.args.disk) (count disk)) (sym c.close-disk.ensures)
-          (failed-later (count c.args.disk) (count opened.disk) (count closed.disk) opens.risen c.make-made.ensures.risen (c.in-Err-made.ensures.cause (ap Err is)));
+          (failed-later (count c.args.disk) (count opened.disk)
+          (count closed.disk) opens.risen c.make-made.ensures.risen (c.in-Err-made.ensures.cause (ap Err is)));
     }
 
 pub returns-in-Err-made-clause-crashes : goal.returns-in-Err-made-clause-crashes
@@ -60,5 +63,8 @@ returns-in-Err-made-clause-crashes g c h =
     let closed = c.make-made.new.store in
     let opens = c.in-Ok.ensures.opens in
     subst (λ (disk : g.row.D.Denot). KeepsChange d.model c.args.disk c.args.change disk false) (sym c.close-disk.ensures)
-    (keeps-refused d.model c.args.disk opened closed opens c.args.change (c.make-made.ensures.any_moment h opens.no_reopen (opens.flushed h))
-    c.steps_are_counted_or_refused.ensures.room (λ t image le is. g.met.D.Disk.counts_now closed.disk t image h le is) h c.in-Err-made.fault c.in-Err-made.ensures.refused c.in-Err-made.ensures.unchanged)
+    (keeps-refused d.model c.args.disk opened closed opens c.args.change
+    (c.make-made.ensures.any_moment h opens.no_reopen (opens.flushed h))
+    c.steps_are_counted_or_refused.ensures.room
+    (λ t image le is. g.met.D.Disk.counts_now closed.disk t image h le is) h c.in-Err-made.fault
+    c.in-Err-made.ensures.refused c.in-Err-made.ensures.unchanged)

@@ -10,4 +10,5 @@ pub returns : goal.returns
 unfolding chars
 returns c =
     ap (λ edits. batch (map edit_of edits)) c.in_ok-edits.ensures.items
-    ∙ ap (λ path. batch (delete_at (text_of c.args.name) path ∷ import_as (text_of c.args.to) (tree_of c.args.tree) ∷ [])) (ap chars c.new.ensures.bytes)
+    ∙ ap (λ path. batch (delete_at (text_of c.args.name) path ∷ import_as (text_of c.args.to) (tree_of c.args.tree)
+    ∷ [])) (ap chars c.new.ensures.bytes)

@@ -6,4 +6,5 @@ use Rattle.conf_tools.proofs.file_texts.write_file_report.Given as goal
 
 abbrev pub invariant-loop-finding : goal.invariant-loop-finding
 invariant-loop-finding g l =
-    WritesUpTo (g.W.Write.contents l.fn.writer) (g.W.Write.contents l.writer) l.file (drop l.finding-index l.findings) (file_report l.file l.findings)
+    WritesUpTo (g.W.Write.contents l.fn.writer) (g.W.Write.contents l.writer) l.file (drop l.finding-index l.findings)
+    (file_report l.file l.findings)

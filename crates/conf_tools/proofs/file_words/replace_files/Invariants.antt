@@ -6,5 +6,6 @@ use Rattle.conf_tools.proofs.WordLemmas.{LeadsOnward}
 use Rattle.conf_tools.proofs.file_words.replace_files.Given as goal
 
 abbrev pub invariant-loop-file : goal.invariant-loop-file
-invariant-loop-file g l = LeadsOnward g.A.World.model g.A.File.Read.remaining l.fn.comments (map (λ file. file.now) (drop l.file-index l.files)) l.status
+invariant-loop-file g l = LeadsOnward g.A.World.model g.A.File.Read.remaining l.fn.comments
+    (map (λ file. file.now) (drop l.file-index l.files)) l.status
     l.world (map (λ file. file.now) l.files) l.fn.world × SilentIfDone l.status l.fn.errors l.errors

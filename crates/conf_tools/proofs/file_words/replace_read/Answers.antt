@@ -15,7 +15,8 @@ returns-in-Ok-clause-replaces g c = rw (c.in-Ok.is) (
 )
 
 pub returns-in-Ok-clause-silent : goal.returns-in-Ok-clause-silent
-returns-in-Ok-clause-silent g c = written_silently c.replace_by-ended.result c.status_after.result c.args.errors.now c.tell.new.errors c.status_after.ensures c.tell.ensures
+returns-in-Ok-clause-silent g c = written_silently c.replace_by-ended.result c.status_after.result c.args.errors.now
+    c.tell.new.errors c.status_after.ensures c.tell.ensures
 
 pub returns-in-Err-clause-silent : goal.returns-in-Err-clause-silent
 returns-in-Err-clause-silent g c = λ zero. absurd (never_done c.in-Err.fault c.status_of.result c.status_of.ensures zero)

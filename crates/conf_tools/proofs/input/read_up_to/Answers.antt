@@ -14,7 +14,8 @@ returns-then-room-eq0-clause-ok g c =
 pub returns-in-Ok-eq0-clause-ok : goal.returns-in-Ok-eq0-clause-ok
 returns-in-Ok-eq0-clause-ok g c =
     let left = g.R.Read.remaining c.read.new.self in
-    let read = subst (λ r. ReadConsumes (g.R.Read.remaining c.loop.reader) left r c.read.new.buf) (c.in-Ok-eq0.is ∙ ap Ok c.in-Ok-eq0.field-0-test) c.read.ensures.bytes in
+    let read = subst (λ r. ReadConsumes (g.R.Read.remaining c.loop.reader) left r c.read.new.buf)
+    (c.in-Ok-eq0.is ∙ ap Ok c.in-Ok-eq0.field-0-test) c.read.ensures.bytes in
     let joined = Consumes-trans _ _ _ c.loop.bytes.items [] c.loop.invariant.1 read.0 in
     record {
       taken = subst (Consumes (g.R.Read.remaining c.args.reader.now) left) (append-nil c.loop.bytes.items) joined;
@@ -29,7 +30,8 @@ returns-then-room-eq0-clause-bounded g c =
 pub returns-in-Ok-eq0-clause-bounded : goal.returns-in-Ok-eq0-clause-bounded
 returns-in-Ok-eq0-clause-bounded g c =
     let left = g.R.Read.remaining c.read.new.self in
-    let read = subst (λ r. ReadConsumes (g.R.Read.remaining c.loop.reader) left r c.read.new.buf) (c.in-Ok-eq0.is ∙ ap Ok c.in-Ok-eq0.field-0-test) c.read.ensures.bytes in
+    let read = subst (λ r. ReadConsumes (g.R.Read.remaining c.loop.reader) left r c.read.new.buf)
+    (c.in-Ok-eq0.is ∙ ap Ok c.in-Ok-eq0.field-0-test) c.read.ensures.bytes in
     let joined = Consumes-trans _ _ _ c.loop.bytes.items [] c.loop.invariant.1 read.0 in
     record {
       bytes = c.loop.bytes.items;
@@ -51,12 +53,14 @@ loop-preserved g c =
     elim c.match-read.branch [
       | in-Ok+in_ok-extend_from_slice-in-Ok w ↦
           let read = take-append-le w.in-Ok.count c.read.new.buf _ w.in-Ok.ensures.bound.0 in
-          let joined = ap (λ b. b.items) w.bytes-is ∙ w.in_ok-extend_from_slice-in-Ok.ensures.items ∙ ap (λ xs. c.loop.bytes.items ++ xs) read in (
+          let joined = ap (λ b. b.items) w.bytes-is ∙ w.in_ok-extend_from_slice-in-Ok.ensures.items
+          ∙ ap (λ xs. c.loop.bytes.items ++ xs) read in (
             subst (λ xs. length xs ≤ c.args.most) (sym joined) (grind (arith, common_steps)),
             subst (Consumes first left) (sym joined) (Consumes-trans _ _ _ c.loop.bytes.items _ c.loop.invariant.1 w.in-Ok.ensures.bytes.0),
           )
       | in-Err w ↦ (
         subst (λ b. length b.items ≤ c.args.most) (sym w.bytes-is) c.loop.invariant.0,
-        subst (λ b. Consumes first left b.items) (sym w.bytes-is) (Consumes-kept _ _ _ c.loop.bytes.items c.loop.invariant.1 w.in-Err.ensures.bytes),
+        subst (λ b. Consumes first left b.items) (sym w.bytes-is)
+            (Consumes-kept _ _ _ c.loop.bytes.items c.loop.invariant.1 w.in-Err.ensures.bytes),
       )
     ]

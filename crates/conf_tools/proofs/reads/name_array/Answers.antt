@@ -7,4 +7,5 @@ use Rattle.conf_tools.proofs.reads.name_array.Goals as goal
 
 pub returns : goal.returns
 returns c =
-    encoded_both [] _ (string_bytes c.put_char.new.self) (json_texts (names_of c.args.state.now.configs)) (codes "\n") c.in_ok-array.ensures c.in_ok-put_char.ensures
+    encoded_both [] _ (string_bytes c.put_char.new.self) (json_texts (names_of c.args.state.now.configs))
+    (codes "\n") c.in_ok-array.ensures c.in_ok-put_char.ensures

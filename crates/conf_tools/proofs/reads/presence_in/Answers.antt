@@ -6,10 +6,12 @@ use Rattle.conf_tools.proofs.reads.presence_in.Goals as goal
 
 pub returns-in-Err-clause-ok : goal.returns-in-Err-clause-ok
 returns-in-Err-clause-ok c =
-    presence-told (value_at_path c.args.state.now (chars c.args.place.name.now) (chars c.args.place.pointer.now)) c.in-Err.fault c.presence_after.result
+    presence-told (value_at_path c.args.state.now (chars c.args.place.name.now) (chars c.args.place.pointer.now))
+    c.in-Err.fault c.presence_after.result
     c.in-Err.ensures.refused c.presence_after.ensures
 
 pub returns-in-Err-clause-refused : goal.returns-in-Err-clause-refused
 returns-in-Err-clause-refused c =
-    presence-hidden (value_at_path c.args.state.now (chars c.args.place.name.now) (chars c.args.place.pointer.now)) c.in-Err.fault c.presence_after.result
+    presence-hidden (value_at_path c.args.state.now (chars c.args.place.name.now) (chars c.args.place.pointer.now))
+    c.in-Err.fault c.presence_after.result
     c.in-Err.ensures.refused c.presence_after.ensures

@@ -7,5 +7,6 @@ pub returns : goal.returns
 returns c =
     on_pushed c.extend_from_slice-2.result c.extend_from_slice-2.new.self.items (c.extend_from_slice.new.self.items ++ codes "\n")
     c.extend_from_slice.new.self.items c.extend_from_slice-2.ensures.items
-    (λ second. name_pushed c.args.lines.now.items c.extend_from_slice.new.self.items c.extend_from_slice-2.new.self.items c.args.name.now c.utf8.name
+    (λ second. name_pushed c.args.lines.now.items c.extend_from_slice.new.self.items
+    c.extend_from_slice-2.new.self.items c.args.name.now c.utf8.name
     (c.in_ok-extend_from_slice.ensures.items ∙ ap (λ bytes. c.args.lines.now.items ++ bytes) c.as_bytes.ensures.value) second)

@@ -9,5 +9,6 @@ pub loop-at-preserved : goal.loop-at-preserved
 loop-at-preserved c =
     let bytes = c.args.bytes.now in
     let part = c.args.part.now in
-    let differs = subst (λ (xs : List ℕ). starts_with ◌==◌ xs part ≡ false) (take_rest bytes c.loop-at.at) (sym c.starts_with.ensures.value ∙ c.if-starts_with.false) in
+    let differs = subst (λ (xs : List ℕ). starts_with ◌==◌ xs part ≡ false) (take_rest bytes c.loop-at.at)
+    (sym c.starts_with.ensures.value ∙ c.if-starts_with.false) in
     one_byte_on part bytes c.loop-at.at (search rules) differs ∙ c.loop-at.invariant

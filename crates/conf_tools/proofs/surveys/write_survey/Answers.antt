@@ -13,5 +13,7 @@ returns-in-Ok-write_findings-clause-ok g c = record {
 
 pub returns-clause-refused : goal.returns-clause-refused
 returns-clause-refused g c =
-    cannot_write (g.R.Read.remaining c.args.reader.now) (g.W.Write.contents c.args.writer.now) (g.W.Write.contents c.write_findings.new.writer)
-    c.in-Ok.found.state c.in-Ok.found.findings c.in-Ok.ensures.ok.holds c.in-Err-write_findings.fault c.in-Err-write_findings.ensures.refused
+    cannot_write (g.R.Read.remaining c.args.reader.now) (g.W.Write.contents c.args.writer.now)
+    (g.W.Write.contents c.write_findings.new.writer)
+    c.in-Ok.found.state c.in-Ok.found.findings c.in-Ok.ensures.ok.holds c.in-Err-write_findings.fault
+    c.in-Err-write_findings.ensures.refused

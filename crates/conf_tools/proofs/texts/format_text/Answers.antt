@@ -14,4 +14,5 @@ returns-clause-ok g c =
     let styled : List ℕ = string_bytes c.in-Ok.styled in
     let whole : c.as_bytes.result.now ≡ styled = c.as_bytes.ensures.value in
     formatted _ _ c.args.text.now styled c.in-Ok.ensures.given
-    (subst (λ b. Appends (g.W.Write.contents c.args.writer.now) (g.W.Write.contents c.write_whole.new.writer) b) whole c.in_ok-write_whole.ensures.ok)
+    (subst (λ b. Appends (g.W.Write.contents c.args.writer.now) (g.W.Write.contents c.write_whole.new.writer) b) whole
+    c.in_ok-write_whole.ensures.ok)

@@ -16,7 +16,9 @@ returns-clause-ok c =
     let longer = Owned c.push.new.self in
     let owned : string_bytes c.in_ok-last.last ≡ cow_str_bytes last = c.in_ok-last.ensures.ok in
     let utf8 : IsUtf8 (cow_str_bytes last) = subst IsUtf8 owned (IsUtf8-string_bytes c.in_ok-last.last) in
-    let split : c.args.tokens.now.items ≡ before ++ last ∷ [] = c.pop.ensures.items ∙ ap (λ o. before ++ option_to_list o) c.unwrap.ensures in
+    let split : c.args.tokens.now.items ≡ before ++ last ∷ [] = c.pop.ensures.items
+    ∙ ap (λ o. before ++ option_to_list o) c.unwrap.ensures in
     ap (λ xs. pointer_text (texts xs)) c.in_ok-push-2.ensures.items
-    ∙ pointer_text-lengthened before last longer c.args.c utf8 c.ranges.c.0 (c.in_ok-push.ensures.bytes ∙ ap (λ bs. bs ++ encode c.args.c) owned)
+    ∙ pointer_text-lengthened before last longer c.args.c utf8 c.ranges.c.0
+    (c.in_ok-push.ensures.bytes ∙ ap (λ bs. bs ++ encode c.args.c) owned)
     ∙ ap (λ xs. pointer_text (texts xs) ++ char_text c.args.c) (sym split)

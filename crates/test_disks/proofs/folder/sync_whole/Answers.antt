@@ -7,6 +7,7 @@ pub returns : goal.returns
 returns c =
     let within : c.args.id < length c.args.files.now.items = search rules in
     let at : c.index_mut-file.result.now ≡ get_or c.args.files.now.items c.args.id c.index_mut-file.result.now = search rules in
-    let synced = c.in_ok-extend_from_slice.ensures.items ∙ ap (λ (l : List ℕ). c.index_mut-file.result.now.synced.items ++ l) c.deref.ensures.value in
+    let synced = c.in_ok-extend_from_slice.ensures.items
+    ∙ ap (λ (l : List ℕ). c.index_mut-file.result.now.synced.items ++ l) c.deref.ensures.value in
     map-set-change c.args.files.now.items c.args.id c.index_mut-file.result.now _ synced_whole within at
     (λ i. record { synced = synced i; pending = c.clear.ensures.items i })

@@ -19,7 +19,8 @@ pub returns-in-Map-clause-ok : goal.returns-in-Map-clause-ok
 returns-in-Map-clause-ok c =
     let token = chars c.args.token.now in
     let seen = ap tree_of c.in-Map.is ∙ tree_of-Map c.in-Map.pairs ∙ ap (λ w. mapping (members_of w.items)) (sym c.in-Map.pairs-is) in
-    let done = on_ok_weaker c.cut_pair.result (λ h. ap (λ t. cut t token) seen ∙ h ∙ ap Ok (sym (tree_of-Map c.cut_pair.new.pairs))) c.cut_pair.ensures.ok in
+    let done = on_ok_weaker c.cut_pair.result (λ h. ap (λ t. cut t token) seen ∙ h
+    ∙ ap Ok (sym (tree_of-Map c.cut_pair.new.pairs))) c.cut_pair.ensures.ok in
     search (rules, the_lemmas, done)
 
 pub returns-in-Map-clause-removed : goal.returns-in-Map-clause-removed

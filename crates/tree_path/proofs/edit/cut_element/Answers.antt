@@ -11,7 +11,8 @@ returns-in_err-index-clause-missed c =
     let p = err_from_is_err_and c.from_residual.result c.from_residual.ensures.1 in
     let v = c.args.items.now in
     let token = chars c.args.token.now in
-    rw (p.1, p.2) (cut-Seq-missed v.items token c.in_err-index.field-0.0 (index-counted v token c.len.result _ c.len.ensures c.in_err-index.ensures))
+    rw (p.1, p.2) (cut-Seq-missed v.items token c.in_err-index.field-0.0
+    (index-counted v token c.len.result _ c.len.ensures c.in_err-index.ensures))
 
 pub returns-clause-ok : goal.returns-clause-ok
 returns-clause-ok c =
@@ -24,5 +25,6 @@ pub returns-clause-removed : goal.returns-clause-removed
 returns-clause-removed c =
     let v = c.args.items.now in
     let token = chars c.args.token.now in
-    (child-Seq v.items token c.in_ok-index.index c.remove.result (index-counted v token c.len.result _ c.len.ensures c.in_ok-index.ensures)).1
+    (child-Seq v.items token c.in_ok-index.index c.remove.result
+    (index-counted v token c.len.result _ c.len.ensures c.in_ok-index.ensures)).1
     ∙ ap (λ x. Ok (tree_of x)) (sym c.remove.ensures.value)

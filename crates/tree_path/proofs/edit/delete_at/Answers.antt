@@ -20,7 +20,8 @@ returns-in_err-descend-clause-refused c =
     let parents = c.unwrap.result.1.now in
     let p = err_from_is_err_and c.from_residual.result c.from_residual.ensures.1 in
     rw (p.1, p.2)
-    (delete-refused (texts c.args.tokens.now) (texts parents) (chars (cow_str_bytes last)) (tree_of c.args.tree.now) c.in_err-descend.field-0.0
+    (delete-refused (texts c.args.tokens.now) (texts parents) (chars (cow_str_bytes last))
+    (tree_of c.args.tree.now) c.in_err-descend.field-0.0
     (ap texts cases.0 ∙ texts-append parents (last ∷ [])) c.in_err-descend.ensures.refused)
 
 pub returns-in-Ok-clause-ok : goal.returns-in-Ok-clause-ok
@@ -31,7 +32,8 @@ returns-in-Ok-clause-ok c =
     let t = tree_of c.args.tree.now in
     let u = tree_of c.descend.new.tree in
     let low = c.in_ok-descend.ensures.ok in
-    delete-Rebuilt (texts c.args.tokens.now) (texts parents) (chars (cow_str_bytes last)) t _ u (tree_of c.descend.new.above) (tree_of c.cut-outcome.new.tree) (tree_of c.ascend.new.tree)
+    delete-Rebuilt (texts c.args.tokens.now) (texts parents) (chars (cow_str_bytes last)) t _ u
+    (tree_of c.descend.new.above) (tree_of c.cut-outcome.new.tree) (tree_of c.ascend.new.tree)
     (ap texts cases.0 ∙ texts-append parents (last ∷ [])) low
     (ap (λ b. cut u (chars b)) (sym c.as_str-token.ensures.value) ∙ c.in-Ok.ensures.ok) (c.ascend.ensures t _ u low).0
 
@@ -41,7 +43,8 @@ returns-in-Ok-clause-removed c =
     let last = c.unwrap.result.0.now in
     let parents = c.unwrap.result.1.now in
     let u = tree_of c.descend.new.tree in
-    at-last (texts c.args.tokens.now) (texts parents) (chars (cow_str_bytes last)) (tree_of c.args.tree.now) _ u (tree_of c.descend.new.above) (tree_of c.in-Ok.removed)
+    at-last (texts c.args.tokens.now) (texts parents) (chars (cow_str_bytes last)) (tree_of c.args.tree.now) _ u
+    (tree_of c.descend.new.above) (tree_of c.in-Ok.removed)
     (ap texts cases.0 ∙ texts-append parents (last ∷ [])) c.in_ok-descend.ensures.ok
     (ap (λ b. child u (chars b)) (sym c.as_str-token.ensures.value) ∙ c.in-Ok.ensures.removed)
 
@@ -51,8 +54,10 @@ returns-clause-refused c =
     let last = c.unwrap.result.0.now in
     let parents = c.unwrap.result.1.now in
     let u = tree_of c.descend.new.tree in
-    let n : length c.args.tokens.now ≡ length (texts parents) + 1 = omega (arith, cases.1, length-map parents (λ (x : CowStr Global). chars (cow_str_bytes x))) in
-    delete-missed (texts c.args.tokens.now) (texts parents) (chars (cow_str_bytes last)) (length c.args.tokens.now) (tree_of c.args.tree.now) _ u (tree_of c.descend.new.above) c.in-Err.miss
+    let n : length c.args.tokens.now ≡ length (texts parents) + 1 =
+    omega (arith, cases.1, length-map parents (λ (x : CowStr Global). chars (cow_str_bytes x))) in
+    delete-missed (texts c.args.tokens.now) (texts parents) (chars (cow_str_bytes last)) (length c.args.tokens.now)
+    (tree_of c.args.tree.now) _ u (tree_of c.descend.new.above) c.in-Err.miss
     (ap texts cases.0 ∙ texts-append parents (last ∷ [])) n c.in_ok-descend.ensures.ok
     (ap (λ b. cut u (chars b)) (sym c.as_str-token.ensures.value) ∙ c.in-Err.ensures.missed)
     ∙ ap Err (sym c.at_step.ensures)
@@ -82,7 +87,8 @@ key_place-place-requires c =
     let t = tree_of c.args.tree.now in
     let u = tree_of c.descend.new.tree in
     subst (λ b. KnowsLast c.args.known (key_in u (chars b))) (sym c.as_str-token.ensures.value)
-    (knows-last c.args.known t u (texts c.args.tokens.now) (texts parents) (chars (cow_str_bytes last)) (ap texts cases.0 ∙ texts-append parents (last ∷ []))
+    (knows-last c.args.known t u (texts c.args.tokens.now) (texts parents) (chars (cow_str_bytes last))
+    (ap texts cases.0 ∙ texts-append parents (last ∷ []))
     (at_from-Lowered (texts parents) 1 t _ u (tree_of c.descend.new.above) c.in_ok-descend.ensures.ok) c.requires.known)
 
 pub ascend-requires : goal.ascend-requires
@@ -95,5 +101,6 @@ ascend-requires c =
       _,
       tree_of c.descend.new.tree,
       c.in_ok-descend.ensures.ok,
-      knows-way c.args.known t (texts c.args.tokens.now) (texts parents) (chars (cow_str_bytes last)) (ap texts cases.0 ∙ texts-append parents (last ∷ [])) c.requires.known,
+      knows-way c.args.known t (texts c.args.tokens.now) (texts parents) (chars (cow_str_bytes last))
+          (ap texts cases.0 ∙ texts-append parents (last ∷ [])) c.requires.known,
     )

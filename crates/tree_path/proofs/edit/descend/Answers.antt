@@ -14,7 +14,8 @@ step_place-requires c =
     let tokens = c.args.tokens.now in
     let t = tree_of c.args.tree.now in
     subst (λ b. KnowsStep c.args.known l.passed (tree_of l.tree) (chars b)) (sym c.as_str.ensures.value)
-    (knows-step c.args.known tokens l.passed c.index-tokens-passed.result t (tree_of l.tree) c.loop-passed-test.true c.index-tokens-passed.is c.requires
+    (knows-step c.args.known tokens l.passed c.index-tokens-passed.result t
+    (tree_of l.tree) c.loop-passed-test.true c.index-tokens-passed.is c.requires
     (at_from-Lowered (texts (take l.passed tokens)) 1 t (tree_of c.args.above.now) (tree_of l.tree) (tree_of l.above) l.invariant))
 
 pub exchange-requires : goal.exchange-requires
@@ -31,7 +32,8 @@ ascend-requires c =
       tree_of l.tree,
       l.invariant,
       knows-prefix c.args.known (texts (take l.passed tokens)) (chars (cow_str_bytes token) ∷ texts (drop (l.passed + 1) tokens)) t
-          (subst (λ ts. KnowsWay c.args.known ts t) (texts-split tokens l.passed token c.loop-passed-test.true c.index-tokens-passed.is) c.requires),
+          (subst (λ ts. KnowsWay c.args.known ts t)
+          (texts-split tokens l.passed token c.loop-passed-test.true c.index-tokens-passed.is) c.requires),
     )
 
 pub returns-in-Err-clause-refused : goal.returns-in-Err-clause-refused
@@ -40,7 +42,8 @@ returns-in-Err-clause-refused c =
     let token = c.index-tokens-passed.result in
     at_from-missed c.args.tokens.now l.passed token (tree_of c.args.tree.now) (tree_of l.tree) c.in-Err.miss
     c.loop-passed-test.true c.index-tokens-passed.is
-    (at_from-Lowered (texts (take l.passed c.args.tokens.now)) 1 (tree_of c.args.tree.now) (tree_of c.args.above.now) (tree_of l.tree) (tree_of l.above) l.invariant)
+    (at_from-Lowered (texts (take l.passed c.args.tokens.now)) 1 (tree_of c.args.tree.now) (tree_of c.args.above.now)
+    (tree_of l.tree) (tree_of l.above) l.invariant)
     (place-missed (tree_of l.tree) (chars (cow_str_bytes token)) c.in-Err.miss
     (ap (λ bytes. step_place (tree_of l.tree) (chars bytes)) (sym c.as_str.ensures.value) ∙ sym c.in-Err.ensures))
     ∙ ap Err (sym c.at_step.ensures)

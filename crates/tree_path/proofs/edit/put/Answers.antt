@@ -12,7 +12,8 @@ use Rattle.tree_path.proofs.edit.put.Goals as goal
 pub returns-in-Text-clause-refused : goal.returns-in-Text-clause-refused
 returns-in-Text-clause-refused c =
     let token = chars c.args.token.now in
-    inr (ap (λ r. at_step c.args.step r Ok) (ap (λ t. put t token (tree_of c.args.value)) (ap tree_of c.in-Text.is ∙ tree_of-Text _) ∙ put-Text _ token _))
+    inr (ap (λ r. at_step c.args.step r Ok) (ap (λ t. put t token (tree_of c.args.value))
+    (ap tree_of c.in-Text.is ∙ tree_of-Text _) ∙ put-Text _ token _))
 
 pub put_pair-requires : goal.put_pair-requires
 put_pair-requires c =

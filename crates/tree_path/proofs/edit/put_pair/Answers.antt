@@ -24,4 +24,5 @@ returns-clause-ok c =
     let v = c.args.pairs.now in
     put-Map-last v.items (chars c.args.key.now) c.in-Ok.key c.args.value
     (sym c.requires ∙ none-other c.args.place c.in_default.not-Some) (ap chars c.in-Ok.ensures)
-    ∙ ap (λ xs. Ok (mapping (members_of xs))) (ap (λ xs. xs ++ (c.in-Ok.key, c.args.value) ∷ []) (sym c.in-Ok-make_room.ensures.items) ∙ sym c.push_reserved.ensures.items)
+    ∙ ap (λ xs. Ok (mapping (members_of xs))) (ap (λ xs. xs ++ (c.in-Ok.key, c.args.value) ∷ [])
+    (sym c.in-Ok-make_room.ensures.items) ∙ sym c.push_reserved.ensures.items)

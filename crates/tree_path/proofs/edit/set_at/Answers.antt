@@ -18,7 +18,8 @@ returns-in-Err-clause-refused c =
     let parents = texts c.in-Some.parents.now in
     let last = chars (cow_str_bytes c.in-Some.last.now) in
     let split = ap texts c.in-Some.ensures.cases.0 ∙ texts-append c.in-Some.parents.now (c.in-Some.last.now ∷ []) in
-    inr (set-refused (texts c.args.tokens.now) parents last (tree_of c.args.tree.now) (tree_of c.args.value) c.in-Err.fault split c.in-Err.ensures.refused)
+    inr (set-refused (texts c.args.tokens.now) parents last (tree_of c.args.tree.now)
+    (tree_of c.args.value) c.in-Err.fault split c.in-Err.ensures.refused)
 
 pub returns-clause-ok : goal.returns-clause-ok
 returns-clause-ok c =
@@ -30,7 +31,8 @@ returns-clause-ok c =
     let u = tree_of c.descend.new.tree in
     let low = IfOk-default c.descend.result c.descend.ensures.ok c.in_default-descend.not-Err in
     on_ok_weaker c.put-outcome.result
-    (λ is. set-Rebuilt (texts c.args.tokens.now) parents last t _ u (tree_of c.descend.new.above) (tree_of c.args.value) (tree_of c.put-outcome.new.tree) (tree_of c.ascend.new.tree)
+    (λ is. set-Rebuilt (texts c.args.tokens.now) parents last t _ u (tree_of c.descend.new.above)
+    (tree_of c.args.value) (tree_of c.put-outcome.new.tree) (tree_of c.ascend.new.tree)
     split low (ap (λ b. put u (chars b) (tree_of c.args.value)) (sym same) ∙ is) (c.ascend.ensures t _ u low).0)
     c.put-outcome.ensures.ok
 
@@ -48,7 +50,8 @@ returns-clause-refused c =
     IfErr-weaker c.put-outcome.result _ _
     (λ e missed. elim missed [
       | inl memory ↦ inl memory
-      | inr is ↦ inr (set-missed (texts c.args.tokens.now) parents last (length c.args.tokens.now) t _ u (tree_of c.descend.new.above) (tree_of c.args.value) e.1
+      | inr is ↦ inr (set-missed (texts c.args.tokens.now) parents last (length c.args.tokens.now) t _ u
+          (tree_of c.descend.new.above) (tree_of c.args.value) e.1
           split n low (ap (λ b. at_step (length c.args.tokens.now) (put u (chars b) (tree_of c.args.value)) Ok) (sym same) ∙ is))
     ])
     c.put-outcome.ensures.refused
@@ -80,7 +83,8 @@ key_place-place-requires c =
     let u = tree_of c.descend.new.tree in
     let low = IfOk-default c.descend.result c.descend.ensures.ok c.in_default-descend.not-Err in
     subst (λ b. KnowsLast c.args.known (key_in u (chars b))) (sym c.as_str-token.ensures.value)
-    (knows-last c.args.known t u (texts c.args.tokens.now) parents last split (at_from-Lowered parents 1 t _ u (tree_of c.descend.new.above) low) c.requires)
+    (knows-last c.args.known t u (texts c.args.tokens.now) parents last split
+    (at_from-Lowered parents 1 t _ u (tree_of c.descend.new.above) low) c.requires)
 
 pub ascend-requires : goal.ascend-requires
 ascend-requires c =

@@ -11,7 +11,8 @@ use Rattle.tree_path.proofs.edit.value_by.Goals as goal
 
 pub returns-in-Err-clause-refused : goal.returns-in-Err-clause-refused
 returns-in-Err-clause-refused c =
-    at_from-missed c.args.tokens.now c.loop-passed.passed c.index-tokens-passed.result (tree_of c.args.tree.now) (tree_of c.loop-passed.value.now) c.in-Err.miss
+    at_from-missed c.args.tokens.now c.loop-passed.passed c.index-tokens-passed.result (tree_of c.args.tree.now)
+    (tree_of c.loop-passed.value.now) c.in-Err.miss
     c.loop-passed-test.true c.index-tokens-passed.is c.loop-passed.invariant.0
     (ap (λ bytes. child (tree_of c.loop-passed.value.now) (chars bytes)) (sym c.as_str.ensures.value) ∙ c.in-Err.ensures.missed)
     ∙ ap Err (sym c.at_step.ensures)

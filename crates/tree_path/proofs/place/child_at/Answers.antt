@@ -8,11 +8,13 @@ use Rattle.yaml_data.proofs.SeenLemmas.{tree_of-Text, tree_of-Seq, tree_of-Map}
 use Rattle.tree_path.specs.Paths.{child, key_in}
 use Rattle.tree_path.specs.Steps.{key_place}
 use Rattle.tree_path.proofs.Places.{place_of-pairs}
-use Rattle.tree_path.proofs.Steps.{child-Text, child-Seq, child-Seq-missed, child-Map, child-Map-missed, index-counted, place-within, place-found, place-missed}
+use Rattle.tree_path.proofs.Steps.{child-Text, child-Seq, child-Seq-missed, child-Map, child-Map-missed}
+use Rattle.tree_path.proofs.Steps.{index-counted, place-within, place-found, place-missed}
 use Rattle.tree_path.proofs.place.child_at.Goals as goal
 
 -- the known place, among the pairs of a mapping
-known : (place : Option ℕ) (token : List ℕ) (tree : Tree) (v : Vec Pair Global) → tree ≡ Map v → place ≡ key_in (tree_of tree) token → place ≡ key_place token v.items
+known : (place : Option ℕ) (token : List ℕ) (tree : Tree) (v : Vec Pair Global) → tree ≡ Map v
+    → place ≡ key_in (tree_of tree) token → place ≡ key_place token v.items
 known place token tree v is there = there ∙ ap (λ t. key_in t token) (ap tree_of is ∙ tree_of-Map v) ∙ place_of-pairs v.items token
 
 pub returns-in_err-index-in-Seq-clause-missed : goal.returns-in_err-index-in-Seq-clause-missed
@@ -22,7 +24,8 @@ returns-in_err-index-in-Seq-clause-missed c =
     let token = chars c.args.token.now in
     rw (p.1, p.2)
     (ap (λ t. child t token) (ap tree_of c.in-Seq.is ∙ tree_of-Seq v)
-    ∙ child-Seq-missed v.items token c.in_err-index-in-Seq.field-0.0 (index-counted v token c.len.result _ c.len.ensures c.in_err-index-in-Seq.ensures))
+    ∙ child-Seq-missed v.items token c.in_err-index-in-Seq.field-0.0
+    (index-counted v token c.len.result _ c.len.ensures c.in_err-index-in-Seq.ensures))
 
 pub returns-in_err-place-in-Map-clause-missed : goal.returns-in_err-place-in-Map-clause-missed
 returns-in_err-place-in-Map-clause-missed c =
@@ -48,7 +51,8 @@ returns-in_ok-index-in-Seq-clause-ok c =
     let v = c.in-Seq.items in
     let token = chars c.args.token.now in
     ap (λ t. child t token) (ap tree_of c.in-Seq.is ∙ tree_of-Seq v)
-    ∙ (child-Seq v.items token c.in_ok-index-in-Seq.index c.index.result.now (index-counted v token c.len.result _ c.len.ensures c.in_ok-index-in-Seq.ensures)).1
+    ∙ (child-Seq v.items token c.in_ok-index-in-Seq.index c.index.result.now
+    (index-counted v token c.len.result _ c.len.ensures c.in_ok-index-in-Seq.ensures)).1
     ∙ ap (λ x. Ok (tree_of x)) (sym c.index.ensures)
 
 pub returns-in_ok-place-in-Map-clause-ok : goal.returns-in_ok-place-in-Map-clause-ok

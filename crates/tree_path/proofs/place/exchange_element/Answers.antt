@@ -8,7 +8,8 @@ use Rattle.tree_path.proofs.place.exchange_element.Goals as goal
 pub index_mut-requires : goal.index_mut-requires
 index_mut-requires c =
     let v = c.args.items.now in
-    let within = (child-Seq v.items c.requires.0 c.args.place c.args.other.now (index-placed v.items c.requires.0 c.args.place c.requires.1)).0 in
+    let within = (child-Seq v.items c.requires.0 c.args.place c.args.other.now
+    (index-placed v.items c.requires.0 c.args.place c.requires.1)).0 in
     search rules
 
 pub returns-clause-taken : goal.returns-clause-taken

@@ -20,7 +20,8 @@ returns-then-eq c =
     sym (c.loop-place.invariant
     ∙ ap (option_map (λ i. c.loop-place.place + i))
     (key_place-turn (chars key) c.args.pairs.now c.loop-place.place pair c.loop-place-test.true c.index-pairs-place.is
-    ∙ ap (λ b. cond b (Some 0) (option_map suc (key_place (chars key) (drop (c.loop-place.place + 1) c.args.pairs.now)))) (same ∙ c.if-eq.true))
+    ∙ ap (λ b. cond b (Some 0) (option_map suc (key_place (chars key)
+    (drop (c.loop-place.place + 1) c.args.pairs.now)))) (same ∙ c.if-eq.true))
     ∙ ap Some (omega arith))
 
 pub loop-place-preserved : goal.loop-place-preserved
@@ -40,4 +41,5 @@ loop-place-preserved c =
 pub returns : goal.returns
 returns c =
     sym (c.loop-place.invariant
-    ∙ ap (option_map (λ i. c.loop-place.place + i)) (key_place-end (chars c.args.key.now) c.args.pairs.now c.loop-place.place c.loop-place-test.false))
+    ∙ ap (option_map (λ i. c.loop-place.place + i))
+    (key_place-end (chars c.args.key.now) c.args.pairs.now c.loop-place.place c.loop-place-test.false))

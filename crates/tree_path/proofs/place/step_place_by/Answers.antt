@@ -26,7 +26,8 @@ pub returns-in-Map : goal.returns-in-Map
 returns-in-Map c =
     let token = chars c.args.token.now in
     let v = c.in-Map.pairs in
-    c.ok_or.ensures.value ∙ ok_or-present c.key_place_by.result ∙ ap present (c.key_place_by.ensures ∙ ap (key_place token) c.deref.ensures.value)
+    c.ok_or.ensures.value ∙ ok_or-present c.key_place_by.result
+    ∙ ap present (c.key_place_by.ensures ∙ ap (key_place token) c.deref.ensures.value)
     ∙ sym (ap (λ t. step_place t token) (ap tree_of c.in-Map.is ∙ tree_of-Map v) ∙ step_place-Map v.items token)
 
 pub key_place_by-requires-clause-distinct : goal.key_place_by-requires-clause-distinct

@@ -21,4 +21,6 @@ pub returns : goal.returns
 returns c =
     let within = c.requires.0 in
     let l : c.args.at < length c.args.text.now = omega (arith, c.as_bytes-bytes.ensures.len, c.if-at-bytes.false) in
-    mark_missing c.args.text.now c.args.at c.utf8.text c.requires l (rw c.as_bytes-bytes.ensures.value at c.if-bytes-at-eq45.false) (rw c.as_bytes-bytes.ensures.value at c.if-bytes-at-eq43.false)
+    mark_missing c.args.text.now c.args.at c.utf8.text c.requires l
+    (rw c.as_bytes-bytes.ensures.value at c.if-bytes-at-eq45.false)
+    (rw c.as_bytes-bytes.ensures.value at c.if-bytes-at-eq43.false)

@@ -23,7 +23,8 @@ returns-in_err-parent-clause-refused c =
     let parts = split c.args.tokens.now last parents (rw c.unwrap.ensures at c.split_last.ensures.cases) in
     let p = err_from_is_err_and c.from_residual.result c.from_residual.ensures.1 in
     rw (p.1, p.2)
-    (delete-refused (texts c.args.tokens.now) (texts parents) (chars (cow_str_bytes last)) (tree_of c.args.tree.now) c.in_err-parent.field-0.0
+    (delete-refused (texts c.args.tokens.now) (texts parents) (chars (cow_str_bytes last))
+    (tree_of c.args.tree.now) c.in_err-parent.field-0.0
     parts.path c.in_err-parent.ensures.refused)
 
 pub cut_change-requires-clause-deep : goal.cut_change-requires-clause-deep
@@ -43,7 +44,8 @@ returns-in-Ok-clause-ok c =
     let u = tree_of c.in_ok-parent.parent.node.now in
     let slot = c.in_ok-parent.parent.slot in
     let few : length (texts parents) < 18446744073709551616 = omega (arith, parts.count) in
-    let edit = subst (λ bytes. (w : Tree) × (cut u (chars bytes) ≡ Ok w) × ChangesSmall slot c.in-Ok.change u w) c.as_str-token.ensures.value c.in-Ok.ensures.ok in
+    let edit = subst (λ bytes. (w : Tree) × (cut u (chars bytes) ≡ Ok w) × ChangesSmall slot c.in-Ok.change u w)
+    c.as_str-token.ensures.value c.in-Ok.ensures.ok in
     let whole = delete_changes (texts c.args.tokens.now) (texts parents) (chars (cow_str_bytes last)) slot t u c.in-Ok.change
     parts.path few c.in_ok-parent.ensures.ok edit in
     (whole.0, whole.1, changes-shifted parents c.in-Ok.change c.shifted.result t whole.0 parts.before c.shifted.ensures whole.2)
@@ -54,7 +56,8 @@ returns-in-Err-clause-refused c =
     let parents = c.unwrap.result.1.now in
     let parts = split c.args.tokens.now last parents (rw c.unwrap.ensures at c.split_last.ensures.cases) in
     let u = tree_of c.in_ok-parent.parent.node.now in
-    delete_misses (texts c.args.tokens.now) (texts parents) (chars (cow_str_bytes last)) (length c.args.tokens.now) c.in_ok-parent.parent.slot (tree_of c.args.tree.now) u c.in-Err.miss
+    delete_misses (texts c.args.tokens.now) (texts parents) (chars (cow_str_bytes last))
+    (length c.args.tokens.now) c.in_ok-parent.parent.slot (tree_of c.args.tree.now) u c.in-Err.miss
     parts.path parts.count c.in_ok-parent.ensures.ok
     (ap (λ b. cut u (chars b)) (sym c.as_str-token.ensures.value) ∙ c.in-Err.ensures.missed)
     ∙ ap Err (sym c.at_step.ensures)
@@ -64,7 +67,8 @@ parent_at-requires c =
     let last = c.unwrap.result.0.now in
     let parents = c.unwrap.result.1.now in
     let parts = split c.args.tokens.now last parents (rw c.unwrap.ensures at c.split_last.ensures.cases) in
-    knows-way c.args.known (tree_of c.args.tree.now) (texts c.args.tokens.now) (texts parents) (chars (cow_str_bytes last)) parts.path c.requires.known
+    knows-way c.args.known (tree_of c.args.tree.now) (texts c.args.tokens.now) (texts parents)
+    (chars (cow_str_bytes last)) parts.path c.requires.known
 
 pub key_place-place-requires : goal.key_place-place-requires
 key_place-place-requires c =

@@ -29,7 +29,8 @@ returns-in-Err-clause-refused c =
     at_from-missed c.args.tokens.now l.passed token (tree_of c.args.tree.now) node c.in-Err.miss
     c.loop-passed-test.true c.index-tokens-passed.is
     (at_from-Located (texts (take l.passed c.args.tokens.now)) 1 Value l.slot (tree_of c.args.tree.now) node l.invariant)
-    (place-missed node (chars (cow_str_bytes token)) c.in-Err.miss (ap (λ b. step_place node (chars b)) (sym c.as_str.ensures.value) ∙ sym c.in-Err.ensures))
+    (place-missed node (chars (cow_str_bytes token)) c.in-Err.miss
+    (ap (λ b. step_place node (chars b)) (sym c.as_str.ensures.value) ∙ sym c.in-Err.ensures))
     ∙ ap Err (sym c.at_step.ensures)
 
 pub loop-passed-preserved : goal.loop-passed-preserved
@@ -42,5 +43,7 @@ loop-passed-preserved c =
     let below = tree_of c.child_in-node.result.now in
     let place = ap (λ b. step_place node (chars b)) (sym c.as_str.ensures.value) ∙ sym c.in-Ok.ensures in
     subst (λ s. Located (texts (take (l.passed + 1) c.args.tokens.now)) Value t s below) (sym c.in_collection-slot.ensures)
-    (subst (λ ts. Located ts Value t (slot_in node) below) (sym (texts-turn c.args.tokens.now l.passed token c.loop-passed-test.true c.index-tokens-passed.is))
-    (Located-push (texts (take l.passed c.args.tokens.now)) text Value l.slot t node below l.invariant (c.child_in-node.ensures text place)))
+    (subst (λ ts. Located ts Value t (slot_in node) below)
+    (sym (texts-turn c.args.tokens.now l.passed token c.loop-passed-test.true c.index-tokens-passed.is))
+    (Located-push (texts (take l.passed c.args.tokens.now)) text Value l.slot t node below l.invariant
+    (c.child_in-node.ensures text place)))

@@ -60,7 +60,8 @@ returns-else-eq-clause-missed c =
     let seen = ap tree_of c.in-Seq.is ∙ tree_of-Seq c.in-Seq.items in
     let other = sym (bytes_eq-dash c.args.token.now c.utf8.token) ∙ sym c.eq.ensures ∙ c.if-eq.false in
     ap (λ t. put t token v) seen
-    ∙ put_sequence-missed _ v token c.in-Err.miss (not_last token other) (subst (λ t. child t token ≡ Err c.in-Err.miss) seen c.in-Err.ensures.missed)
+    ∙ put_sequence-missed _ v token c.in-Err.miss (not_last token other)
+    (subst (λ t. child t token ≡ Err c.in-Err.miss) seen c.in-Err.ensures.missed)
 
 pub returns-in-Text-clause-missed : goal.returns-in-Text-clause-missed
 returns-in-Text-clause-missed c =
@@ -74,15 +75,20 @@ pub returns-then-eq-clause-ok : goal.returns-then-eq-clause-ok
 returns-then-eq-clause-ok c =
     let items = c.in-Seq.items in
     let small = c.element_row.ensures.small in
-    pushed c.args.parent.now.slot (tree_of c.args.parent.now.node.now) items.items (tree_of c.args.value.now) (chars c.args.token.now) c.len.result c.element_row.result c.growth.result
+    pushed c.args.parent.now.slot (tree_of c.args.parent.now.node.now) items.items (tree_of c.args.value.now)
+    (chars c.args.token.now) c.len.result c.element_row.result c.growth.result
     (ap tree_of c.in-Seq.is ∙ tree_of-Seq items)
     (dash_index (chars c.args.token.now) (sym (bytes_eq-dash c.args.token.now c.utf8.token) ∙ sym c.eq.ensures ∙ c.if-eq.true))
-    (vec_counted items c.len.result c.len.ensures) (c.element_row.ensures.size ∙ ap row_of_element c.requires.size) (record { bytes = small.0; lines = small.1 }) c.growth.ensures
+    (vec_counted items c.len.result c.len.ensures) (c.element_row.ensures.size ∙ ap row_of_element c.requires.size)
+    (record { bytes = small.0; lines = small.1 }) c.growth.ensures
 
 pub returns-in-Map-clause-ok : goal.returns-in-Map-clause-ok
 returns-in-Map-clause-ok c =
     let pairs = c.in-Map.pairs in
     let small = c.member_row-row.ensures.small in
-    added c.args.parent.now.slot (tree_of c.args.parent.now.node.now) pairs.items (tree_of c.args.value.now) (chars c.args.token.now) c.in-Err.miss c.len-in-Map.result c.member_row-row.result c.growth-in-Map.result
+    added c.args.parent.now.slot (tree_of c.args.parent.now.node.now) pairs.items (tree_of c.args.value.now)
+    (chars c.args.token.now) c.in-Err.miss c.len-in-Map.result c.member_row-row.result c.growth-in-Map.result
     (ap tree_of c.in-Map.is ∙ tree_of-Map pairs) c.in-Err.ensures.missed
-    (vec_counted pairs c.len-in-Map.result c.len-in-Map.ensures) (c.member_row-row.ensures.size ∙ ap (row_of_member (chars c.args.token.now)) c.after_key.ensures) (record { bytes = small.0; lines = small.1 }) c.growth-in-Map.ensures
+    (vec_counted pairs c.len-in-Map.result c.len-in-Map.ensures)
+    (c.member_row-row.ensures.size ∙ ap (row_of_member (chars c.args.token.now)) c.after_key.ensures)
+    (record { bytes = small.0; lines = small.1 }) c.growth-in-Map.ensures

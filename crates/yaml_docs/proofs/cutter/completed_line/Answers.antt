@@ -10,7 +10,8 @@ pub loop-dots-preserved : goal.loop-dots-preserved
 loop-dots-preserved c k less b = elim (cases_lt k c.loop-dots.dots) [
   | inl low ↦ c.loop-dots.invariant k low b
   | inr high ↦ (let same : k ≡ c.loop-dots.dots = omega (arith, less, high) in
-      absurd (false≢true (sym c.if-completes.false ∙ c.completes.ensures.otherwise (subst (Completes c.args.held.now c.args.bytes.now) same b))))
+      absurd (false≢true (sym c.if-completes.false
+      ∙ c.completes.ensures.otherwise (subst (Completes c.args.held.now c.args.bytes.now) same b))))
 ]
 
 pub returns-clause-none : goal.returns-clause-none

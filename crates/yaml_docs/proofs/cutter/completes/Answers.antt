@@ -10,7 +10,8 @@ returns-then-is_begun-clause-completes c e =
     let bytes : List ℕ = c.args.bytes.now in
     let dots : ℕ = c.args.dots in
     let left : List ℕ = take (4 - dots) (drop dots closing_line) in
-    let starts : bytes ≡ left ++ drop (length left) bytes = (starts_is Decides-eqb bytes left c.starts_with.result c.starts_with.ensures.value).0 e in
+    let starts : bytes ≡ left ++ drop (length left) bytes =
+    (starts_is Decides-eqb bytes left c.starts_with.result c.starts_with.ensures.value).0 e in
     record {
       begun = c.is_begun.ensures.begun c.if-is_begun.true;
       after = drop (length left) bytes;
@@ -21,4 +22,5 @@ pub returns-then-is_begun-clause-otherwise : goal.returns-then-is_begun-clause-o
 returns-then-is_begun-clause-otherwise c b =
     let dots : ℕ = c.args.dots in
     let left : List ℕ = take (4 - dots) (drop dots closing_line) in
-    (starts_is Decides-eqb c.args.bytes.now left c.starts_with.result c.starts_with.ensures.value).1 b.after (b.is ∙ ap (λ (l : List ℕ). l ++ b.after) (sym (take_rest closing_line dots)))
+    (starts_is Decides-eqb c.args.bytes.now left c.starts_with.result c.starts_with.ensures.value).1 b.after
+    (b.is ∙ ap (λ (l : List ℕ). l ++ b.after) (sym (take_rest closing_line dots)))

@@ -13,4 +13,5 @@ returns-in-Some-clause-begun c e = record {
 }
 
 pub returns-in-None-clause-not_begun : goal.returns-in-None-clause-not_begun
-returns-in-None-clause-not_begun c b = absurd (strip_suffix_is Decides-eqb c.args.held.now (take c.args.dots closing_line) None c.in-None.ensures.cases b.prefix b.is)
+returns-in-None-clause-not_begun c b = absurd
+    (strip_suffix_is Decides-eqb c.args.held.now (take c.args.dots closing_line) None c.in-None.ensures.cases b.prefix b.is)

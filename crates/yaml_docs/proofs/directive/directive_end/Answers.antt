@@ -11,8 +11,10 @@ pub returns-clause-found : goal.returns-clause-found
 returns-clause-found c =
     let text = c.args.text.now in
     let version = c.in-Some.version in
-    some_by_three c.line_after.result (IsSolidLine false text version) (λ line. IsLineStart text line.start) (λ line. closes_line (all_comments false (rest text version)) ≡ true)
-    (IsDirective text c.args.at) (λ line solid starts closes. directive_there text c.args.at version line c.utf8.text c.requires c.in-Some.ensures.found solid starts closes)
+    some_by_three c.line_after.result (IsSolidLine false text version) (λ line. IsLineStart text line.start)
+    (λ line. closes_line (all_comments false (rest text version)) ≡ true)
+    (IsDirective text c.args.at) (λ line solid starts closes.
+    directive_there text c.args.at version line c.utf8.text c.requires c.in-Some.ensures.found solid starts closes)
     c.line_after.ensures.found c.line_after.ensures.starts c.line_after.ensures.closes
 
 pub returns-clause-none : goal.returns-clause-none

@@ -3,7 +3,8 @@ use Rattle.yaml_docs.proofs.DirectiveSteps.{first_there, name_there, none_withou
 use Rattle.yaml_docs.proofs.directive.version_end.Goals as goal
 
 pub white_end-version-requires : goal.white_end-version-requires
-white_end-version-requires c = (name_there c.args.text.now c.args.at c.utf8.text c.requires (sym c.begins_at.ensures ∙ c.if-not-begins_at.false)).boundary
+white_end-version-requires c = (name_there c.args.text.now c.args.at c.utf8.text c.requires
+    (sym c.begins_at.ensures ∙ c.if-not-begins_at.false)).boundary
 
 pub returns-then-version-at-clause-none : goal.returns-then-version-at-clause-none
 returns-then-version-at-clause-none c =
@@ -24,4 +25,5 @@ returns-then-begins_at-2-clause-found c =
 pub returns-clause-none : goal.returns-clause-none
 returns-clause-none c =
     none_without_version c.args.text.now c.args.at c.utf8.text c.requires (sym c.begins_at.ensures ∙ c.if-not-begins_at.false)
-    c.white_end-version.result c.white_end-version.ensures.taken (sym c.begins_at-2.ensures ∙ c.if-begins_at.false) (sym c.begins_at-3.ensures ∙ c.if-begins_at-2.false)
+    c.white_end-version.result c.white_end-version.ensures.taken (sym c.begins_at-2.ensures ∙ c.if-begins_at.false)
+    (sym c.begins_at-3.ensures ∙ c.if-begins_at-2.false)

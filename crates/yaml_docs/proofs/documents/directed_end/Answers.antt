@@ -30,5 +30,6 @@ pub returns-clause-none : goal.returns-clause-none
 returns-clause-none c =
     let text = c.args.text.now in
     let line = c.in-Some.line in
-    faults_so c.explicit_end.result (read_explicit document_node_at (rest text line.start) ≡ None) (read_directed document_node_at (rest text c.args.at) ≡ None)
+    faults_so c.explicit_end.result (read_explicit document_node_at (rest text line.start) ≡ None)
+    (read_directed document_node_at (rest text c.args.at) ≡ None)
     (document_missing text c.args.at line c.in-Some.ensures.found) c.explicit_end.ensures.none

@@ -22,9 +22,11 @@ pub returns-in_default-clause-none : goal.returns-in_default-clause-none
 returns-in_default-clause-none c =
     let text = c.args.text.now in
     let at = c.args.at in
-    faults_so c.block_node.result (document_node_at (line_starts text at) (rest text at) ≡ None) (explicit_with document_node_at (rest text at) (all_comments false (rest text at)) ≡ None)
+    faults_so c.block_node.result (document_node_at (line_starts text at) (rest text at) ≡ None)
+    (explicit_with document_node_at (rest text at) (all_comments false (rest text at)) ≡ None)
     (content_missing text at c.requires.inside_line c.in_default.ensures.none) c.block_node.ensures.missing
 
 pub returns-clause-reads : goal.returns-clause-reads
 returns-clause-reads c =
-    nothing_read c.args.text.now c.args.at c.args.events.now c.push.new.self c.in-Some.end c.omitted.result c.in-Some.ensures.found c.in_ok-push.ensures.ok c.omitted.ensures.event (c.omitted.ensures.borrowed c.args.text.now)
+    nothing_read c.args.text.now c.args.at c.args.events.now c.push.new.self c.in-Some.end c.omitted.result
+    c.in-Some.ensures.found c.in_ok-push.ensures.ok c.omitted.ensures.event (c.omitted.ensures.borrowed c.args.text.now)

@@ -21,9 +21,11 @@ pub returns-then-character-eq65279 : goal.returns-then-character-eq65279
 returns-then-character-eq65279 c =
     let text = c.args.text.now in
     let found = c.in-Some in
-    let prefix : rest text 0 ≡ 0xfeff ∷ rest text (0 + found.len) = found.ensures.char ∙ ap (λ (x : ℕ). x ∷ rest text (0 + found.len)) c.if-character-eq65279.true in
+    let prefix : rest text 0 ≡ 0xfeff ∷ rest text (0 + found.len) = found.ensures.char
+    ∙ ap (λ (x : ℕ). x ∷ rest text (0 + found.len)) c.if-character-eq65279.true in
     mark_there text found.len (rest text (0 + found.len)) c.utf8.text prefix (found.ensures.len ∙ ap len_utf8 c.if-character-eq65279.true)
 
 pub returns-else-character-eq65279 : goal.returns-else-character-eq65279
 returns-else-character-eq65279 c =
-    other_prefix c.args.text.now c.in-Some.character (rest c.args.text.now (0 + c.in-Some.len)) c.utf8.text c.in-Some.ensures.char c.if-character-eq65279.false
+    other_prefix c.args.text.now c.in-Some.character
+    (rest c.args.text.now (0 + c.in-Some.len)) c.utf8.text c.in-Some.ensures.char c.if-character-eq65279.false

@@ -9,7 +9,8 @@ returns-then-is_marker_of-clause-found c =
 
 pub returns-then-is_marker_of-2-clause-found : goal.returns-then-is_marker_of-2-clause-found
 returns-then-is_marker_of-2-clause-found c =
-    at_explicit c.args.opened (rest c.args.text.now c.args.line.start) c.requires.solid (sym c.is_marker_of.ensures ∙ c.if-is_marker_of.false)
+    at_explicit c.args.opened (rest c.args.text.now c.args.line.start) c.requires.solid
+    (sym c.is_marker_of.ensures ∙ c.if-is_marker_of.false)
     (sym c.is_marker_of-2.ensures ∙ c.if-is_marker_of-2.true)
 
 pub returns-then-not-opened-clause-none : goal.returns-then-not-opened-clause-none
@@ -20,9 +21,11 @@ returns-then-not-opened-clause-none c =
 pub returns-then-stands_at-clause-found : goal.returns-then-stands_at-clause-found
 returns-then-stands_at-clause-found c =
     at_directed c.args.opened (rest c.args.text.now c.args.line.start) c.if-not-opened.false c.requires.solid
-    (sym c.is_marker_of.ensures ∙ c.if-is_marker_of.false) (sym c.is_marker_of-2.ensures ∙ c.if-is_marker_of-2.false) (sym c.stands_at.ensures ∙ c.if-stands_at.true)
+    (sym c.is_marker_of.ensures ∙ c.if-is_marker_of.false) (sym c.is_marker_of-2.ensures ∙ c.if-is_marker_of-2.false)
+    (sym c.stands_at.ensures ∙ c.if-stands_at.true)
 
 pub returns-clause-found : goal.returns-clause-found
 returns-clause-found c =
     at_bare c.args.opened (rest c.args.text.now c.args.line.start) c.if-not-opened.false c.requires.solid
-    (sym c.is_marker_of.ensures ∙ c.if-is_marker_of.false) (sym c.is_marker_of-2.ensures ∙ c.if-is_marker_of-2.false) (sym c.stands_at.ensures ∙ c.if-stands_at.false)
+    (sym c.is_marker_of.ensures ∙ c.if-is_marker_of.false) (sym c.is_marker_of-2.ensures ∙ c.if-is_marker_of-2.false)
+    (sym c.stands_at.ensures ∙ c.if-stands_at.false)

@@ -9,11 +9,13 @@ parts-preserved g c =
     let bytes = c.args.bytes.now in
     let done = c.parts.done in
     let left = length-drop done bytes in
-    let all : take (length bytes - done) (drop done bytes) ≡ drop done bytes = take_all (length bytes - done) (drop done bytes) (omega (arith, left)) in
+    let all : take (length bytes - done) (drop done bytes) ≡ drop done bytes =
+    take_all (length bytes - done) (drop done bytes) (omega (arith, left)) in
     let bound = c.in-Ok.ensures.bound in
     let part : c.in-Ok.count ≤ length (drop done bytes) = subst (λ l. c.in-Ok.count ≤ length l) all bound in
     record {
       within = omega (arith, c.parts.invariant.within, part, left);
       out = appends-more _ _ _ bytes done c.in-Ok.count c.parts.invariant.out
-          (subst (λ l. Appends (g.W.Write.contents c.parts.writer) (g.W.Write.contents c.write.new.self) (take c.in-Ok.count l)) all c.in-Ok.ensures.bytes);
+          (subst (λ l. Appends (g.W.Write.contents c.parts.writer) (g.W.Write.contents c.write.new.self)
+          (take c.in-Ok.count l)) all c.in-Ok.ensures.bytes);
     }

@@ -13,8 +13,12 @@ returns-in-Ok-stream-clause-reads c =
     let bytes = c.args.bytes.now in
     let utf8 : IsUtf8 bytes = c.in-Ok.ensures.valid.0 refl in
     let found : stream_meaning (chars bytes) ≡ Some (events_of c.in-Ok-stream.events) =
-    subst (λ (t : List ℕ). stream_meaning (chars t) ≡ Some (events_of c.in-Ok-stream.events)) c.in-Ok.ensures.text c.in-Ok-stream.ensures.found in
-    record { text = record { short = c.if-bytes-max.false; utf8 = utf8 }; reads = bytes_read bytes (events_of c.in-Ok-stream.events) utf8 found }
+    subst (λ (t : List ℕ). stream_meaning (chars t) ≡ Some (events_of c.in-Ok-stream.events)) c.in-Ok.ensures.text
+    c.in-Ok-stream.ensures.found in
+    record {
+      text = record { short = c.if-bytes-max.false; utf8 = utf8 };
+      reads = bytes_read bytes (events_of c.in-Ok-stream.events) utf8 found;
+    }
 
 pub returns-in-Ok-stream-clause-in_order : goal.returns-in-Ok-stream-clause-in_order
 returns-in-Ok-stream-clause-in_order c =
@@ -26,7 +30,8 @@ returns-in-Err-At-clause-refused c =
     let bytes = c.args.bytes.now in
     let utf8 : IsUtf8 bytes = c.in-Ok.ensures.valid.0 refl in
     let refused : stream_meaning (chars c.in-Ok.text.now) ≡ None =
-    subst (λ (fault : ScanFault). Refuses fault (stream_meaning (chars c.in-Ok.text.now) ≡ None)) c.in-Err-At.field-0-is c.in-Err-At.ensures.none in
+    subst (λ (fault : ScanFault). Refuses fault (stream_meaning (chars c.in-Ok.text.now) ≡ None))
+    c.in-Err-At.field-0-is c.in-Err-At.ensures.none in
     let none : stream_meaning (chars bytes) ≡ None = subst (λ (t : List ℕ). stream_meaning (chars t) ≡ None) c.in-Ok.ensures.text refused in
     syntax_refused bytes c.args.max c.syntax.result (record { short = c.if-bytes-max.false; utf8 = utf8 }) none c.syntax.ensures
 

@@ -15,7 +15,8 @@ returns-in_err-key-clause-none c =
     let d = context_of c.args.setting.context in
     let text = c.args.text.now in
     fault_passed c.from_residual.result c.in_err-key.field-0.0 (NoGap n d (rest text c.args.at)) _
-    (λ stop. λ w here. asks_dead n d text w (in_sequence c.args.top.now.kind) c.args.at c.args.events.now stop here) c.in_err-key.ensures.none
+    (λ stop. λ w here. asks_dead n d text w (in_sequence c.args.top.now.kind) c.args.at c.args.events.now stop here)
+    c.in_err-key.ensures.none
     (err_from_is_err_and c.from_residual.result c.from_residual.ensures.1)
 
 pub returns-then-key-at-clause-none : goal.returns-then-key-at-clause-none
@@ -24,7 +25,8 @@ returns-then-key-at-clause-none c =
     let d = context_of c.args.setting.context in
     let text = c.args.text.now in
     refuses c.fault.result _
-    (λ w here. asks_nothing n d text w (in_sequence c.args.top.now.kind) c.args.at c.in_ok-key.key c.args.events.now c.if-key-at.true c.in_ok-key.ensures.found here)
+    (λ w here. asks_nothing n d text w (in_sequence c.args.top.now.kind) c.args.at c.in_ok-key.key c.args.events.now
+    c.if-key-at.true c.in_ok-key.ensures.found here)
 
 pub returns-clause-stands : goal.returns-clause-stands
 returns-clause-stands c =
@@ -35,5 +37,6 @@ returns-clause-stands c =
     let above = gap.above in
     let apart = c.if-key-at.false in
     let further : c.args.at < c.in_ok-key.key = omega (arith, above, apart) in
-    λ w here. asks n d text w (record c.args.top.now { part = Asked }) (in_sequence c.args.top.now.kind) c.args.at c.in_ok-key.key c.args.events.now c.start_pair.new.events refl refl
+    λ w here. asks n d text w (record c.args.top.now { part = Asked })
+    (in_sequence c.args.top.now.kind) c.args.at c.in_ok-key.key c.args.events.now c.start_pair.new.events refl refl
     c.requires.inside_line further gap (c.in_ok-start_pair.ensures.written text) here

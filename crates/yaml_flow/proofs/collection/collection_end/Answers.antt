@@ -9,11 +9,13 @@ use Rattle.yaml_flow.specs.declared.collection.Next.TheVariants.{Entry, Node, Af
 use Rattle.yaml_flow.specs.Frames.{BeforeGap, Collection, LineMoves, Onward, Started, WholeRead, in_sequence, place_of, steps_left}
 use Rattle.yaml_flow.proofs.FlowSteps.{in_flow_twice, opened}
 use Rattle.yaml_flow.proofs.Signs.{opener_starts}
-use Rattle.yaml_flow.proofs.Stacks.{before, closed, kept_on, kept_once, outermost, refused, stack_none, started, starts_pop, starts_push, stepped, turned, whole_read}
+use Rattle.yaml_flow.proofs.Stacks.{before, closed, kept_on, kept_once, outermost, refused, stack_none, started}
+use Rattle.yaml_flow.proofs.Stacks.{starts_pop, starts_push, stepped, turned, whole_read}
 use Rattle.yaml_flow.proofs.collection.collection_end.Goals as goal
 
 pub pass-requires-clause-inside_line : goal.pass-requires-clause-inside_line
-pass-requires-clause-inside_line c = opener_starts c.args.text.now c.args.at (in_sequence c.args.kind) c.utf8.text c.requires.at c.requires.bracket
+pass-requires-clause-inside_line c = opener_starts c.args.text.now c.args.at
+    (in_sequence c.args.kind) c.utf8.text c.requires.at c.requires.bracket
 
 pub returns-in_err-next-clause-none : goal.returns-in_err-next-clause-none
 returns-in_err-next-clause-none c =
@@ -38,7 +40,8 @@ nodes-init c =
     let top = c.in_ok-top.top in
     let next = c.in_ok-next.next in
     let before : BeforeGap n d text whole (in_sequence c.args.kind) (at + 1) c.begin.new.events =
-    opened n outside d text at (in_sequence c.args.kind) c.args.events.now c.begin.new.events c.in_flow.ensures c.requires.bracket (c.in_ok-top.ensures.written text) in
+    opened n outside d text at (in_sequence c.args.kind) c.args.events.now c.begin.new.events c.in_flow.ensures
+    c.requires.bracket (c.in_ok-top.ensures.written text) in
     let moves : LineMoves text at (at + 1) c.pass.new.line (place_of next) = c.in_ok-next.ensures.line in
     record {
       reading = record {
@@ -137,7 +140,8 @@ returns-in_err-next-in-Some-clause-none c =
     (λ f. stack_none c.args.n (context_of c.in_flow.result) c.args.text.now
     (outermost c.args.n (context_of c.args.c) c.args.text.now c.args.at c.args.events.now) p.around
     c.pop.new.self.items p.outer p.stack (f p.outer p.node))
-    c.in_err-next-in-Some.ensures.none (err_from_is_err_and c.from_residual-in_err-next-in-Some.result c.from_residual-in_err-next-in-Some.ensures.1)
+    c.in_err-next-in-Some.ensures.none (err_from_is_err_and c.from_residual-in_err-next-in-Some.result
+    c.from_residual-in_err-next-in-Some.ensures.1)
 
 pub returns-in_err-next-in-Some-clause-kept : goal.returns-in_err-next-in-Some-clause-kept
 returns-in_err-next-in-Some-clause-kept c =

@@ -17,7 +17,8 @@ returns-then-at-text-clause-none c =
     let n = c.args.setting.n in
     let d = context_of c.args.setting.context in
     let text = c.args.text.now in
-    refuses c.fault.result _ (λ w here. node_at_end n d text w c.args.top.now c.args.at c.args.events.now (omega (arith, c.if-at-text.true)) here)
+    refuses c.fault.result _ (λ w here. node_at_end n d text w c.args.top.now c.args.at c.args.events.now
+    (omega (arith, c.if-at-text.true)) here)
 
 pub returns-in_default-clause-none : goal.returns-in_default-clause-none
 returns-in_default-clause-none c =
@@ -28,13 +29,15 @@ returns-in_default-clause-none c =
     (λ h. λ w here. h w (at_start n d text w c.args.top.now c.args.at c.len-top.result c.args.events.now here)) c.scalar.ensures.none
 
 pub pass-requires-clause-inside_line : goal.pass-requires-clause-inside_line
-pass-requires-clause-inside_line c = opener_starts c.args.text.now c.args.at (in_sequence c.in-Some.kind) c.utf8.text c.requires.at c.in-Some.ensures.found
+pass-requires-clause-inside_line c = opener_starts c.args.text.now c.args.at
+    (in_sequence c.in-Some.kind) c.utf8.text c.requires.at c.in-Some.ensures.found
 
 pub returns-clause-line : goal.returns-clause-line
 returns-clause-line c =
     let text = c.args.text.now in
     ok_so c.pass.result _ _
-    (λ next h. opener_then text c.args.line.now c.args.at (in_sequence c.in-Some.kind) c.pass.new.line (place_of next) c.utf8.text c.requires.at c.in-Some.ensures.found h) c.pass.ensures.line
+    (λ next h. opener_then text c.args.line.now c.args.at (in_sequence c.in-Some.kind) c.pass.new.line
+    (place_of next) c.utf8.text c.requires.at c.in-Some.ensures.found h) c.pass.ensures.line
 
 pub returns-clause-stands : goal.returns-clause-stands
 returns-clause-stands c =
@@ -53,12 +56,18 @@ returns-clause-stands c =
         c.args.outer.now.items,
         record top { start = at; before = c.len-top.result },
         c.in_ok-push_open.ensures.ok,
-        record { waits = at_start n d text inner top at c.len-top.result events here; start = refl; count = sym c.len-top.ensures; node = refl },
+        record {
+          waits = at_start n d text inner top at c.len-top.result events here;
+          start = refl;
+          count = sym c.len-top.ensures;
+          node = refl;
+        },
         stack,
       );
       stands = h opens c.in_ok-top.field-0 c.begin.new.events
           (subst (λ s. BeforeGap n d text opens (in_sequence s) (at + 1) c.begin.new.events) (sym c.in_ok-top.ensures.kind)
-          (opened n d d text at (in_sequence c.in-Some.kind) events c.begin.new.events (sym c.requires.inside) c.in-Some.ensures.found (c.in_ok-top.ensures.written text)));
+          (opened n d d text at (in_sequence c.in-Some.kind) events c.begin.new.events
+          (sym c.requires.inside) c.in-Some.ensures.found (c.in_ok-top.ensures.written text)));
     }) c.pass.ensures.stands
 
 pub returns-clause-none : goal.returns-clause-none
@@ -72,7 +81,8 @@ returns-clause-none c =
     faults_so c.pass.result _ _
     (λ h. λ w here. node_missing n d text w c.args.top.now at events
     (h opens (in_sequence c.in-Some.kind) c.begin.new.events
-    (opened n d d text at (in_sequence c.in-Some.kind) events c.begin.new.events (sym c.requires.inside) c.in-Some.ensures.found (c.in_ok-top.ensures.written text))) here) c.pass.ensures.none
+    (opened n d d text at (in_sequence c.in-Some.kind) events c.begin.new.events
+    (sym c.requires.inside) c.in-Some.ensures.found (c.in_ok-top.ensures.written text))) here) c.pass.ensures.none
 
 pub returns-clause-onward : goal.returns-clause-onward
 returns-clause-onward c =

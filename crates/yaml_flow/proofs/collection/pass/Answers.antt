@@ -20,4 +20,5 @@ pub returns-clause-stands : goal.returns-clause-stands
 returns-clause-stands c =
     let n = c.args.setting.n in
     let d = context_of c.args.setting.context in
-    λ w top events here. passed n d c.args.text.now w (in_sequence top.kind) c.args.at c.in_ok-end.end events c.in_ok-end.ensures.found c.requires.inside_line here
+    λ w top events here. passed n d c.args.text.now w
+    (in_sequence top.kind) c.args.at c.in_ok-end.end events c.in_ok-end.ensures.found c.requires.inside_line here

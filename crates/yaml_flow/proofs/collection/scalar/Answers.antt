@@ -20,7 +20,8 @@ returns-in-Err-clause-none c =
     let text = c.args.text.now in
     let start = c.args.top.now.start in
     fault_kept c.in-Err.fault c.no_scalar.result (NoFlowScalar n d text start) _ c.no_scalar.ensures
-    (λ none. λ w here. node_missing n d text w c.args.top.now start c.args.events.now (scalar_missing n d text start c.requires.no_seq c.requires.no_map none) here) c.in-Err.ensures.none
+    (λ none. λ w here. node_missing n d text w c.args.top.now start c.args.events.now
+    (scalar_missing n d text start c.requires.no_seq c.requires.no_map none) here) c.in-Err.ensures.none
 
 pub returns-clause-line : goal.returns-clause-line
 returns-clause-line c =
@@ -31,12 +32,15 @@ returns-clause-line c =
     let over : c.is_over_lines.result ≡ not (unbroken_between text start c.in-Ok.found.end) = c.is_over_lines.ensures in
     let moves : LineMoves text c.args.line.now start c.if-is_over_lines.line c.in-Ok.found.end = elim c.if-is_over_lines.branch [
       | then-is_over_lines w ↦ subst (λ k. LineMoves text c.args.line.now start k c.in-Ok.found.end) (sym w.line-is)
-          (line_follows text c.args.line.now start c.in-Ok.found.end c.utf8.text above c.requires.at read.boundary (broken_by _ _ over w.if-is_over_lines.true))
+          (line_follows text c.args.line.now start c.in-Ok.found.end c.utf8.text above c.requires.at read.boundary
+          (broken_by _ _ over w.if-is_over_lines.true))
       | else-is_over_lines w ↦ subst (λ k. LineMoves text c.args.line.now start k c.in-Ok.found.end) (sym w.line-is)
-          (line_stays text c.args.line.now start c.in-Ok.found.end c.utf8.text (omega (arith, above)) c.requires.at read.boundary (unbroken_by _ _ over w.if-is_over_lines.false))
+          (line_stays text c.args.line.now start c.in-Ok.found.end c.utf8.text
+          (omega (arith, above)) c.requires.at read.boundary (unbroken_by _ _ over w.if-is_over_lines.false))
     ] in
     ok_so c.plug.result _ _
-    (λ next h. line_then text c.args.line.now start c.if-is_over_lines.line c.in-Ok.found.end c.plug.new.line (place_of next) (omega (arith, above)) c.requires.at moves h) c.plug.ensures.line
+    (λ next h. line_then text c.args.line.now start c.if-is_over_lines.line c.in-Ok.found.end c.plug.new.line
+    (place_of next) (omega (arith, above)) c.requires.at moves h) c.plug.ensures.line
 
 pub returns-clause-stands : goal.returns-clause-stands
 returns-clause-stands c =
@@ -46,8 +50,10 @@ returns-clause-stands c =
     let top = c.args.top.now in
     let events = c.args.events.now in
     ok_so c.plug.result _ _
-    (λ next h. λ w here. h w (scalar_node n d text w top c.node_end-node_end.result c.in-Ok.found events c.push.new.events c.utf8.text c.requires.at c.requires.no_seq c.requires.no_map c.requires.count
-    c.in-Ok.ensures.found c.node_end-node_end.ensures (c.in_ok-push.ensures.ok ∙ ap (λ e. events ++ e ∷ []) c.into_event.ensures) here)) c.plug.ensures.stands
+    (λ next h. λ w here. h w (scalar_node n d text w top c.node_end-node_end.result c.in-Ok.found events
+    c.push.new.events c.utf8.text c.requires.at c.requires.no_seq c.requires.no_map c.requires.count
+    c.in-Ok.ensures.found c.node_end-node_end.ensures
+    (c.in_ok-push.ensures.ok ∙ ap (λ e. events ++ e ∷ []) c.into_event.ensures) here)) c.plug.ensures.stands
 
 pub returns-clause-none : goal.returns-clause-none
 returns-clause-none c =
@@ -57,8 +63,10 @@ returns-clause-none c =
     let top = c.args.top.now in
     let events = c.args.events.now in
     faults_so c.plug.result _ _
-    (λ h. λ w here. h w (scalar_node n d text w top c.node_end-node_end.result c.in-Ok.found events c.push.new.events c.utf8.text c.requires.at c.requires.no_seq c.requires.no_map c.requires.count
-    c.in-Ok.ensures.found c.node_end-node_end.ensures (c.in_ok-push.ensures.ok ∙ ap (λ e. events ++ e ∷ []) c.into_event.ensures) here)) c.plug.ensures.none
+    (λ h. λ w here. h w (scalar_node n d text w top c.node_end-node_end.result c.in-Ok.found events c.push.new.events
+    c.utf8.text c.requires.at c.requires.no_seq c.requires.no_map c.requires.count
+    c.in-Ok.ensures.found c.node_end-node_end.ensures
+    (c.in_ok-push.ensures.ok ∙ ap (λ e. events ++ e ∷ []) c.into_event.ensures) here)) c.plug.ensures.none
 
 pub plug-requires-clause-line : goal.plug-requires-clause-line
 plug-requires-clause-line c =
@@ -69,9 +77,11 @@ plug-requires-clause-line c =
     let over : c.is_over_lines.result ≡ not (unbroken_between text start c.in-Ok.found.end) = c.is_over_lines.ensures in
     let moves : LineMoves text c.args.line.now start c.if-is_over_lines.line c.in-Ok.found.end = elim c.if-is_over_lines.branch [
       | then-is_over_lines w ↦ subst (λ k. LineMoves text c.args.line.now start k c.in-Ok.found.end) (sym w.line-is)
-          (line_follows text c.args.line.now start c.in-Ok.found.end c.utf8.text above c.requires.at read.boundary (broken_by _ _ over w.if-is_over_lines.true))
+          (line_follows text c.args.line.now start c.in-Ok.found.end c.utf8.text above c.requires.at read.boundary
+          (broken_by _ _ over w.if-is_over_lines.true))
       | else-is_over_lines w ↦ subst (λ k. LineMoves text c.args.line.now start k c.in-Ok.found.end) (sym w.line-is)
-          (line_stays text c.args.line.now start c.in-Ok.found.end c.utf8.text (omega (arith, above)) c.requires.at read.boundary (unbroken_by _ _ over w.if-is_over_lines.false))
+          (line_stays text c.args.line.now start c.in-Ok.found.end c.utf8.text
+          (omega (arith, above)) c.requires.at read.boundary (unbroken_by _ _ over w.if-is_over_lines.false))
     ] in
     moves.tells start c.requires.at (omega arith) (same_line_here text c.args.line.now start c.requires.line)
 

@@ -25,4 +25,5 @@ returns-in-Err-clause-none c =
     let d = context_of c.args.c in
     let text = c.args.text.now in
     let at = c.args.at in
-    refuses_so c.in-Err.fault _ _ (λ e. c.flow_node_stands.ensures.missing n d (line_starts text at) (rest text at) e) c.in-Err.ensures.missing
+    refuses_so c.in-Err.fault _ _ (λ e. c.flow_node_stands.ensures.missing n d (line_starts text at) (rest text at) e)
+    c.in-Err.ensures.missing

@@ -7,8 +7,10 @@ use Rattle.yaml_flow.proofs.node.read_node.Goals as goal
 pub returns-in-Some-plain_line_at-clause-reads : goal.returns-in-Some-plain_line_at-clause-reads
 returns-in-Some-plain_line_at-clause-reads c =
     let no = c.in_default.ensures.none in
-    ok_so c.put_scalar.result _ (λ end. FlowNodeRead c.args.n (context_of c.args.c) c.args.text.now c.args.at end c.args.events.now c.put_scalar.new.events)
-    (λ end put. scalar_node_read c.args.n (context_of c.args.c) c.args.text.now c.args.at end c.in-Some-plain_line_at.found c.args.events.now c.put_scalar.new.events c.utf8.text c.requires no.0 no.1
+    ok_so c.put_scalar.result _ (λ end. FlowNodeRead c.args.n
+    (context_of c.args.c) c.args.text.now c.args.at end c.args.events.now c.put_scalar.new.events)
+    (λ end put. scalar_node_read c.args.n (context_of c.args.c) c.args.text.now c.args.at end
+    c.in-Some-plain_line_at.found c.args.events.now c.put_scalar.new.events c.utf8.text c.requires no.0 no.1
     c.in-Some-plain_line_at.ensures put.0 put.1) c.put_scalar.ensures.written
 
 pub any_scalar-requires-clause-no_seq : goal.any_scalar-requires-clause-no_seq

@@ -6,7 +6,8 @@ use Rattle.yaml_recognizers.specs.Ends.{is_colon}
 use Rattle.yaml_scan.specs.Gaps.{NoGap}
 use Rattle.yaml_scan.proofs.Outcomes.{fault_passed, faults_so, ok_so}
 use Rattle.yaml_flow.specs.declared.collection.Part.TheVariants.{Value}
-use Rattle.yaml_flow.specs.Frames.{AtColon, Collection, LineMoves, NodeRead, NoPair, Onward, SameLine, Stands, ends_plain, in_sequence, place_of, steps_left}
+use Rattle.yaml_flow.specs.Frames.{AtColon, Collection, LineMoves, NodeRead, NoPair, Onward, SameLine, Stands}
+use Rattle.yaml_flow.specs.Frames.{ends_plain, in_sequence, place_of, steps_left}
 use Rattle.yaml_flow.proofs.ColonSteps.{colon_read, colon_refused, node_dead}
 use Rattle.yaml_flow.proofs.NodeSteps.{entry_alone, not_value, the_value, value_read}
 use Rattle.yaml_flow.proofs.Results.{ok_two}
@@ -19,7 +20,8 @@ returns-in_err-after-clause-none c =
     let d = context_of c.args.setting.context in
     let text = c.args.text.now in
     fault_passed c.from_residual.result c.in_err-after.field-0.0 (NoGap n d (rest text c.args.end)) _
-    (λ stop. λ w here. node_dead n d text w c.args.top.now c.args.node_end c.args.end c.args.events.now stop here) c.in_err-after.ensures.none
+    (λ stop. λ w here. node_dead n d text w c.args.top.now c.args.node_end c.args.end c.args.events.now stop here)
+    c.in_err-after.ensures.none
     (err_from_is_err_and c.from_residual.result c.from_residual.ensures.1)
 
 pub returns-then-is_value-clause-stands : goal.returns-then-is_value-clause-stands
@@ -31,7 +33,8 @@ returns-then-is_value-clause-stands c =
     let p : top.part ≡ Value = the_value top.part (sym c.is_value.ensures ∙ c.if-is_value.true) in
     ok_two c.close_pair.result _ _ _
     (λ next e h. λ w here. subst (λ x. Stands n d text w top x c.close_pair.new.events) (sym e)
-    (value_read n d text w top c.args.node_end c.args.end c.in_ok-after.after c.args.events.now c.close_pair.new.events c.utf8.text c.requires.start c.requires.end p
+    (value_read n d text w top c.args.node_end c.args.end c.in_ok-after.after c.args.events.now
+    c.close_pair.new.events c.utf8.text c.requires.start c.requires.end p
     c.in_ok-after.ensures.found (h text) here)) c.close_pair.ensures.next c.close_pair.ensures.written
 
 pub returns-then-not-colon_at-clause-stands : goal.returns-then-not-colon_at-clause-stands
@@ -41,10 +44,12 @@ returns-then-not-colon_at-clause-stands c =
     let text = c.args.text.now in
     let top = c.args.top.now in
     let p : top.part ≡ Value → ⊥ = not_value top.part (sym c.is_value.ensures ∙ c.if-is_value.false) in
-    let sign : is_colon d (ends_plain c.args.node_end) (rest text c.in_ok-after.after) ≡ false = sym c.colon_at.ensures ∙ c.if-not-colon_at.true in
+    let sign : is_colon d (ends_plain c.args.node_end) (rest text c.in_ok-after.after) ≡ false =
+    sym c.colon_at.ensures ∙ c.if-not-colon_at.true in
     ok_two c.without_value.result _ _ _
     (λ next e h. λ w here. subst (λ x. Stands n d text w top x c.without_value.new.events) (sym e)
-    (entry_alone n d text w top c.args.node_end c.args.end c.in_ok-after.after c.args.events.now c.without_value.new.events c.utf8.text c.requires.start c.requires.end p
+    (entry_alone n d text w top c.args.node_end c.args.end c.in_ok-after.after c.args.events.now
+    c.without_value.new.events c.utf8.text c.requires.start c.requires.end p
     c.in_ok-after.ensures.found sign (h text) here)) c.without_value.ensures.next c.without_value.ensures.written
 
 pub returns-in_err-begin_pair-clause-none : goal.returns-in_err-begin_pair-clause-none
@@ -56,9 +61,11 @@ returns-in_err-begin_pair-clause-none c =
     let colon = c.in_ok-after.after in
     let line = c.pass_gap.new.line in
     let sign : is_colon d (ends_plain c.args.node_end) (rest text colon) ≡ true = sym c.colon_at.ensures ∙ c.if-not-colon_at.false in
-    let same : SameLine text line top.start colon = c.in_ok-after.ensures.line.tells top.start c.requires.start c.requires.order c.requires.line in
+    let same : SameLine text line top.start colon =
+    c.in_ok-after.ensures.line.tells top.start c.requires.start c.requires.order c.requires.line in
     fault_passed c.from_residual-in_err-begin_pair.result c.in_err-begin_pair.field-0.0 (NoPair text top line colon) _
-    (λ stop. λ w here. colon_refused n d text w top c.args.node_end line c.args.end colon c.args.events.now c.utf8.text c.requires.start c.requires.order
+    (λ stop. λ w here. colon_refused n d text w top c.args.node_end line c.args.end colon c.args.events.now
+    c.utf8.text c.requires.start c.requires.order
     (in_flow_widens d c.requires.inside) c.in_ok-after.ensures.found sign same stop here) c.in_err-begin_pair.ensures.none
     (err_from_is_err_and c.from_residual-in_err-begin_pair.result c.from_residual-in_err-begin_pair.ensures.1)
 
@@ -76,7 +83,8 @@ pair_begun c =
     let p : top.part ≡ Value → ⊥ = not_value top.part (sym c.is_value.ensures ∙ c.if-is_value.false) in
     let sign : is_colon (context_of c.args.setting.context) (ends_plain c.args.node_end) (rest text colon) ≡ true =
     sym c.colon_at.ensures ∙ c.if-not-colon_at.false in
-    let same : SameLine text line top.start colon = c.in_ok-after.ensures.line.tells top.start c.requires.start c.requires.order c.requires.line in
+    let same : SameLine text line top.start colon =
+    c.in_ok-after.ensures.line.tells top.start c.requires.start c.requires.order c.requires.line in
     λ w. colon_read c.args.setting.n (context_of c.args.setting.context) text w top c.args.node_end line c.args.end
     colon c.args.events.now c.begin_pair.new.events c.utf8.text c.requires.start c.requires.end c.requires.order
     (in_flow_widens (context_of c.args.setting.context) c.requires.inside) p c.in_ok-after.ensures.found sign same

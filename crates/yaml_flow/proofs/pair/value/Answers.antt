@@ -37,7 +37,8 @@ returns-in_err-at-clause-none c =
     let text = c.args.text.now in
     let s = sign_there text c.args.colon 58 c.utf8.text c.requires.at (omega arith) c.requires.stands in
     fault_passed c.from_residual.result c.in_err-at.field-0.0 (NoGap n d (rest text (c.args.colon + 1))) _
-    (λ stop. λ w here. value_dead n d text w (in_sequence c.args.top.now.kind) c.args.key_end c.args.colon c.args.events.now here s stop) c.in_err-at.ensures.none
+    (λ stop. λ w here. value_dead n d text w (in_sequence c.args.top.now.kind) c.args.key_end c.args.colon
+    c.args.events.now here s stop) c.in_err-at.ensures.none
     (err_from_is_err_and c.from_residual.result c.from_residual.ensures.1)
 
 pub returns-then-is_left_out-clause-line : goal.returns-then-is_left_out-clause-line
@@ -46,7 +47,8 @@ returns-then-is_left_out-clause-line c =
     let s = sign_there text c.args.colon 58 c.utf8.text c.requires.at (omega arith) c.requires.stands in
     ok_so c.close_pair.result _ _
     (λ next h. subst (λ x. LineMoves text c.args.line.now c.args.colon c.pass_gap.new.line (place_of x)) (sym h)
-    (sign_then text c.args.line.now c.args.colon 58 c.pass_gap.new.line c.in_ok-at.at c.utf8.text c.requires.at s refl c.in_ok-at.ensures.line)) c.close_pair.ensures.next
+    (sign_then text c.args.line.now c.args.colon 58 c.pass_gap.new.line c.in_ok-at.at c.utf8.text c.requires.at s refl
+    c.in_ok-at.ensures.line)) c.close_pair.ensures.next
 
 pub returns-then-is_left_out-clause-stands : goal.returns-then-is_left_out-clause-stands
 returns-then-is_left_out-clause-stands c =
@@ -61,16 +63,20 @@ returns-then-is_left_out-clause-stands c =
     test_is n d text after c.in_ok-at.at (ends_plain c.args.key_end) gap ∙ (sym c.is_left_out.ensures ∙ c.if-is_left_out.true) in
     ok_two c.close_pair.result _ _ _
     (λ next e h. λ w here. subst (λ x. Stands n d text w c.args.top.now x c.close_pair.new.events) (sym e)
-    (pair_without_value n d text w in_seq c.args.key_end c.args.colon c.args.events.now here c.in_ok-at.at c.close_pair.new.events s gap test
+    (pair_without_value n d text w in_seq c.args.key_end c.args.colon c.args.events.now here c.in_ok-at.at
+    c.close_pair.new.events s gap test
     (appended_then text c.args.events.now c.push.new.events c.close_pair.new.events (omitted_at after) (pair_end in_seq)
-    (appended_one text c.args.events.now c.push.new.events c.omitted.result (scalar_event omitted_style after after []) c.in_ok-push.ensures.ok c.omitted.ensures.event (c.omitted.ensures.borrowed text))
+    (appended_one text c.args.events.now c.push.new.events c.omitted.result
+    (scalar_event omitted_style after after []) c.in_ok-push.ensures.ok c.omitted.ensures.event
+    (c.omitted.ensures.borrowed text))
     (h text)))) c.close_pair.ensures.next c.close_pair.ensures.written
 
 pub returns-clause-line : goal.returns-clause-line
 returns-clause-line c =
     let text = c.args.text.now in
     let s = sign_there text c.args.colon 58 c.utf8.text c.requires.at (omega arith) c.requires.stands in
-    sign_then text c.args.line.now c.args.colon 58 c.pass_gap.new.line c.in_ok-at.at c.utf8.text c.requires.at s refl c.in_ok-at.ensures.line
+    sign_then text c.args.line.now c.args.colon 58 c.pass_gap.new.line c.in_ok-at.at c.utf8.text c.requires.at s refl
+    c.in_ok-at.ensures.line
 
 pub returns-clause-stands : goal.returns-clause-stands
 returns-clause-stands c =
@@ -80,8 +86,10 @@ returns-clause-stands c =
     let s = sign_there text c.args.colon 58 c.utf8.text c.requires.at (omega arith) c.requires.stands in
     let gap = c.in_ok-at.ensures.found in
     let test : left_out (ends_plain c.args.key_end) (read_gap n (one_line d) (rest text (c.args.colon + 1))) ≡ false =
-    test_is n d text (c.args.colon + 1) c.in_ok-at.at (ends_plain c.args.key_end) gap ∙ (sym c.is_left_out.ensures ∙ c.if-is_left_out.false) in
-    λ w here. value_waits n d text w (in_sequence c.args.top.now.kind) c.args.key_end c.args.colon c.args.events.now here (record c.args.top.now { part = Value }) c.in_ok-at.at refl refl
+    test_is n d text (c.args.colon + 1) c.in_ok-at.at (ends_plain c.args.key_end) gap
+    ∙ (sym c.is_left_out.ensures ∙ c.if-is_left_out.false) in
+    λ w here. value_waits n d text w (in_sequence c.args.top.now.kind) c.args.key_end c.args.colon c.args.events.now
+    here (record c.args.top.now { part = Value }) c.in_ok-at.at refl refl
     (not_starting text c.args.colon 58 c.utf8.text c.requires.at s refl refl) s gap test
 
 pub returns-then-is_left_out-clause-onward : goal.returns-then-is_left_out-clause-onward

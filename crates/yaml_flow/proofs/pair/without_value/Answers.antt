@@ -14,5 +14,6 @@ returns-clause-written c =
     (λ next h. λ text. appended_as text c.args.events.now c.close_pair.new.events (omitted_at end ++ pair_end in_seq) _
     (ap (λ x. absent_events x in_seq end) (sym (sym c.is_single.ensures ∙ c.if-is_single.false)))
     (appended_then text c.args.events.now c.push.new.events c.close_pair.new.events (omitted_at end) (pair_end in_seq)
-    (appended_one text c.args.events.now c.push.new.events c.omitted.result (scalar_event omitted_style end end []) c.in_ok-push.ensures.ok c.omitted.ensures.event (c.omitted.ensures.borrowed text))
+    (appended_one text c.args.events.now c.push.new.events c.omitted.result
+    (scalar_event omitted_style end end []) c.in_ok-push.ensures.ok c.omitted.ensures.event (c.omitted.ensures.borrowed text))
     (h text))) c.close_pair.ensures.written

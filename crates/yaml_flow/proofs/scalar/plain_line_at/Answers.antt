@@ -13,5 +13,6 @@ returns c =
     let text = c.args.text.now in
     let at = c.args.at in
     let end = c.in-Some.end in
-    scalar_read n d text at plain_style _ refl (subst (λ t. ScalarAt plain_style n d text at t end) (ap chars (sym c.range.ensures.value)) c.in-Some.ensures.found)
+    scalar_read n d text at plain_style _ refl (subst (λ t. ScalarAt plain_style n d text at t end)
+    (ap chars (sym c.range.ensures.value)) c.in-Some.ensures.found)
     c.in-Some.ensures.ends_inside_line (λ _. (tt, c.range.ensures.value)) (λ _. c.in-Some.ensures.unbroken)

@@ -8,8 +8,10 @@ safe_at-requires c = (colon_splits c.args.text.now c.args.at c.utf8.text c.requi
 
 pub returns-then-safe_at-clause-found : goal.returns-then-safe_at-clause-found
 returns-then-safe_at-clause-found c = λ black.
-    colon_goes_on (context_of c.args.context) black c.args.text.now c.args.at c.utf8.text c.requires.within c.requires.colon (sym c.safe_at.ensures ∙ c.if-safe_at.true)
+    colon_goes_on (context_of c.args.context) black c.args.text.now c.args.at c.utf8.text c.requires.within
+    c.requires.colon (sym c.safe_at.ensures ∙ c.if-safe_at.true)
 
 pub returns-else-safe_at-clause-none : goal.returns-else-safe_at-clause-none
 returns-else-safe_at-clause-none c = λ black.
-    colon_stops (context_of c.args.context) black c.args.text.now c.args.at c.utf8.text c.requires.within c.requires.colon (sym c.safe_at.ensures ∙ c.if-safe_at.false)
+    colon_stops (context_of c.args.context) black c.args.text.now c.args.at c.utf8.text c.requires.within
+    c.requires.colon (sym c.safe_at.ensures ∙ c.if-safe_at.false)

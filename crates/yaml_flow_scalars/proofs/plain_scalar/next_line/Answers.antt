@@ -22,4 +22,5 @@ returns-clause-found c =
     let fold = c.in-Some.ensures.found in
     let above = c.further_run_end-end.ensures.above in
     next_line_is c.args.n (context_of c.args.context) c.args.text.now c.args.at c.white_end.result c.utf8.text c.requires run
-    c.in-Some.fold.empties c.in-Some.fold.next c.further_run_end-end.result fold c.further_run_end-end.ensures (sym c.is_on_one_line.ensures ∙ c.if-is_on_one_line.false) (omega (arith, c.if-end-fold.false))
+    c.in-Some.fold.empties c.in-Some.fold.next c.further_run_end-end.result fold c.further_run_end-end.ensures
+    (sym c.is_on_one_line.ensures ∙ c.if-is_on_one_line.false) (omega (arith, c.if-end-fold.false))

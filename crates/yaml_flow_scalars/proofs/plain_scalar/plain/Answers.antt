@@ -17,8 +17,10 @@ use Rattle.yaml_flow_scalars.proofs.plain_scalar.plain.Goals as goal
 pub returns-in_err-after-clause-none : goal.returns-in_err-after-clause-none
 returns-in_err-after-clause-none c =
     let context = context_of c.args.context in
-    fault_passed c.from_residual.result c.in_err-after.field-0.0 (NoPlainBegins context c.args.text.now c.args.at) (NoScalarAt plain_style c.args.n context c.args.text.now c.args.at)
-    (plain_missing c.args.n context c.args.text.now c.args.at) c.in_err-after.ensures.none (err_from_is_err_and c.from_residual.result c.from_residual.ensures.1)
+    fault_passed c.from_residual.result c.in_err-after.field-0.0 (NoPlainBegins context c.args.text.now c.args.at)
+    (NoScalarAt plain_style c.args.n context c.args.text.now c.args.at)
+    (plain_missing c.args.n context c.args.text.now c.args.at) c.in_err-after.ensures.none
+    (err_from_is_err_and c.from_residual.result c.from_residual.ensures.1)
 
 pub returns-in_default-clause-found : goal.returns-in_default-clause-found
 returns-in_default-clause-found c =
@@ -26,7 +28,8 @@ returns-in_default-clause-found c =
     let text = c.args.text.now in
     let end = c.plain_run_end-end.result in
     let none = lines_stop c.args.n context text end c.in_default.ensures.none in
-    plain_found c.args.n context text c.args.at c.in_ok-after.after end c.utf8.text c.requires c.in_ok-after.ensures.found c.plain_run_end-end.ensures
+    plain_found c.args.n context text c.args.at c.in_ok-after.after end c.utf8.text c.requires
+    c.in_ok-after.ensures.found c.plain_run_end-end.ensures
     end (chars c.range.result.now) (omega arith) c.plain_run_end-end.ensures.boundary none.1
     (ap (λ t. between text c.args.at end ++ t) none.0 ∙ (append-nil (between text c.args.at end) ∙ ap chars (sym c.range.ensures.value)))
 
@@ -44,8 +47,10 @@ returns-clause-found c =
     let above = pushed.above in
     let step = lines_step c.args.n context text end line.empties line.start line.end next in
     let held = folded_break line.empties ++ between text line.start line.end in
-    let first : chars (string_bytes c.in_ok-value.value) ≡ between text c.args.at end = ap chars (c.in_ok-value.ensures.ok ∙ c.range-2.ensures.value) in
-    plain_found c.args.n context text c.args.at c.in_ok-after.after end c.utf8.text c.requires c.in_ok-after.ensures.found c.plain_run_end-end.ensures
+    let first : chars (string_bytes c.in_ok-value.value) ≡ between text c.args.at end =
+    ap chars (c.in_ok-value.ensures.ok ∙ c.range-2.ensures.value) in
+    plain_found c.args.n context text c.args.at c.in_ok-after.after end c.utf8.text c.requires
+    c.in_ok-after.ensures.found c.plain_run_end-end.ensures
     c.in_ok-end.end (chars (string_bytes c.push_lines.new.value)) (omega arith) pushed.boundary (step.1 ∙ pushed.left)
     (ap (λ t. between text c.args.at end ++ t) step.0
     ∙ (sym (append_assoc (between text c.args.at end) held (lines_value c.args.n context text line.end))
@@ -58,17 +63,21 @@ returns-clause-borrowed c = λ unbroken.
     let begins = c.in_ok-after.ensures.found in
     let above = begins.above in
     let further = c.plain_run_end-end.ensures.above in
-    absurd (line_breaks c.args.n (context_of c.args.context) c.args.text.now c.args.at c.plain_run_end-end.result c.in-Some.line.empties c.in-Some.line.start c.in-Some.line.end
+    absurd (line_breaks c.args.n (context_of c.args.context) c.args.text.now c.args.at c.plain_run_end-end.result
+    c.in-Some.line.empties c.in-Some.line.start c.in-Some.line.end
     c.in_ok-end.end (omega arith) next pushed.above pushed.boundary.0 unbroken)
 
 pub returns-in_default-clause-unbroken : goal.returns-in_default-clause-unbroken
 returns-in_default-clause-unbroken c = λ _.
-    first_line_unbroken c.args.n (context_of c.args.context) c.args.text.now c.args.at c.in_ok-after.after c.plain_run_end-end.result c.utf8.text c.requires c.in_ok-after.ensures.found c.plain_run_end-end.ensures
+    first_line_unbroken c.args.n (context_of c.args.context) c.args.text.now c.args.at c.in_ok-after.after
+    c.plain_run_end-end.result c.utf8.text c.requires c.in_ok-after.ensures.found c.plain_run_end-end.ensures
 
 pub returns-in_default-clause-ends_inside_line : goal.returns-in_default-clause-ends_inside_line
 returns-in_default-clause-ends_inside_line c =
-    ends_inside_line plain_style c.args.n (context_of c.args.context) c.args.text.now c.args.at (chars c.range.result.now) c.plain_run_end-end.result c.utf8.text c.requires (returns-in_default-clause-found c)
+    ends_inside_line plain_style c.args.n (context_of c.args.context) c.args.text.now c.args.at
+    (chars c.range.result.now) c.plain_run_end-end.result c.utf8.text c.requires (returns-in_default-clause-found c)
 
 pub returns-clause-ends_inside_line : goal.returns-clause-ends_inside_line
 returns-clause-ends_inside_line c =
-    ends_inside_line plain_style c.args.n (context_of c.args.context) c.args.text.now c.args.at (chars (string_bytes c.push_lines.new.value)) c.in_ok-end.end c.utf8.text c.requires (returns-clause-found c)
+    ends_inside_line plain_style c.args.n (context_of c.args.context) c.args.text.now c.args.at
+    (chars (string_bytes c.push_lines.new.value)) c.in_ok-end.end c.utf8.text c.requires (returns-clause-found c)

@@ -8,7 +8,8 @@ use Rattle.yaml_flow_scalars.proofs.plain_scalar.plain_first_line_end.Goals as g
 
 pub plain_run_end-requires : goal.plain_run_end-requires
 plain_run_end-requires c =
-    (letter_begins_at (context_of c.args.context) c.args.text.now c.args.at c.utf8.text c.requires (sym c.letter_or_digit_at.ensures ∙ c.if-not-letter_or_digit_at.false)).boundary
+    (letter_begins_at (context_of c.args.context) c.args.text.now c.args.at c.utf8.text c.requires
+    (sym c.letter_or_digit_at.ensures ∙ c.if-not-letter_or_digit_at.false)).boundary
 
 pub returns : goal.returns
 returns c =
@@ -17,7 +18,8 @@ returns c =
     let at = c.args.at in
     let run = c.plain_run_end.ensures in
     let end = c.plain_run_end.result in
-    let begins = letter_begins_at context text at c.utf8.text c.requires (sym c.letter_or_digit_at.ensures ∙ c.if-not-letter_or_digit_at.false) in
+    let begins = letter_begins_at context text at c.utf8.text c.requires
+    (sym c.letter_or_digit_at.ensures ∙ c.if-not-letter_or_digit_at.false) in
     record {
       above = omega (arith, run.above);
       boundary = run.boundary;

@@ -16,7 +16,8 @@ runs-init c = record {
 }
 
 pub special_end-requires-clause-stop : goal.special_end-requires-clause-stop
-special_end-requires-clause-stop c = λ l. ap (λ test. test (slice_index c.args.text.now c.run_end-stop.result)) (sym c.words_of-class.ensures) ∙ c.run_end-stop.ensures.stop l
+special_end-requires-clause-stop c = λ l. ap (λ test. test (slice_index c.args.text.now c.run_end-stop.result))
+    (sym c.words_of-class.ensures) ∙ c.run_end-stop.ensures.stop l
 
 pub runs-preserved : goal.runs-preserved
 runs-preserved c =
@@ -29,14 +30,18 @@ runs-preserved c =
     let run : IsRun (word d) text end stop = subst (λ test. IsRun test text end stop) c.words_of-class.ensures c.run_end-stop.ensures in
     let w = c.white_start-words.ensures in
     let after = is_content c.runs.before in
-    let piece : IsPlainPiece d ((nat_lt end words || after) && (stop == words)) text stop c.in-Some.next = subst (λ b. IsPlainPiece d b text stop c.in-Some.next) c.before_stop.ensures c.in-Some.ensures.found in
+    let piece : IsPlainPiece d ((nat_lt end words || after) && (stop == words)) text stop c.in-Some.next =
+    subst (λ b. IsPlainPiece d b text stop c.in-Some.next) c.before_stop.ensures c.in-Some.ensures.found in
     let past = piece.above in
     let above = run.above in
     record {
       above = omega (arith, i.above);
       boundary = piece.boundary;
-      goes_on = piece_more d (is_content c.args.before) (nat_lt end words || after) text c.args.from words stop c.utf8.text c.requires w.boundary (omega (arith, i.above, w.above))
-          (words_more d text end stop words c.utf8.text i.boundary run w (is_content c.args.before) after c.args.from c.requires i.above i.goes_on)
+      goes_on = piece_more d (is_content c.args.before)
+          (nat_lt end words || after) text c.args.from words stop c.utf8.text c.requires w.boundary
+          (omega (arith, i.above, w.above))
+          (words_more d text end stop words c.utf8.text i.boundary run w
+          (is_content c.args.before) after c.args.from c.requires i.above i.goes_on)
           (white_after d text end stop words c.utf8.text i.boundary run w) c.in-Some.next piece;
     }
 
@@ -51,6 +56,9 @@ returns-in-None c =
     let run : IsRun (word d) text end stop = subst (λ test. IsRun test text end stop) c.words_of-class.ensures c.run_end-stop.ensures in
     let w = c.white_start-words.ensures in
     let after = is_content c.runs.before in
-    run_ends_at d (is_content c.args.before) (nat_lt end words || after) text c.args.from words stop c.utf8.text c.requires w.boundary (omega (arith, i.above, w.above))
-    (words_more d text end stop words c.utf8.text i.boundary run w (is_content c.args.before) after c.args.from c.requires i.above i.goes_on)
-    (white_after d text end stop words c.utf8.text i.boundary run w) (subst (λ b. NoPlainPiece d b text stop) c.before_stop.ensures c.in-None.ensures.none)
+    run_ends_at d (is_content c.args.before) (nat_lt end words || after) text c.args.from words stop c.utf8.text
+    c.requires w.boundary (omega (arith, i.above, w.above))
+    (words_more d text end stop words c.utf8.text i.boundary run w
+    (is_content c.args.before) after c.args.from c.requires i.above i.goes_on)
+    (white_after d text end stop words c.utf8.text i.boundary run w)
+    (subst (λ b. NoPlainPiece d b text stop) c.before_stop.ensures c.in-None.ensures.none)

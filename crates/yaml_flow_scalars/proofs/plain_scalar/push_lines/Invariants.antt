@@ -14,9 +14,13 @@ invariant-lines l = record {
   start : IsCharBoundary l.text l.line.start;
   end : IsCharBoundary l.text l.line.end;
   above : l.fn.first.end ≤ l.line.end;
-  left : (plain_lines_at l.n (context_of l.context) (rest l.text l.fn.first.end)).1 ≡ (plain_lines_at l.n (context_of l.context) (rest l.text l.line.end)).1;
-  means : chars (string_bytes l.initial.value) ++ (folded_break l.fn.first.empties ++ between l.text l.fn.first.start l.fn.first.end) ++ lines_value l.n (context_of l.context) l.text l.fn.first.end
-      ≡ chars (string_bytes l.value) ++ (folded_break l.line.empties ++ between l.text l.line.start l.line.end) ++ lines_value l.n (context_of l.context) l.text l.line.end;
+  left : (plain_lines_at l.n (context_of l.context) (rest l.text l.fn.first.end)).1
+      ≡ (plain_lines_at l.n (context_of l.context) (rest l.text l.line.end)).1;
+  means : chars (string_bytes l.initial.value)
+      ++ (folded_break l.fn.first.empties ++ between l.text l.fn.first.start l.fn.first.end)
+      ++ lines_value l.n (context_of l.context) l.text l.fn.first.end
+      ≡ chars (string_bytes l.value) ++ (folded_break l.line.empties ++ between l.text l.line.start l.line.end)
+      ++ lines_value l.n (context_of l.context) l.text l.line.end;
 }
 
 abbrev pub decreases-lines : goal.decreases-lines

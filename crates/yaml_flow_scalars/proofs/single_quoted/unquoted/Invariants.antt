@@ -11,7 +11,8 @@ abbrev pub invariant-runs : goal.invariant-runs
 invariant-runs l = record {
   above : l.start ≤ l.place;
   boundary : IsCharBoundary l.text l.place;
-  reads : read_inside l.n (context_of l.context) (rest l.text l.start) ≡ with_prefix (chars (string_bytes l.value)) (read_inside l.n (context_of l.context) (rest l.text l.place));
+  reads : read_inside l.n (context_of l.context) (rest l.text l.start)
+      ≡ with_prefix (chars (string_bytes l.value)) (read_inside l.n (context_of l.context) (rest l.text l.place));
   changed : l.start < l.place → (k : ℕ) × (l.start ≤ k) × (k < l.place) × (is_unchanged (slice_index l.text k) ≡ false);
 }
 

@@ -8,11 +8,13 @@ use Rattle.yaml_forms.proofs.json_string.write_json_chars.Goals as goal
 
 pub range-requires-clause-end_boundary : goal.range-requires-clause-end_boundary
 range-requires-clause-end_boundary g c =
-    run_boundary c.loop-c.rest.now c.unescaped_len-run.result c.loop-c.invariant.0 c.unescaped_len-run.ensures.within c.unescaped_len-run.ensures.alone
+    run_boundary c.loop-c.rest.now c.unescaped_len-run.result c.loop-c.invariant.0 c.unescaped_len-run.ensures.within
+    c.unescaped_len-run.ensures.alone
 
 pub range_from-rest-requires : goal.range_from-rest-requires
 range_from-rest-requires g c = λ _.
-    run_boundary c.loop-c.rest.now c.unescaped_len-run.result c.loop-c.invariant.0 c.unescaped_len-run.ensures.within c.unescaped_len-run.ensures.alone
+    run_boundary c.loop-c.rest.now c.unescaped_len-run.result c.loop-c.invariant.0 c.unescaped_len-run.ensures.within
+    c.unescaped_len-run.ensures.alone
 
 pub range_from-rest-requires-else-run-gt0 : goal.range_from-rest-requires-else-run-gt0
 range_from-rest-requires-else-run-gt0 g c = λ _.
@@ -36,11 +38,13 @@ pub loop-c-preserved : goal.loop-c-preserved
 loop-c-preserved g c =
     let rest = c.loop-c.rest.now in
     let split = sym c.chars.ensures.rest ∙ c.in-Some.ensures.steps.0 in
-    let after = c.range_from-rest-else-run-gt0.ensures.value ∙ ap (λ n. drop n rest) c.len_utf8.ensures.value ∙ drop_char rest _ c.in-Some.c split in (
+    let after = c.range_from-rest-else-run-gt0.ensures.value ∙ ap (λ n. drop n rest) c.len_utf8.ensures.value
+    ∙ drop_char rest _ c.in-Some.c split in (
       c.range_from-rest-else-run-gt0.utf8,
       λ end left. c.loop-c.invariant.1 end
           (subst (λ cs. g.S.Sink.Takes c.loop-c.sink cs end)
-          (ap (λ xs. json_char c.in-Some.c ++ json_chars (chars xs)) after ∙ spelled_one json_spells rest _ c.in-Some.c c.loop-c.invariant.0 split)
+          (ap (λ xs. json_char c.in-Some.c ++ json_chars (chars xs)) after
+          ∙ spelled_one json_spells rest _ c.in-Some.c c.loop-c.invariant.0 split)
           (g.met.S.Sink.takes_both _ _ _ _ _ c.in_ok-write_json_char.ensures left)),
     )
 

@@ -9,7 +9,8 @@ use Rattle.yaml_data.proofs.ListLemmas.{drop_item}
 use Rattle.yaml_data.proofs.SeenLemmas.{tree_of-Text, tree_of-Seq, tree_of-Map}
 use Rattle.yaml_data.proofs.CharacterLemmas.{chars-literal}
 use Rattle.yaml_forms.specs.Json.{json_text, json_member}
-use Rattle.yaml_forms.proofs.WalkLemmas.{elements_led, members_led, elements_led-same, members_led-same, sequence-empty, mapping-empty, sequence-led, mapping-led, part_taken}
+use Rattle.yaml_forms.proofs.WalkLemmas.{elements_led, members_led, elements_led-same, members_led-same}
+use Rattle.yaml_forms.proofs.WalkLemmas.{sequence-empty, mapping-empty, sequence-led, mapping-led, part_taken}
 use Rattle.yaml_forms.proofs.json_tree.+json.Goals as goal
 
 -- ---- sequences

@@ -10,11 +10,13 @@ loop-index-preserved c =
     let l = c.loop-index in
     let items = c.args.items.now in
     let here = index_here items l.index l.index (omega arith) in
-    line_pushed (string_bytes l.lines) (string_bytes c.write_index_line.new.sink) _ (index_lines (l.index + 1) (elements_of (drop (l.index + 1) items))) _ here c.in_ok-write_index_line.ensures
+    line_pushed (string_bytes l.lines) (string_bytes c.write_index_line.new.sink) _
+    (index_lines (l.index + 1) (elements_of (drop (l.index + 1) items))) _ here c.in_ok-write_index_line.ensures
     ∙ l.invariant
 
 pub returns : goal.returns
 returns c =
     let l = c.loop-index in
-    let none = ap (λ ts. string_bytes l.lines ++ encode_utf8_all (index_lines l.index (elements_of ts))) (drop_all l.index c.args.items.now (omega arith)) in
+    let none = ap (λ ts. string_bytes l.lines ++ encode_utf8_all (index_lines l.index (elements_of ts)))
+    (drop_all l.index c.args.items.now (omega arith)) in
     sym (append-nil (string_bytes l.lines)) ∙ sym none ∙ l.invariant

@@ -13,7 +13,9 @@ use Rattle.yaml_data.specs.Seen.{tree_of, elements_of, members_of}
 use Rattle.yaml_data.proofs.ListLemmas.{drop_item}
 use Rattle.yaml_data.proofs.SeenLemmas.{tree_of-Text, tree_of-Seq, tree_of-Map}
 use Rattle.yaml_data.proofs.CharacterLemmas.{chars-literal}
-use Rattle.yaml_forms.proofs.PlainWalk.{elements_led, members_led, elements_led-same, members_led-same, elements_led-first, members_led-first, elements_at-empty, members_at-empty, sequence_value-empty, mapping_value-empty, sequence_value, mapping_value}
+use Rattle.yaml_forms.proofs.PlainWalk.{elements_led, members_led, elements_led-same, members_led-same}
+use Rattle.yaml_forms.proofs.PlainWalk.{elements_led-first, members_led-first, elements_at-empty, members_at-empty}
+use Rattle.yaml_forms.proofs.PlainWalk.{sequence_value-empty, mapping_value-empty, sequence_value, mapping_value}
 use Rattle.yaml_writer.proofs.WalkLemmas.{line_taken, none_taken}
 use Rattle.yaml_forms.proofs.plain_form.+plain.Goals as goal
 
@@ -158,7 +160,8 @@ write_value-returns-in_ok-put_spaces-in-Seq g t c =
     let items = c.in-Seq.items in
     let filled = eqb-false _ _ (sym c.if-is_empty.ensures) in
     let some : length items.items ≡ 0 → ⊥ = λ none. filled (omega (arith, none, items.ok)) in
-    let lines = ap (λ xs. codes "\n" ++ spaces (c.args.indent + 2) ++ elements_at (elements_of xs) (c.args.indent + 2)) c.deref-in-Seq.ensures.value in
+    let lines = ap (λ xs. codes "\n" ++ spaces (c.args.indent + 2)
+    ++ elements_at (elements_of xs) (c.args.indent + 2)) c.deref-in-Seq.ensures.value in
     let seen = ap (λ tree. value_at tree c.args.indent) (ap tree_of c.in-Seq.is ∙ tree_of-Seq items) in
     on_ok_weaker c.write_elements.result
     (λ written. subst (λ cs. g.S.Sink.Takes c.args.sink.now cs c.write_elements.new.sink)
@@ -183,7 +186,8 @@ write_value-returns-in_ok-put_spaces-in-Map g t c =
     let pairs = c.in-Map.pairs in
     let filled = eqb-false _ _ (sym c.if-is_empty-2.ensures) in
     let some : length pairs.items ≡ 0 → ⊥ = λ none. filled (omega (arith, none, pairs.ok)) in
-    let lines = ap (λ xs. codes "\n" ++ spaces (c.args.indent + 2) ++ members_at (members_of xs) (c.args.indent + 2)) c.deref-in-Map.ensures.value in
+    let lines = ap (λ xs. codes "\n" ++ spaces (c.args.indent + 2) ++ members_at (members_of xs) (c.args.indent + 2))
+    c.deref-in-Map.ensures.value in
     let seen = ap (λ tree. value_at tree c.args.indent) (ap tree_of c.in-Map.is ∙ tree_of-Map pairs) in
     on_ok_weaker c.write_members.result
     (λ written. subst (λ cs. g.S.Sink.Takes c.args.sink.now cs c.write_members.new.sink)

@@ -5,4 +5,5 @@ use Rattle.yaml_data.proofs.CharacterLemmas.{same_text-Decides}
 use Rattle.yaml_forms.proofs.typed.is_word.Goals as goal
 
 pub returns : goal.returns
-returns c = c.eq.ensures ∙ same_from_decides _ _ (bytes_eq-Decides c.args.text.now c.args.word.now) (same_text-Decides c.args.text.now c.args.word.now)
+returns c = c.eq.ensures ∙ same_from_decides _ _ (bytes_eq-Decides c.args.text.now c.args.word.now)
+    (same_text-Decides c.args.text.now c.args.word.now)

@@ -10,4 +10,6 @@ returns c =
     let block = chunk c.args.at 16 c.args.bytes.now in
     let long = length-chunk c.args.at 16 c.args.bytes.now c.requires in
     run_of_lanes double_quoted c.args.bytes.now c.args.at _ _ _ c.requires c.type_inv.bytes c.first_set.ensures
-    (zip2_of_maps bit_or _ _ block (zip2_of_maps bit_or _ _ block (zip2_of_maps bit_and _ _ block (zip2_splat _ block 16 32 long) (zip2_splat _ block 16 9 long)) (zip2_splat _ block 16 34 long)) (zip2_splat _ block 16 92 long)) refl
+    (zip2_of_maps bit_or _ _ block (zip2_of_maps bit_or _ _ block
+    (zip2_of_maps bit_and _ _ block (zip2_splat _ block 16 32 long) (zip2_splat _ block 16 9 long))
+    (zip2_splat _ block 16 34 long)) (zip2_splat _ block 16 92 long)) refl

@@ -10,4 +10,5 @@ returns c =
     let block = chunk c.args.at 16 c.args.bytes.now in
     let long = length-chunk c.args.at 16 c.args.bytes.now c.requires in
     run_of_lanes line_ascii c.args.bytes.now c.args.at _ _ _ c.requires c.type_inv.bytes c.first_set.ensures
-    (zip2_of_maps bit_and _ _ block (zip2_of_maps (λ a b. cond (leb a b) 255 0) _ _ block (splat_is_map block 16 95 long) (zip2_splat {Y = ℕ} _ block 16 32 long)) (zip2_splat _ block 16 9 long)) refl
+    (zip2_of_maps bit_and _ _ block (zip2_of_maps (λ a b. cond (leb a b) 255 0) _ _ block
+    (splat_is_map block 16 95 long) (zip2_splat {Y = ℕ} _ block 16 32 long)) (zip2_splat _ block 16 9 long)) refl

@@ -15,22 +15,29 @@ pub returns-then-bytes-at-ne13-clause-none : goal.returns-then-bytes-at-ne13-cla
 returns-then-bytes-at-ne13-clause-none c =
     let within = c.requires.0 in
     let l : c.args.at < length c.args.text.now = omega (arith, c.as_bytes-bytes.ensures.len) in
-    break_none c.args.text.now c.args.at c.utf8.text c.requires l (rw c.as_bytes-bytes.ensures.value at c.if-bytes-at-eq10.false) (rw c.as_bytes-bytes.ensures.value at c.if-bytes-at-ne13.true)
+    break_none c.args.text.now c.args.at c.utf8.text c.requires l
+    (rw c.as_bytes-bytes.ensures.value at c.if-bytes-at-eq10.false)
+    (rw c.as_bytes-bytes.ensures.value at c.if-bytes-at-ne13.true)
 
 pub returns-then-next-bytes-clause-found : goal.returns-then-next-bytes-clause-found
 returns-then-next-bytes-clause-found c =
     let within = c.requires.0 in
     let l : c.args.at < length c.args.text.now = omega (arith, c.as_bytes-bytes.ensures.len) in
-    break_cr_end c.args.text.now c.args.at c.utf8.text l (rw c.as_bytes-bytes.ensures.value at c.if-bytes-at-ne13.false) (omega (arith, c.as_bytes-bytes.ensures.len))
+    break_cr_end c.args.text.now c.args.at c.utf8.text l
+    (rw c.as_bytes-bytes.ensures.value at c.if-bytes-at-ne13.false) (omega (arith, c.as_bytes-bytes.ensures.len))
 
 pub returns-then-bytes-next-ne10-clause-found : goal.returns-then-bytes-next-ne10-clause-found
 returns-then-bytes-next-ne10-clause-found c =
     let within = c.requires.0 in
     let l : c.args.at + 1 < length c.args.text.now = omega (arith, c.as_bytes-bytes.ensures.len) in
-    break_cr_other c.args.text.now c.args.at c.utf8.text l (rw c.as_bytes-bytes.ensures.value at c.if-bytes-at-ne13.false) (rw c.as_bytes-bytes.ensures.value at c.if-bytes-next-ne10.true)
+    break_cr_other c.args.text.now c.args.at c.utf8.text l
+    (rw c.as_bytes-bytes.ensures.value at c.if-bytes-at-ne13.false)
+    (rw c.as_bytes-bytes.ensures.value at c.if-bytes-next-ne10.true)
 
 pub returns-clause-found : goal.returns-clause-found
 returns-clause-found c =
     let within = c.requires.0 in
     let l : c.args.at + 1 < length c.args.text.now = omega (arith, c.as_bytes-bytes.ensures.len) in
-    break_cr_lf c.args.text.now c.args.at c.utf8.text l (rw c.as_bytes-bytes.ensures.value at c.if-bytes-at-ne13.false) (rw c.as_bytes-bytes.ensures.value at c.if-bytes-next-ne10.false)
+    break_cr_lf c.args.text.now c.args.at c.utf8.text l
+    (rw c.as_bytes-bytes.ensures.value at c.if-bytes-at-ne13.false)
+    (rw c.as_bytes-bytes.ensures.value at c.if-bytes-next-ne10.false)

@@ -6,4 +6,5 @@ returns-in-Some-clause-no_end c = λ _.
     solid_no_end c.args.text.now c.args.at c.in-Some.field-0 c.utf8.text c.requires c.in-Some.ensures.taken c.in-Some.ensures.solid
 
 pub returns-in-Some-clause-within : goal.returns-in-Some-clause-within
-returns-in-Some-clause-within c = λ _. solid_within c.args.text.now c.args.at c.in-Some.field-0 c.in-Some.ensures.taken c.in-Some.ensures.solid
+returns-in-Some-clause-within c = λ _. solid_within c.args.text.now c.args.at c.in-Some.field-0
+    c.in-Some.ensures.taken c.in-Some.ensures.solid

@@ -13,7 +13,8 @@ lines-preserved c = comment_lines_more c.args.text.now c.args.at c.lines.start c
 pub returns-then-solid_at-clause-found : goal.returns-then-solid_at-clause-found
 returns-then-solid_at-clause-found c =
     solid_line_is c.args.text.now c.args.at c.lines.start c.spaces_end-first.result c.lines.invariant c.spaces_end-first.ensures
-    (solid_after_spaces c.args.text.now c.lines.start c.spaces_end-first.result c.spaces_end-first.ensures (sym c.solid_at.ensures ∙ c.if-solid_at.true))
+    (solid_after_spaces c.args.text.now c.lines.start c.spaces_end-first.result c.spaces_end-first.ensures
+    (sym c.solid_at.ensures ∙ c.if-solid_at.true))
 
 pub returns-then-solid_at-clause-starts : goal.returns-then-solid_at-clause-starts
 returns-then-solid_at-clause-starts c = c.lines.invariant.starts

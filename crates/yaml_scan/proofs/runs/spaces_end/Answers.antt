@@ -18,6 +18,7 @@ pub returns : goal.returns
 returns c =
     let end = c.last_spaces_end.result in
     let same = c.as_bytes-bytes.ensures.value in
-    let passed = passed_joined space c.as_bytes-bytes.result.now c.args.at c.sixteens.end end c.sixteens.invariant c.last_spaces_end.ensures.passed in
+    let passed = passed_joined space c.as_bytes-bytes.result.now c.args.at c.sixteens.end end c.sixteens.invariant
+    c.last_spaces_end.ensures.passed in
     spaces_passed_are c.args.text.now c.args.at end c.utf8.text c.requires (subst (λ t. ArePassed space t c.args.at end) same passed)
     (subst (λ t. end < length t → space (get_or t end 0) ≡ false) same c.last_spaces_end.ensures.stop)

@@ -19,9 +19,11 @@ returns-else-is_white-clause-taken c =
 pub returns-after-loop-end-clause-run : goal.returns-after-loop-end-clause-run
 returns-after-loop-end-clause-run c =
     let i = c.loop-end.invariant in
-    run_is white c.args.text.now c.args.at c.loop-end.end blind-white c.utf8.text c.requires i.above i.below i.white (λ l. absurd (omega arith))
+    run_is white c.args.text.now c.args.at c.loop-end.end blind-white c.utf8.text c.requires i.above i.below i.white
+    (λ l. absurd (omega arith))
 
 pub returns-after-loop-end-clause-taken : goal.returns-after-loop-end-clause-taken
 returns-after-loop-end-clause-taken c =
     let i = c.loop-end.invariant in
-    take_while_is white c.args.text.now c.args.at c.loop-end.end blind-white c.utf8.text c.requires i.above i.below i.white (λ l. absurd (omega arith))
+    take_while_is white c.args.text.now c.args.at c.loop-end.end blind-white c.utf8.text c.requires i.above i.below
+    i.white (λ l. absurd (omega arith))

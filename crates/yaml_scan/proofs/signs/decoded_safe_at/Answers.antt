@@ -9,4 +9,5 @@ ended : (at end : ℕ) → (at < end → ◌≡◌ {A = Bool} false true) → en
 ended at end h = elim (cases_lt at end) [ inl l ↦ absurd (false≢true (h l)) | inr l ↦ l ]
 
 pub returns-in-None : goal.returns-in-None
-returns-in-None c = sym (first_at_end (safe (context_of c.args.context)) c.args.text.now c.args.at (ended c.args.at (length c.args.text.now) c.in-None.ensures.found.1))
+returns-in-None c = sym (first_at_end (safe (context_of c.args.context)) c.args.text.now c.args.at
+    (ended c.args.at (length c.args.text.now) c.in-None.ensures.found.1))

@@ -28,7 +28,8 @@ returns-then-bytes-at-3 c =
     marker_false c.args.text.now c.args.at (sign_of c.args.marker) (ascii_mark c.args.marker) c.utf8.text c.requires
     (λ h. missing _ _ (c.args.at + 2) _ _ c.as_bytes-bytes.ensures.value c.marker_sign-sign.ensures c.if-bytes-at-3.true h.three)
 
-signs : (bs text : List ℕ) (at sign marker : ℕ) → bs ≡ text → sign ≡ marker → 3 ≤ length bs - at → get_or bs at 0 ≡ sign → get_or bs (at + 1) 0 ≡ sign → get_or bs (at + 2) 0 ≡ sign
+signs : (bs text : List ℕ) (at sign marker : ℕ) → bs ≡ text → sign ≡ marker → 3 ≤ length bs - at
+    → get_or bs at 0 ≡ sign → get_or bs (at + 1) 0 ≡ sign → get_or bs (at + 2) 0 ≡ sign
     → AreMarkerSigns text at marker
 signs bs text at sign marker same is size one two three =
     subst (λ x. AreMarkerSigns x at marker) same (record { within = omega arith; one = one ∙ is; two = two ∙ is; three = three ∙ is })
@@ -36,13 +37,15 @@ signs bs text at sign marker same is size one two three =
 pub returns-then-end-bytes : goal.returns-then-end-bytes
 returns-then-end-bytes c =
     let there = marker_by_signs c.args.text.now c.args.at (sign_of c.args.marker) (ascii_mark c.args.marker) c.utf8.text
-    (signs _ _ c.args.at _ _ c.as_bytes-bytes.ensures.value c.marker_sign-sign.ensures c.if-bytes-at-lt3.false c.if-bytes-at.false c.if-bytes-at-2.false c.if-bytes-at-3.false) in
+    (signs _ _ c.args.at _ _ c.as_bytes-bytes.ensures.value c.marker_sign-sign.ensures c.if-bytes-at-lt3.false
+    c.if-bytes-at.false c.if-bytes-at-2.false c.if-bytes-at-3.false) in
     sym (there.0 ∙ word_ends c.args.text.now (c.args.at + 3) (omega (arith, c.as_bytes-bytes.ensures.len)))
 
 pub returns : goal.returns
 returns c =
     let there = marker_by_signs c.args.text.now c.args.at (sign_of c.args.marker) (ascii_mark c.args.marker) c.utf8.text
-    (signs _ _ c.args.at _ _ c.as_bytes-bytes.ensures.value c.marker_sign-sign.ensures c.if-bytes-at-lt3.false c.if-bytes-at.false c.if-bytes-at-2.false c.if-bytes-at-3.false) in
+    (signs _ _ c.args.at _ _ c.as_bytes-bytes.ensures.value c.marker_sign-sign.ensures c.if-bytes-at-lt3.false
+    c.if-bytes-at.false c.if-bytes-at-2.false c.if-bytes-at-3.false) in
     let within : c.args.at + 3 < length c.args.text.now = omega (arith, c.as_bytes-bytes.ensures.len) in
     c.ends_word.ensures ∙ ap (λ x. ends_word_byte (get_or x (c.args.at + 3) 0)) c.as_bytes-bytes.ensures.value
     ∙ sym (there.0 ∙ word_ends_by c.args.text.now (c.args.at + 3) c.utf8.text there.1 within)

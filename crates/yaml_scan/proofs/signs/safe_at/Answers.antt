@@ -17,4 +17,6 @@ returns-then-bytes-at-le32 c =
     let l : c.args.at < length c.args.text.now = omega (arith, c.as_bytes-bytes.ensures.len, c.if-at-bytes.true) in
     let byte = ap (λ t. get_or t c.args.at 0) c.as_bytes-bytes.ensures.value in
     let low : get_or c.args.text.now c.args.at 0 ≤ 32 = omega (arith, byte, c.if-bytes-at-le32.true) in
-    sym (ap (first (safe (context_of c.args.context))) (rest-ascii c.args.text.now c.args.at c.utf8.text l (omega arith)) ∙ no_control (context_of c.args.context) (get_or c.args.text.now c.args.at 0) low)
+    sym (ap (first (safe (context_of c.args.context)))
+    (rest-ascii c.args.text.now c.args.at c.utf8.text l (omega arith))
+    ∙ no_control (context_of c.args.context) (get_or c.args.text.now c.args.at 0) low)

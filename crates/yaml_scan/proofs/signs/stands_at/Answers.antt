@@ -8,7 +8,8 @@ pub returns-then-at-bytes : goal.returns-then-at-bytes
 returns-then-at-bytes c =
     let l : c.args.at < length c.args.text.now = omega (arith, c.as_bytes-bytes.ensures.len, c.if-at-bytes.true) in
     ap (λ x. is_sign c.args.character (get_or x c.args.at 0)) c.as_bytes-bytes.ensures.value
-    ∙ sym (first_there (is_sign c.args.character) c.args.text.now c.args.at (blind-is_sign c.args.character c.requires.ascii) c.utf8.text c.requires.at l)
+    ∙ sym (first_there (is_sign c.args.character) c.args.text.now c.args.at
+    (blind-is_sign c.args.character c.requires.ascii) c.utf8.text c.requires.at l)
 
 pub returns-else-at-bytes : goal.returns-else-at-bytes
 returns-else-at-bytes c =

@@ -8,4 +8,5 @@ pub next_char-requires : goal.next_char-requires
 next_char-requires c = IsCharBoundary-start c.args.text.now c.utf8.text
 
 pub returns-in_default-clause-none : goal.returns-in_default-clause-none
-returns-in_default-clause-none c = let none = at_the_end c.args.text.now 0 (λ l. false≢true (c.in_default.ensures.found.1 l)) in rw none refl
+returns-in_default-clause-none c = let none =
+    at_the_end c.args.text.now 0 (λ l. false≢true (c.in_default.ensures.found.1 l)) in rw none refl

@@ -28,7 +28,8 @@ returns-then-written-limits-clause-refused c =
 
 pub style_line-requires-clause-length : goal.style_line-requires-clause-length
 style_line-requires-clause-length c =
-    subst (λ (bytes : List ℕ). length bytes ≤ config_limits.bytes) (sym c.from_utf8_unchecked-text.ensures) c.in_ok-document.ensures.read.reads.text.short
+    subst (λ (bytes : List ℕ). length bytes ≤ config_limits.bytes)
+    (sym c.from_utf8_unchecked-text.ensures) c.in_ok-document.ensures.read.reads.text.short
 
 pub style_line-requires-clause-written : goal.style_line-requires-clause-written
 style_line-requires-clause-written c =

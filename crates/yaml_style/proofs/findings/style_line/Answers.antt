@@ -29,9 +29,12 @@ returns c = λ styled all.
     let written = c.args.written.now in
     let left = chars written.rest.now in
     let differs : written.agrees ≡ true → left ≡ [] → ⊥ = λ held none. elim c.else-written.branch [
-      | else-written-via-then-written+else-is_empty_text w ↦ absurd (false≢true (sym w.if-is_empty_text.false ∙ w.is_empty_text.ensures ∙ ap is_empty none))
+      | else-written-via-then-written+else-is_empty_text w ↦ absurd
+          (false≢true (sym w.if-is_empty_text.false ∙ w.is_empty_text.ensures ∙ ap is_empty none))
       | else-written-via-else-written w ↦ absurd (false≢true (sym w.if-written.false ∙ held))
     ] in
-    let parts : text ≡ common text styled ++ left = sym (shares text styled) ∙ ap (λ (s : List ℕ × Bool). common text styled ++ s.0) (sym all) in
+    let parts : text ≡ common text styled ++ left = sym (shares text styled)
+    ∙ ap (λ (s : List ℕ × Bool). common text styled ++ s.0) (sym all) in
     let same = append_cancel_right (chars c.before-2.result.now) (common text styled) left (sym c.before-2.ensures.parts ∙ parts) in
-    ap (λ n. Some n) (add-one c.break_count.result ∙ ap suc (c.break_count.ensures.count ∙ ap breaks same)) ∙ sym (not_in_style text styled left _ all differs)
+    ap (λ n. Some n) (add-one c.break_count.result ∙ ap suc (c.break_count.ensures.count ∙ ap breaks same))
+    ∙ sym (not_in_style text styled left _ all differs)

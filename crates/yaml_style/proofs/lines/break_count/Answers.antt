@@ -24,4 +24,5 @@ loop-start-preserved c =
 
 pub returns-clause-count : goal.returns-clause-count
 returns-clause-count c =
-    let none = no_more_breaks (chars c.loop-start.rest.now) c.in_default.ensures.last_line in omega (arith, none, c.loop-start.invariant.count)
+    let none = no_more_breaks (chars c.loop-start.rest.now) c.in_default.ensures.last_line in
+    omega (arith, none, c.loop-start.invariant.count)

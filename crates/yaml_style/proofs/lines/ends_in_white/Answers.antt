@@ -14,5 +14,7 @@ pub returns-else-ends_with : goal.returns-else-ends_with
 returns-else-ends_with c = elim (cases_Bool c.ends_with-else-ends_with.result) [
   | inl is ↦ (let has = MatchBool-at_true _ _ is c.ends_with-else-ends_with.ensures.cases in
       is ∙ sym (white_at_end c.args.content.now has.0 tab c.utf8.content (lit< tt) refl has.3 has.1.1.split))
-  | inr is_not ↦ is_not ∙ sym (no_white_at_end c.args.content.now c.utf8.content (MatchBool-at_false _ _ c.if-ends_with.false c.ends_with.ensures.cases) (MatchBool-at_false _ _ is_not c.ends_with-else-ends_with.ensures.cases))
+  | inr is_not ↦ is_not ∙ sym (no_white_at_end c.args.content.now c.utf8.content
+      (MatchBool-at_false _ _ c.if-ends_with.false c.ends_with.ensures.cases)
+      (MatchBool-at_false _ _ is_not c.ends_with-else-ends_with.ensures.cases))
 ]

@@ -8,7 +8,8 @@ use Rattle.yaml_style.proofs.lines.is_long.Goals as goal
 
 pub returns-then-content-gt-LONGEST_LINE : goal.returns-then-content-gt-LONGEST_LINE
 returns-then-content-gt-LONGEST_LINE c =
-    ap (λ n. nat_lt 120 n) (count_from_yields_List _ _ c.count.ensures.ran (YieldsList-from_chars c.args.content.now c.utf8.content c.chars.ensures.rest))
+    ap (λ n. nat_lt 120 n) (count_from_yields_List _ _ c.count.ensures.ran
+    (YieldsList-from_chars c.args.content.now c.utf8.content c.chars.ensures.rest))
 
 pub returns-else-content-gt-LONGEST_LINE : goal.returns-else-content-gt-LONGEST_LINE
 returns-else-content-gt-LONGEST_LINE c =

@@ -21,7 +21,8 @@ of_element-size-requires-clause-long g c =
     let seen = ap (λ t. byte_len (style_text t)) (tree_of-Text c.args.text ∙ ap (λ bytes. text (chars bytes)) (sym c.as_str.ensures)) in
     let first = ap length c.rest-before.ensures in
     let last = ap length c.rest.ensures in
-    let few : length a.rest.now - length b.rest.now ≤ 67108864 = omega (arith, first, last, c.saturating_sub.ensures, c.if-saturating_sub-gt-MOST_BYTES.false) in
+    let few : length a.rest.now - length b.rest.now ≤ 67108864 =
+    omega (arith, first, last, c.saturating_sub.ensures, c.if-saturating_sub-gt-MOST_BYTES.false) in
     let short = scalar_short value c.args.indent a.rest.now b.rest.now 67108864 c.requires c.in_ok-write_scalar.ensures.goes_on few in
     omega (arith, seen, short)
 
@@ -34,7 +35,8 @@ returns g c =
     let tree = text (chars bytes) in
     let seen = tree_of-Text c.args.text in
     let lines = ap (λ s. s.lines) c.of_element-size.ensures.size ∙ ap indented seen in
-    let wrote = subst (λ bs. Took a.rest.now a.counted (scalar_lines c.args.indent (chars bs)) 0 b.rest.now b.counted) c.as_str.ensures c.in_ok-write_scalar.ensures in
+    let wrote = subst (λ bs. Took a.rest.now a.counted (scalar_lines c.args.indent (chars bs)) 0 b.rest.now b.counted)
+    c.as_str.ensures c.in_ok-write_scalar.ensures in
     let counted = subst (λ n. Took b.rest.now b.counted [] n d.rest.now d.counted) lines c.in_ok-count.ensures in
     record {
       tree = tree;

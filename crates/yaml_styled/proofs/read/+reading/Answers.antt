@@ -6,7 +6,8 @@ use Rattle.yaml_data.specs.Keys.{keys_differ}
 use Rattle.yaml_data.proofs.CharacterLemmas.{chars-literal}
 use Rattle.yaml_styled.specs.Taking.{Took}
 use Rattle.yaml_styled.specs.Parts.{AreElements, AreMembers}
-use Rattle.yaml_styled.proofs.RowLemmas.{StartedElements, StartedMembers, no_elements, no_members, element_more, element_last, member_more, member_last}
+use Rattle.yaml_styled.proofs.RowLemmas.{StartedElements, StartedMembers, no_elements, no_members, element_more}
+use Rattle.yaml_styled.proofs.RowLemmas.{element_last, member_more, member_last}
 use Rattle.yaml_styled.proofs.ValueLemmas.{value_below}
 use Rattle.yaml_styled.proofs.read.+reading.Goals as goal
 
@@ -36,7 +37,8 @@ read_elements-rows-preserved g t c =
     let d = c.read_element.new.lines in
     let e = c.next_row.new.self in
     let dash = subst (λ cs. Took a.rest.now a.counted cs 0 b.rest.now b.counted) (chars-literal (codes "- ") refl) c.in_ok-take.ensures in
-    let next = subst (λ more. Took d.rest.now d.counted (if more then spaces c.args.indent else []) (if more then 1 else 0) e.rest.now e.counted) c.if-not-more.false c.in_ok-more.ensures in
+    let next = subst (λ more. Took d.rest.now d.counted (if more then spaces c.args.indent else [])
+    (if more then 1 else 0) e.rest.now e.counted) c.if-not-more.false c.in_ok-more.ensures in
     subst (λ vs. StartedElements g.V.Build.Means vs (c.args.levels + 1) c.args.indent start.rest.now start.counted e.rest.now e.counted)
     (sym c.in_ok-push.ensures.items)
     (element_more g.V.Build.Means c.rows.invariant dash c.in_ok-item.ensures next)
@@ -49,8 +51,10 @@ read_elements-returns-then-not-more g t c =
     let e = c.next_row.new.self in
     let Is = g.V.Build.Means c.from_elements.result in
     let dash = subst (λ cs. Took a.rest.now a.counted cs 0 b.rest.now b.counted) (chars-literal (codes "- ") refl) c.in_ok-take.ensures in
-    let next = subst (λ more. Took d.rest.now d.counted (if more then spaces c.args.indent else []) (if more then 1 else 0) e.rest.now e.counted) c.if-not-more.true c.in_ok-more.ensures in
-    let made = subst (λ vs. (ts : _) → AreElements g.V.Build.Means vs ts → Is (sequence ts)) c.in_ok-push.ensures.items c.from_elements.ensures in
+    let next = subst (λ more. Took d.rest.now d.counted (if more then spaces c.args.indent else [])
+    (if more then 1 else 0) e.rest.now e.counted) c.if-not-more.true c.in_ok-more.ensures in
+    let made = subst (λ vs. (ts : _) → AreElements g.V.Build.Means vs ts → Is (sequence ts))
+    c.in_ok-push.ensures.items c.from_elements.ensures in
     element_last g.V.Build.Means {Is = Is} (c.args.levels + 2) (omega arith) c.rows.invariant dash c.in_ok-item.ensures next made
 
 -- ---- members
@@ -67,7 +71,8 @@ read_members-rows-preserved g t c =
     let start = c.args.lines.now in
     let d = c.read_value_lines.new.lines in
     let e = c.next_row.new.self in
-    let next = subst (λ more. Took d.rest.now d.counted (if more then spaces c.args.indent else []) (if more then 1 else 0) e.rest.now e.counted) c.if-not-more.false c.in_ok-more.ensures in
+    let next = subst (λ more. Took d.rest.now d.counted (if more then spaces c.args.indent else [])
+    (if more then 1 else 0) e.rest.now e.counted) c.if-not-more.false c.in_ok-more.ensures in
     subst (λ ps. StartedMembers g.V.Build.Means ps (c.args.levels + 1) c.args.indent start.rest.now start.counted e.rest.now e.counted)
     (sym c.in_ok-push.ensures.items)
     (member_more g.V.Build.Means c.in_ok-key.key c.rows.invariant c.in_ok-key.ensures c.in_ok-value.ensures next)
@@ -76,8 +81,11 @@ pub read_members-returns-then-not-more : goal.read_members-returns-then-not-more
 read_members-returns-then-not-more g t c =
     let d = c.read_value_lines.new.lines in
     let e = c.next_row.new.self in
-    let next = subst (λ more. Took d.rest.now d.counted (if more then spaces c.args.indent else []) (if more then 1 else 0) e.rest.now e.counted) c.if-not-more.true c.in_ok-more.ensures in
+    let next = subst (λ more. Took d.rest.now d.counted (if more then spaces c.args.indent else [])
+    (if more then 1 else 0) e.rest.now e.counted) c.if-not-more.true c.in_ok-more.ensures in
     IfOk-weaker c.made_mapping.result _ _
-    (λ made is. member_last g.V.Build.Means {Is = g.V.Build.Means made} c.in_ok-key.key (c.args.levels + 2) (omega arith) c.rows.invariant c.in_ok-key.ensures c.in_ok-value.ensures next
-    (subst (λ ps. (ms : _) → AreMembers g.V.Build.Means ps ms → g.V.Build.Means made (mapping ms) × (keys_differ ms ≡ true)) c.in_ok-push.ensures.items is))
+    (λ made is. member_last g.V.Build.Means {Is = g.V.Build.Means made} c.in_ok-key.key (c.args.levels + 2)
+    (omega arith) c.rows.invariant c.in_ok-key.ensures c.in_ok-value.ensures next
+    (subst (λ ps. (ms : _) → AreMembers g.V.Build.Means ps ms
+    → g.V.Build.Means made (mapping ms) × (keys_differ ms ≡ true)) c.in_ok-push.ensures.items is))
     c.made_mapping.ensures

@@ -12,5 +12,7 @@ returns g c =
     let Is = g.V.Build.Means c.in_ok-value.value in
     let lines = c.size_beside-size.ensures.lines ∙ c.counted.ensures in
     subst (λ rest. IsStyled Is (λ t. value_at t c.args.indent) size c.args.text.now rest) (sym c.rest.ensures)
-    (lemmas.styled_beside {Is = Is} c.args.indent left.counted c.at_margin.result size c.args.text.now begun.rest.now left.rest.now begun.counted
-    c.new-lines.ensures.rest c.new-lines.ensures.counted c.in_ok-value.ensures c.at_margin.ensures.bytes c.size_beside-size.ensures.bytes lines)
+    (lemmas.styled_beside {Is = Is} c.args.indent left.counted c.at_margin.result size c.args.text.now begun.rest.now
+    left.rest.now begun.counted
+    c.new-lines.ensures.rest c.new-lines.ensures.counted c.in_ok-value.ensures c.at_margin.ensures.bytes
+    c.size_beside-size.ensures.bytes lines)

@@ -10,7 +10,8 @@ returns-in_err-write-clause-too_long c =
     let p = err_from_is_err_and c.from_residual-in_err-write.result c.from_residual-in_err-write.ensures.1 in
     let refused = c.in_err-write.ensures c.args.bytes.now c.in_ok-document.ensures.read in
     rw (p.1, p.2)
-    (not_too_long c.args.bytes.now (limits_of c.args.limits.now) c.in_ok-document.document c.in_err-write.field-0.0 (Err c.in_err-write.field-0.0)
+    (not_too_long c.args.bytes.now (limits_of c.args.limits.now) c.in_ok-document.document c.in_err-write.field-0.0
+    (Err c.in_err-write.field-0.0)
     c.in_ok-document.ensures.read refused refl)
 
 pub returns-in_err-write-clause-refused : goal.returns-in_err-write-clause-refused

@@ -33,8 +33,12 @@ pub loop-event-preserved : goal.loop-event-preserved
 loop-event-preserved g c =
     let l = c.loop-event in
     let fs = l.invariant.0 in
-    let wrote = c.in_ok-take.ensures c.args.sink.now fs l.invariant.2 in
-    (wrote.parts, run_on l.event-iterator c.next.new.self c.args.events c.in-Some.event fs wrote.parts c.in-Some.ensures.steps l.invariant.1 wrote.are, wrote.writes)
+    let wrote = c.in_ok-take.ensures c.args.sink.now fs l.invariant.2 in (
+      wrote.parts,
+      run_on l.event-iterator c.next.new.self c.args.events c.in-Some.event fs wrote.parts
+          c.in-Some.ensures.steps l.invariant.1 wrote.are,
+      wrote.writes,
+    )
 
 pub returns-in_err-take : goal.returns-in_err-take
 returns-in_err-take g c =
@@ -50,9 +54,11 @@ returns-in_err-keys_differ g c =
     let l = c.loop-event in
     let fs = l.invariant.0 in
     let all : List Event = c.args.events in
-    let done : run (Some []) (shapes (events_of all)) ≡ Some fs = run_ended l.event-iterator all fs c.in-None.ensures.steps.0 l.invariant.1 in
+    let done : run (Some []) (shapes (events_of all)) ≡ Some fs =
+    run_ended l.event-iterator all fs c.in-None.ensures.steps.0 l.invariant.1 in
     let p = err_from_is_err_and c.from_residual-in_err-keys_differ.result c.from_residual-in_err-keys_differ.ensures.1 in
-    rw (p.1, p.2) (unfinished_refuses (events_of all) fs c.in_err-keys_differ.field-0.0 done (c.in_err-keys_differ.ensures fs l.invariant.2.keeps))
+    rw (p.1, p.2) (unfinished_refuses (events_of all) fs c.in_err-keys_differ.field-0.0 done
+    (c.in_err-keys_differ.ensures fs l.invariant.2.keeps))
 
 pub returns : goal.returns
 returns g c =
@@ -60,5 +66,7 @@ returns g c =
     let fs = l.invariant.0 in
     let writes = l.invariant.2 in
     let all : List Event = c.args.events in
-    let done : run (Some []) (shapes (events_of all)) ≡ Some fs = run_ended l.event-iterator all fs c.in-None.ensures.steps.0 l.invariant.1 in
-    is_written g.S.Sink.Takes c.args.sink.now l.sink l.writer all nothing c.in_ok-keys_differ.keys_differ fs writes done (c.in_ok-keys_differ.ensures fs writes.keeps)
+    let done : run (Some []) (shapes (events_of all)) ≡ Some fs =
+    run_ended l.event-iterator all fs c.in-None.ensures.steps.0 l.invariant.1 in
+    is_written g.S.Sink.Takes c.args.sink.now l.sink l.writer all nothing c.in_ok-keys_differ.keys_differ fs writes
+    done (c.in_ok-keys_differ.ensures fs writes.keeps)

@@ -48,7 +48,8 @@ returns-in-MapEnd-clause-lines g c =
 pub returns-in-Scalar-clause-lines : goal.returns-in-Scalar-clause-lines
 returns-in-Scalar-clause-lines g c =
     let parts = ap open_frames c.in-Some.ensures.cases.0 ∙ open_frames-push c.in-Some.outer.now c.in-Some.innermost.now in
-    let value = ap (λ bytes. scalar_in (open_frame c.in-Some.innermost.now) (open_frames c.in-Some.outer.now) (chars bytes)) c.as_str.ensures.value in
+    let value = ap (λ bytes. scalar_in (open_frame c.in-Some.innermost.now) (open_frames c.in-Some.outer.now)
+    (chars bytes)) c.as_str.ensures.value in
     on_ok_weaker c.write_scalar_in.result
     (subst (λ cs. g.S.Sink.Takes c.args.sink.now cs c.write_scalar_in.new.sink)
     (value ∙ sym (ap₂ (λ fs e. added fs (shape (event_of e))) parts c.in-Scalar.is)))

@@ -13,7 +13,8 @@ returns-then-map g c =
     let fs = open_frames c.args.outer.now in
     let map = c.in-Map.map in
     subst (λ cs. g.S.Sink.Takes c.args.sink.now cs c.args.sink.now)
-    (map_end-key (members_by no_tree map.pairs.items) map.awaits_value fs (c.if-map.true) ∙ sym (ap (λ p. map_end (open_frame p) fs) c.in-Map.is))
+    (map_end-key (members_by no_tree map.pairs.items) map.awaits_value fs (c.if-map.true)
+    ∙ sym (ap (λ p. map_end (open_frame p) fs) c.in-Map.is))
     (g.met.S.Sink.takes_none c.args.sink.now)
 
 pub returns-then-not-is_empty : goal.returns-then-not-is_empty

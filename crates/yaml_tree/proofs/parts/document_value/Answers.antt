@@ -11,8 +11,12 @@ pub loop-event-preserved : goal.loop-event-preserved
 loop-event-preserved g c =
     let l = c.loop-event in
     let fs = l.invariant.0 in
-    let took = c.in_ok-take.ensures fs l.invariant.2 in
-    (took.parts, run_on l.event-iterator c.next.new.self c.args.events c.in-Some.event fs took.parts c.in-Some.ensures.steps l.invariant.1 took.are, took.keeps)
+    let took = c.in_ok-take.ensures fs l.invariant.2 in (
+      took.parts,
+      run_on l.event-iterator c.next.new.self c.args.events c.in-Some.event fs took.parts
+          c.in-Some.ensures.steps l.invariant.1 took.are,
+      took.keeps,
+    )
 
 pub returns-in_err-take : goal.returns-in_err-take
 returns-in_err-take g c =
@@ -28,7 +32,13 @@ returns g c =
     let l = c.loop-event in
     let fs = l.invariant.0 in
     let all : List Event = c.args.events in
-    let done : run (Some []) (shapes (events_of all)) ≡ Some fs = run_ended l.event-iterator all fs c.in-None.ensures.steps.0 l.invariant.1 in
+    let done : run (Some []) (shapes (events_of all)) ≡ Some fs =
+    run_ended l.event-iterator all fs c.in-None.ensures.steps.0 l.invariant.1 in
     MatchResult-weaker c.finish.result (c.finish.ensures fs l.invariant.2)
-    (λ found has. record { tree = has.tree; is_tree = run_tree (events_of all) fs has.tree done has.is; kept_is = has.kept_is; keys = has.keys })
+    (λ found has. record {
+      tree = has.tree;
+      is_tree = run_tree (events_of all) fs has.tree done has.is;
+      kept_is = has.kept_is;
+      keys = has.keys;
+    })
     (λ fault h. unfinished_refuses (events_of all) fs fault done h)

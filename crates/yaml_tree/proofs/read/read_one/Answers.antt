@@ -13,10 +13,12 @@ use Rattle.yaml_tree.proofs.ReadLemmas.{tree_read, shallow_refused, deep_refused
 use Rattle.yaml_tree.proofs.read.read_one.Goals as goal
 
 -- the tree is that of the events
-tree_built : (es : List Event) (t : trees.Tree) (differ : Bool) → IsOutcome keep.trees (tree_of t) differ (events_of es) → IsTreeOf (events_of es) (tree_of t)
+tree_built : (es : List Event) (t : trees.Tree) (differ : Bool)
+    → IsOutcome keep.trees (tree_of t) differ (events_of es) → IsTreeOf (events_of es) (tree_of t)
 tree_built es t differ built = subst (IsTreeOf (events_of es)) (sym built.kept_is) built.is_tree
 
-keys_built : (es : List Event) (t : trees.Tree) (differ b : Bool) → IsOutcome keep.trees (tree_of t) differ (events_of es) → differ ≡ b → distinct (tree_of t) ≡ b
+keys_built : (es : List Event) (t : trees.Tree) (differ b : Bool)
+    → IsOutcome keep.trees (tree_of t) differ (events_of es) → differ ≡ b → distinct (tree_of t) ≡ b
 keys_built es t differ b built is = ap distinct built.kept_is ∙ sym built.keys ∙ is
 
 pub returns-in-Ok-clause-given : goal.returns-in-Ok-clause-given

@@ -15,4 +15,5 @@ loop-at-preserved g c = (
 pub returns : goal.returns
 returns g c =
     c.has_block-2.ensures
-    ∙ last_block g.C.ByteClass.passes c.args.bytes.now c.loop-at.at 16 c.loop-at.invariant.1 c.requires (omega (arith, c.loop-at-test.false))
+    ∙ last_block g.C.ByteClass.passes c.args.bytes.now c.loop-at.at 16 c.loop-at.invariant.1 c.requires
+    (omega (arith, c.loop-at-test.false))

@@ -15,7 +15,8 @@ range_from-requires c =
 
 pub returns-in_err-at : goal.returns-in_err-at
 returns-in_err-at c =
-    subst (λ r. MatchOption r (IsOneLine (chars c.args.text.now)) (λ cut. (c.args.text.now ≡ cut.0.now ++ line_feed ∷ cut.1.now) × IsOneLine (chars cut.0.now)))
+    subst (λ r. MatchOption r (IsOneLine (chars c.args.text.now))
+    (λ cut. (c.args.text.now ≡ cut.0.now ++ line_feed ∷ cut.1.now) × IsOneLine (chars cut.0.now)))
     (sym c.from_residual.ensures)
     (subst (λ bs. IsOneLine (chars bs)) c.as_bytes.ensures.value
     (one_line_from_bytes c.as_bytes.result.now (subst IsUtf8 (sym c.as_bytes.ensures.value) c.utf8.text) c.in_err-at.ensures))

@@ -9,5 +9,6 @@ returns g c =
     let own = chars-literal (codes "? ") refl in
     let mark = subst (λ cs. g.S.Sink.Takes c.args.sink.now cs c.put_text.new.self) own c.in_ok-put_text.ensures in
     on_ok_weaker c.put_char-2.result
-    (both _ _ _ _ _ (both _ _ _ _ _ (both _ _ _ _ _ (both _ _ _ _ _ mark c.in_ok-write_key_text.ensures) c.in_ok-put_char.ensures) c.in_ok-put_spaces.ensures))
+    (both _ _ _ _ _ (both _ _ _ _ _ (both _ _ _ _ _
+    (both _ _ _ _ _ mark c.in_ok-write_key_text.ensures) c.in_ok-put_char.ensures) c.in_ok-put_spaces.ensures))
     c.put_char-2.ensures

@@ -14,7 +14,8 @@ returns-in-Ok-false-clause-refused g c =
     let old = c.in_ok-pieces.pieces in
     let now = c.advance.new.self in
     let end : AdvancesToEnd store_limit store_limit given left old now =
-    subst (λ b. Advances store_limit store_limit given left old now (Ok b)) c.in-Ok-false.field-0-test (own-limits given left old now (Ok c.in-Ok-false.field-0) c.in_ok-pieces.ensures.sound c.in-Ok-false.ensures) in
+    subst (λ b. Advances store_limit store_limit given left old now (Ok b)) c.in-Ok-false.field-0-test
+    (own-limits given left old now (Ok c.in-Ok-false.field-0) c.in_ok-pieces.ensures.sound c.in-Ok-false.ensures) in
     no-piece given left old now c.in_ok-pieces.ensures.unread.0 c.in_ok-pieces.ensures.unread.1 end
 
 pub returns-in_default-clause-refused : goal.returns-in_default-clause-refused
@@ -24,9 +25,11 @@ returns-in_default-clause-refused g c =
     let old = c.in_ok-pieces.pieces in
     let now = c.advance.new.self in
     let first : AdvancesToPiece store_limit store_limit given left old now =
-    subst (λ b. Advances store_limit store_limit given left old now (Ok b)) c.in-Ok-true.field-0-test (own-limits given left old now (Ok c.in-Ok-true.field-0) c.in_ok-pieces.ensures.sound c.in-Ok-true.ensures) in
+    subst (λ b. Advances store_limit store_limit given left old now (Ok b)) c.in-Ok-true.field-0-test
+    (own-limits given left old now (Ok c.in-Ok-true.field-0) c.in_ok-pieces.ensures.sound c.in-Ok-true.ensures) in
     let no : IsNoBase c.piece.result.now = search rules in
-    no-base given left old now c.in_ok-pieces.ensures.unread.0 c.in_ok-pieces.ensures.unread.1 c.one_list_of_pieces.ensures.some first (subst IsNoBase c.piece.ensures no)
+    no-base given left old now c.in_ok-pieces.ensures.unread.0 c.in_ok-pieces.ensures.unread.1
+    c.one_list_of_pieces.ensures.some first (subst IsNoBase c.piece.ensures no)
 
 pub returns-clause-ok : goal.returns-clause-ok
 returns-clause-ok g c =
@@ -35,12 +38,14 @@ returns-clause-ok g c =
     let old = c.in_ok-pieces.pieces in
     let now = c.advance.new.self in
     let first : AdvancesToPiece store_limit store_limit given left old now =
-    subst (λ b. Advances store_limit store_limit given left old now (Ok b)) c.in-Ok-true.field-0-test (own-limits given left old now (Ok c.in-Ok-true.field-0) c.in_ok-pieces.ensures.sound c.in-Ok-true.ensures) in
+    subst (λ b. Advances store_limit store_limit given left old now (Ok b)) c.in-Ok-true.field-0-test
+    (own-limits given left old now (Ok c.in-Ok-true.field-0) c.in_ok-pieces.ensures.sound c.in-Ok-true.ensures) in
     let base : IsBase c.piece.result.now c.in-Some.state = search rules in (
       piece_or_rest now ∷ [],
       begun given left old now c.in_ok-pieces.ensures.unread.0 c.in_ok-pieces.ensures.unread.1 c.in-Some.state c.after-place.result first
           (subst (λ b. IsBase b c.in-Some.state) c.piece.ensures base)
-          (placed c.start.result c.after-place.result (piece_or_rest now) c.piece-2.result.now c.start.ensures c.piece-2.ensures c.after-place.ensures),
+          (placed c.start.result c.after-place.result
+          (piece_or_rest now) c.piece-2.result.now c.start.ensures c.piece-2.ensures c.after-place.ensures),
     )
 
 pub returns-clause-first : goal.returns-clause-first
@@ -50,8 +55,10 @@ returns-clause-first g c =
     let old = c.in_ok-pieces.pieces in
     let now = c.advance.new.self in
     let first : AdvancesToPiece store_limit store_limit given left old now =
-    subst (λ b. Advances store_limit store_limit given left old now (Ok b)) c.in-Ok-true.field-0-test (own-limits given left old now (Ok c.in-Ok-true.field-0) c.in_ok-pieces.ensures.sound c.in-Ok-true.ensures) in
+    subst (λ b. Advances store_limit store_limit given left old now (Ok b)) c.in-Ok-true.field-0-test
+    (own-limits given left old now (Ok c.in-Ok-true.field-0) c.in_ok-pieces.ensures.sound c.in-Ok-true.ensures) in
     let base : IsBase c.piece.result.now c.in-Some.state = search rules in
     begun given left old now c.in_ok-pieces.ensures.unread.0 c.in_ok-pieces.ensures.unread.1 c.in-Some.state c.after-place.result first
     (subst (λ b. IsBase b c.in-Some.state) c.piece.ensures base)
-    (placed c.start.result c.after-place.result (piece_or_rest now) c.piece-2.result.now c.start.ensures c.piece-2.ensures c.after-place.ensures)
+    (placed c.start.result c.after-place.result
+    (piece_or_rest now) c.piece-2.result.now c.start.ensures c.piece-2.ensures c.after-place.ensures)

@@ -8,5 +8,6 @@ use Rattle.conf_history.proofs.walk.Walk.goes_on.Goals as goal
 pub returns-clause-walks : goal.returns-clause-walks
 returns-clause-walks g c = λ given pieces start commands b.
     goes-on given (g.R.Read.remaining c.advance.new.reader) c.advance.new.self pieces start commands c.args.at c.advance.result
-    (λ e. c.is_reached.ensures.not_yet c.if-is_reached.false (e ∙ ap Some (ap (λ (t : Contents). t.count) c.advance.ensures.state ∙ sym c.count.ensures.count)))
+    (λ e. c.is_reached.ensures.not_yet c.if-is_reached.false
+    (e ∙ ap Some (ap (λ (t : Contents). t.count) c.advance.ensures.state ∙ sym c.count.ensures.count)))
     (c.advance.ensures.walks given pieces start commands b)

@@ -24,7 +24,8 @@ returns c =
     let ps = c.self.inside.places.entries in
     let test = is_name c.args.name.now in
     let held = sym c.in_ok-self-inside.ensures.value in
-    let written : (w : Tree) → OnSome c.as_mut.result (present (c.get_mut.follows.lender (Some w)).entries ≡ set_value test c.args.self.now w) = λ w.
+    let written : (w : Tree) → OnSome c.as_mut.result
+    (present (c.get_mut.follows.lender (Some w)).entries ≡ set_value test c.args.self.now w) = λ w.
     on_some c.as_mut.result c.in_ok-self-inside.field-0.now c.as_mut.ensures.value (λ old is.
     ap present (c.get_mut.follows.holds (Some w)).0 ∙ present-set c.args.name.now ps old w (held ∙ ap Some is)
     ∙ ap (λ es. set_value test es w) c.self.view_is) in

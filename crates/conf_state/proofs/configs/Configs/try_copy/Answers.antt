@@ -10,7 +10,9 @@ loop-name-preserved c =
     let key = c.in-Some.name.now in
     let value = c.in-Some.config.now in
     let left = c.next.new.self in
-    let so_far = subst (λ xs. (entries_of done ++ entries_of xs ≡ all) × ArePlain done × ArePlain xs) c.in-Some.ensures.steps c.loop-name.invariant in
-    let more = copied_more all done key c.in_ok-from_str.field-0 value c.in_ok-try_copy.field-0 left c.put.new.self c.requires.distinct so_far.0 so_far.1 so_far.2.0
+    let so_far = subst (λ xs. (entries_of done ++ entries_of xs ≡ all) × ArePlain done × ArePlain xs)
+    c.in-Some.ensures.steps c.loop-name.invariant in
+    let more = copied_more all done key c.in_ok-from_str.field-0 value c.in_ok-try_copy.field-0 left c.put.new.self
+    c.requires.distinct so_far.0 so_far.1 so_far.2.0
     (c.in_ok-from_str.ensures.ok ∙ c.deref.ensures) c.in_ok-try_copy.ensures c.in_ok-put.ensures.ok in
     (more.0, more.1, so_far.2.1)

@@ -23,14 +23,18 @@ use Rattle.conf_state.proofs.draft.Draft.edit_uncounted.Goals.{In-Some, After-ed
 
 held : (c : In-Some) → lookup (is_name (string_bytes c.args.name)) c.args.self.now.touched ≡ Some c.in-Some.config.now
 held c =
-    ap (λ bs. lookup (is_name bs) c.args.self.now.touched) (sym c.deref.ensures) ∙ sym c.get_mut.ensures.value ∙ ap option_copied_mut c.in-Some.is
+    ap (λ bs. lookup (is_name bs) c.args.self.now.touched) (sym c.deref.ensures) ∙ sym c.get_mut.ensures.value
+    ∙ ap option_copied_mut c.in-Some.is
 
 touched : (c : In-Some) → config_named (entries_of c.args.self.now.touched) (text_of c.args.name) ≡ Some (tree_of c.in-Some.config.now)
-touched c = found-named (string_bytes c.args.name) (IsUtf8-string_bytes c.args.name) c.args.self.now.touched c.requires.draft.plain c.in-Some.config.now (held c)
+touched c = found-named (string_bytes c.args.name)
+    (IsUtf8-string_bytes c.args.name) c.args.self.now.touched c.requires.draft.plain c.in-Some.config.now (held c)
 
-there : (c : In-Some) → config_named (drafted c.args.state.now.configs c.args.self.now) (text_of c.args.name) ≡ Some (tree_of c.in-Some.config.now)
+there : (c : In-Some) → config_named (drafted c.args.state.now.configs c.args.self.now) (text_of c.args.name)
+    ≡ Some (tree_of c.in-Some.config.now)
 there c =
-    named-put_all-some (entries_of c.args.self.now.touched) (cut_all c.args.state.now.configs (texts_of c.args.self.now.removed.keys)) (text_of c.args.name)
+    named-put_all-some (entries_of c.args.self.now.touched)
+    (cut_all c.args.state.now.configs (texts_of c.args.self.now.removed.keys)) (text_of c.args.name)
     (tree_of c.in-Some.config.now) c.requires.draft.distinct (touched c)
 
 pub edit_config-requires-clause-within : goal.edit_config-requires-clause-within
@@ -43,7 +47,8 @@ set : (c : After-edit_config) → c.get_mut.follows.lender c.edit_config.new.con
     ≡ set_value (is_name (string_bytes c.args.name)) c.args.self.now.touched c.edit_config.new.config
 set c =
     let t = c.edit_config.new.config in
-    subst (λ r. OnSome r (c.get_mut.follows.lender t ≡ set_value (is_name c.deref.result.now) c.args.self.now.touched t)) c.in-Some.is (c.get_mut.follows.holds t)
+    subst (λ r. OnSome r (c.get_mut.follows.lender t
+    ≡ set_value (is_name c.deref.result.now) c.args.self.now.touched t)) c.in-Some.is (c.get_mut.follows.holds t)
     ∙ ap (λ bs. set_value (is_name bs) c.args.self.now.touched t) c.deref.ensures
 
 seen : (c : After-edit_config) → lookup (is_name (string_bytes c.args.name)) c.args.self.now.touched ≡ Some c.in-Some.config.now
@@ -51,7 +56,8 @@ seen : (c : After-edit_config) → lookup (is_name (string_bytes c.args.name)) c
     ≡ put_config (entries_of c.args.self.now.touched) (text_of c.args.name) (tree_of c.edit_config.new.config)
 seen c was =
     ap entries_of (set c)
-    ∙ set_value-named (string_bytes c.args.name) (IsUtf8-string_bytes c.args.name) c.args.self.now.touched c.in-Some.config.now c.edit_config.new.config
+    ∙ set_value-named (string_bytes c.args.name)
+    (IsUtf8-string_bytes c.args.name) c.args.self.now.touched c.in-Some.config.now c.edit_config.new.config
     c.requires.draft.plain was
 
 pub returns-in-Some-clause-ok : goal.returns-in-Some-clause-ok
@@ -59,9 +65,11 @@ returns-in-Some-clause-ok c =
     let at = goal.at.returns-in-Some-clause-ok c in
     let es = c.args.state.now.configs in
     on_ok_weaker c.edit_config.result
-    (λ is. edit-made (drafted es c.args.self.now) (text_of c.args.name) c.args.edit (chars c.args.pointer.now) (tree_of c.in-Some.config.now)
+    (λ is. edit-made (drafted es c.args.self.now) (text_of c.args.name) c.args.edit (chars c.args.pointer.now)
+    (tree_of c.in-Some.config.now)
     (there at.In-Some) (tree_of c.edit_config.new.config) is
-    ∙ ap Ok (sym (put-made c.args.self.now (c.get_mut.follows.lender c.edit_config.new.config) c.args.self.now.length (text_of c.args.name) (tree_of c.edit_config.new.config)
+    ∙ ap Ok (sym (put-made c.args.self.now (c.get_mut.follows.lender c.edit_config.new.config) c.args.self.now.length
+    (text_of c.args.name) (tree_of c.edit_config.new.config)
     c.requires.draft (seen at.After-edit_config (held at.In-Some)) es)))
     c.edit_config.ensures.ok
 
@@ -69,7 +77,8 @@ pub returns-in-Some-clause-draft : goal.returns-in-Some-clause-draft
 returns-in-Some-clause-draft c =
     let at = goal.at.returns-in-Some-clause-draft c in
     on_ok_weaker c.edit_config.result
-    (λ good. put-kept c.args.self.now (c.get_mut.follows.lender c.edit_config.new.config) c.args.self.now.length (text_of c.args.name) (tree_of c.edit_config.new.config)
+    (λ good. put-kept c.args.self.now (c.get_mut.follows.lender c.edit_config.new.config) c.args.self.now.length
+    (text_of c.args.name) (tree_of c.edit_config.new.config)
     c.requires.draft (seen at.After-edit_config (held at.In-Some))
     (subst ArePlain (sym (set at.After-edit_config))
     (plain_set_value (string_bytes c.args.name) c.edit_config.new.config c.args.self.now.touched c.requires.draft.plain))
@@ -89,7 +98,8 @@ returns-in-Some-clause-changes c =
       after = tree_of t;
       there = there at.In-Some;
       changes = is;
-      made = put-made c.args.self.now lender c.args.self.now.length name (tree_of t) c.requires.draft (seen at.After-edit_config (held at.In-Some)) es;
+      made = put-made c.args.self.now lender c.args.self.now.length name (tree_of t) c.requires.draft
+          (seen at.After-edit_config (held at.In-Some)) es;
     })
     c.edit_config.ensures.changes
 
@@ -97,7 +107,8 @@ pub returns-in-Some-clause-refused : goal.returns-in-Some-clause-refused
 returns-in-Some-clause-refused c =
     let at = goal.at.returns-in-Some-clause-refused c in
     IfErr-weaker c.edit_config.result _ _
-    (λ fault. or_so (edit-refused (drafted c.args.state.now.configs c.args.self.now) (text_of c.args.name) c.args.edit (chars c.args.pointer.now)
+    (λ fault. or_so (edit-refused (drafted c.args.state.now.configs c.args.self.now) (text_of c.args.name) c.args.edit
+    (chars c.args.pointer.now)
     (tree_of c.in-Some.config.now) (there at.In-Some) fault))
     c.edit_config.ensures.refused
 
@@ -108,7 +119,8 @@ untouched : (c : In_default) → config_named (drafted c.args.state.now.configs 
 untouched c =
     let name = string_bytes c.args.name in
     let old = c.args.self.now.touched in
-    let none = ap (λ bs. lookup (is_name bs) old) (sym c.deref.ensures) ∙ sym c.get_mut.ensures.value ∙ ap option_copied_mut c.in_default.is in
+    let none = ap (λ bs. lookup (is_name bs) old) (sym c.deref.ensures) ∙ sym c.get_mut.ensures.value
+    ∙ ap option_copied_mut c.in_default.is in
     named-put_all-none (entries_of old) (cut_all c.args.state.now.configs (texts_of c.args.self.now.removed.keys)) (text_of c.args.name)
     (sym (lookup-named name (IsUtf8-string_bytes c.args.name) old c.requires.draft.plain) ∙ ap (option_map tree_of) none)
 
@@ -117,7 +129,8 @@ returns-in_default-untouched-clause-refused c =
     let cut = cut_all c.args.state.now.configs (texts_of c.args.self.now.removed.keys) in
     let none = untouched (goal.at.returns-in_default-untouched-clause-refused c).In_default
     ∙ ap (λ bs. config_named cut (chars bs)) (sym c.deref-2.ensures) ∙ sym c.in_default-untouched.ensures.found in
-    inr (tree_after_edit-nothing (drafted c.args.state.now.configs c.args.self.now) (text_of c.args.name) c.args.edit (chars c.args.pointer.now) none)
+    inr (tree_after_edit-nothing (drafted c.args.state.now.configs c.args.self.now) (text_of c.args.name) c.args.edit
+    (chars c.args.pointer.now) none)
 
 copied : (c : In-Some-untouched) → config_named (drafted c.args.state.now.configs c.args.self.now) (text_of c.args.name)
     ≡ config_named (cut_all c.args.state.now.configs (texts_of c.args.self.now.removed.keys)) (text_of c.args.name)
@@ -132,14 +145,17 @@ returns-in_err-change-clause-refused c =
     let p = err_from_is_err_and c.from_residual-in_err-change.result c.from_residual-in_err-change.ensures.1 in
     rw (p.1, p.2)
     (or_so (edit-refused (drafted c.args.state.now.configs c.args.self.now) (text_of c.args.name) c.args.edit (chars c.args.pointer.now)
-    (tree_of c.in_ok-copy.copy) (copied at.In-Some-untouched (untouched at.In_default) ∙ ap Some (sym c.in_ok-copy.ensures)) c.in_err-change.field-0.0)
+    (tree_of c.in_ok-copy.copy) (copied at.In-Some-untouched (untouched at.In_default)
+    ∙ ap Some (sym c.in_ok-copy.ensures)) c.in_err-change.field-0.0)
     c.in_err-change.ensures.refused)
 
-put : (c : In_ok-put) → entries_of c.put.new.self ≡ put_config (entries_of c.args.self.now.touched) (text_of c.args.name) (tree_of c.edit_config-2.new.config)
+put : (c : In_ok-put) → entries_of c.put.new.self
+    ≡ put_config (entries_of c.args.self.now.touched) (text_of c.args.name) (tree_of c.edit_config-2.new.config)
 put c =
     ap entries_of c.in_ok-put.ensures.ok
     ∙ ap (λ old. entries_of (put_under c.args.name c.edit_config-2.new.config old)) c.get_mut.follows.holds-at-none
-    ∙ put_under-named c.args.name (IsUtf8-string_bytes c.args.name) c.edit_config-2.new.config c.args.self.now.touched c.requires.draft.plain
+    ∙ put_under-named c.args.name (IsUtf8-string_bytes c.args.name) c.edit_config-2.new.config c.args.self.now.touched
+    c.requires.draft.plain
 
 pub returns-clause-ok : goal.returns-clause-ok
 returns-clause-ok c =
@@ -148,14 +164,16 @@ returns-clause-ok c =
     let t = tree_of c.edit_config-2.new.config in
     edit-made (drafted es c.args.self.now) (text_of c.args.name) c.args.edit (chars c.args.pointer.now) (tree_of c.in_ok-copy.copy)
     (copied at.In-Some-untouched (untouched at.In_default) ∙ ap Some (sym c.in_ok-copy.ensures)) t c.in_ok-change.ensures.ok
-    ∙ ap Ok (sym (put-made c.args.self.now c.put.new.self c.args.self.now.length (text_of c.args.name) t c.requires.draft (put at.In_ok-put) es))
+    ∙ ap Ok (sym (put-made c.args.self.now c.put.new.self c.args.self.now.length
+    (text_of c.args.name) t c.requires.draft (put at.In_ok-put) es))
 
 pub returns-clause-draft : goal.returns-clause-draft
 returns-clause-draft c =
     let ascii = good_name-ascii (string_bytes c.args.name) (IsUtf8-string_bytes c.args.name) c.requires.named in
     let t = c.edit_config-2.new.config in
     let plain = plain_put_under c.args.name t c.args.self.now.touched ascii c.requires.draft.plain in
-    put-kept c.args.self.now c.put.new.self c.args.self.now.length (text_of c.args.name) (tree_of t) c.requires.draft (put (goal.at.returns-clause-draft c).In_ok-put)
+    put-kept c.args.self.now c.put.new.self c.args.self.now.length (text_of c.args.name) (tree_of t) c.requires.draft
+    (put (goal.at.returns-clause-draft c).In_ok-put)
     (subst ArePlain (sym (c.in_ok-put.ensures.ok ∙ ap (put_under c.args.name t) c.get_mut.follows.holds-at-none)) plain)
     c.requires.named c.in_ok-change.ensures.within
 
@@ -168,5 +186,6 @@ returns-clause-changes c =
       after = t;
       there = copied at.In-Some-untouched (untouched at.In_default) ∙ ap Some (sym c.in_ok-copy.ensures);
       changes = c.in_ok-change.ensures.changes;
-      made = put-made c.args.self.now c.put.new.self c.args.self.now.length (text_of c.args.name) t c.requires.draft (put at.In_ok-put) c.args.state.now.configs;
+      made = put-made c.args.self.now c.put.new.self c.args.self.now.length (text_of c.args.name) t c.requires.draft
+          (put at.In_ok-put) c.args.state.now.configs;
     }

@@ -15,7 +15,8 @@ returns-in-Some c =
     let touched = c.args.self.now.touched in
     let held = sym c.get.ensures ∙ ap option_copied c.in-Some.is in
     let there = found-named c.args.name.now c.utf8.name touched c.requires.plain c.in-Some.config.now held in
-    sym (named-put_all-some (entries_of touched) (cut_all c.args.state.now.configs (texts_of c.args.self.now.removed.keys)) (chars c.args.name.now)
+    sym (named-put_all-some (entries_of touched)
+    (cut_all c.args.state.now.configs (texts_of c.args.self.now.removed.keys)) (chars c.args.name.now)
     (tree_of c.in-Some.config.now) c.requires.distinct there)
 
 pub returns : goal.returns
@@ -24,4 +25,5 @@ returns c =
     let missing : lookup (is_name c.args.name.now) touched ≡ None = sym c.get.ensures ∙ ap option_copied c.in_default.is in
     let none = sym (lookup-named c.args.name.now c.utf8.name touched c.requires.plain) ∙ ap (option_map tree_of) missing in
     c.untouched.ensures.found
-    ∙ sym (named-put_all-none (entries_of touched) (cut_all c.args.state.now.configs (texts_of c.args.self.now.removed.keys)) (chars c.args.name.now) none)
+    ∙ sym (named-put_all-none (entries_of touched)
+    (cut_all c.args.state.now.configs (texts_of c.args.self.now.removed.keys)) (chars c.args.name.now) none)

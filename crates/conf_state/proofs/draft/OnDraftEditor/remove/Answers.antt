@@ -11,7 +11,11 @@ pub returns : goal.returns
 returns c =
     let old = c.args.target.now in
     let es = c.args.self.now.state.now.configs in
-    let cut = is_cut old (record { removed = c.insert.new.self; touched = c.remove.new.self; length = c.length_without-length.result }) c.args.name
+    let cut = is_cut old (record {
+      removed = c.insert.new.self;
+      touched = c.remove.new.self;
+      length = c.length_without-length.result;
+    }) c.args.name
     c.requires.good (c.remove.ensures ∙ ap (λ bs. cut_from bs old.touched) c.deref-2.ensures) c.in_ok-insert.ensures.keys in
     let made = cut.made es c.requires.distinct in
     record {

@@ -17,7 +17,8 @@ returns-in_err-path-clause-refused c =
     let p = err_from_is_err_and c.from_residual.result c.from_residual.ensures.1 in
     rw (p.1, p.2)
     (or_so (ap (λ r. and_then r (checked_edit c.args.edit.now (tree_of c.args.config.now))))
-    (path-refused (path_of (chars c.args.pointer.now)) c.in_err-path.field-0.0 (parsed-Err (chars c.args.pointer.now) c.in_err-path.field-0.0 c.in_err-path.ensures.met)))
+    (path-refused (path_of (chars c.args.pointer.now)) c.in_err-path.field-0.0
+    (parsed-Err (chars c.args.pointer.now) c.in_err-path.field-0.0 c.in_err-path.ensures.met)))
 
 pub plan-requires : goal.plan-requires
 plan-requires c =

@@ -23,9 +23,11 @@ pub returns-in_default-clause-refused : goal.returns-in_default-clause-refused
 returns-in_default-clause-refused c =
     let name = chars c.args.name.now in
     let missing =
-    ap (λ s. config_named s.configs name) (sym c.self.view_is) ∙ sym (lookup-named c.args.name.now c.utf8.name c.self.inside.configs c.self.invariant.plain)
+    ap (λ s. config_named s.configs name) (sym c.self.view_is)
+    ∙ sym (lookup-named c.args.name.now c.utf8.name c.self.inside.configs c.self.invariant.plain)
     ∙ ap (option_map tree_of) (sym c.in_default.ensures) in
-    inr (ap (λ r. and_then r (next_state c.args.self.now c.args.room)) (tree_after_edit-nothing c.args.self.now.configs name c.args.edit (chars c.args.pointer.now) missing))
+    inr (ap (λ r. and_then r (next_state c.args.self.now c.args.room))
+    (tree_after_edit-nothing c.args.self.now.configs name c.args.edit (chars c.args.pointer.now) missing))
 
 -- the configuration under the name
 there : (c : In-Some) → config_named (entries_of c.self.inside.configs) (chars c.args.name.now) ≡ Some (tree_of c.in-Some.config.now)
@@ -44,8 +46,14 @@ new-requires-clause-within c =
 
 pub length_changed-entries-requires : goal.length_changed-entries-requires
 length_changed-entries-requires c =
-    let l = c.in_ok-plan.ensures.ok in
-    (chars c.args.name.now, tree_of c.in-Some.config.now, l.new, seen (goal.at.length_changed-entries-requires c).In-Some, l.changes, l.long)
+    let l = c.in_ok-plan.ensures.ok in (
+      chars c.args.name.now,
+      tree_of c.in-Some.config.now,
+      l.new,
+      seen (goal.at.length_changed-entries-requires c).In-Some,
+      l.changes,
+      l.long,
+    )
 
 pub returns-in_err-plan-clause-refused : goal.returns-in_err-plan-clause-refused
 returns-in_err-plan-clause-refused c =
@@ -54,7 +62,8 @@ returns-in_err-plan-clause-refused c =
     let p = err_from_is_err_and c.from_residual.result c.from_residual.ensures.1 in
     rw (p.1, p.2)
     (or_so (λ is. ap (λ r. and_then r (next_state s c.args.room))
-    (edit-refused s.configs (chars c.args.name.now) c.args.edit (chars c.args.pointer.now) (tree_of c.in-Some.config.now) found c.in_err-plan.field-0.0 is))
+    (edit-refused s.configs (chars c.args.name.now) c.args.edit (chars c.args.pointer.now)
+    (tree_of c.in-Some.config.now) found c.in_err-plan.field-0.0 is))
     c.in_err-plan.ensures.refused)
 
 pub returns-in_err-check_room-clause-refused : goal.returns-in_err-check_room-clause-refused
@@ -66,7 +75,8 @@ returns-in_err-check_room-clause-refused c =
     let found = seen (goal.at.returns-in_err-check_room-clause-refused c).In-Some in
     let l = c.in_ok-plan.ensures.ok in
     let entries = c.length_changed-entries.ensures name old l.new found l.changes in
-    let made = edit-made s.configs name c.args.edit pointer old found l.new (plan-made c.args.edit old pointer c.in_ok-plan.plan l c.in_ok-plan.ensures.path) in
+    let made = edit-made s.configs name c.args.edit pointer old found l.new
+    (plan-made c.args.edit old pointer c.in_ok-plan.plan l c.in_ok-plan.ensures.path) in
     let p = err_from_is_err_and c.from_residual-in_err-check_room.result c.from_residual-in_err-check_room.ensures.1 in
     rw (p.1, p.2)
     (inr (ap (λ r. and_then r (next_state s c.args.room)) made
@@ -77,22 +87,26 @@ held : (c : After-unwrap-config) → lookup (is_name c.args.name.now) c.self.ins
 held c = sym c.get_mut.ensures.value ∙ ap option_copied_mut c.unwrap-config.ensures
 
 same : (c : After-unwrap-config) → c.in-Some.config.now ≡ c.unwrap-config.result.now
-same c = same_value (lookup (is_name c.args.name.now) c.self.inside.configs) c.in-Some.config.now c.unwrap-config.result.now (sym c.in-Some.ensures) (held c)
+same c = same_value (lookup (is_name c.args.name.now) c.self.inside.configs) c.in-Some.config.now
+    c.unwrap-config.result.now (sym c.in-Some.ensures) (held c)
 
 pub perform-requires : goal.perform-requires
 perform-requires c =
-    subst (λ t. IsPlan c.args.edit (tree_of t) c.in_ok-plan.plan) (same (goal.at.perform-requires c).After-unwrap-config) c.in_ok-plan.ensures.ok
+    subst (λ t. IsPlan c.args.edit (tree_of t) c.in_ok-plan.plan)
+    (same (goal.at.perform-requires c).After-unwrap-config) c.in_ok-plan.ensures.ok
 
 -- the configurations once the changed one is back in its place
 record IsPlaced (c : After-perform) : Type 0 where
   plain : ArePlain (c.get_mut.follows.lender c.perform.new.config)
-  entries : entries_of (c.get_mut.follows.lender c.perform.new.config) ≡ put_config (entries_of c.self.inside.configs) (chars c.args.name.now) (tree_of c.perform.new.config)
+  entries : entries_of (c.get_mut.follows.lender c.perform.new.config)
+      ≡ put_config (entries_of c.self.inside.configs) (chars c.args.name.now) (tree_of c.perform.new.config)
 
 is_placed : (c : After-perform) → lookup (is_name c.args.name.now) c.self.inside.configs ≡ Some c.unwrap-config.result.now → IsPlaced c
 is_placed c was =
     let es = c.self.inside.configs in
     let t = c.perform.new.config in
-    let set = subst (λ r. OnSome r (c.get_mut.follows.lender t ≡ set_value (is_name c.args.name.now) es t)) c.unwrap-config.ensures (c.get_mut.follows.holds t) in
+    let set = subst (λ r. OnSome r (c.get_mut.follows.lender t ≡ set_value (is_name c.args.name.now) es t))
+    c.unwrap-config.ensures (c.get_mut.follows.holds t) in
     record {
       plain = subst ArePlain (sym set) (plain_set_value c.args.name.now t es c.self.invariant.plain);
       entries = ap entries_of set ∙ set_value-named c.args.name.now c.utf8.name es c.unwrap-config.result.now t c.self.invariant.plain was;
@@ -105,7 +119,8 @@ invariant_of-self c =
     let placed = is_placed at.After-perform (held at.After-unwrap-config) in
     let es = entries_of c.self.inside.configs in
     let name = chars c.args.name.now in
-    let back = there at.In-Some ∙ ap (λ t. Some (tree_of t)) (same at.After-unwrap-config) ∙ ap Some (sym c.in_err-perform.ensures.unchanged) in
+    let back = there at.In-Some ∙ ap (λ t. Some (tree_of t)) (same at.After-unwrap-config)
+    ∙ ap Some (sym c.in_err-perform.ensures.unchanged) in
     kept_same c.self.inside.configs c.self.inside.count c.self.inside.entries c.self.invariant _ placed.plain
     (placed.entries ∙ put_config-same es name (tree_of c.perform.new.config) back)
 
@@ -115,7 +130,8 @@ returns-in_err-perform-clause-unchanged c =
     let placed = is_placed at.After-perform (held at.After-unwrap-config) in
     let es = entries_of c.self.inside.configs in
     let name = chars c.args.name.now in
-    let back = there at.In-Some ∙ ap (λ t. Some (tree_of t)) (same at.After-unwrap-config) ∙ ap Some (sym c.in_err-perform.ensures.unchanged) in
+    let back = there at.In-Some ∙ ap (λ t. Some (tree_of t)) (same at.After-unwrap-config)
+    ∙ ap Some (sym c.in_err-perform.ensures.unchanged) in
     let p = err_from_is_err_and c.from_residual-in_err-perform.result c.from_residual-in_err-perform.ensures.1 in
     rw p.1
     (ap (λ cs. record { configs = cs; count = c.self.inside.count })
@@ -142,7 +158,8 @@ is_made c found one =
     let plan = c.in_ok-plan.plan in
     let l = c.in_ok-plan.ensures.ok in
     let entries = c.length_changed-entries.ensures name old l.new found l.changes in
-    let made = subst (λ t. tree_after_edit c.args.edit (tree_of t) plan.path ≡ Ok (tree_of c.perform.new.config)) (sym one) c.in_ok-perform.ensures.ok in
+    let made = subst (λ t. tree_after_edit c.args.edit (tree_of t) plan.path ≡ Ok (tree_of c.perform.new.config))
+    (sym one) c.in_ok-perform.ensures.ok in
     let new = same_edit (tree_after_edit c.args.edit old plan.path) l.new (tree_of c.perform.new.config) l.made made in
     let counts = entries ∙ ap (λ u. entries_length (put_config es name u)) new in
     record {
@@ -162,7 +179,8 @@ invariant_of-self-2 c =
     kept_put c.self.inside.configs c.self.inside.count c.self.inside.entries c.self.invariant
     (omega (arith, ap (λ s. s.count) c.self.view_is, c.in_ok-check_room.ensures.counts))
     name t c.requires.named c.in_ok-perform.ensures.within c.args.room _
-    (subst (λ s. next_state s c.args.room (put_config s.configs name t) ≡ Ok (record { configs = put_config s.configs name t; count = s.count + 1 }))
+    (subst (λ s. next_state s c.args.room (put_config s.configs name t)
+    ≡ Ok (record { configs = put_config s.configs name t; count = s.count + 1 }))
     (sym c.self.view_is) edit.room)
     _ c.length_changed-entries.result placed.plain placed.entries
     (edit.counts ∙ ap (λ s. entries_length (put_config s.configs name t)) (sym c.self.view_is))

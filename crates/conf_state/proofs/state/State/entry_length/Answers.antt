@@ -9,7 +9,8 @@ use Rattle.conf_state.proofs.state.State.entry_length.Goals as goal
 pub returns-in-Some : goal.returns-in-Some
 returns-in-Some c =
     let name = chars c.args.name.now in
-    entry-exact c.args.self.now name (tree_of c.in-Some.config.now) c.in-Some.ensures.limits (sym c.in-Some.ensures.found) c.entry_length.result c.entry_length.ensures
+    entry-exact c.args.self.now name (tree_of c.in-Some.config.now) c.in-Some.ensures.limits
+    (sym c.in-Some.ensures.found) c.entry_length.result c.entry_length.ensures
 
 pub returns-in-None : goal.returns-in-None
 returns-in-None c =

@@ -59,7 +59,8 @@ returns-then-base_length-gt-BASE_LIMIT-clause-none c =
     let empty = nothing_left (into_iter_items c.loop-name.name-iterator) (c.loop-name.invariant.1 ∙ c.in-None.ensures.steps.0) in
     let so = subst (λ xs. SoFar all done (entries_of xs) c.loop-name.entries) empty c.loop-name.invariant.0 in
     parts_long all done c.loop-name.entries c.args.count c.base_length.result so (omega arith)
-    (c.base_length.ensures ∙ ap (λ n. min (framed_length n c.loop-name.entries) 18446744073709551615) c.from.ensures) c.if-base_length-gt-BASE_LIMIT.true
+    (c.base_length.ensures ∙ ap (λ n. min (framed_length n c.loop-name.entries) 18446744073709551615) c.from.ensures)
+    c.if-base_length-gt-BASE_LIMIT.true
 
 pub invariant_of-result : goal.invariant_of-result
 invariant_of-result c =
@@ -68,7 +69,8 @@ invariant_of-result c =
     let empty = nothing_left (into_iter_items c.loop-name.name-iterator) (c.loop-name.invariant.1 ∙ c.in-None.ensures.steps.0) in
     let so = subst (λ xs. SoFar all done (entries_of xs) c.loop-name.entries) empty c.loop-name.invariant.0 in
     parts_kept all done c.loop-name.entries c.args.count c.base_length.result so (omega arith)
-    (c.base_length.ensures ∙ ap (λ n. min (framed_length n c.loop-name.entries) 18446744073709551615) c.from.ensures) c.if-base_length-gt-BASE_LIMIT.false
+    (c.base_length.ensures ∙ ap (λ n. min (framed_length n c.loop-name.entries) 18446744073709551615) c.from.ensures)
+    c.if-base_length-gt-BASE_LIMIT.false
 
 pub returns-clause-some : goal.returns-clause-some
 returns-clause-some c =
@@ -78,5 +80,6 @@ returns-clause-some c =
     let so = subst (λ xs. SoFar all done (entries_of xs) c.loop-name.entries) empty c.loop-name.invariant.0 in
     let is = c.base_length.ensures ∙ ap (λ n. min (framed_length n c.loop-name.entries) 18446744073709551615) c.from.ensures in (
       parts_state all done c.loop-name.entries c.args.count c.base_length.result so (omega arith) is,
-      (parts_kept all done c.loop-name.entries c.args.count c.base_length.result so (omega arith) is c.if-base_length-gt-BASE_LIMIT.false).state,
+      (parts_kept all done c.loop-name.entries c.args.count c.base_length.result so
+          (omega arith) is c.if-base_length-gt-BASE_LIMIT.false).state,
     )

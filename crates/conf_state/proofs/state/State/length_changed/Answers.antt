@@ -21,4 +21,9 @@ overflow_cast-result c =
 
 pub returns : goal.returns
 returns c = λ name old new there changes.
-    omega (arith, edit-length c.args.self.now.configs name old new c.args.change there changes, c.length_after.ensures, c.entries_length.ensures.exact)
+    omega (
+      arith,
+      edit-length c.args.self.now.configs name old new c.args.change there changes,
+      c.length_after.ensures,
+      c.entries_length.ensures.exact,
+    )

@@ -16,17 +16,21 @@ invariant_of-self-2 c =
     let tree = tree_of c.args.config in
     let utf8 = subst IsUtf8 c.deref.ensures c.deref.utf8 in
     let room = c.in_ok-check_room.ensures.ok (put_config c.args.self.now.configs (chars name) tree)
-    (c.length_with-entries.ensures ∙ ap (λ bs. min (entries_length (put_config c.args.self.now.configs (chars bs) tree)) 18446744073709551615) c.deref.ensures) in
+    (c.length_with-entries.ensures ∙ ap (λ bs. min
+    (entries_length (put_config c.args.self.now.configs (chars bs) tree)) 18446744073709551615) c.deref.ensures) in
     let es = c.self.inside.configs in
-    let counts = c.length_with-entries.ensures ∙ ap (λ bs. min (entries_length (put_config c.args.self.now.configs (chars bs) tree)) 18446744073709551615) c.deref.ensures in
-    let exact : c.length_with-entries.result ≡ entries_length (put_config c.args.self.now.configs (chars name) tree) = omega (arith, counts, c.in_ok-check_room.ensures.short) in
+    let counts = c.length_with-entries.ensures ∙ ap
+    (λ bs. min (entries_length (put_config c.args.self.now.configs (chars bs) tree)) 18446744073709551615) c.deref.ensures in
+    let exact : c.length_with-entries.result ≡ entries_length (put_config c.args.self.now.configs (chars name) tree) =
+    omega (arith, counts, c.in_ok-check_room.ensures.short) in
     let seen = ap entries_of c.in_ok-put.ensures.ok ∙ put_under-named c.args.name utf8 c.args.config es c.self.invariant.plain in
     let plain = subst ArePlain (sym c.in_ok-put.ensures.ok)
     (plain_put_under c.args.name c.args.config es (good_name-ascii name utf8 c.requires.named) c.self.invariant.plain) in
     kept_put es c.self.inside.count c.self.inside.entries c.self.invariant
     (omega (arith, ap (λ s. s.count) c.self.view_is, c.in_ok-check_room.ensures.counts))
     (chars name) tree c.requires.named c.requires.within c.args.room _
-    (subst (λ s. next_state s c.args.room (put_config s.configs (chars name) tree) ≡ Ok (record { configs = put_config s.configs (chars name) tree; count = s.count + 1 }))
+    (subst (λ s. next_state s c.args.room (put_config s.configs (chars name) tree)
+    ≡ Ok (record { configs = put_config s.configs (chars name) tree; count = s.count + 1 }))
     (sym c.self.view_is) room)
     c.put.new.self c.length_with-entries.result plain seen
     (exact ∙ ap (λ s. entries_length (put_config s.configs (chars name) tree)) (sym c.self.view_is))
@@ -37,7 +41,8 @@ returns-clause-ok c =
     let tree = tree_of c.args.config in
     let es = c.self.inside.configs in
     let room = c.in_ok-check_room.ensures.ok (put_config c.args.self.now.configs (chars name) tree)
-    (c.length_with-entries.ensures ∙ ap (λ bs. min (entries_length (put_config c.args.self.now.configs (chars bs) tree)) 18446744073709551615) c.deref.ensures) in
+    (c.length_with-entries.ensures ∙ ap (λ bs. min
+    (entries_length (put_config c.args.self.now.configs (chars bs) tree)) 18446744073709551615) c.deref.ensures) in
     let seen : entries_of c.put.new.self ≡ put_config (entries_of es) (chars name) tree =
     ap entries_of c.in_ok-put.ensures.ok
     ∙ put_under-named c.args.name (subst IsUtf8 c.deref.ensures c.deref.utf8) c.args.config es c.self.invariant.plain in

@@ -15,7 +15,8 @@ invariant_of-self c =
     kept_cut c.self.inside.configs c.self.inside.count c.self.inside.entries c.self.invariant
     (omega (arith, ap (λ s. s.count) c.self.view_is, c.in_ok-check_room.ensures.counts))
     c.args.name.now c.utf8.name c.args.room _
-    (subst (λ s. next_state s c.args.room (cut_config s.configs name) ≡ Ok (record { configs = cut_config s.configs name; count = s.count + 1 }))
+    (subst (λ s. next_state s c.args.room (cut_config s.configs name)
+    ≡ Ok (record { configs = cut_config s.configs name; count = s.count + 1 }))
     (sym c.self.view_is) room)
     c.remove.new.self c.length_without-entries.result c.remove.ensures
     (c.length_without-entries.ensures ∙ ap (λ s. entries_length (cut_config s.configs name)) (sym c.self.view_is))

@@ -40,7 +40,8 @@ loop-name-preserved g c = λ end left.
     let rest = c.next.new.self in
     let name = c.in-Some.name.now in
     let config = c.in-Some.config.now in
-    let entry = subst (λ bytes. g.S.Sink.Takes c.loop-name.sink (entry_lines (chars bytes) (tree_of config)) c.write_entry.new.sink) c.deref.ensures c.in_ok-write_entry.ensures in
+    let entry = subst (λ bytes. g.S.Sink.Takes c.loop-name.sink
+    (entry_lines (chars bytes) (tree_of config)) c.write_entry.new.sink) c.deref.ensures c.in_ok-write_entry.ensures in
     c.loop-name.invariant end
     (subst (λ es. g.S.Sink.Takes c.loop-name.sink (members_after (members (entries_of es)) 2) end) (sym c.in-Some.ensures.steps)
     (g.met.S.Sink.takes_both _ _ _ _ _ entry left))
@@ -50,7 +51,8 @@ returns g c =
     let es = c.self.inside.configs in
     let some : es ≡ [] → ⊥ = λ e. no_truth (c.if-is_empty.ensures.1 (ap length e)) in
     let ends = c.loop-name.invariant c.loop-name.sink
-    (subst (λ xs. g.S.Sink.Takes c.loop-name.sink (members_after (members (entries_of xs)) 2) c.loop-name.sink) (sym c.in-None.ensures.steps.0)
+    (subst (λ xs. g.S.Sink.Takes c.loop-name.sink (members_after (members (entries_of xs)) 2) c.loop-name.sink)
+    (sym c.in-None.ensures.steps.0)
     (g.met.S.Sink.takes_none c.loop-name.sink)) in
     subst (λ s. g.S.Sink.Takes c.args.sink.now (value_at (mapping (members s.configs)) 0) c.loop-name.sink) c.self.view_is
     (subst (λ cs. g.S.Sink.Takes c.args.sink.now cs c.loop-name.sink) (some_lines es some)

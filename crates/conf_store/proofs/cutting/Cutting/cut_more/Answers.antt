@@ -21,5 +21,7 @@ returns-clause-same c =
     let most = c.min-count.ensures in
     let fits = c.extend_from_slice.ensures.succeeds (omega (arith, size, less, owned, short, seen, room, len, most)) in
     let made = c.extend_from_slice.ensures.items ∙ ap (λ b. if b then inside.slice.items ++ piece else inside.slice.items) fits
-    ∙ ap (λ n. inside.slice.items ++ take n (drop cut part)) less ∙ ap (λ bs. inside.slice.items ++ take count (drop cut bs)) c.as_bytes-bytes.ensures.value in
-    cut-same inside.slice.items c.extend_from_slice.new.self.items (string_bytes inside.part.text) cut count made ∙ ap (λ v. v.slice ++ v.rest) c.self.view_is
+    ∙ ap (λ n. inside.slice.items ++ take n (drop cut part)) less
+    ∙ ap (λ bs. inside.slice.items ++ take count (drop cut bs)) c.as_bytes-bytes.ensures.value in
+    cut-same inside.slice.items c.extend_from_slice.new.self.items (string_bytes inside.part.text) cut count made
+    ∙ ap (λ v. v.slice ++ v.rest) c.self.view_is

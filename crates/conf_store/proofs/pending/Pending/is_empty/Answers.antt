@@ -10,4 +10,5 @@ returns-clause-none c none =
 pub returns-clause-some : goal.returns-clause-some
 returns-clause-some c some =
     let inside = c.self.inside in
-    subst (λ ps. 0 < length ps) c.self.view_is (some-parts inside.early inside.names.items _ (omega (arith, inside.names.ok.0)) (sym c.is_empty.ensures ∙ some))
+    subst (λ ps. 0 < length ps) c.self.view_is (some-parts inside.early inside.names.items _
+    (omega (arith, inside.names.ok.0)) (sym c.is_empty.ensures ∙ some))

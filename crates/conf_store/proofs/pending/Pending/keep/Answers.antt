@@ -31,7 +31,8 @@ returns-clause-kept c =
     let name = c.args.name.now in
     let key = c.in_ok-from_str.field-0 in
     let text = c.write_entry.new.sink in
-    let there = key-there c.insert.new.self key text (get_by_text inside.early (string_bytes key)) name c.in_ok-from_str.ensures.ok (c.in_ok-insert.ensures.updates.0 key) in
+    let there = key-there c.insert.new.self key text
+    (get_by_text inside.early (string_bytes key)) name c.in_ok-from_str.ensures.ok (c.in_ok-insert.ensures.updates.0 key) in
     there-made c.insert.new.self name c.utf8.name there inside.names.items
 
 pub returns-clause-stays : goal.returns-clause-stays
@@ -45,7 +46,8 @@ returns-clause-stays c other made =
 pub returns-in_err-insert-clause-same : goal.returns-in_err-insert-clause-same
 returns-in_err-insert-clause-same c =
     let inside = c.self.inside in
-    ap (texts c.args.state.now.configs) (parts-unchanged inside.early c.insert.new.self c.in_err-insert.ensures.err inside.names.items ∙ c.self.view_is)
+    ap (texts c.args.state.now.configs) (parts-unchanged inside.early c.insert.new.self c.in_err-insert.ensures.err
+    inside.names.items ∙ c.self.view_is)
 
 pub returns-in_err-insert-clause-stays : goal.returns-in_err-insert-clause-stays
 returns-in_err-insert-clause-stays c other made =

@@ -9,7 +9,8 @@ loop-edit-preserved c =
     let edits = c.args.edits.now in
     let i = c.loop-edit.edit-index in
     let edit = c.edit-item.result in
-    let so_far = AreMade-stays (map name_of (map edit_of (take i edits))) c.loop-edit.self c.keep.new.self c.in_ok-keep.ensures.stays c.loop-edit.invariant.kept in
+    let so_far = AreMade-stays (map name_of (map edit_of (take i edits))) c.loop-edit.self c.keep.new.self
+    c.in_ok-keep.ensures.stays c.loop-edit.invariant.kept in
     let one = subst (λ n. IsMade n c.keep.new.self) c.name.ensures c.in_ok-keep.ensures.kept in
     record {
       same = c.in_ok-keep.ensures.same ∙ c.loop-edit.invariant.same;

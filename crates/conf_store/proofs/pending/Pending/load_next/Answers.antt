@@ -27,7 +27,8 @@ returns-clause-same c =
     let apart = subst AreApart split c.self.invariant in
     let first = sym c.self.view_is ∙ ap (parts_of inside.early) split in
     let p = part_of inside.early name in
-    let marked = marked-parts inside.early c.insert.new.self name c.new.result c.insert.result (on_ok_weaker c.insert.result (λ u. u.0) c.insert.ensures.updates) c.insert.ensures.err ns apart.0 in
+    let marked = marked-parts inside.early c.insert.new.self name c.new.result c.insert.result
+    (on_ok_weaker c.insert.result (λ u. u.0) c.insert.ensures.updates) c.insert.ensures.err ns apart.0 in
     let same = ap (text_named inside.early configs) c.deref.ensures in
     let fits = first-within configs p c.args.self.now (parts_of inside.early ns) first c.args.cutting.now.part_room c.requires.within in
     let loaded = c.load_text.ensures.rest (omega (arith, fits, ap length same)) ∙ same in
@@ -42,7 +43,8 @@ returns-clause-fewer c =
     let split = c.pop_front.ensures.items ∙ ap (λ o. option_to_list o ++ ns) c.unwrap-name.ensures in
     let apart = subst AreApart split c.self.invariant in
     let first = sym c.self.view_is ∙ ap (parts_of inside.early) split in
-    let marked = marked-parts inside.early c.insert.new.self name c.new.result c.insert.result (on_ok_weaker c.insert.result (λ u. u.0) c.insert.ensures.updates) c.insert.ensures.err ns apart.0 in
+    let marked = marked-parts inside.early c.insert.new.self name c.new.result c.insert.result
+    (on_ok_weaker c.insert.result (λ u. u.0) c.insert.ensures.updates) c.insert.ensures.err ns apart.0 in
     ap (λ ps. length ps + 1) marked ∙ one-fewer c.args.self.now (parts_of inside.early ns) (part_of inside.early name) first
 
 pub returns-clause-within : goal.returns-clause-within
@@ -54,7 +56,9 @@ returns-clause-within c =
     let split = c.pop_front.ensures.items ∙ ap (λ o. option_to_list o ++ ns) c.unwrap-name.ensures in
     let apart = subst AreApart split c.self.invariant in
     let first = sym c.self.view_is ∙ ap (parts_of inside.early) split in
-    let marked = marked-parts inside.early c.insert.new.self name c.new.result c.insert.result (on_ok_weaker c.insert.result (λ u. u.0) c.insert.ensures.updates) c.insert.ensures.err ns apart.0 in
+    let marked = marked-parts inside.early c.insert.new.self name c.new.result c.insert.result
+    (on_ok_weaker c.insert.result (λ u. u.0) c.insert.ensures.updates) c.insert.ensures.err ns apart.0 in
     subst (λ ps. AreWithin c.load_text.new.cutting.part_room (texts configs ps)) (sym marked)
-    (others-within configs (part_of inside.early name) c.args.self.now (parts_of inside.early ns) first c.args.cutting.now.part_room c.load_text.new.cutting.part_room
+    (others-within configs (part_of inside.early name) c.args.self.now
+    (parts_of inside.early ns) first c.args.cutting.now.part_room c.load_text.new.cutting.part_room
     c.load_text.ensures.part_room c.requires.within)

@@ -16,11 +16,14 @@ returns-in-Ok-flush-clause-any_moment g c h off flushed since has =
     let command = command_of c.args.command in
     let waits = c.in-Ok.ensures.waits h off flushed since has in
     let same = c.flush.ensures.same.state in
-    LeavesOnly-joined d.model old.disk mid.disk new.disk (λ image. AfterPrefix flushed since image.store ⊎ FileMeans image.store mid.state) (λ image. AfterPrefix flushed (since ++ command ∷ []) image.store)
+    LeavesOnly-joined d.model old.disk mid.disk new.disk
+    (λ image. AfterPrefix flushed since image.store ⊎ FileMeans image.store mid.state)
+    (λ image. AfterPrefix flushed (since ++ command ∷ []) image.store)
     (λ image. AfterPrefix flushed since image.store ⊎ FileMeans image.store new.state) (c.submit.ensures.any_moment h off flushed since has)
     (c.flush.ensures.any_moment h c.in-Ok.ensures.ok.0.reopen flushed (since ++ command ∷ []) waits)
     (λ image is. subst (λ s. AfterPrefix flushed since image.store ⊎ FileMeans image.store s) (sym same) is)
-    (λ image is. subst (λ s. AfterPrefix flushed since image.store ⊎ FileMeans image.store s) (sym same) (prefix-last flushed mid.state since command image.store waits.journal.leads is))
+    (λ image is. subst (λ s. AfterPrefix flushed since image.store ⊎ FileMeans image.store s) (sym same)
+    (prefix-last flushed mid.state since command image.store waits.journal.leads is))
 
 pub returns-in-Err-flush-clause-any_moment : goal.returns-in-Err-flush-clause-any_moment
 returns-in-Err-flush-clause-any_moment g c h off flushed since has =
@@ -31,8 +34,11 @@ returns-in-Err-flush-clause-any_moment g c h off flushed since has =
     let command = command_of c.args.command in
     let waits = c.in-Ok.ensures.waits h off flushed since has in
     let same = c.flush.ensures.same.state in
-    LeavesOnly-joined d.model old.disk mid.disk new.disk (λ image. AfterPrefix flushed since image.store ⊎ FileMeans image.store mid.state) (λ image. AfterPrefix flushed (since ++ command ∷ []) image.store)
+    LeavesOnly-joined d.model old.disk mid.disk new.disk
+    (λ image. AfterPrefix flushed since image.store ⊎ FileMeans image.store mid.state)
+    (λ image. AfterPrefix flushed (since ++ command ∷ []) image.store)
     (λ image. AfterPrefix flushed since image.store ⊎ FileMeans image.store new.state) (c.submit.ensures.any_moment h off flushed since has)
     (c.flush.ensures.any_moment h c.in-Ok.ensures.ok.0.reopen flushed (since ++ command ∷ []) waits)
     (λ image is. subst (λ s. AfterPrefix flushed since image.store ⊎ FileMeans image.store s) (sym same) is)
-    (λ image is. subst (λ s. AfterPrefix flushed since image.store ⊎ FileMeans image.store s) (sym same) (prefix-last flushed mid.state since command image.store waits.journal.leads is))
+    (λ image is. subst (λ s. AfterPrefix flushed since image.store ⊎ FileMeans image.store s) (sym same)
+    (prefix-last flushed mid.state since command image.store waits.journal.leads is))

@@ -22,10 +22,12 @@ pub returns-then-needs_reopen-clause-reopen : goal.returns-then-needs_reopen-cla
 returns-then-needs_reopen-clause-reopen g c = (λ e. sym c.needs_reopen.ensures.reopen ∙ c.if-needs_reopen.true, λ on. refl)
 
 pub returns-then-needs_reopen-clause-bad_name : goal.returns-then-needs_reopen-clause-bad_name
-returns-then-needs_reopen-clause-bad_name g c off = absurd (false≢true (sym off ∙ sym c.needs_reopen.ensures.reopen ∙ c.if-needs_reopen.true))
+returns-then-needs_reopen-clause-bad_name g c off =
+    absurd (false≢true (sym off ∙ sym c.needs_reopen.ensures.reopen ∙ c.if-needs_reopen.true))
 
 pub returns-then-needs_reopen-clause-any_moment : goal.returns-then-needs_reopen-clause-any_moment
-returns-then-needs_reopen-clause-any_moment g c h off = absurd (false≢true (sym off ∙ sym c.needs_reopen.ensures.reopen ∙ c.if-needs_reopen.true))
+returns-then-needs_reopen-clause-any_moment g c h off =
+    absurd (false≢true (sym off ∙ sym c.needs_reopen.ensures.reopen ∙ c.if-needs_reopen.true))
 
 -- ---- the command is performed
 
@@ -36,7 +38,14 @@ pub returns-in-Ok-clause-ok : goal.returns-in-Ok-clause-ok
 returns-in-Ok-clause-ok g c =
     let made = c.in-Ok.ensures.ok in
     IfOk-weaker c.apply.result _ _
-    (λ count done. (record { tree = made.tree; reads = made.reads; accepts = subst (λ x. Accepts c.args.self.now x c.apply.new.self) made.is done.0 }, done.1))
+    (λ count done. (
+      record {
+        tree = made.tree;
+        reads = made.reads;
+        accepts = subst (λ x. Accepts c.args.self.now x c.apply.new.self) made.is done.0;
+      },
+      done.1,
+    ))
     c.apply.ensures.ok
 
 pub returns-in-Ok-clause-bad_name : goal.returns-in-Ok-clause-bad_name
@@ -49,7 +58,8 @@ returns-in-Ok-clause-refused g c =
     let name = chars c.args.name.now in
     let made = c.in-Ok.ensures.ok in
     IfErr-weaker c.apply.result (RefusesCommand old (command_of c.in-Ok.command) new) (RefusesImport old name c.args.text.now new)
-    (λ fault is. import-refused old new name c.args.text.now made.tree fault made.named made.reads (subst (λ x. RefusesCommand old x new fault) made.is is))
+    (λ fault is. import-refused old new name c.args.text.now made.tree fault made.named made.reads
+    (subst (λ x. RefusesCommand old x new fault) made.is is))
     c.apply.ensures.refused
 
 pub returns-in-Ok-clause-unchanged : goal.returns-in-Ok-clause-unchanged

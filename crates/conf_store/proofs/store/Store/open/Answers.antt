@@ -13,16 +13,20 @@ use Rattle.conf_store.specs.Staged.{staged_length}
 use Rattle.conf_store.specs.Meaning.{FileMeans}
 use Rattle.conf_store.specs.Opens.{MeantAtEntry}
 use Rattle.conf_store.specs.Files.{FilesStay, IsOldOrBase, LeavesOldOrBase}
-use Rattle.conf_store.proofs.OpenLemmas.{image-meant, loaded-meant, state-meant, found-means, found-durable, failed-later, reads-stays, reads-staged, refused-nothing, disk-refused, disk-no-meaning, disk-device}
+use Rattle.conf_store.proofs.OpenLemmas.{image-meant, loaded-meant, state-meant, found-means, found-durable}
+use Rattle.conf_store.proofs.OpenLemmas.{failed-later, reads-stays, reads-staged, refused-nothing, disk-refused}
+use Rattle.conf_store.proofs.OpenLemmas.{disk-no-meaning, disk-device}
 use Rattle.conf_store.proofs.GrownLemmas.{found-base}
 use Rattle.conf_store.proofs.HeldLemmas.{durable-held, held-means}
 use Rattle.conf_store.proofs.StoreLemmas.{quiet-flushed}
-use Rattle.conf_store.proofs.FileLemmas.{held-length, files-stay, images-old, not-needed, kept-as-it-is, disk-memory, base-leaves, base-reads}
+use Rattle.conf_store.proofs.FileLemmas.{held-length, files-stay, images-old, not-needed, kept-as-it-is, disk-memory}
+use Rattle.conf_store.proofs.FileLemmas.{base-leaves, base-reads}
 use Rattle.conf_store.proofs.store.Store.open.Goals as goal
 
 pub returns-in-Err-clause-no_meaning : goal.returns-in-Err-clause-no_meaning
 returns-in-Err-clause-no_meaning g c h =
-    refused-nothing c.bytes_mean_one_state.ensures.refused c.in-Err.fault (bytes_under (g.D.Disk.model.folder c.args.disk) Store) (c.in-Err.ensures.refused h)
+    refused-nothing c.bytes_mean_one_state.ensures.refused c.in-Err.fault
+    (bytes_under (g.D.Disk.model.folder c.args.disk) Store) (c.in-Err.ensures.refused h)
 
 pub returns-in-Err-write_base-clause-refused : goal.returns-in-Err-write_base-clause-refused
 returns-in-Err-write_base-clause-refused g c h =
@@ -35,7 +39,8 @@ returns-in-Err-write_base-clause-no_meaning g c h =
 pub returns-in-Err-write_base-clause-cause : goal.returns-in-Err-write_base-clause-cause
 returns-in-Err-write_base-clause-cause g c e =
     let count = g.D.Disk.model.failure_count in
-    failed-later (count c.args.disk) (count c.find_store.new.disk) (count c.write_base.new.disk) c.find_store.ensures.risen c.write_base.ensures.risen
+    failed-later (count c.args.disk) (count c.find_store.new.disk)
+    (count c.write_base.new.disk) c.find_store.ensures.risen c.write_base.ensures.risen
     (c.write_base.ensures.cause (c.in-Err-write_base.is ∙ ap Err (disk-device c.in-Err-write_base.fault (sym c.from.ensures ∙ e))))
 
 pub returns-in-Err-write_base-clause-any_moment : goal.returns-in-Err-write_base-clause-any_moment
@@ -48,7 +53,8 @@ returns-in-Err-write_base-clause-any_moment g c h =
     (λ image. IsStoreOf (d.model.folder mid) image.store ⊎ FileMeans image.store s) (λ image. MeantAtEntry (d.model.folder old) image.store)
     (c.find_store.ensures.any_moment h) (c.write_base.ensures.any_moment h) (image-meant (d.model.folder old))
     (λ image. ⊎_elim
-    (loaded-meant c.reading_is_an_image.ensures c.held_store_is_the_only_one.ensures.left (d.model.folder old) (d.model.folder mid) (c.in-Ok.ensures.holds h) image.store)
+    (loaded-meant c.reading_is_an_image.ensures c.held_store_is_the_only_one.ensures.left (d.model.folder old)
+    (d.model.folder mid) (c.in-Ok.ensures.holds h) image.store)
     (state-meant c.one_list_of_pieces.ensures.one c.documents_are_read.ensures.one_base c.documents_are_read.ensures.one_record
     c.reading_is_an_image.ensures (d.model.folder old) s _ _ _ (c.in-Ok.ensures.ok h) image.store))
 
@@ -58,8 +64,10 @@ invariant_of-store g c =
     let s = c.in-Ok.found.state in
     let store = bytes_under (d.model.folder c.args.disk) Store in (
       elim c.match-size.branch [
-        | goal.in-Some w ↦ subst (λ (p : ℕ × ℕ). p.0 ≤ store_limit) (sym w.size-is) (subst (bounded c.in-Ok.found.base) w.in-Some.is c.in-Ok.ensures.bound).0
-        | goal.in-None+in-Ok-write_base w ↦ (let short = w.in-Ok-write_base.ensures.short in subst (λ (p : ℕ × ℕ). p.0 ≤ store_limit) (sym w.size-is) short)
+        | goal.in-Some w ↦ subst (λ (p : ℕ × ℕ). p.0 ≤ store_limit) (sym w.size-is)
+            (subst (bounded c.in-Ok.found.base) w.in-Some.is c.in-Ok.ensures.bound).0
+        | goal.in-None+in-Ok-write_base w ↦ (let short = w.in-Ok-write_base.ensures.short in
+            subst (λ (p : ℕ × ℕ). p.0 ≤ store_limit) (sym w.size-is) short)
       ],
       c.in-Ok.ensures.limits,
       subst (λ x. staged_length x ≤ store_limit) (sym (c.none.ensures.none s)) (omega arith),
@@ -68,16 +76,19 @@ invariant_of-store g c =
           | goal.in-Some w ↦
               subst (λ (p : ℕ × ℕ). IsDurable (d.model.folder c.match-size.disk) s p.0) (sym w.size-is)
               (subst (λ (x : g.row.D.Denot). IsDurable (d.model.folder x) s w.in-Some.size) (sym w.disk-is)
-              (found-durable (d.model.folder c.find_store.new.disk) store s c.in-Ok.found.opened.commands c.in-Ok.found.opened.dropped w.in-Some.size c.in-Ok.found.size
+              (found-durable (d.model.folder c.find_store.new.disk) store s c.in-Ok.found.opened.commands
+              c.in-Ok.found.opened.dropped w.in-Some.size c.in-Ok.found.size
               (c.in-Ok.ensures.ok h) w.in-Some.is (c.in-Ok.ensures.holds h)))
           | goal.in-None+in-Ok-write_base w ↦
               subst (λ (p : ℕ × ℕ). IsDurable (d.model.folder c.match-size.disk) s p.0) (sym w.size-is)
-              (subst (λ (x : g.row.D.Denot). IsDurable (d.model.folder x) s w.in-Ok-write_base.size) (sym w.disk-is) (w.in-Ok-write_base.ensures.durable h))
+              (subst (λ (x : g.row.D.Denot). IsDurable (d.model.folder x) s w.in-Ok-write_base.size) (sym w.disk-is)
+              (w.in-Ok-write_base.ensures.durable h))
         ]),
         subst (IsStaging (d.model.folder c.match-size.disk) s) (sym (c.none.ensures.none s)) tt,
       ),
       elim c.match-size.branch [
-        | goal.in-Some w ↦ subst (λ (p : ℕ × ℕ). p.1 ≤ p.0) (sym w.size-is) (subst (bounded c.in-Ok.found.base) w.in-Some.is c.in-Ok.ensures.bound).1
+        | goal.in-Some w ↦ subst (λ (p : ℕ × ℕ). p.1 ≤ p.0) (sym w.size-is)
+            (subst (bounded c.in-Ok.found.base) w.in-Some.is c.in-Ok.ensures.bound).1
         | goal.in-None+in-Ok-write_base w ↦ subst (λ (p : ℕ × ℕ). p.1 ≤ p.0) (sym w.size-is) (omega arith)
       ],
       omega arith,
@@ -86,12 +97,17 @@ invariant_of-store g c =
           | goal.in-Some w ↦
               subst (λ (p : ℕ × ℕ). FileStartsWithBase (bytes_under (d.model.folder c.match-size.disk) Store) p.1) (sym w.size-is)
               (subst (λ (x : g.row.D.Denot). FileStartsWithBase (bytes_under (d.model.folder x) Store) c.in-Ok.found.base) (sym w.disk-is)
-              (subst (λ o. FileStartsWithBase o c.in-Ok.found.base) (sym (c.held_store_is_the_only_one.ensures.reads (d.model.folder c.find_store.new.disk) store (c.in-Ok.ensures.holds h)))
-              (found-base store s c.in-Ok.found.opened.commands c.in-Ok.found.opened.dropped w.in-Some.size c.in-Ok.found.size c.in-Ok.found.base
+              (subst (λ o. FileStartsWithBase o c.in-Ok.found.base)
+              (sym (c.held_store_is_the_only_one.ensures.reads (d.model.folder c.find_store.new.disk) store
+              (c.in-Ok.ensures.holds h)))
+              (found-base store s c.in-Ok.found.opened.commands c.in-Ok.found.opened.dropped w.in-Some.size
+              c.in-Ok.found.size c.in-Ok.found.base
               (c.in-Ok.ensures.ok h) w.in-Some.is (c.in-Ok.ensures.base h))))
           | goal.in-None+in-Ok-write_base w ↦
               subst (λ (p : ℕ × ℕ). FileStartsWithBase (bytes_under (d.model.folder c.match-size.disk) Store) p.1) (sym w.size-is)
-              (subst (λ (x : g.row.D.Denot). FileStartsWithBase (bytes_under (d.model.folder x) Store) w.in-Ok-write_base.size) (sym w.disk-is) (w.in-Ok-write_base.ensures.starts h))
+              (subst (λ (x : g.row.D.Denot). FileStartsWithBase
+              (bytes_under (d.model.folder x) Store) w.in-Ok-write_base.size) (sym w.disk-is)
+              (w.in-Ok-write_base.ensures.starts h))
         ],
         subst (λ x. StagedStartsWithBase (d.model.folder c.match-size.disk) x 0) (sym (c.none.ensures.none s)) tt,
       ),
@@ -111,27 +127,31 @@ returns-clause-any_moment g c h =
     elim c.match-size.branch [
       | goal.in-Some w ↦
           subst (λ (x : g.row.D.Denot). LeavesOnly d.model old x R) (sym w.disk-is)
-          (LeavesOnly-weaker d.model old mid (IsImage (d.model.folder old)) R (c.find_store.ensures.any_moment h) (image-meant (d.model.folder old)))
+          (LeavesOnly-weaker d.model old mid (IsImage (d.model.folder old)) R (c.find_store.ensures.any_moment h)
+          (image-meant (d.model.folder old)))
       | goal.in-None+in-Ok-write_base w ↦
           subst (λ (x : g.row.D.Denot). LeavesOnly d.model old x R) (sym w.disk-is)
           (LeavesOnly-joined d.model old mid w.write_base.new.disk (IsImage (d.model.folder old))
           (λ image. IsStoreOf (d.model.folder mid) image.store ⊎ FileMeans image.store s) R
           (c.find_store.ensures.any_moment h) (w.write_base.ensures.any_moment h) (image-meant (d.model.folder old))
           (λ image. ⊎_elim
-          (loaded-meant c.reading_is_an_image.ensures c.held_store_is_the_only_one.ensures.left (d.model.folder old) (d.model.folder mid) (c.in-Ok.ensures.holds h) image.store)
+          (loaded-meant c.reading_is_an_image.ensures c.held_store_is_the_only_one.ensures.left (d.model.folder old)
+          (d.model.folder mid) (c.in-Ok.ensures.holds h) image.store)
           (state-meant c.one_list_of_pieces.ensures.one c.documents_are_read.ensures.one_base c.documents_are_read.ensures.one_record
           c.reading_is_an_image.ensures (d.model.folder old) s _ _ _ (c.in-Ok.ensures.ok h) image.store)))
     ]
 
 pub returns-clause-means : goal.returns-clause-means
 returns-clause-means g c h =
-    found-means (bytes_under (g.D.Disk.model.folder c.args.disk) Store) c.in-Ok.found.state c.in-Ok.found.opened.commands c.in-Ok.found.opened.dropped c.in-Ok.found.size (c.in-Ok.ensures.ok h)
+    found-means (bytes_under (g.D.Disk.model.folder c.args.disk) Store) c.in-Ok.found.state
+    c.in-Ok.found.opened.commands c.in-Ok.found.opened.dropped c.in-Ok.found.size (c.in-Ok.ensures.ok h)
 
 pub returns-clause-now : goal.returns-clause-now
 returns-clause-now g c h =
     let d = g.D.Disk in
     let s = c.in-Ok.found.state in
-    held-means c.held_store_is_left.ensures.held c.documents_close.ensures.torn (d.model.folder c.match-size.disk) s c.match-size.size.0 false ((invariant_of-store g c).3 h refl).0 refl
+    held-means c.held_store_is_left.ensures.held c.documents_close.ensures.torn
+    (d.model.folder c.match-size.disk) s c.match-size.size.0 false ((invariant_of-store g c).3 h refl).0 refl
 
 pub returns-clause-reads : goal.returns-clause-reads
 returns-clause-reads g c h =
@@ -140,12 +160,15 @@ returns-clause-reads g c h =
     let store = bytes_under (d.model.folder c.args.disk) Store in
     elim c.match-size.branch [
       | goal.in-Some w ↦
-          reads-stays store _ s c.in-Ok.found.opened.commands c.in-Ok.found.opened.dropped w.in-Some.size c.in-Ok.found.size (c.in-Ok.ensures.ok h) w.in-Some.is
+          reads-stays store _ s c.in-Ok.found.opened.commands c.in-Ok.found.opened.dropped w.in-Some.size
+          c.in-Ok.found.size (c.in-Ok.ensures.ok h) w.in-Some.is
           (subst (λ (x : g.row.D.Denot). bytes_under (d.model.folder x) Store ≡ store) (sym w.disk-is)
           (c.held_store_is_the_only_one.ensures.reads (d.model.folder c.find_store.new.disk) store (c.in-Ok.ensures.holds h)))
       | goal.in-None+in-Ok-write_base w ↦
-          reads-staged store _ s c.in-Ok.found.opened.commands c.in-Ok.found.opened.dropped c.in-Ok.found.size (c.in-Ok.ensures.ok h) w.in-None.is
-          (subst (λ (x : g.row.D.Denot). bytes_under (d.model.folder x) Store ≡ Some (base_bytes s)) (sym w.disk-is) (w.in-Ok-write_base.ensures.reads h))
+          reads-staged store _ s c.in-Ok.found.opened.commands c.in-Ok.found.opened.dropped c.in-Ok.found.size
+          (c.in-Ok.ensures.ok h) w.in-None.is
+          (subst (λ (x : g.row.D.Denot). bytes_under (d.model.folder x) Store ≡ Some (base_bytes s)) (sym w.disk-is)
+          (w.in-Ok-write_base.ensures.reads h))
     ]
 
 pub returns-clause-size : goal.returns-clause-size
@@ -156,7 +179,8 @@ returns-clause-size g c h =
 pub returns-clause-flushed : goal.returns-clause-flushed
 returns-clause-flushed g c h =
     let d = g.D.Disk in
-    quiet-flushed (d.model.folder c.match-size.disk) c.in-Ok.found.state c.match-size.size.0 false ((invariant_of-store g c).3 h refl).0 refl
+    quiet-flushed (d.model.folder c.match-size.disk) c.in-Ok.found.state c.match-size.size.0 false
+    ((invariant_of-store g c).3 h refl).0 refl
 
 pub returns-in-Err-clause-risen : goal.returns-in-Err-clause-risen
 returns-in-Err-clause-risen g c = c.find_store.ensures.risen
@@ -184,7 +208,8 @@ returns-clause-gone g c h needed =
     let store = bytes_under (d.model.folder c.args.disk) Store in
     elim c.match-size.branch [
       | goal.in-Some w ↦
-          absurd (kept-as-it-is store c.in-Ok.found.state c.in-Ok.found.opened.commands c.in-Ok.found.opened.dropped w.in-Some.size c.in-Ok.found.size (c.in-Ok.ensures.ok h) w.in-Some.is needed)
+          absurd (kept-as-it-is store c.in-Ok.found.state c.in-Ok.found.opened.commands c.in-Ok.found.opened.dropped
+          w.in-Some.size c.in-Ok.found.size (c.in-Ok.ensures.ok h) w.in-Some.is needed)
       | goal.in-None+in-Ok-write_base w ↦
           subst (λ (x : g.row.D.Denot). bytes_under (d.model.folder x) Next ≡ None) (sym w.disk-is) (w.in-Ok-write_base.ensures.gone h)
     ]
@@ -195,7 +220,8 @@ pub returns-in-Err-clause-refused_stays : goal.returns-in-Err-clause-refused_sta
 returns-in-Err-clause-refused_stays g c h some =
     let d = g.D.Disk in
     let new = c.find_store.new.disk in
-    files-stay d.model c.args.disk new (λ t image le is. g.met.D.Disk.counts_now new t image h le is) (c.find_store.ensures.reads h) (c.find_store.ensures.any_moment h)
+    files-stay d.model c.args.disk new (λ t image le is. g.met.D.Disk.counts_now new t image h le is)
+    (c.find_store.ensures.reads h) (c.find_store.ensures.any_moment h)
 
 pub returns-in-Err-clause-old_or_base : goal.returns-in-Err-clause-old_or_base
 returns-in-Err-clause-old_or_base g c h = inl (ap (λ (image : Image). image.store) (c.find_store.ensures.reads h))
@@ -214,7 +240,8 @@ returns-in-Err-write_base-clause-refused_stays g c h some =
     let memory = disk-memory c.in-Err-write_base.fault c.from.result c.from.ensures some in
     let same : c.write_base.new.disk ≡ mid = c.write_base.ensures.unchanged (c.in-Err-write_base.is ∙ ap Err memory) in
     subst (λ (x : g.row.D.Denot). FilesStay d.model old x) (sym same)
-    (files-stay d.model old mid (λ t image le is. g.met.D.Disk.counts_now mid t image h le is) (c.find_store.ensures.reads h) (c.find_store.ensures.any_moment h))
+    (files-stay d.model old mid (λ t image le is. g.met.D.Disk.counts_now mid t image h le is)
+    (c.find_store.ensures.reads h) (c.find_store.ensures.any_moment h))
 
 pub returns-in-Err-write_base-clause-old_or_base : goal.returns-in-Err-write_base-clause-old_or_base
 returns-in-Err-write_base-clause-old_or_base g c h =
@@ -227,8 +254,10 @@ returns-in-Err-write_base-clause-old_or_base g c h =
 pub returns-in-Err-write_base-clause-leaves : goal.returns-in-Err-write_base-clause-leaves
 returns-in-Err-write_base-clause-leaves g c h =
     let d = g.D.Disk in
-    base-leaves d.model c.args.disk c.find_store.new.disk c.write_base.new.disk c.reading_is_an_image.ensures c.held_store_is_the_only_one.ensures.left
-    c.in-Ok.found.state _ _ c.in-Ok.found.size (c.in-Ok.ensures.ok h) c.in-None.is (c.in-Ok.ensures.holds h) (c.write_base.ensures.leaves h) (c.find_store.ensures.any_moment h)
+    base-leaves d.model c.args.disk c.find_store.new.disk c.write_base.new.disk c.reading_is_an_image.ensures
+    c.held_store_is_the_only_one.ensures.left
+    c.in-Ok.found.state _ _ c.in-Ok.found.size (c.in-Ok.ensures.ok h) c.in-None.is (c.in-Ok.ensures.holds h)
+    (c.write_base.ensures.leaves h) (c.find_store.ensures.any_moment h)
 
 pub returns-clause-whole_stays : goal.returns-clause-whole_stays
 returns-clause-whole_stays g c h none some =
@@ -238,9 +267,11 @@ returns-clause-whole_stays g c h none some =
     elim c.match-size.branch [
       | goal.in-Some w ↦
           subst (λ (x : g.row.D.Denot). FilesStay d.model old x) (sym w.disk-is)
-          (files-stay d.model old mid (λ t image le is. g.met.D.Disk.counts_now mid t image h le is) (c.find_store.ensures.reads h) (c.find_store.ensures.any_moment h))
+          (files-stay d.model old mid (λ t image le is. g.met.D.Disk.counts_now mid t image h le is)
+          (c.find_store.ensures.reads h) (c.find_store.ensures.any_moment h))
       | goal.in-None+in-Ok-write_base w ↦
-          absurd (not-needed (bytes_under (d.model.folder old) Store) c.in-Ok.found.state _ c.in-Ok.found.opened.dropped c.in-Ok.found.size (c.in-Ok.ensures.ok h) w.in-None.is none some)
+          absurd (not-needed (bytes_under (d.model.folder old) Store) c.in-Ok.found.state _
+          c.in-Ok.found.opened.dropped c.in-Ok.found.size (c.in-Ok.ensures.ok h) w.in-None.is none some)
     ]
 
 pub returns-clause-old_or_base : goal.returns-clause-old_or_base
@@ -249,12 +280,14 @@ returns-clause-old_or_base g c h =
     let store = bytes_under (d.model.folder c.args.disk) Store in
     elim c.match-size.branch [
       | goal.in-Some w ↦
-          subst (λ (x : g.row.D.Denot). IsOldOrBase store (bytes_under (d.model.folder x) Store)) (sym w.disk-is) (inl (ap (λ (image : Image). image.store) (c.find_store.ensures.reads h)))
+          subst (λ (x : g.row.D.Denot). IsOldOrBase store (bytes_under (d.model.folder x) Store)) (sym w.disk-is)
+          (inl (ap (λ (image : Image). image.store) (c.find_store.ensures.reads h)))
       | goal.in-None+in-Ok-write_base w ↦
           subst (λ (x : g.row.D.Denot). IsOldOrBase store (bytes_under (d.model.folder x) Store)) (sym w.disk-is)
           (let new = w.write_base.new.disk in
           base-reads d.model c.args.disk c.find_store.new.disk new c.reading_is_an_image.ensures c.held_store_is_the_only_one.ensures.left
-          c.in-Ok.found.state _ _ c.in-Ok.found.size (c.in-Ok.ensures.ok h) w.in-None.is (c.in-Ok.ensures.holds h) (w.write_base.ensures.leaves h)
+          c.in-Ok.found.state _ _ c.in-Ok.found.size (c.in-Ok.ensures.ok h) w.in-None.is (c.in-Ok.ensures.holds h)
+          (w.write_base.ensures.leaves h)
           (λ t image le is. g.met.D.Disk.counts_now new t image h le is))
     ]
 
@@ -268,6 +301,8 @@ returns-clause-leaves g c h =
           (images-old d.model old c.find_store.new.disk (c.find_store.ensures.any_moment h))
       | goal.in-None+in-Ok-write_base w ↦
           subst (λ (x : g.row.D.Denot). LeavesOldOrBase d.model old x) (sym w.disk-is)
-          (base-leaves d.model old c.find_store.new.disk w.write_base.new.disk c.reading_is_an_image.ensures c.held_store_is_the_only_one.ensures.left
-          c.in-Ok.found.state _ _ c.in-Ok.found.size (c.in-Ok.ensures.ok h) w.in-None.is (c.in-Ok.ensures.holds h) (w.write_base.ensures.leaves h) (c.find_store.ensures.any_moment h))
+          (base-leaves d.model old c.find_store.new.disk w.write_base.new.disk c.reading_is_an_image.ensures
+          c.held_store_is_the_only_one.ensures.left
+          c.in-Ok.found.state _ _ c.in-Ok.found.size (c.in-Ok.ensures.ok h) w.in-None.is (c.in-Ok.ensures.holds h)
+          (w.write_base.ensures.leaves h) (c.find_store.ensures.any_moment h))
     ]

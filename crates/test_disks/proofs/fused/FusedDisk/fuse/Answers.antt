@@ -9,7 +9,8 @@ returns-in-FailsDone-clause-goes g c = record {
   change = λ h.
       (let folder = g.D.Disk.model.folder in
       let made = c.make-in-FailsDone in
-      let part = Performs-failed (call_step c.args.call) (folder c.next_outcome.new.self.inner) (folder made.new.disk) made.result (made.ensures.goes.change h) in
+      let part = Performs-failed (call_step c.args.call) (folder c.next_outcome.new.self.inner)
+      (folder made.new.disk) made.result (made.ensures.goes.change h) in
       rw (← c.next_outcome.ensures.inner) part);
   spent = search rules;
   time = search rules;

@@ -7,7 +7,8 @@ use Rattle.conf_disk.specs.declared.disk.Name.TheVariants.{Next}
 use Rattle.test_disks.specs.declared.folder.Change.{Change}
 use Rattle.test_disks.specs.declared.folder.Change.TheVariants.{CreateNext, Append, Sync, RenameNext, SyncFolder}
 use Rattle.test_disks.proofs.memory.MemoryDisk.with_files.Goals as goal
-use Rattle.test_disks.proofs.memory.MemoryDisk.with_files.Goals.{in-Some+in_ok-put_next+in_ok-push, in_default, in-Some-next+in_ok-put_next-2, in_default-next}
+use Rattle.test_disks.proofs.memory.MemoryDisk.with_files.Goals.{in-Some+in_ok-put_next+in_ok-push, in_default}
+use Rattle.test_disks.proofs.memory.MemoryDisk.with_files.Goals.{in-Some-next+in_ok-put_next-2, in_default-next}
 
 abbrev folder_of_changes : List Change → Folder
 folder_of_changes changes = folder_after (map step_of changes) empty_folder
@@ -28,7 +29,8 @@ returns-clause-folder c =
     let last = c.in_ok-push-2.ensures.items in
     elim c.match-store.branch [
       | in-Some+in_ok-put_next+in_ok-push v ↦
-          let first = items_along _ _ v.changes-is ∙ v.in_ok-push.ensures.items ∙ ap (then RenameNext) (v.in_ok-put_next.ensures ∙ ap (put v.in-Some.bytes) c.new-changes.ensures.items) in
+          let first = items_along _ _ v.changes-is ∙ v.in_ok-push.ensures.items
+          ∙ ap (then RenameNext) (v.in_ok-put_next.ensures ∙ ap (put v.in-Some.bytes) c.new-changes.ensures.items) in
           elim c.match-next-3.branch [
             | in-Some-next+in_ok-put_next-2 w ↦
                 let second = items_along _ _ w.changes-is ∙ w.in_ok-put_next-2.ensures ∙ ap (put w.in-Some-next.bytes) first in

@@ -28,7 +28,8 @@ returns-else-is_some c = λ v u is.
 pub returns-in-Below : goal.returns-in-Below
 returns-in-Below c = λ v u is.
     let below = c.in-Below.ensures in
-    set-under c.args.self.now (tree_of c.args.tree.now) v u c.args.path.now below.0 below.1 below.2 c.requires.steps (sym c.tokens-tokens.ensures ∙ below.3) is c.requires.index
+    set-under c.args.self.now (tree_of c.args.tree.now) v u c.args.path.now below.0 below.1 below.2 c.requires.steps
+    (sym c.tokens-tokens.ensures ∙ below.3) is c.requires.index
 
 pub returns-in-Apart : goal.returns-in-Apart
 returns-in-Apart c = λ v u is.

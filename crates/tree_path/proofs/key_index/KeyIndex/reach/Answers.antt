@@ -48,7 +48,8 @@ step_place-requires c =
     let ps = c.args.places.now.parents.items in
     let within = l.invariant.1 in
     subst (λ b. (l.passed < length ps) × (step_place node (chars b) ≡ Ok (get_or ps l.passed 0))) (sym c.as_str.ensures.value)
-    (step-placed c.args.places.now tokens l.passed c.index-tokens-passed.result (tree_of c.args.tree.now) node (omega (arith, within, c.if-passed-tokens.false))
+    (step-placed c.args.places.now tokens l.passed c.index-tokens-passed.result (tree_of c.args.tree.now) node
+    (omega (arith, within, c.if-passed-tokens.false))
     c.index-tokens-passed.is c.requires.places l.invariant.2)
 
 pub loop-passed-preserved : goal.loop-passed-preserved
@@ -67,9 +68,11 @@ loop-passed-preserved c =
     let text = chars (cow_str_bytes token) in
     let place = ap (λ b. step_place node (chars b)) (sym c.as_str.ensures.value) ∙ sym c.step_place.ensures ∙ c.in-Ok.is in
     let found = c.child_in-node.ensures text place in (
-      steps-take steps l.passed step within step_is ∙ ap₂ (λ xs x. xs ++ x ∷ []) l.invariant.0 same ∙ sym (texts-turn tokens l.passed token token_within c.index-tokens-passed.is),
+      steps-take steps l.passed step within step_is ∙ ap₂ (λ xs x. xs ++ x ∷ []) l.invariant.0 same
+          ∙ sym (texts-turn tokens l.passed token token_within c.index-tokens-passed.is),
       omega (arith, token_within, c.if-passed-tokens.false),
-      at_from-turn tokens l.passed token (tree_of c.args.tree.now) node (tree_of c.child_in-node.result.now) token_within c.index-tokens-passed.is l.invariant.2 found,
+      at_from-turn tokens l.passed token (tree_of c.args.tree.now) node
+          (tree_of c.child_in-node.result.now) token_within c.index-tokens-passed.is l.invariant.2 found,
     )
 
 pub returns-then-tokens-len : goal.returns-then-tokens-len

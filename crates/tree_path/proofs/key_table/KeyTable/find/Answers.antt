@@ -15,7 +15,8 @@ loop-link-init c = λ n on is.
     let links = table.before.items in
     let key = chars c.args.key.now in
     let head : c.index-link.result.now ≡ chain_of heads key =
-    c.index-link.ensures ∙ get_or_default_zero heads c.bucket.result c.index-link.result.now c.bucket.ensures.inside ∙ ap (λ b. get_or heads b 0) c.bucket.ensures.bucket in
+    c.index-link.ensures ∙ get_or_default_zero heads c.bucket.result c.index-link.result.now c.bucket.ensures.inside
+    ∙ ap (λ b. get_or heads b 0) c.bucket.ensures.bucket in
     subst (λ l. on_chain links l l n ≡ true) (sym head) (chain-start links (length links) (chain_of heads key) n on)
 
 pub loop-link-preserved : goal.loop-link-preserved

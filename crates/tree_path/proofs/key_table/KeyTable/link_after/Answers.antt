@@ -8,18 +8,21 @@ pub returns-then-number-len-clause-kept : goal.returns-then-number-len-clause-ke
 returns-then-number-len-clause-kept c = λ n on other.
     let links = c.args.self.now.before.items in
     let long = c.len.ensures ∙ c.args.self.now.before.ok.0 in
-    absurd (chain-ends links c.args.link n c.requires other (inl (get_or_past links (c.args.link - 1) 0 (omega (arith, long, c.if-number-len.true)))) on)
+    absurd (chain-ends links c.args.link n c.requires other
+    (inl (get_or_past links (c.args.link - 1) 0 (omega (arith, long, c.if-number-len.true)))) on)
 
 pub returns-then-next-link-clause-kept : goal.returns-then-next-link-clause-kept
 returns-then-next-link-clause-kept c = λ n on other.
     let links = c.args.self.now.before.items in
     let long = c.len.ensures ∙ c.args.self.now.before.ok.0 in
-    let is = c.index-next.ensures ∙ get_or_default_zero links (c.args.link - 1) c.index-next.result.now (omega (arith, long, c.if-number-len.false)) in
+    let is = c.index-next.ensures ∙ get_or_default_zero links (c.args.link - 1) c.index-next.result.now
+    (omega (arith, long, c.if-number-len.false)) in
     absurd (chain-ends links c.args.link n c.requires other (inr (subst (λ m. c.args.link ≤ m) is c.if-next-link.true)) on)
 
 pub returns-clause-kept : goal.returns-clause-kept
 returns-clause-kept c = λ n on other.
     let links = c.args.self.now.before.items in
     let long = c.len.ensures ∙ c.args.self.now.before.ok.0 in
-    let is = c.index-next.ensures ∙ get_or_default_zero links (c.args.link - 1) c.index-next.result.now (omega (arith, long, c.if-number-len.false)) in
+    let is = c.index-next.ensures ∙ get_or_default_zero links (c.args.link - 1) c.index-next.result.now
+    (omega (arith, long, c.if-number-len.false)) in
     chain-step links c.args.link c.index-next.result.now n c.requires is other on

@@ -11,4 +11,5 @@ loop-place-preserved c =
     let place = c.loop-place.place in
     let before = keys_of (members_of (take place ps)) in
     subst (Lists c.add.new.self) (sym (keys-take ps place c.index-pairs-place.result c.loop-place-test.true c.index-pairs-place.is))
-    (subst (λ bytes. Lists c.add.new.self (before ++ chars bytes ∷ [])) c.as_str.ensures (c.in_ok-add.ensures before c.loop-place.invariant))
+    (subst (λ bytes. Lists c.add.new.self (before ++ chars bytes ∷ [])) c.as_str.ensures
+    (c.in_ok-add.ensures before c.loop-place.invariant))

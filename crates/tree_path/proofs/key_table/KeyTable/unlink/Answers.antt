@@ -22,4 +22,5 @@ returns-in-Some-clause-chains c =
     let within : c.args.number < length links = omega (arith, long, c.if-number-len.false) in
     let next = c.index-next.ensures ∙ get_or_default_zero links c.args.number c.index-next.result.now within in
     let after : c.args.number + 1 ≡ suc c.args.number = omega arith in
-    newer-unlinked c.args.self.now _ c.in-Some.newer c.args.number (subst (LeadsTo links c.in-Some.newer) after c.in-Some.ensures) refl (ap (set links c.in-Some.newer) next)
+    newer-unlinked c.args.self.now _ c.in-Some.newer c.args.number
+    (subst (LeadsTo links c.in-Some.newer) after c.in-Some.ensures) refl (ap (set links c.in-Some.newer) next)

@@ -25,7 +25,8 @@ returns-in-Err-clause-refused c =
     inr
     (ap (at t) (parents-split c.args.path.now (texts tokens) (chars (cow_str_bytes last)) split)
     ∙ at_from-missed tokens l.passed token t node c.in-Err.miss c.loop-passed-test.true c.index-tokens-passed.is l.invariant.0
-    (place-missed node (chars (cow_str_bytes token)) c.in-Err.miss (ap (λ b. step_place node (chars b)) (sym c.as_str.ensures.value) ∙ sym c.in-Err.ensures))
+    (place-missed node (chars (cow_str_bytes token)) c.in-Err.miss
+    (ap (λ b. step_place node (chars b)) (sym c.as_str.ensures.value) ∙ sym c.in-Err.ensures))
     ∙ ap Err (sym c.at_step.ensures))
 
 pub loop-passed-preserved : goal.loop-passed-preserved
@@ -40,14 +41,17 @@ loop-passed-preserved c =
     let found = c.child_in-node.ensures text place in
     let items = c.in_ok-push.ensures.items in
     let within = c.loop-passed-test.true in
-    let before = length-map (take l.passed tokens) (λ (x : CowStr Global). chars (cow_str_bytes x)) ∙ length-take-le l.passed tokens (omega (arith, within)) in
+    let before = length-map (take l.passed tokens) (λ (x : CowStr Global). chars (cow_str_bytes x))
+    ∙ length-take-le l.passed tokens (omega (arith, within)) in
     let long = length-append l.parents.items (c.in-Ok.place ∷ []) in
     let more = ap length items in
     let count = l.invariant.2 in (
       at_from-turn tokens l.passed token t node (tree_of c.child_in-node.result.now) within c.index-tokens-passed.is l.invariant.0 found,
       subst (λ ps. Leads (texts (take (l.passed + 1) tokens)) t ps) (sym items)
-          (subst (λ ts. Leads ts t (l.parents.items ++ c.in-Ok.place ∷ [])) (sym (texts-turn tokens l.passed token within c.index-tokens-passed.is))
-          (Leads-push (texts (take l.passed tokens)) text 1 t node (tree_of c.child_in-node.result.now) l.parents.items c.in-Ok.place l.invariant.1
+          (subst (λ ts. Leads ts t (l.parents.items ++ c.in-Ok.place ∷ []))
+          (sym (texts-turn tokens l.passed token within c.index-tokens-passed.is))
+          (Leads-push (texts (take l.passed tokens)) text 1 t node
+          (tree_of c.child_in-node.result.now) l.parents.items c.in-Ok.place l.invariant.1
           (l.invariant.2 ∙ sym before) l.invariant.0 place found)),
       omega (arith, more, long, count),
       child-distinct node (tree_of c.child_in-node.result.now) text l.invariant.3 found,

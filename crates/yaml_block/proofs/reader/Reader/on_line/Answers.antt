@@ -9,7 +9,8 @@ use Rattle.yaml_block.specs.declared.frame.Next.{Next}
 use Rattle.yaml_block.specs.declared.frame.Next.TheVariants as next
 use Rattle.yaml_block.specs.declared.line_sign.Sign.TheVariants.{Dash}
 use Rattle.yaml_block.proofs.TextPlaces.{IsPastSign, past_sign}
-use Rattle.yaml_block.proofs.SignsAndLines.{either, ok_opens, onward_so, Becomes, leads_so, fails_so, dash_onward, line_sequence, line_refused, line_leaf_only, line_leaf_or_pairs}
+use Rattle.yaml_block.proofs.SignsAndLines.{either, ok_opens, onward_so, Becomes, leads_so, fails_so, dash_onward}
+use Rattle.yaml_block.proofs.SignsAndLines.{line_sequence, line_refused, line_leaf_only, line_leaf_or_pairs}
 use Rattle.yaml_block.proofs.Stacks.{grown_same}
 use Rattle.yaml_block.proofs.reader.Reader.on_line.Goals as goal
 

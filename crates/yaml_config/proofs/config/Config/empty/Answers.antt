@@ -17,7 +17,8 @@ empty_text = (record { texts = refl; keys = refl; deep = omega arith; long = ome
 
 pub invariant_of-result : goal.invariant_of-result
 invariant_of-result c =
-    let seen : tree_of (Text c.empty.result) ≡ text [] = tree_of-Text c.empty.result ∙ ap (λ bytes. text (chars bytes)) c.empty.ensures ∙ ap text chars-nil in
+    let seen : tree_of (Text c.empty.result) ≡ text [] = tree_of-Text c.empty.result
+    ∙ ap (λ bytes. text (chars bytes)) c.empty.ensures ∙ ap text chars-nil in
     let P : Tree → Type 0 = λ t. Good t own_limits × (3 ≡ byte_len (style_text t)) × (0 ≡ indented t) in
     let kept = subst P (sym seen) empty_text in (kept.0, kept.1, kept.2, tt)
 

@@ -11,5 +11,12 @@ from_parts-requires-clause-kept c = record {
 }
 
 pub returns-in-Some-clause-ok : goal.returns-in-Some-clause-ok
-returns-in-Some-clause-ok c =
-    (c.from_parts.ensures, record { texts = tree_of-IsTextTree c.args.tree; keys = c.requires.keys; deep = c.requires.shallow; long = c.in-Some.ensures.0 })
+returns-in-Some-clause-ok c = (
+  c.from_parts.ensures,
+  record {
+    texts = tree_of-IsTextTree c.args.tree;
+    keys = c.requires.keys;
+    deep = c.requires.shallow;
+    long = c.in-Some.ensures.0;
+  },
+)

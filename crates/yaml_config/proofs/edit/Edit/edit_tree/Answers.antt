@@ -11,4 +11,5 @@ returns-in_default-clause-distinct c = λ differ.
 
 pub returns-in_ok-delete_planned-in-Delete-clause-distinct : goal.returns-in_ok-delete_planned-in-Delete-clause-distinct
 returns-in_ok-delete_planned-in-Delete-clause-distinct c = λ differ.
-    delete-distinct (tree_of c.args.tree.now) (tree_of c.delete_planned.new.tree) c.args.path.now differ c.in_ok-delete_planned-in-Delete.ensures.ok
+    delete-distinct (tree_of c.args.tree.now) (tree_of c.delete_planned.new.tree) c.args.path.now differ
+    c.in_ok-delete_planned-in-Delete.ensures.ok

@@ -7,7 +7,8 @@ pub returns-in_default-next-clause-steps : goal.returns-in_default-next-clause-s
 returns-in_default-next-clause-steps c =
     let parts = c.self.inside in
     let left = iter_rest c.next.new.self in
-    absurd (borrowed-lacks c.in-Borrowed.style left (iter_rest parts.kinds) (iter_rest parts.borrowed) (iter_rest parts.owned) c.self.invariant
+    absurd (borrowed-lacks c.in-Borrowed.style left (iter_rest parts.kinds) (iter_rest parts.borrowed)
+    (iter_rest parts.owned) c.self.invariant
     (c.in-Some.ensures.steps ∙ ap (λ k. k ∷ left) c.in-Borrowed.is) c.in_default-next.ensures.steps.0)
 
 pub returns-in_default-next-2-clause-steps : goal.returns-in_default-next-2-clause-steps

@@ -13,4 +13,5 @@ returns-clause-ok c =
     let parts = c.self.inside in
     let long = events-length parts.kinds.items parts.borrowed.items parts.owned.items in
     rw (c.in_ok-insert.ensures.items, ← c.self.view_is)
-    (events-insert c.args.at parts.kinds.items parts.borrowed.items parts.owned.items c.self.invariant (omega (arith, c.requires, ap length c.self.view_is, long)))
+    (events-insert c.args.at parts.kinds.items parts.borrowed.items parts.owned.items c.self.invariant
+    (omega (arith, c.requires, ap length c.self.view_is, long)))

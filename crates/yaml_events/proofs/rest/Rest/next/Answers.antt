@@ -7,7 +7,8 @@ use Rattle.yaml_events.proofs.rest.Rest.next.Goals as goal
 pub returns-in_default : goal.returns-in_default
 returns-in_default g c =
     let rest = c.self.inside in
-    let ended : length rest.items.items ≤ rest.taken = subst (λ l. length l ≤ rest.taken) c.deref.ensures.value c.in_default.ensures.lookup.3 in
+    let ended : length rest.items.items ≤ rest.taken =
+    subst (λ l. length l ≤ rest.taken) c.deref.ensures.value c.in_default.ensures.lookup.3 in
     let none = sym c.self.view_is ∙ drop_of_length-le rest.items.items ended in
     (none, none)
 

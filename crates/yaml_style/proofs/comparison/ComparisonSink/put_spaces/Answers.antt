@@ -12,5 +12,6 @@ loop-preserved c =
     let a = c.args.self.now in
     let b = c.loop.self in
     let d = c.put_char.new.self in
-    comparison_after-both (chars a.rest.now) a.agrees (chars b.rest.now) b.agrees (chars d.rest.now, d.agrees) (spaces c.loop.counter) (space_char ∷ []) c.loop.invariant c.in_ok-put_char.ensures
+    comparison_after-both (chars a.rest.now) a.agrees (chars b.rest.now) b.agrees (chars d.rest.now, d.agrees)
+    (spaces c.loop.counter) (space_char ∷ []) c.loop.invariant c.in_ok-put_char.ensures
     ∙ ap (comparison_after (chars a.rest.now) a.agrees) (replicate-append-replicate c.loop.counter 1 space_char)

@@ -4,4 +4,5 @@ use Rattle.yaml_writer.proofs.ByteLemmas.{byte_len-chars}
 use Rattle.yaml_style.proofs.comparison.CountedComparisonSink.put_text.Goals as goal
 
 pub returns : goal.returns
-returns c = on_ok_weaker c.put_text.result (λ compared. (compared, omega (arith, byte_len-chars c.args.text.now c.utf8.text, c.saturating_add-self.ensures))) c.put_text.ensures
+returns c = on_ok_weaker c.put_text.result (λ compared.
+    (compared, omega (arith, byte_len-chars c.args.text.now c.utf8.text, c.saturating_add-self.ensures))) c.put_text.ensures

@@ -9,4 +9,5 @@ use Rattle.yaml_styled.proofs.build.TreeBuild.from_elements.Goals as goal
 pub returns : goal.returns
 returns c ts are =
     let items = c.shrink_to_fit.new.self in
-    tree_of-Seq items ∙ ap sequence (elements_made items.items ts (subst (λ (vs : List code.Tree). AreElements IsTree vs ts) (sym c.shrink_to_fit.ensures.items) are))
+    tree_of-Seq items ∙ ap sequence (elements_made items.items ts
+    (subst (λ (vs : List code.Tree). AreElements IsTree vs ts) (sym c.shrink_to_fit.ensures.items) are))

@@ -10,4 +10,5 @@ use Rattle.yaml_styled.proofs.build.TreeBuild.from_members.Goals as goal
 pub returns : goal.returns
 returns c ms are =
     let pairs = c.shrink_to_fit.new.self in
-    tree_of-Map pairs ∙ ap mapping (members_made pairs.items ms (subst (λ (ps : List (Text × code.Tree)). AreMembers IsTree ps ms) (sym c.shrink_to_fit.ensures.items) are))
+    tree_of-Map pairs ∙ ap mapping (members_made pairs.items ms
+    (subst (λ (ps : List (Text × code.Tree)). AreMembers IsTree ps ms) (sym c.shrink_to_fit.ensures.items) are))

@@ -6,7 +6,8 @@ use Rattle.yaml_tree.proofs.parts.OpenMap.put_collection.Goals as goal
 
 pub returns-then-not-self : goal.returns-then-not-self
 returns-then-not-self g c =
-    ap (λ b. value_placed g.V.Kept.keep (g.V.Kept.tree c.args.value) (frame_by_next (members_by g.V.Kept.tree c.args.self.now.pairs.items) b)) c.if-not-self.true
+    ap (λ b. value_placed g.V.Kept.keep (g.V.Kept.tree c.args.value)
+    (frame_by_next (members_by g.V.Kept.tree c.args.self.now.pairs.items) b)) c.if-not-self.true
 
 pub returns : goal.returns
 returns g c =

@@ -28,12 +28,15 @@ returns g c = λ fs keeps.
     let before : Bool = c.take_map.new.self.keys_differ in
     let parts = in_map_parts keep fs ms rest (sym keeps.frames ∙ c.in_ok-pairs.ensures.parts) in
     let flag : c.if-self.self ≡ (before && keys_differ ms) =
-    let answer = c.in_ok-differ.ensures ∙ ap (λ xs. keys_differ (key_members xs)) c.deref.ensures.value ∙ keys_differ-by g.V.Kept.tree c.in_ok-pairs.pairs.items in
+    let answer = c.in_ok-differ.ensures ∙ ap (λ xs. keys_differ (key_members xs)) c.deref.ensures.value
+    ∙ keys_differ-by g.V.Kept.tree c.in_ok-pairs.pairs.items in
     elim c.if-self.branch [
       | then-self w ↦ w.self-is ∙ answer ∙ sym (ap (λ b. b && keys_differ ms) w.if-self.true)
       | else-self w ↦ w.self-is ∙ w.if-self.false ∙ sym (ap (λ b. b && keys_differ ms) w.if-self.false)
     ] in
     MatchResult-weaker c.put_collection.result c.put_collection.ensures.parts
-    (λ _ e. took keep new _ (before && keys_differ ms) (after_map_end fs) (map_stepped keep fs rest new ms v before parts c.of_map.ensures e (c.take_map.ensures.keys ∙ keeps.differ))
+    (λ _ e. took keep new _ (before && keys_differ ms) (after_map_end fs)
+    (map_stepped keep fs rest new ms v before parts c.of_map.ensures e (c.take_map.ensures.keys ∙ keeps.differ))
     (c.put_collection.ensures.keys ∙ flag))
-    (λ fault h. has_none (innermost (value_placed keep v) rest) (after_map_end fs) (map_put_none keep fs rest ms v parts c.of_map.ensures) fault h)
+    (λ fault h. has_none (innermost (value_placed keep v) rest) (after_map_end fs)
+    (map_put_none keep fs rest ms v parts c.of_map.ensures) fault h)

@@ -26,4 +26,5 @@ returns g c = λ fs keeps.
     MatchResult-weaker c.put_collection.result c.put_collection.ensures.parts
     (λ _ e. took keep new _ (frames_distinct fs) (after_seq_end fs) (seq_stepped keep fs rest new us v parts c.of_seq.ensures e)
     (c.put_collection.ensures.keys ∙ c.take_seq.ensures.keys ∙ keeps.differ))
-    (λ fault h. has_none (innermost (value_placed keep v) rest) (after_seq_end fs) (seq_put_none keep fs rest us v parts c.of_seq.ensures) fault h)
+    (λ fault h. has_none (innermost (value_placed keep v) rest) (after_seq_end fs)
+    (seq_put_none keep fs rest us v parts c.of_seq.ensures) fault h)

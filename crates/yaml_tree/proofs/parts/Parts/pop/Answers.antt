@@ -11,5 +11,8 @@ returns-in-Some-clause-parts g c =
 
 pub returns-in-None-clause-parts : goal.returns-in-None-clause-parts
 returns-in-None-clause-parts g c =
-    let parts = c.args.self.now.parts in
-    (refl, ap (part_frames g.V.Kept.tree g.V.Kept.elements) (nil_from_length parts.items (omega (arith, parts.ok.0, c.in-None.ensures.cases))))
+    let parts = c.args.self.now.parts in (
+      refl,
+      ap (part_frames g.V.Kept.tree g.V.Kept.elements)
+          (nil_from_length parts.items (omega (arith, parts.ok.0, c.in-None.ensures.cases))),
+    )

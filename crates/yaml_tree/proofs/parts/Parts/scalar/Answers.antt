@@ -18,6 +18,8 @@ returns g c = λ fs keeps.
     let new = part_frames g.V.Kept.tree g.V.Kept.elements c.put_scalar.new.self.parts.items in
     MatchResult-weaker c.put_scalar.result c.put_scalar.ensures.parts
     (λ _ e. took keep new _ (frames_distinct fs) (frames_with fs (text value))
-    (scalar_stepped keep fs new value (ap (innermost (scalar_placed keep value)) (sym keeps.frames) ∙ e)) (c.put_scalar.ensures.keys ∙ keeps.differ))
-    (λ fault h. has_none (innermost (scalar_placed keep value) (kept_frames keep fs)) (frames_with fs (text value)) (scalar_refused keep fs value) fault
+    (scalar_stepped keep fs new value (ap (innermost (scalar_placed keep value)) (sym keeps.frames) ∙ e))
+    (c.put_scalar.ensures.keys ∙ keeps.differ))
+    (λ fault h. has_none (innermost (scalar_placed keep value) (kept_frames keep fs)) (frames_with fs (text value))
+    (scalar_refused keep fs value) fault
     (subst (λ gs. HasNone (innermost (scalar_placed keep value) gs) fault) keeps.frames h))

@@ -11,6 +11,7 @@ returns c =
     lanes_pass word_char v _ (omega (arith, long)) c.fits-block.1 _
     (zip2_of_maps bit_and _ _ v
     (zip2_of_maps bit_and _ _ v
-    (zip2_of_maps (λ a b. cond (leb a b) 255 0) _ _ v (splat_is_map v 16 26 long) (zip2_of_maps _ _ _ v (zip2_splat {Y = ℕ} _ v 16 32 long) (splat_is_map v 16 97 long)))
+    (zip2_of_maps (λ a b. cond (leb a b) 255 0) _ _ v (splat_is_map v 16 26 long)
+    (zip2_of_maps _ _ _ v (zip2_splat {Y = ℕ} _ v 16 32 long) (splat_is_map v 16 97 long)))
     (zip2_of_maps (λ a b. cond (leb a b) 255 0) _ _ v (splat_is_map v 16 13 long) (zip2_splat {Y = ℕ} _ v 16 45 long)))
     (zip2_splat {Y = ℕ} _ v 16 95 long)) refl
