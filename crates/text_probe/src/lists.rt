@@ -2,7 +2,6 @@
 use std::alloc::{AllocError, Global};
 use std::borrow::CowStr;
 use yaml_events::{Event, Events, Span, Style};
-use yaml_flow::omitted;
 
 /// The number of events after some steps, the list, and its events one by one.
 pub(crate) fn list_of(alloc: Global, steps: &str) -> Result<String, AllocError> {
@@ -59,13 +58,7 @@ fn scalar_of<'a>(alloc: Global, step: &'a str) -> Result<Option<Event<'a>>, Allo
         let value = String::from_str(alloc, value)?;
         return Ok(Some(scalar(Style::Double, CowStr::Owned(value))));
     }
-    let Some(at) = step.strip_prefix("omitted ") else {
-        return Ok(None);
-    };
-    match at.parse::<usize>() {
-        Ok(at) => Ok(Some(omitted(at))),
-        Err(_) => Ok(None),
-    }
+    Ok(None)
 }
 
 /// A scalar at the start of a text.
@@ -80,7 +73,7 @@ fn scalar<'a>(style: Style, value: CowStr<'a>) -> Event<'a> {
     }
 }
 
-/// Changes a list by a step that appends no event. Another step changes nothing.
+/// Changes a list by a step with a number. Another step changes nothing.
 fn change(events: &mut Events<'_>, step: &str) -> Result<(), AllocError> {
     let Some((word, count)) = step.split_once(' ') else {
         return Ok(());
@@ -88,12 +81,10 @@ fn change(events: &mut Events<'_>, step: &str) -> Result<(), AllocError> {
     let Ok(count) = count.parse::<usize>() else {
         return Ok(());
     };
-    if count > events.len() {
-        return Ok(());
-    }
     match word {
-        "insert" => events.insert_map_start(count),
-        "keep" => {
+        "omitted" => events.push_omitted(count),
+        "insert" if count <= events.len() => events.insert_map_start(count),
+        "keep" if count <= events.len() => {
             events.truncate(count);
             Ok(())
         }

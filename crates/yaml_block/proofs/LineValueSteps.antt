@@ -1,8 +1,9 @@
 -- The steps of the reader at a value that is the rest of its line.
-use Rattle.std.proofs.Common.{ap, arith, inl, length, refl, subst, sym, ◌<◌, ◌∙◌, ◌≡◌, ◌≤◌}
+use Rattle.std.proofs.Common.{ap, append_assoc, arith, inl, length, refl, subst, sym, ◌<◌, ◌∙◌, ◌≡◌, ◌≤◌}
 use Rattle.std.specs.Prelude.{Bool, List, None, Option, Some, [], false, nat_le, true, ℕ, ◌*◌, ◌++◌, ◌+◌, ◌-◌, ◌∷◌, ◌&&◌, insert}
 use Rattle.std.specs.Str.{IsCharBoundary, IsUtf8}
-use Rattle.std.proofs.lemmas.Bool.{false≢true}
+use Rattle.std.proofs.lemmas.Bool.{and_from, false≢true}
+use Rattle.std.proofs.Math.Seq.{drop-append_seam, take-append_seam}
 use Rattle.std.specs.List.{list_all}
 use Rattle.yaml_chars.specs.Breaks.{no_break}
 use Rattle.yaml_chars.specs.Classes.{white}
@@ -19,7 +20,11 @@ use Rattle.yaml_recognizers.specs.Ends.{solid}
 use Rattle.yaml_recognizers.specs.Prefixes.{drop_while, sign, take_while}
 use Rattle.yaml_recognizers.specs.Reading.{Read}
 use Rattle.yaml_recognizers.proofs.Basics.Prefixes.{take_while_every, take_while_split}
-use Rattle.yaml_recognizers.proofs.Basics.Solid.{sign_solid}
+use Rattle.yaml_recognizers.proofs.Basics.Solid.{sign_head, sign_solid}
+use Rattle.yaml_recognizers.proofs.Basics.Breaks.{unbroken}
+use Rattle.yaml_recognizers.proofs.Scalars.JoinSteps.{no_break as no_break_joins}
+use Rattle.yaml_recognizers.proofs.Scalars.PlainSteps.{no_line_no_join, no_more_lines}
+use Rattle.yaml_recognizers.specs.Joins.{read_join}
 use Rattle.yaml_recognizers.proofs.Separation.CommentsComplete.{solid_no_line}
 use Rattle.yaml_events.specs.EventPlaces.{line_starts}
 use Rattle.yaml_events.specs.declared.event.Event.{Event}
@@ -29,12 +34,13 @@ use Rattle.yaml_scan.specs.declared.lines.Line.{Line}
 use Rattle.yaml_scan.proofs.ByteSigns.{IsSign, sign_there}
 use Rattle.yaml_scan.proofs.GapSteps.{no_white_taken, solid_no_end, space_taken}
 use Rattle.yaml_scan.proofs.LineSteps.{no_comments_at, open_line}
-use Rattle.yaml_flow_scalars.specs.PlainPlaces.{IsFirstLine}
+use Rattle.yaml_flow_scalars.specs.PlainPlaces.{IsFirstLine, NoNextLine}
 use Rattle.yaml_flow_scalars.proofs.InsideLines.{ends_inside_line}
 use Rattle.yaml_flow_scalars.proofs.PlainLines.{key_no_line}
 use Rattle.yaml_flow.specs.FlowNodes.{FlowNodeRead}
 use Rattle.yaml_block.specs.Frames.{AfterPair, AtLeaf, AtLine}
-use Rattle.yaml_block.specs.LineValues.{IsLeadIn, IsLineValue, IsPlainLine}
+use Rattle.yaml_block.specs.LineValues.{IsLeadIn, IsLinePair, IsLineValue, IsPlainLine}
+use Rattle.yaml_block.specs.declared.first_pair.LinePair.{LinePair}
 use Rattle.yaml_block.specs.Lines.{IsNextLine}
 use Rattle.yaml_block.specs.States.{BeforeColon, BeforeLeaf, BeforeLineValue, Holds, IsAfterSign, Leads, Onward, Stack}
 use Rattle.yaml_block.specs.declared.frame.Collection.{Collection}
@@ -68,6 +74,15 @@ no_colon (x ∷ xs) c = by_cases (sign 58 (drop_while white (x ∷ xs))) refl
         ∙ solid_no_line false (take_while white (x ∷ xs)) (drop_while white (x ∷ xs))
         (take_while_every white (x ∷ xs)) (sign_solid 58 (drop_while white (x ∷ xs)) refl e) in
         absurd (false≢true (sym (ap closes_line (no_comments_at false (x ∷ xs) none)) ∙ c))
+
+-- nothing is joined to a line that goes on with a `:`
+colon_no_join : (n : ℕ) (t : List ℕ) → read_join false n (58 ∷ t) ≡ None
+unfolding read_join
+colon_no_join n t = no_break_joins false n [] (58 ∷ t) (unbroken (58 ∷ t) refl)
+
+-- what stands before further events is put in before them
+inserted : (old more : List Event) (e : Event) → (old ++ e ∷ []) ++ more ≡ insert (old ++ more) (length old) e
+inserted old more e = rw (take-append_seam old more, drop-append_seam old more) (append_assoc old (e ∷ []) more)
 
 module _ (text : List ℕ) (u : IsUtf8 text) where
   -- the first line of a plain scalar is the whole scalar where it is a key
@@ -154,6 +169,47 @@ module _ (text : List ℕ) (u : IsUtf8 text) where
             f.appended e;
       })
       (p.0, p.1, p.2, value)
+
+  -- before a `:` no further line of a plain scalar comes
+  colon_no_line : (n end : ℕ) → sign 58 (rest text end) ≡ true → NoNextLine n outer text end
+  colon_no_line n end c =
+      let head = sign_head 58 (rest text end) c in
+      no_more_lines n outer (rest text end)
+      (no_line_no_join n outer (rest text end) (ap (read_join false n) head.1 ∙ colon_no_join n head.0))
+
+  -- the first line of a plain scalar is the whole scalar where a `:` follows it
+  pub plain_before_colon : (n at end : ℕ) → IsCharBoundary text at → IsFirstLine outer text at end
+      → sign 58 (rest text end) ≡ true → IsPlainLine n outer text at end
+  plain_before_colon n at end b f c =
+      let whole = f.whole n (colon_no_line n end c) in
+      record {
+        scalar = whole;
+        unbroken = f.unbroken;
+        inside_line = ends_inside_line plain_style n outer text at (between text at end) end u b whole;
+      }
+
+  -- the first pair of a mapping is a whole line
+  pub first_pair_leads : (leaf : Leaf) (k : ℕ) (p : LinePair) (old opened mid new : Reader) (to : Next)
+      → leaf.pairs ≡ Some k → k ≤ leaf.at → IsCharBoundary text leaf.at → IsLinePair text leaf.at k p
+      → opened.collections ≡ old.collections → opened.events ≡ old.events ++ MapStart ∷ []
+      → mid.collections ≡ opened.collections
+      → FlowNodeRead leaf.least outer text leaf.at p.key_end opened.events mid.events
+      → Leads text (BeforeLineValue text k p.value.start) mid new to → Leads text (BeforeLeaf text leaf) old new to
+  first_pair_leads leaf k p old opened mid new to n deep b pair i e j key l =
+      let more : List Event = key.appended.more in
+      leaf_value leaf k p.key_end p.key_end p.value.start old mid new (old.events ++ more) to n deep b
+      (record {
+        above = key.above;
+        boundary = key.boundary;
+        within = key.within;
+        inside_line = key.inside_line;
+        node = key.node;
+        found = key.found;
+        appended = record { more = more; is = refl; means = key.appended.means; borrows = key.appended.borrows };
+      })
+      (no_white_taken text p.key_end pair.key.boundary (sign_solid 58 (rest text p.key_end) refl pair.colon)) pair.colon
+      (and_from _ _ pair.key.unbroken pair.short) (j ∙ i)
+      (key.appended.is ∙ (ap (λ es. es ++ more) e ∙ inserted old.events more MapStart)) pair.lead l
 
   -- the value is read, and so is the pair
   pub value_read : (k : ℕ) (value : LineValue) (old mid : Reader) → IsLineValue text k value

@@ -1,15 +1,20 @@
 -- The value of a pair where it is the rest of its line (YAML 1.2.2, 8.2.2).
-use Rattle.std.specs.Prelude.{◌≡◌, ℕ, ◌+◌, ◌<◌, true, false, List}
+use Rattle.std.specs.Prelude.{◌≡◌, ℕ, ◌+◌, ◌<◌, nat_le, true, false, List, length}
 use Rattle.std.specs.Str.{IsCharBoundary}
 use Rattle.yaml_chars.specs.Classes.{white}
 use Rattle.yaml_chars.specs.Places.{rest, between}
+use Rattle.yaml_chars.specs.Signs.{colon}
 use Rattle.yaml_grammar.specs.Events.{plain_style}
+use Rattle.yaml_grammar.specs.FlowNodes.{key_limit}
 use Rattle.yaml_grammar.specs.FlowScalars.{FlowContext, outer}
 use Rattle.yaml_recognizers.specs.Comments.{all_comments, closes_line}
+use Rattle.yaml_recognizers.specs.Prefixes.{sign}
 use Rattle.yaml_events.specs.EventPlaces.{line_starts}
 use Rattle.yaml_scan.specs.ScanPlaces.{AreTaken, unbroken_between}
 use Rattle.yaml_scan.specs.Lines.{IsLineStart, IsSolidLine}
+use Rattle.yaml_flow_scalars.specs.PlainPlaces.{IsFirstLine}
 use Rattle.yaml_flow_scalars.specs.Standing.{ScalarAt}
+use Rattle.yaml_block.specs.declared.first_pair.LinePair.{LinePair}
 use Rattle.yaml_block.specs.declared.line_value.LineValue.{LineValue}
 
 -- A plain scalar on one line is between the two places, and no further line of it follows.
@@ -32,3 +37,12 @@ pub record IsLeadIn (text : List ℕ) (at start : ℕ) : Type 0 where
   pub above : at < start
   pub white : AreTaken white text at start
   pub goes_on : closes_line (all_comments false (rest text at)) ≡ false
+
+-- A pair of a mapping at k begins at the place, and is a whole line: its key is a plain scalar with its `:` right after
+-- it, and its value is the rest of the line.
+pub record IsLinePair (text : List ℕ) (at k : ℕ) (pair : LinePair) : Type 0 where
+  pub key : IsFirstLine outer text at pair.key_end
+  pub short : nat_le (length (between text at pair.key_end)) key_limit ≡ true
+  pub colon : sign colon (rest text pair.key_end) ≡ true
+  pub value : IsLineValue text k pair.value
+  pub lead : IsLeadIn text (pair.key_end + 1) pair.value.start

@@ -9,6 +9,7 @@ ghost use Rattle.yaml_recognizers.specs.Prefixes.{sign};
 ghost use Rattle.yaml_events.specs.EventPlaces.{Refuses};
 ghost use Rattle.yaml_block.specs.States.{fits_as_key, IsOpened, Grown, Onward, Leads, FailsBy, BeforeLeaf};
 
+use crate::first_pair::first_pair;
 use crate::frame::{Leaf, Next, Waits};
 use crate::line_sign::Sign;
 use crate::line_value::line_value;
@@ -41,6 +42,9 @@ impl<'a> Reader<'a> {
         if let Some(indent) = leaf.pairs {
             if sign_at(text, leaf.at, b'?') {
                 return self.first_asked(leaf.at, indent);
+            }
+            if let Some(pair) = first_pair(text, leaf.at, indent) {
+                return self.first_line(text, leaf, indent, pair);
             }
         }
         self.flow_leaf(text, leaf)

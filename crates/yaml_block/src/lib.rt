@@ -6,6 +6,7 @@
 #![tactic(auto)]
 
 mod block;
+mod first_pair;
 mod frame;
 mod indentation;
 mod leaf;

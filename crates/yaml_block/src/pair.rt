@@ -127,7 +127,7 @@ impl<'a> Reader<'a> {
 /// Returns the value of the pair whose key is between two places, in a mapping at `indent`, as [`line_value`] does.
 /// Returns None also if the key is too long.
 #[inline(always)]
-fn key_value(text: &str, at: usize, end: usize, indent: usize) -> Option<LineValue>
+pub(crate) fn key_value(text: &str, at: usize, end: usize, indent: usize) -> Option<LineValue>
     requires placed { IsPairPlace text.now indent at }
     requires above { at < end }
     requires end { IsCharBoundary text.now end }

@@ -2,6 +2,7 @@
 ghost use Rattle.std.specs.Prelude.{◌≡◌, ◌≤◌, List, ◌++◌, [], ◌∷◌, length, insert, IfErr, OnErr, OnOk, MatchBool};
 ghost use Rattle.yaml_events.specs.declared.event.Event.TheVariants.{MapStart};
 ghost use Rattle.yaml_events.specs.EventPlaces.{Refuses};
+ghost use Rattle.yaml_events.specs.Omitted.{AppendsOmitted};
 ghost use Rattle.yaml_recognizers.specs.BlockFrames.{BlockFrame};
 ghost use Rattle.yaml_block.specs.Frames.{waits_of};
 ghost use Rattle.yaml_block.specs.States.{IsOpened, Grown, Stack};
@@ -46,6 +47,20 @@ impl<'a> Reader<'a> {
         ensures none { IfErr result (λ fault. Refuses fault ⊥) }
     {
         match self.events.push(event) {
+            Ok(()) => Ok(()),
+            Err(_) => Err(ScanFault::OutOfMemory),
+        }
+    }
+
+    /// Appends the event of a part that is omitted at a place.
+    pub(crate) fn put_omitted(&mut self, at: usize) -> Result<(), ScanFault>
+        ensures events { OnOk result (AppendsOmitted at self.old.events self.new.events) }
+        ensures collections { self.new.collections ≡ self.old.collections }
+        ensures end { self.new.end ≡ self.old.end }
+        ensures grown { Grown self.old.events self.new.events }
+        ensures none { IfErr result (λ fault. Refuses fault ⊥) }
+    {
+        match self.events.push_omitted(at) {
             Ok(()) => Ok(()),
             Err(_) => Err(ScanFault::OutOfMemory),
         }

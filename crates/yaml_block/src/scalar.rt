@@ -47,8 +47,8 @@ fn indentation_below(least: usize) -> i64
     if least == 0 { -1 } else { (least - 1) as i64 }
 }
 
-/// Reads the lines at `at` of the scalar with this header, literal or folded, whose lines are indented by `least` spaces
-/// or more.
+/// Reads the lines at `at` of the scalar with this header, literal or folded, whose lines are indented by `least`
+/// spaces or more.
 ///
 /// # Errors
 ///
@@ -89,8 +89,8 @@ pub(crate) fn body_at<'a>(
 }
 
 /// Returns the line after a block scalar whose lines end at `at`, where a line starts. A comment line belongs to the
-/// scalar if no TAB is before its `#`, and then all comment lines after it do. Any other line of whitespace or a comment
-/// ends all collections.
+/// scalar if no TAB is before its `#`, and then all comment lines after it do. Any other line of whitespace or a
+/// comment ends all collections.
 pub(crate) fn line_after_scalar(text: &str, at: usize) -> NextLine
     requires at { IsCharBoundary text.now at }
     requires starts { IsLineStart text.now at }

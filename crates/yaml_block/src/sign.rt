@@ -12,7 +12,6 @@ use crate::next_line::NextLine;
 use crate::reader::Reader;
 use crate::refusals::{no_white, refusal};
 use yaml_events::{ScanFault, Why};
-use yaml_flow::omitted;
 use yaml_scan::{Line, line_after, sign_at, spaces_end, white_end};
 
 impl<'a> Reader<'a> {
@@ -66,7 +65,7 @@ impl<'a> Reader<'a> {
             if self.waits_for_key() {
                 return Err(refusal(at, Why::OmittedKey));
             }
-            self.put(omitted(at))?;
+            self.put_omitted(at)?;
             self.end = at;
             return Ok(Next::Line(NextLine {
                 line,

@@ -10,7 +10,6 @@ use crate::line_sign::Sign;
 use crate::next_line::{NextLine, goes_on_with, goes_on_with_pair};
 use crate::reader::Reader;
 use yaml_events::{Event, ScanFault};
-use yaml_flow::omitted;
 
 impl<'a> Reader<'a> {
     /// Closes the collections that end at the line after a part, and returns what is read next in the one that goes on
@@ -67,7 +66,7 @@ impl<'a> Reader<'a> {
                         sign: Sign::Asked,
                     }));
                 }
-                self.put(omitted(self.end))?;
+                self.put_omitted(self.end)?;
                 self.after_pair(text, after, indent)
             }
             Waits::Value => self.after_pair(text, after, indent),

@@ -2,3 +2,4 @@ pub mod Meant
 pub mod EventPlaces
 pub mod Borrowed
 pub mod Parts
+pub mod Omitted

@@ -1,66 +1,24 @@
 -- The events that are kept in the parts of a list of events.
 use Rattle.std.specs.Prelude.{◌≡◌, ℕ, List, [], ◌∷◌, length, drop}
+use Rattle.std.specs.Borrow.{Bor}
 use Rattle.std.specs.List.{sum_by}
 use Rattle.std.specs.declared.borrow.CowStr.TheVariants as text
 use Rattle.yaml_events.specs.declared.event.Event.{Event}
 use Rattle.yaml_events.specs.declared.event.Event.TheVariants.{DocStart, DocEnd, SeqStart, SeqEnd, MapStart, MapEnd, Scalar}
+use Rattle.yaml_events.specs.declared.event.Style.{Style}
+use Rattle.yaml_events.specs.declared.event.Style.TheVariants.{Omitted}
 use Rattle.yaml_events.specs.declared.parts.Edge.{Edge}
 use Rattle.yaml_events.specs.declared.parts.Edge.TheVariants as edge
 use Rattle.yaml_events.specs.declared.parts.Kind.{Kind}
 use Rattle.yaml_events.specs.declared.parts.Kind.TheVariants as kind
 use Rattle.yaml_events.specs.declared.parts.BorrowedScalar.{BorrowedScalar}
-use Rattle.yaml_events.specs.declared.parts.OwnedScalar.{OwnedScalar}
+use Rattle.yaml_events.specs.declared.parts.OtherScalar.{OtherScalar}
+use Rattle.yaml_events.specs.declared.parts.Stored.{Stored}
+use Rattle.yaml_events.specs.declared.parts.Stored.TheVariants as stored
 
--- ---- of an event to its parts
+-- ---- the event that is kept
 
--- the kind of an event
-abbrev pub kind_of : Event → Kind
-kind_of DocStart = kind.Edge edge.DocStart
-kind_of DocEnd = kind.Edge edge.DocEnd
-kind_of SeqStart = kind.Edge edge.SeqStart
-kind_of SeqEnd = kind.Edge edge.SeqEnd
-kind_of MapStart = kind.Edge edge.MapStart
-kind_of MapEnd = kind.Edge edge.MapEnd
-kind_of (Scalar style span (text.Borrowed value)) = kind.Borrowed style
-kind_of (Scalar style span (text.Owned value)) = kind.Owned style
-
--- the value that it borrows, if it does
-abbrev pub borrowed_of : Event → List BorrowedScalar
-borrowed_of DocStart = []
-borrowed_of DocEnd = []
-borrowed_of SeqStart = []
-borrowed_of SeqEnd = []
-borrowed_of MapStart = []
-borrowed_of MapEnd = []
-borrowed_of (Scalar style at (text.Borrowed bytes)) = record { span = at; value = bytes } ∷ []
-borrowed_of (Scalar style at (text.Owned bytes)) = []
-
--- the value that it owns, if it does
-abbrev pub owned_of : Event → List OwnedScalar
-owned_of DocStart = []
-owned_of DocEnd = []
-owned_of SeqStart = []
-owned_of SeqEnd = []
-owned_of MapStart = []
-owned_of MapEnd = []
-owned_of (Scalar style at (text.Borrowed bytes)) = []
-owned_of (Scalar style at (text.Owned bytes)) = record { span = at; value = bytes } ∷ []
-
--- ---- of the parts to the events
-
--- how many borrowed values an event of a kind has
-abbrev pub borrows : Kind → ℕ
-borrows (kind.Edge e) = 0
-borrows (kind.Borrowed style) = 1
-borrows (kind.Owned style) = 0
-
--- how many values it owns
-abbrev pub owns : Kind → ℕ
-owns (kind.Edge e) = 0
-owns (kind.Borrowed style) = 0
-owns (kind.Owned style) = 1
-
--- the event that a start or an end is
+-- a start or an end
 abbrev pub edge_event : Edge → Event
 edge_event edge.DocStart = DocStart
 edge_event edge.DocEnd = DocEnd
@@ -69,19 +27,82 @@ edge_event edge.SeqEnd = SeqEnd
 edge_event edge.MapStart = MapStart
 edge_event edge.MapEnd = MapEnd
 
+-- a scalar whose value is borrowed
+abbrev pub borrowed_event : Style → BorrowedScalar → Event
+borrowed_event style b = Scalar style (record { start = b.start; end = b.end }) (text.Borrowed b.value)
+
+-- an omitted scalar, whose value is the text that stands for all of them
+abbrev pub omitted_event : Bor (List ℕ) → ℕ → Event
+omitted_event empty at = Scalar Omitted (record { start = at; end = at }) (text.Borrowed empty)
+
+-- another scalar
+abbrev pub other_event : Style → OtherScalar → Event
+other_event style o = Scalar style o.span o.value
+
+abbrev pub stored_event : Stored → Event
+stored_event (stored.Edge e) = edge_event e
+stored_event (stored.Borrowed style scalar) = borrowed_event style scalar
+stored_event (stored.Other style scalar) = other_event style scalar
+
+-- ---- its parts
+
+-- the kind of an event
+abbrev pub kind_of : Stored → Kind
+kind_of (stored.Edge e) = kind.Edge e
+kind_of (stored.Borrowed style scalar) = kind.Borrowed style
+kind_of (stored.Other style scalar) = kind.Other style
+
+-- what it adds to the list of borrowed scalars
+abbrev pub borrowed_of : Stored → List BorrowedScalar
+borrowed_of (stored.Edge e) = []
+borrowed_of (stored.Borrowed style scalar) = scalar ∷ []
+borrowed_of (stored.Other style scalar) = []
+
+-- what it adds to the list of other scalars
+abbrev pub others_of : Stored → List OtherScalar
+others_of (stored.Edge e) = []
+others_of (stored.Borrowed style scalar) = []
+others_of (stored.Other style scalar) = scalar ∷ []
+
+-- ---- of the parts to the events
+
+-- how many borrowed scalars an event of a kind has
+abbrev pub borrows : Kind → ℕ
+borrows (kind.Edge e) = 0
+borrows (kind.Borrowed style) = 1
+borrows kind.Omitted = 0
+borrows (kind.Other style) = 0
+
+-- how many omitted ones
+abbrev pub omits : Kind → ℕ
+omits (kind.Edge e) = 0
+omits (kind.Borrowed style) = 0
+omits kind.Omitted = 1
+omits (kind.Other style) = 0
+
+-- how many others
+abbrev pub has_other : Kind → ℕ
+has_other (kind.Edge e) = 0
+has_other (kind.Borrowed style) = 0
+has_other kind.Omitted = 0
+has_other (kind.Other style) = 1
+
 -- The event of a kind, whose value is the first of its list. Where the values fit the kinds, no list is empty.
-abbrev pub event_at : Kind → List BorrowedScalar → List OwnedScalar → Event
-event_at (kind.Edge e) bs os = edge_event e
-event_at (kind.Borrowed style) [] os = DocStart
-event_at (kind.Borrowed style) (b ∷ bs) os = Scalar style b.span (text.Borrowed b.value)
-event_at (kind.Owned style) bs [] = DocStart
-event_at (kind.Owned style) bs (o ∷ os) = Scalar style o.span (text.Owned o.value)
+abbrev pub event_at : Bor (List ℕ) → Kind → List BorrowedScalar → List ℕ → List OtherScalar → Event
+event_at empty (kind.Edge e) bs us os = edge_event e
+event_at empty (kind.Borrowed style) [] us os = DocStart
+event_at empty (kind.Borrowed style) (b ∷ bs) us os = borrowed_event style b
+event_at empty kind.Omitted bs [] os = DocStart
+event_at empty kind.Omitted bs (u ∷ us) os = omitted_event empty u
+event_at empty (kind.Other style) bs us [] = DocStart
+event_at empty (kind.Other style) bs us (o ∷ os) = other_event style o
 
 -- the events, in order
-abbrev pub events_in : List Kind → List BorrowedScalar → List OwnedScalar → List Event
-events_in [] bs os = []
-events_in (k ∷ ks) bs os = event_at k bs os ∷ events_in ks (drop (borrows k) bs) (drop (owns k) os)
+abbrev pub events_in : Bor (List ℕ) → List Kind → List BorrowedScalar → List ℕ → List OtherScalar → List Event
+events_in empty [] bs us os = []
+events_in empty (k ∷ ks) bs us os =
+    event_at empty k bs us os ∷ events_in empty ks (drop (borrows k) bs) (drop (omits k) us) (drop (has_other k) os)
 
 -- each list has as many values as the kinds say
-abbrev pub Fits : List Kind → List BorrowedScalar → List OwnedScalar → Type 0
-Fits ks bs os = (sum_by borrows ks ≡ length bs) × (sum_by owns ks ≡ length os)
+abbrev pub Fits : List Kind → List BorrowedScalar → List ℕ → List OtherScalar → Type 0
+Fits ks bs us os = (sum_by borrows ks ≡ length bs) × (sum_by omits ks ≡ length us) × (sum_by has_other ks ≡ length os)

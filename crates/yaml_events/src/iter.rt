@@ -4,10 +4,10 @@ ghost use Rattle.std.specs.Iterator.{YieldsFirst, YieldsFirstBy, item_count};
 ghost use Rattle.yaml_events.specs.Meant.{event_ref_of, events_of};
 ghost use Rattle.yaml_events.specs.Parts.{events_in, Fits};
 
+use crate::draining::Draining;
 use crate::event::{Event, EventRef};
-use crate::parts::{BorrowedScalar, Kind, OwnedScalar};
+use crate::parts::{BorrowedScalar, Kind, OtherScalar, omitted_ref, omitted_scalar};
 use crate::rest::Rest;
-use std::borrow::CowStr;
 use std::marker::Model;
 use std::{slice, vec};
 
@@ -17,7 +17,9 @@ use std::{slice, vec};
 pub struct EventIter<'e> {
     kinds: slice::Iter<'e, Kind>,
     borrowed: slice::Iter<'e, BorrowedScalar<'e>>,
-    owned: slice::Iter<'e, OwnedScalar>,
+    omitted: slice::Iter<'e, u32>,
+    empty: &'e str,
+    others: slice::Iter<'e, OtherScalar<'e>>,
 }
 
 impl<'e> Model for EventIter<'e> {
@@ -30,26 +32,34 @@ impl<'e> Model for EventIter<'e> {
     ghost Value = { List Event };
 
     ghost view = { λ i. events_of
-        (events_in (iter_rest i.kinds) (iter_rest i.borrowed) (iter_rest i.owned)) };
+        (events_in i.empty (iter_rest i.kinds) (iter_rest i.borrowed) (iter_rest i.omitted)
+        (iter_rest i.others)) };
 
-    ghost invariant = { λ i. Fits (iter_rest i.kinds) (iter_rest i.borrowed) (iter_rest i.owned) };
+    ghost invariant = { λ i.
+        Fits (iter_rest i.kinds) (iter_rest i.borrowed) (iter_rest i.omitted)
+        (iter_rest i.others) };
 }
 
 impl<'e> EventIter<'e> {
     /// Returns an iterator over the events that are kept in these parts.
     #[inline(always)]
     pub(crate) fn new(
+        empty: &'e str,
         kinds: &'e [Kind],
         borrowed: &'e [BorrowedScalar<'e>],
-        owned: &'e [OwnedScalar],
+        omitted: &'e [u32],
+        others: &'e [OtherScalar<'e>],
     ) -> Self
-        requires { Fits kinds.now borrowed.now owned.now }
-        ensures { result ≡ events_of (events_in kinds.now borrowed.now owned.now) }
+        requires fits { Fits kinds.now borrowed.now omitted.now others.now }
+        ensures { result
+            ≡ events_of (events_in empty.entry kinds.now borrowed.now omitted.now others.now) }
     {
         EventIter {
             kinds: kinds.iter(),
             borrowed: borrowed.iter(),
-            owned: owned.iter(),
+            omitted: omitted.iter(),
+            empty,
+            others: others.iter(),
         }
     }
 }
@@ -72,21 +82,19 @@ impl<'e> Iterator for EventIter<'e> {
                 let Some(scalar) = self.borrowed.next() else {
                     return None;
                 };
-                Some(EventRef::Scalar {
-                    style: *style,
-                    span: scalar.span,
-                    value: scalar.value,
-                })
+                Some(scalar.event_ref(*style))
             }
-            Kind::Owned(style) => {
-                let Some(scalar) = self.owned.next() else {
+            Kind::Omitted => {
+                let Some(at) = self.omitted.next() else {
                     return None;
                 };
-                Some(EventRef::Scalar {
-                    style: *style,
-                    span: scalar.span,
-                    value: scalar.value.as_str(),
-                })
+                Some(omitted_ref(self.empty, *at as usize))
+            }
+            Kind::Other(style) => {
+                let Some(scalar) = self.others.next() else {
+                    return None;
+                };
+                Some(scalar.event_ref(*style))
             }
         }
     }
@@ -96,8 +104,10 @@ impl<'e> Iterator for EventIter<'e> {
 #[derive(Drop)]
 pub struct EventIntoIter<'a> {
     kinds: Rest<Kind>,
-    borrowed: Rest<BorrowedScalar<'a>>,
-    owned: vec::IntoIter<OwnedScalar>,
+    borrowed: Draining<BorrowedScalar<'a>>,
+    omitted: Rest<u32>,
+    empty: &'a str,
+    others: vec::IntoIter<OtherScalar<'a>>,
 }
 
 impl<'a> Model for EventIntoIter<'a> {
@@ -109,27 +119,32 @@ impl<'a> Model for EventIntoIter<'a> {
     ghost Value = { List Event };
 
     ghost view = { λ i.
-        events_in i.kinds i.borrowed (into_iter_items i.owned) };
+        events_in i.empty i.kinds i.borrowed i.omitted (into_iter_items i.others) };
 
     ghost invariant = { λ i.
-        Fits i.kinds i.borrowed (into_iter_items i.owned) };
+        Fits i.kinds i.borrowed i.omitted (into_iter_items i.others) };
 }
 
 impl<'a> EventIntoIter<'a> {
     /// Returns an iterator over the events that are kept in these parts.
     #[inline(always)]
     pub(crate) fn new(
+        empty: &'a str,
         kinds: Vec<Kind>,
         borrowed: Vec<BorrowedScalar<'a>>,
-        owned: Vec<OwnedScalar>,
+        omitted: Vec<u32>,
+        others: Vec<OtherScalar<'a>>,
     ) -> Self
-        requires { Fits kinds.items borrowed.items owned.items }
-        ensures { result ≡ events_in kinds.items borrowed.entry.items owned.items }
+        requires fits { Fits kinds.items borrowed.items omitted.items others.items }
+        ensures { result
+            ≡ events_in empty.entry kinds.items borrowed.entry.items omitted.items others.entry.items }
     {
         EventIntoIter {
             kinds: Rest::of(kinds),
-            borrowed: Rest::of(borrowed),
-            owned: owned.into_iter(),
+            borrowed: Draining::of(borrowed),
+            omitted: Rest::of(omitted),
+            empty,
+            others: others.into_iter(),
         }
     }
 }
@@ -149,24 +164,22 @@ impl<'a> Iterator for EventIntoIter<'a> {
         match kind {
             Kind::Edge(edge) => Some(edge.event()),
             Kind::Borrowed(style) => {
-                let Some(BorrowedScalar { span, value }) = self.borrowed.next() else {
+                let Some(scalar) = self.borrowed.next() else {
                     return None;
                 };
-                Some(Event::Scalar {
-                    style,
-                    span,
-                    value: CowStr::Borrowed(value),
-                })
+                Some(scalar.event(style))
             }
-            Kind::Owned(style) => {
-                let Some(OwnedScalar { span, value }) = self.owned.next() else {
+            Kind::Omitted => {
+                let Some(at) = self.omitted.next() else {
                     return None;
                 };
-                Some(Event::Scalar {
-                    style,
-                    span,
-                    value: CowStr::Owned(value),
-                })
+                Some(omitted_scalar(self.empty, at as usize))
+            }
+            Kind::Other(style) => {
+                let Some(scalar) = self.others.next() else {
+                    return None;
+                };
+                Some(scalar.event(style))
             }
         }
     }

@@ -7,6 +7,7 @@
 
 mod context;
 mod display;
+mod draining;
 mod event;
 mod fault;
 mod iter;

@@ -2,34 +2,43 @@
 ghost use Rattle.std.specs.Prelude.{◌≡◌, ◌≤◌, ◌<◌, ◌^◌, List, [], ◌∷◌, ◌++◌, length, take, insert, OnOk, OnErr, IfErr};
 ghost use Rattle.yaml_events.specs.declared.event.Event;
 ghost use Rattle.yaml_events.specs.Meant.{events_of};
+ghost use Rattle.yaml_events.specs.Omitted.{AppendsOmitted};
 
 use crate::event::Event;
 use crate::iter::{EventIntoIter, EventIter};
-use crate::parts::{BorrowedScalar, Edge, Kind, OwnedScalar, keep_value, value_counts};
+use crate::parts::{
+    BorrowedScalar, Edge, Kind, OtherScalar, Stored, keep_value, omitted_scalar, value_counts,
+};
 use std::alloc::{AllocError, AllocFailed, Global};
 use std::marker::Model;
 
 /// The events of a text, or of a part of it, in order. Contracts see the list of the events.
 ///
 /// The kinds of all events are in one list, two bytes each. The values of the scalars are in lists of their own, in the
-/// same order. So an event without a value takes no room for one.
+/// same order. So an event without a value takes no room for one, and an omitted value only that for its place.
 #[derive(Drop)]
 pub struct Events<'a> {
     kinds: Vec<Kind>,
     borrowed: Vec<BorrowedScalar<'a>>,
-    owned: Vec<OwnedScalar>,
+    /// The places of the omitted values.
+    omitted: Vec<u32>,
+    /// The text that each of them is.
+    empty: &'a str,
+    others: Vec<OtherScalar<'a>>,
 }
 
 impl<'a> Model for Events<'a> {
-    ghost use Rattle.std.specs.Prelude.{List};
+    ghost use Rattle.std.specs.Prelude.{◌≡◌, List, []};
     ghost use Rattle.yaml_events.specs.declared.event.Event.{Event};
     ghost use Rattle.yaml_events.specs.Parts.{events_in, Fits};
 
     ghost Value = { List Event };
 
-    ghost view = { λ e. events_in e.kinds.items e.borrowed.items e.owned.items };
+    ghost view = { λ e. events_in e.empty e.kinds.items e.borrowed.items e.omitted.items e.others.items };
 
-    ghost invariant = { λ e. Fits e.kinds.items e.borrowed.items e.owned.items };
+    ghost invariant = { λ e.
+        Fits e.kinds.items e.borrowed.items e.omitted.items e.others.items
+        × (e.empty.now ≡ []) };
 }
 
 impl<'a> Events<'a> {
@@ -40,7 +49,9 @@ impl<'a> Events<'a> {
         Events {
             kinds: Vec::new(alloc),
             borrowed: Vec::new(alloc),
-            owned: Vec::new(alloc),
+            omitted: Vec::new(alloc),
+            empty: "",
+            others: Vec::new(alloc),
         }
     }
 
@@ -59,9 +70,11 @@ impl<'a> Events<'a> {
         ensures count { length self.now < 2 ^ 64 }
     {
         EventIter::new(
+            self.empty,
             self.kinds.as_slice(),
             self.borrowed.as_slice(),
-            self.owned.as_slice(),
+            self.omitted.as_slice(),
+            self.others.as_slice(),
         )
     }
 
@@ -71,16 +84,49 @@ impl<'a> Events<'a> {
         ensures ok { OnOk result (self.new ≡ self.old ++ event.entry ∷ []) }
         ensures back { IfErr result (λ e. (e.value ≡ event.entry) × (self.new ≡ self.old)) }
     {
-        let kind = Kind::of(&event);
-        if self.kinds.push(kind).is_err() {
-            return Err(AllocFailed { value: event });
+        let stored = Stored::of(event);
+        if self.kinds.push(stored.kind()).is_err() {
+            return Err(AllocFailed {
+                value: stored.event(),
+            });
         }
-        match keep_value(&mut self.borrowed, &mut self.owned, event) {
+        match keep_value(&mut self.borrowed, &mut self.others, stored) {
             Ok(()) => Ok(()),
             Err(refused) => {
                 let _ = self.kinds.pop();
-                Err(refused)
+                Err(AllocFailed {
+                    value: refused.value.event(),
+                })
             }
+        }
+    }
+
+    /// Appends the event of a value that is omitted at a place, which counts bytes from 0: the empty text, with an
+    /// empty range (YAML 1.2.2, 7.2). It takes six bytes. If there is no memory for it, the list is unchanged.
+    #[inline]
+    pub fn push_omitted(&mut self, at: usize) -> Result<(), AllocError>
+        ensures ok { OnOk result (AppendsOmitted at self.old self.new) }
+        ensures back { OnErr result (self.new ≡ self.old) }
+    {
+        if at > u32::MAX as usize {
+            return self.push_far_omitted(at);
+        }
+        self.kinds.push(Kind::Omitted)?;
+        if self.omitted.push(at as u32).is_err() {
+            let _ = self.kinds.pop();
+            return Err(AllocError);
+        }
+        Ok(())
+    }
+
+    /// Appends the event of a value that is omitted at a place, as that of another scalar.
+    fn push_far_omitted(&mut self, at: usize) -> Result<(), AllocError>
+        ensures ok { OnOk result (AppendsOmitted at self.old self.new) }
+        ensures back { OnErr result (self.new ≡ self.old) }
+    {
+        match self.push(omitted_scalar(self.empty, at)) {
+            Ok(()) => Ok(()),
+            Err(_) => Err(AllocError),
         }
     }
 
@@ -101,9 +147,10 @@ impl<'a> Events<'a> {
         ensures { self.new ≡ take len self.old }
     {
         self.kinds.truncate(len);
-        let (borrowed, owned) = value_counts(self.kinds.as_slice());
-        self.borrowed.truncate(borrowed);
-        self.owned.truncate(owned);
+        let counts = value_counts(self.kinds.as_slice());
+        self.borrowed.truncate(counts.borrowed);
+        self.omitted.truncate(counts.omitted);
+        self.others.truncate(counts.others);
     }
 }
 
@@ -119,8 +166,10 @@ impl<'a> IntoIterator for Events<'a> {
         let Events {
             kinds,
             borrowed,
-            owned,
+            omitted,
+            empty,
+            others,
         } = self;
-        EventIntoIter::new(kinds, borrowed, owned)
+        EventIntoIter::new(empty, kinds, borrowed, omitted, others)
     }
 }

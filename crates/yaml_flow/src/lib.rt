@@ -2,19 +2,16 @@
 //!
 //! [`flow_node`] reads the flow node at a place of a text, which counts bytes from 0, and appends its events. It does
 //! not recurse: the open brackets are on a stack of its own. So deeper nesting takes more memory, but no deeper call
-//! stack. [`scalar_at`] reads the flow scalar at a place, and [`omitted`] is the event of a node that is omitted (7.2
-//! and 7.3).
+//! stack. [`scalar_at`] reads the flow scalar at a place.
 #![tactic(auto)]
 
 mod collection;
 mod node;
-mod omission;
 mod pair;
 mod push;
 mod refusals;
 mod scalar;
 
 pub use node::flow_node;
-pub use omission::omitted;
 pub use pair::{KEY_LIMIT, key_limit};
 pub use scalar::{FlowScalar, scalar_at};

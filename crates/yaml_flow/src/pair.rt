@@ -15,8 +15,7 @@ ghost use Rattle.yaml_flow.specs.Frames.{Collection, Stands, NodeRead, AtColon, 
 ghost use Rattle.yaml_flow.specs.declared.collection.Next.TheVariants.{AfterEntry};
 
 use crate::collection::{BracketKind, Next, NodeEnd, Open, Part, Setting, fault, pass_gap};
-use crate::omission::omitted;
-use crate::push::{insert_map_start, push};
+use crate::push::{insert_map_start, push, push_omitted};
 use yaml_events::{Event, Events, FlowContext, ScanFault, Why};
 use yaml_scan::{at_most_chars, safe_at, stands_at};
 
@@ -137,7 +136,7 @@ fn without_value(
     if is_single(top) {
         return Ok(Next::AfterEntry { at: after });
     }
-    push(events, omitted(end))?;
+    push_omitted(events, end)?;
     close_pair(events, top, after)
 }
 
@@ -194,7 +193,7 @@ fn value(
 {
     let at = pass_gap(text, colon + 1, setting, line)?;
     if is_left_out(text, colon + 1, at, key_end) {
-        push(events, omitted(colon + 1))?;
+        push_omitted(events, colon + 1)?;
         return close_pair(events, *top, at);
     }
     top.part = Part::Value;

@@ -1,6 +1,7 @@
 // Appending and inserting events, with the fault of a scanner.
 ghost use Rattle.std.specs.Prelude.{◌≡◌, ℕ, ◌≤◌, [], ◌∷◌, ◌++◌, length, insert, OnOk, IfErr};
 ghost use Rattle.yaml_events.specs.EventPlaces.{Refuses};
+ghost use Rattle.yaml_events.specs.Omitted.{AppendsOmitted};
 ghost use Rattle.yaml_events.specs.declared.event.Event.TheVariants.{MapStart};
 ghost use Rattle.yaml_flow.specs.Frames.{Kept};
 
@@ -14,6 +15,18 @@ pub(crate) fn push<'a>(events: &mut Events<'a>, event: Event<'a>) -> Result<(), 
     ensures kept { (k : ℕ) → Kept k events.old events.new }
 {
     match events.push(event) {
+        Ok(()) => Ok(()),
+        Err(_) => Err(ScanFault::OutOfMemory),
+    }
+}
+
+/// Appends the event of a node that is omitted at a place.
+pub(crate) fn push_omitted(events: &mut Events<'_>, at: usize) -> Result<(), ScanFault>
+    ensures ok { OnOk result (AppendsOmitted at events.old events.new) }
+    ensures none { IfErr result (λ fault. Refuses fault ⊥) }
+    ensures kept { (k : ℕ) → Kept k events.old events.new }
+{
+    match events.push_omitted(at) {
         Ok(()) => Ok(()),
         Err(_) => Err(ScanFault::OutOfMemory),
     }

@@ -59,16 +59,16 @@ returns-then-is_left_out-clause-stands c =
     let gap = c.in_ok-at.ensures.found in
     let in_seq = in_sequence c.args.top.now.kind in
     let after = c.args.colon + 1 in
+    let absent = c.in_ok-push_omitted.ensures.ok in
     let test : left_out (ends_plain c.args.key_end) (read_gap n (one_line d) (rest text after)) ≡ true =
     test_is n d text after c.in_ok-at.at (ends_plain c.args.key_end) gap ∙ (sym c.is_left_out.ensures ∙ c.if-is_left_out.true) in
     ok_two c.close_pair.result _ _ _
     (λ next e h. λ w here. subst (λ x. Stands n d text w c.args.top.now x c.close_pair.new.events) (sym e)
     (pair_without_value n d text w in_seq c.args.key_end c.args.colon c.args.events.now here c.in_ok-at.at
     c.close_pair.new.events s gap test
-    (appended_then text c.args.events.now c.push.new.events c.close_pair.new.events (omitted_at after) (pair_end in_seq)
-    (appended_one text c.args.events.now c.push.new.events c.omitted.result
-    (scalar_event omitted_style after after []) c.in_ok-push.ensures.ok c.omitted.ensures.event
-    (c.omitted.ensures.borrowed text))
+    (appended_then text c.args.events.now c.push_omitted.new.events c.close_pair.new.events (omitted_at after) (pair_end in_seq)
+    (appended_one text c.args.events.now c.push_omitted.new.events absent.event
+    (scalar_event omitted_style after after []) absent.is absent.means (absent.borrows text))
     (h text)))) c.close_pair.ensures.next c.close_pair.ensures.written
 
 pub returns-clause-line : goal.returns-clause-line
@@ -113,7 +113,7 @@ returns-then-is_left_out-clause-less c =
 
 pub returns-then-is_left_out-clause-kept : goal.returns-then-is_left_out-clause-kept
 returns-then-is_left_out-clause-kept c = λ k.
-    kept_then k c.args.events.now c.push.new.events c.close_pair.new.events (c.push.ensures.kept k)
+    kept_then k c.args.events.now c.push_omitted.new.events c.close_pair.new.events (c.push_omitted.ensures.kept k)
     (c.close_pair.ensures.kept k)
 
 pub returns-clause-onward : goal.returns-clause-onward

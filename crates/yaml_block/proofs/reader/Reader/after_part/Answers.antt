@@ -57,20 +57,20 @@ returns-then-goes_on_with-2-clause-turn c =
       ended = tt;
     }
 
-pub returns-in_ok-put-in-Key-clause-turn : goal.returns-in_ok-put-in-Key-clause-turn
-returns-in_ok-put-in-Key-clause-turn c =
+pub returns-in_ok-put_omitted-in-Key-clause-turn : goal.returns-in_ok-put_omitted-in-Key-clause-turn
+returns-in_ok-put_omitted-in-Key-clause-turn c =
     let text = c.args.text.now in
     let start = c.args.after.line.start in
     let k = c.args.collection.indent in
     let end = c.args.self.now.end in
-    let put = c.in_ok-put-in-Key.ensures in
+    let put = c.in_ok-put_omitted-in-Key.ensures in
     ok_so c.after_pair.result _ _
     (λ next t. record {
       onward = t.onward;
       turns = λ W from base fs evs h p.
           t.turns W from base fs (evs ++ omitted_at end)
-          (left_out text base fs evs c.args.self.now c.put-in-Key.new.self c.omitted.result end h put.collections
-          put.events c.omitted.ensures.event (c.omitted.ensures.borrowed text))
+          (left_out text base fs evs c.args.self.now c.put_omitted.new.self put.events.event end h put.collections
+          put.events.is put.events.means (put.events.borrows text))
           (subst (λ e. AfterPair W text from fs (evs ++ omitted_at end) k start e) (sym put.end)
           (alone_key W text from fs evs k start end
           (key_of W text from fs evs c.args.collection start end c.in-Key.is p)
@@ -111,7 +111,7 @@ returns-then-goes_on_with-2-clause-grown c =
     grown_same c.args.self.now.events c.wait-then-goes_on_with-2.new.self.events
     c.in_ok-wait-in-Key.ensures.events
 
-pub returns-in_ok-put-in-Key-clause-grown : goal.returns-in_ok-put-in-Key-clause-grown
-returns-in_ok-put-in-Key-clause-grown c =
-    grown_grown c.args.self.now.events c.put-in-Key.new.self.events c.after_pair.new.self.events
-    c.in_ok-put-in-Key.ensures.grown c.after_pair.ensures.grown
+pub returns-in_ok-put_omitted-in-Key-clause-grown : goal.returns-in_ok-put_omitted-in-Key-clause-grown
+returns-in_ok-put_omitted-in-Key-clause-grown c =
+    grown_grown c.args.self.now.events c.put_omitted.new.self.events c.after_pair.new.self.events
+    c.in_ok-put_omitted-in-Key.ensures.grown c.after_pair.ensures.grown

@@ -38,3 +38,19 @@ pub returns-then-sign_at-clause-none : goal.returns-then-sign_at-clause-none
 returns-then-sign_at-clause-none c =
     faults_so c.first_asked.result ⊥ (Fails c.args.text.now (BeforeLeaf c.args.text.now c.args.leaf) c.args.self.now)
     (λ x. absurd x) c.first_asked.ensures.none
+
+pub first_pair-requires : goal.first_pair-requires
+first_pair-requires c = record {
+  placed = record {
+    boundary = c.requires.at;
+    deep = subst (λ (ps : Option ℕ). IfSome ps (λ i. i ≤ c.args.leaf.at)) c.in-Some.is c.requires.pairs;
+  };
+}
+
+pub first_line-requires : goal.first_line-requires
+first_line-requires c = record {
+  at = c.requires.at;
+  pairs = c.in-Some.is;
+  deep = subst (λ (ps : Option ℕ). IfSome ps (λ i. i ≤ c.args.leaf.at)) c.in-Some.is c.requires.pairs;
+  pair = c.in-Some-first_pair.ensures;
+}

@@ -29,20 +29,21 @@ returns-then-is_omitted-clause-leads c =
     let e : block_node_stops (suc c.args.indent) (is_shallow_after c.args.sign) (rest text line.start) ≡ true =
     ap (λ b. block_node_stops (suc c.args.indent) b (rest text line.start)) (sym c.context-context.ensures)
     ∙ (sym c.is_omitted.ensures ∙ c.if-is_omitted.true) in
+    let absent = c.in_ok-put_omitted.ensures.events in
     left_out_value text c.args.sign c.args.indent c.args.at c.utf8.text c.requires.placed c.requires.closes line
-    c.requires.line e c.args.self.now (record c.put.new.self { end = c.args.at }) c.omitted.result
-    (λ f fs s. c.if-waits_for_key.ensures f fs s) c.in_ok-put.ensures.collections c.in_ok-put.ensures.events
-    c.omitted.ensures.event (c.omitted.ensures.borrowed text) refl
+    c.requires.line e c.args.self.now (record c.put_omitted.new.self { end = c.args.at }) absent.event
+    (λ f fs s. c.if-waits_for_key.ensures f fs s) c.in_ok-put_omitted.ensures.collections absent.is
+    absent.means (absent.borrows text) refl
 
 pub returns-then-waits_for_key-clause-grown : goal.returns-then-waits_for_key-clause-grown
 returns-then-waits_for_key-clause-grown c = grown_same c.args.self.now.events c.args.self.now.events refl
 
-pub returns-in_err-put-clause-none : goal.returns-in_err-put-clause-none
-returns-in_err-put-clause-none c =
+pub returns-in_err-put_omitted-clause-none : goal.returns-in_err-put_omitted-clause-none
+returns-in_err-put_omitted-clause-none c =
     let text = c.args.text.now in
-    fault_passed c.from_residual.result c.in_err-put.field-0.0 ⊥
+    fault_passed c.from_residual.result c.in_err-put_omitted.field-0.0 ⊥
     (Fails text (BeforePart text c.args.sign c.args.indent c.args.at) c.args.self.now) (λ x. absurd x)
-    (c.in_err-put.ensures).none (err_from_is_err_and c.from_residual.result c.from_residual.ensures.1)
+    (c.in_err-put_omitted.ensures).none (err_from_is_err_and c.from_residual.result c.from_residual.ensures.1)
 
 pub returns-then-is_omitted-clause-onward : goal.returns-then-is_omitted-clause-onward
 returns-then-is_omitted-clause-onward c =
