@@ -8,6 +8,7 @@ use crate::closing::{CLOSING_LINE, LINE_AND_CLOSING_LINE};
 use memchr::memmem;
 use std::alloc::{AllocError, Global};
 use std::marker::Model;
+use std::mem;
 use thiserror::Error;
 
 /// How many bytes a [`Cutter`] took, and whether what it holds is a whole piece.
@@ -110,6 +111,15 @@ impl Cutter {
         ensures { self.new ≡ record { bytes = []; max = self.old.max } }
     {
         self.held.clear();
+    }
+
+    /// Takes the bytes that are held out, with their memory. Nothing is held then.
+    pub fn take(&mut self) -> Vec<u8>
+        ensures taken { result.items ≡ self.old.bytes }
+        ensures left { self.new ≡ record { bytes = []; max = self.old.max } }
+    {
+        let alloc = *self.held.allocator();
+        mem::replace(&mut self.held, Vec::new(alloc))
     }
 }
 

@@ -20,7 +20,6 @@ use std::alloc::Global;
 use yaml_block::block_node;
 use yaml_chars::next_char;
 use yaml_events::{BlockContext, Event, Events, ScanFault, Why};
-use yaml_flow::omitted;
 use yaml_scan::{Line, Marker, is_marker, is_marker_of, line_after, solid_line, stands_at};
 
 /// What begins at a line of a stream that holds more than whitespace and a comment.
@@ -204,7 +203,7 @@ fn explicit_node_end<'a>(
     let Some(end) = omitted_end(text, at) else {
         return block_node(alloc, events, text, at, -1, BlockContext::Bin);
     };
-    events.push(omitted(at))?;
+    events.push_omitted(at)?;
     Ok(end)
 }
 

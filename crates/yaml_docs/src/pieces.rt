@@ -1,5 +1,5 @@
 // A reader's bytes, cut into pieces as they are read.
-ghost use Rattle.std.specs.Prelude.{◌≡◌, ◌≤◌, ◌↔◌, true, [], IfOk, length, take};
+ghost use Rattle.std.specs.Prelude.{◌≡◌, ◌≤◌, ◌↔◌, ℕ, true, [], IfOk, length, take};
 ghost use Rattle.std.specs.Io.KnownBytes.{ReadConsumes};
 ghost use Rattle.yaml_docs.specs.Cutting.{Unclosed};
 ghost use Rattle.yaml_docs.specs.PieceReading.{Advances, AdvancesAhead, Feeds, Fills, HasPieceAhead, IsSound, ahead, bytes_read, input_limit, piece_limit, piece_or_rest};
@@ -130,6 +130,19 @@ impl Pieces {
         ensures { result.now ≡ piece_or_rest self.now }
     {
         self.cutter.piece()
+    }
+
+    /// Takes the piece out, or the bytes after the last one, with its memory. Until the next call of
+    /// [`advance`](Pieces::advance) or [`advance_ahead`](Pieces::advance_ahead) the piece is empty.
+    pub fn take_piece(&mut self) -> Vec<u8>
+        ensures taken { result.items ≡ piece_or_rest self.old }
+        ensures left { piece_or_rest self.new ≡ [] }
+        ensures ahead { ahead self.new ≡ ahead self.old }
+        ensures read { bytes_read self.new ≡ bytes_read self.old }
+        ensures sound { (longest most : ℕ) → IsSound longest most self.old
+            → IsSound longest most self.new }
+    {
+        self.cutter.take()
     }
 
     /// Appends what was read to the piece, up to the piece's end. Returns whether the piece is complete.

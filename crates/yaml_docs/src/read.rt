@@ -22,8 +22,8 @@ use yaml_events::{Events, ReadFault, ScanFault, Why};
 /// # Errors
 ///
 /// - [`ReadFault::TooLong`] exactly if there are more than `max` bytes.
-/// - [`ReadFault::NotUtf8`] exactly if there are at most so many and they are not UTF-8, with the length in bytes of the
-///   longest prefix that is.
+/// - [`ReadFault::NotUtf8`] exactly if there are at most so many and they are not UTF-8, with the length in bytes of
+///   the longest prefix that is.
 /// - [`ReadFault::Syntax`] only if they are not a stream of the profile, as `docs/READING.md` describes it.
 /// - [`ReadFault::OutOfMemory`] if they are UTF-8 and there is no memory for the events.
 ///

@@ -28,5 +28,6 @@ returns-in_default-clause-none c =
 
 pub returns-clause-reads : goal.returns-clause-reads
 returns-clause-reads c =
-    nothing_read c.args.text.now c.args.at c.args.events.now c.push.new.self c.in-Some.end c.omitted.result
-    c.in-Some.ensures.found c.in_ok-push.ensures.ok c.omitted.ensures.event (c.omitted.ensures.borrowed c.args.text.now)
+    let absent = c.in_ok-push_omitted.ensures.ok in
+    nothing_read c.args.text.now c.args.at c.args.events.now c.push_omitted.new.self c.in-Some.end absent.event
+    c.in-Some.ensures.found absent.is absent.means (absent.borrows c.args.text.now)
