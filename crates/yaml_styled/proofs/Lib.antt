@@ -1,3 +1,6 @@
+pub mod BlockRuns
+pub mod RunLemmas
+pub mod WordLemmas
 pub mod TakingLemmas
 pub mod BuildLemmas
 pub mod SoundLemmas

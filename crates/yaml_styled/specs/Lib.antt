@@ -1,3 +1,4 @@
+pub mod Blocks
 pub mod Comparing
 pub mod Taking
 pub mod Parts

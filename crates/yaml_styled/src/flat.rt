@@ -10,6 +10,8 @@ use crate::build::Build;
 use crate::guess::{guessed_line, guessed_literal, unescaped};
 use crate::lines::Lines;
 use crate::miss::Miss;
+use crate::words::{split_plain, split_quoted};
+use memchr::memchr;
 use std::alloc::Global;
 use yaml_data::{Text, Tree};
 use yaml_writer::{ScalarStyle, Sink, Size, value_style, write_quoted, write_scalar};
@@ -36,17 +38,46 @@ pub(crate) fn read_flat<V: Build>(
         }
         Some(b'[') => read_empty_sequence(alloc, lines, indent),
         Some(b'{') => read_empty_mapping(alloc, lines, indent),
-        _ => {
-            let Some(line) = guessed_line(lines.rest()) else {
-                return Err(Miss::OtherForm);
-            };
-            read_text(alloc, lines, line, indent)
-        }
+        _ => read_plain(alloc, lines, indent),
     }
 }
 
+/// Reads a plain text.
+#[inline(always)]
+fn read_plain<V: Build>(alloc: Global, lines: &mut Lines<'_>, indent: u64) -> Result<V, Miss>
+    ensures { IfOk result (λ made. IsRead (λ t. V.Means made t × (is_filled t ≡ false))
+        (λ t. lines_of t indent) indented 1
+        lines.old.rest.now lines.old.counted lines.new.rest.now lines.new.counted) }
+{
+    let Some((text, rest)) = split_plain(lines.rest(), b'\n') else {
+        return Err(Miss::OtherForm);
+    };
+    lines.go_on(rest);
+    let made = V::from_text(alloc, text)?;
+    Ok(made)
+}
+
 /// Reads a text in double quotes.
+#[inline(always)]
 fn read_quoted<V: Build>(alloc: Global, lines: &mut Lines<'_>, indent: u64) -> Result<V, Miss>
+    requires { 2 ≤ indent }
+    ensures { IfOk result (λ made. IsRead (λ t. V.Means made t × (is_filled t ≡ false))
+        (λ t. lines_of t indent) indented 1
+        lines.old.rest.now lines.old.counted lines.new.rest.now lines.new.counted) }
+{
+    match split_quoted(lines.rest(), b'\n') {
+        Some((text, rest)) => {
+            lines.go_on(rest);
+            let made = V::from_text(alloc, text)?;
+            Ok(made)
+        }
+        None => read_other_quoted(alloc, lines, indent),
+    }
+}
+
+/// Reads a text in double quotes that is not ASCII, or has an escape.
+#[inline(never)]
+fn read_other_quoted<V: Build>(alloc: Global, lines: &mut Lines<'_>, indent: u64) -> Result<V, Miss>
     requires { 2 ≤ indent }
     ensures { IfOk result (λ made. IsRead (λ t. V.Means made t × (is_filled t ≡ false))
         (λ t. lines_of t indent) indented 1
@@ -55,7 +86,7 @@ fn read_quoted<V: Build>(alloc: Global, lines: &mut Lines<'_>, indent: u64) -> R
     let Some(quoted) = guessed_quoted(lines.rest()) else {
         return Err(Miss::OtherForm);
     };
-    if quoted.contains('\\') {
+    if memchr(b'\\', quoted.as_bytes()).is_some() {
         let text = unescaped(alloc, quoted)?;
         return read_own_text(lines, text, indent);
     }
@@ -64,7 +95,7 @@ fn read_quoted<V: Build>(alloc: Global, lines: &mut Lines<'_>, indent: u64) -> R
 
 /// What is between the double quotes at both ends of the first line.
 fn guessed_quoted(lines: &str) -> Option<&str> {
-    let line = guessed_line(lines)?;
+    let (line, _) = guessed_line(lines)?;
     let quoted = line.strip_prefix('"')?;
     let text = quoted.strip_suffix('"')?;
     Some(text)

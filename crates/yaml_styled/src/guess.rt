@@ -1,49 +1,59 @@
 // What lines seem to hold. Nothing is promised of it: whoever asks writes it, and compares.
 
+use crate::blocks::{WordBytes, run_len};
 use crate::miss::Miss;
+use memchr::memchr;
 use std::alloc::Global;
 use yaml_data::Text;
 
-/// The key that a row seems to begin with, if it is written without an escape.
+/// The key in double quotes that a row seems to begin with, if it is written without an escape.
 pub(crate) fn guessed_key(row: &str) -> Option<&str> {
-    let (key, _) = match row.strip_prefix('"') {
-        Some(quoted) => quoted.split_once('"')?,
-        None => row.split_once(':')?,
-    };
+    let quoted = row.strip_prefix('"')?;
+    let (key, _) = split_at_byte(quoted, b'"')?;
     Some(key)
 }
 
 /// Whether an element seems to be a collection that begins on its line: an element of its own, or a key.
+#[inline(always)]
 pub(crate) fn begins_collection(row: &str) -> bool {
-    if row.starts_with("- ") {
-        return true;
-    }
-    match guessed_line(row) {
-        Some(line) => has_key(line),
+    let bytes = row.as_bytes();
+    match bytes.first() {
+        Some(b'-') => bytes.get(1) == Some(&b' '),
+        Some(b'"') => has_quoted_key(row),
+        Some(_) => bytes.get(run_len::<WordBytes>(bytes)) == Some(&b':'),
         None => false,
     }
 }
 
-/// Whether a line seems to begin with a key.
-fn has_key(line: &str) -> bool {
-    let Some(quoted) = line.strip_prefix('"') else {
-        return line.contains(':');
+/// Whether a line that begins with a double quote seems to begin with a key.
+#[inline(never)]
+fn has_quoted_key(row: &str) -> bool {
+    let Some((_, quoted)) = row.split_at_checked(1) else {
+        return false;
     };
-    match quoted.split_once('"') {
-        Some((_, after)) => after.starts_with(':'),
-        None => false,
-    }
+    let Some((_, after)) = split_at_byte(quoted, b'"') else {
+        return false;
+    };
+    after.starts_with(':')
 }
 
-/// The first line, without its line feed.
-pub(crate) fn guessed_line(lines: &str) -> Option<&str> {
-    let (line, _) = lines.split_once('\n')?;
-    Some(line)
+/// The first line, without its line feed, and what comes after it.
+pub(crate) fn guessed_line(lines: &str) -> Option<(&str, &str)> {
+    split_at_byte(lines, b'\n')
+}
+
+/// What comes before the first byte of ASCII that is this, and what comes after it.
+#[inline(always)]
+fn split_at_byte(text: &str, byte: u8) -> Option<(&str, &str)> {
+    let at = memchr(byte, text.as_bytes())?;
+    let (before, _) = text.split_at_checked(at)?;
+    let (_, after) = text.split_at_checked(at + 1)?;
+    Some((before, after))
 }
 
 /// The text of the literal that the lines seem to begin with, whose own lines come after so many spaces.
 pub(crate) fn guessed_literal(alloc: Global, lines: &str, indent: u64) -> Result<Text, Miss> {
-    let Some((header, rest)) = lines.split_once('\n') else {
+    let Some((header, rest)) = guessed_line(lines) else {
         return Err(Miss::OtherForm);
     };
     let mut text = literal_text(alloc, rest, indent as usize)?;
@@ -59,7 +69,7 @@ fn literal_text(alloc: Global, lines: &str, indent: usize) -> Result<String, Mis
     let mut text = String::new(alloc);
     let mut rest = lines;
     for _ in 0..lines.len() {
-        let Some((line, after)) = rest.split_once('\n') else {
+        let Some((line, after)) = guessed_line(rest) else {
             break;
         };
         let Some(content) = literal_line(line, indent) else {

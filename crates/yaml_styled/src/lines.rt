@@ -1,15 +1,16 @@
 // Lines that are taken piece by piece, as the one style writes them.
-ghost use Rattle.std.specs.Prelude.{◌≡◌, ◌++◌, [], ◌∷◌, IfOk, IfSome, OnOk, if◌then◌else◌};
+ghost use Rattle.std.specs.Prelude.{◌≡◌, ◌≤◌, ◌++◌, [], ◌∷◌, IfOk, IfSome, OnOk, if◌then◌else◌};
 ghost use Rattle.std.specs.Str.{chars};
 ghost use Rattle.yaml_grammar.specs.Texts.{spaces};
 ghost use Rattle.yaml_styled.specs.Comparing.{GoesOn};
 ghost use Rattle.yaml_styled.specs.Taking.{Took};
 
+use crate::blocks::{BLOCK, Class, Spaces};
 use crate::miss::Miss;
 use yaml_writer::Sink;
 
 /// The most spaces that are compared at once.
-const SPACES: &str = "                                                                ";
+const SPACES: &str = "                ";
 
 /// Lines of a text, of which those that are indented are counted as they are taken. As a sink it takes what is written
 /// off the text, and fails where the text goes on otherwise. It takes no memory.
@@ -53,6 +54,15 @@ impl<'t> Lines<'t> {
     #[inline]
     pub(crate) fn first(&self) -> Option<u8> {
         self.rest.as_bytes().first().copied()
+    }
+
+    /// Takes what comes before this rest.
+    #[inline(always)]
+    pub(crate) fn go_on(&mut self, rest: &'t str)
+        ensures rest { self.new.rest.now ≡ rest.now }
+        ensures counted { self.new.counted ≡ self.old.counted }
+    {
+        self.rest = rest;
     }
 
     /// Takes a piece of ASCII or other text.
@@ -158,15 +168,43 @@ fn begins_row(text: &str) -> bool {
 }
 
 /// What comes after so many spaces; `None` if the text does not begin with them.
+#[inline(always)]
 fn strip_spaces(text: &str, count: u64) -> Option<&str>
     ensures { IfSome result (λ rest. GoesOn text.now (spaces count) rest.now) }
 {
     let mut left = count as usize;
     let mut rest = text;
-    while left > SPACES.len() {
-        rest = rest.strip_prefix(SPACES)?;
-        left -= SPACES.len();
+    while left > BLOCK {
+        rest = strip_few_spaces(rest, BLOCK)?;
+        left -= BLOCK;
     }
-    let row = rest.strip_prefix(&SPACES[..left])?;
+    let row = strip_few_spaces(rest, left)?;
+    Some(row)
+}
+
+/// The same for at most sixteen spaces.
+#[inline(always)]
+fn strip_few_spaces(text: &str, count: usize) -> Option<&str>
+    requires { count ≤ 16 }
+    ensures { IfSome result (λ rest. GoesOn text.now (spaces count) rest.now) }
+{
+    let bytes = text.as_bytes();
+    if bytes.len() < BLOCK {
+        return strip_last_spaces(text, count);
+    }
+    if Spaces::run_in_block(bytes, 0) < count {
+        return None;
+    }
+    let (_, rest) = text.split_at_checked(count)?;
+    Some(rest)
+}
+
+/// The same near the end of a text.
+#[inline(never)]
+fn strip_last_spaces(text: &str, count: usize) -> Option<&str>
+    requires { count ≤ 16 }
+    ensures { IfSome result (λ rest. GoesOn text.now (spaces count) rest.now) }
+{
+    let row = text.strip_prefix(&SPACES[..count])?;
     Some(row)
 }

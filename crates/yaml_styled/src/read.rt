@@ -100,9 +100,10 @@ fn read_members<V: Build>(
 {
     let mut pairs = Vec::new(alloc);
     'rows: for _ in 0..u64::MAX {
-        let key = take_key(alloc, lines, indent)?;
+        let key = take_key(lines, indent)?;
         let value = read_value_lines(alloc, lines, indent, levels)?;
-        pairs.push((key, value))?;
+        let text = Text::new(alloc, key)?;
+        pairs.push((text, value))?;
         let more = lines.next_row(indent)?;
         if !more {
             return made_mapping(alloc, pairs);

@@ -33,8 +33,8 @@ pub struct Styled<'t, V> {
 }
 
 /// Reads the value after the `:` of its key, whose line is indented by `indent` spaces, from lines that begin with it.
-/// The lines are those of the value in the one style, to the byte. In each of its mappings the keys differ, and it is at
-/// most [`MOST_DEPTH`] deep.
+/// The lines are those of the value in the one style, to the byte. In each of its mappings the keys differ, and it is
+/// at most [`MOST_DEPTH`] deep.
 ///
 /// # Errors
 ///
@@ -95,8 +95,9 @@ pub fn read_key(alloc: Global, lines: &str, indent: u64) -> Result<(Text, &str),
         (key_lines indent (chars (text_bytes read.0))) read.1.now) }
 {
     let mut left = Lines::new(lines);
-    let key = take_key(alloc, &mut left, indent)?;
-    Ok((key, left.rest()))
+    let key = take_key(&mut left, indent)?;
+    let text = Text::new(alloc, key)?;
+    Ok((text, left.rest()))
 }
 
 /// Reads a value after the `:` of its key.

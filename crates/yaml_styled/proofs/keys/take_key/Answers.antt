@@ -1,17 +1,9 @@
-use Rattle.std.proofs.Common.{[], sym, subst}
-use Rattle.std.specs.Str.{chars}
-use Rattle.yaml_grammar.specs.Style.{key_lines}
-use Rattle.yaml_writer.specs.Sizes.{indented_key_lines}
-use Rattle.yaml_styled.specs.Taking.{Took}
-use Rattle.yaml_styled.proofs.TakingLemmas.{took_counted}
+use Rattle.std.proofs.Common.{sym, ◌∙◌}
+use Rattle.yaml_styled.proofs.WordLemmas.{took_plain_key}
 use Rattle.yaml_styled.proofs.keys.take_key.Goals as goal
 
-pub returns : goal.returns
-returns c =
-    let a = c.args.lines.now in
-    let b = c.count.new.self in
-    let d = c.write_key.new.sink in
-    let counted = subst (λ n. Took a.rest.now a.counted [] n b.rest.now b.counted) c.key_line_count.ensures c.in_ok-count.ensures in
-    subst (λ bytes. Took a.rest.now a.counted (key_lines c.args.indent (chars bytes))
-    (indented_key_lines (chars bytes)) d.rest.now d.counted)
-    (sym c.in_ok-text.ensures) (took_counted counted c.in_ok-write_key.ensures)
+pub returns-in-Some : goal.returns-in-Some
+returns-in-Some c =
+    took_plain_key c.in-Some.key.now c.in-Some.ensures.plain c.in-Some.ensures.ascii c.args.lines.now.rest.now c.in-Some.rest.now
+    c.go_on.new.self.rest.now c.args.lines.now.counted c.go_on.new.self.counted c.args.indent
+    (sym c.rest.ensures ∙ c.in-Some.ensures.cut) c.go_on.ensures.rest c.go_on.ensures.counted

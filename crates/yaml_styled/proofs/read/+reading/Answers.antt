@@ -1,9 +1,12 @@
 use Rattle.std.proofs.Common.{◌≡◌, ◌+◌, true, [], codes, if◌then◌else◌, refl, sym, subst, arith}
 use Rattle.std.proofs.lemmas.Result.{IfOk-weaker}
+use Rattle.std.specs.Str.{chars}
 use Rattle.yaml_grammar.specs.Texts.{spaces}
+use Rattle.yaml_grammar.specs.Style.{key_lines}
 use Rattle.yaml_grammar.specs.Trees.{sequence, mapping}
 use Rattle.yaml_data.specs.Keys.{keys_differ}
 use Rattle.yaml_data.proofs.CharacterLemmas.{chars-literal}
+use Rattle.yaml_writer.specs.Sizes.{indented_key_lines}
 use Rattle.yaml_styled.specs.Taking.{Took}
 use Rattle.yaml_styled.specs.Parts.{AreElements, AreMembers}
 use Rattle.yaml_styled.proofs.RowLemmas.{StartedElements, StartedMembers, no_elements, no_members, element_more}
@@ -69,23 +72,31 @@ read_members-rows-init g t c =
 pub read_members-rows-preserved : goal.read_members-rows-preserved
 read_members-rows-preserved g t c =
     let start = c.args.lines.now in
+    let a = c.rows.lines in
+    let b = c.take_key.new.lines in
+    let named = subst (λ bytes. Took a.rest.now a.counted (key_lines c.args.indent (chars bytes)) (indented_key_lines (chars bytes))
+    b.rest.now b.counted) (sym c.in_ok-text.ensures) c.in_ok-key.ensures in
     let d = c.read_value_lines.new.lines in
     let e = c.next_row.new.self in
     let next = subst (λ more. Took d.rest.now d.counted (if more then spaces c.args.indent else [])
     (if more then 1 else 0) e.rest.now e.counted) c.if-not-more.false c.in_ok-more.ensures in
     subst (λ ps. StartedMembers g.V.Build.Means ps (c.args.levels + 1) c.args.indent start.rest.now start.counted e.rest.now e.counted)
     (sym c.in_ok-push.ensures.items)
-    (member_more g.V.Build.Means c.in_ok-key.key c.rows.invariant c.in_ok-key.ensures c.in_ok-value.ensures next)
+    (member_more g.V.Build.Means c.in_ok-text.text c.rows.invariant named c.in_ok-value.ensures next)
 
 pub read_members-returns-then-not-more : goal.read_members-returns-then-not-more
 read_members-returns-then-not-more g t c =
+    let a = c.rows.lines in
+    let b = c.take_key.new.lines in
+    let named = subst (λ bytes. Took a.rest.now a.counted (key_lines c.args.indent (chars bytes)) (indented_key_lines (chars bytes))
+    b.rest.now b.counted) (sym c.in_ok-text.ensures) c.in_ok-key.ensures in
     let d = c.read_value_lines.new.lines in
     let e = c.next_row.new.self in
     let next = subst (λ more. Took d.rest.now d.counted (if more then spaces c.args.indent else [])
     (if more then 1 else 0) e.rest.now e.counted) c.if-not-more.true c.in_ok-more.ensures in
     IfOk-weaker c.made_mapping.result _ _
-    (λ made is. member_last g.V.Build.Means {Is = g.V.Build.Means made} c.in_ok-key.key (c.args.levels + 2)
-    (omega arith) c.rows.invariant c.in_ok-key.ensures c.in_ok-value.ensures next
+    (λ made is. member_last g.V.Build.Means {Is = g.V.Build.Means made} c.in_ok-text.text (c.args.levels + 2)
+    (omega arith) c.rows.invariant named c.in_ok-value.ensures next
     (subst (λ ps. (ms : _) → AreMembers g.V.Build.Means ps ms
     → g.V.Build.Means made (mapping ms) × (keys_differ ms ≡ true)) c.in_ok-push.ensures.items is))
     c.made_mapping.ensures
