@@ -18,3 +18,6 @@ pub mod TakeLemmas
 pub mod TouchedLemmas
 pub mod NameLemmas
 pub mod PlaceLemmas
+pub mod OriginLemmas
+pub mod ListedNames
+pub mod PartStates

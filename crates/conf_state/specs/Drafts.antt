@@ -1,4 +1,4 @@
--- What a batch has made of a state's configurations so far.
+-- What edits have made of configurations so far.
 use Rattle.std.specs.Prelude.{◌≡◌, ℕ, true, List, [], ◌∷◌, String, Some}
 use Rattle.std.specs.declared.alloc.Global.{Global}
 use Rattle.yaml_grammar.specs.Trees.{Tree}
@@ -7,7 +7,7 @@ use Rattle.yaml_config.specs.declared.change.Change.{Change}
 use Rattle.conf_state.specs.BaseTexts.{entries_length}
 use Rattle.conf_state.specs.Commands.{text_of}
 use Rattle.conf_state.specs.Kept.{entries_of, ArePlain}
-use Rattle.conf_state.specs.Limits.{AreConfigs}
+use Rattle.conf_state.specs.Limits.{AreConfigs, AreWithin}
 use Rattle.conf_state.specs.States.{Entry, names_of, names_differ, config_named, put_config, cut_config}
 use Rattle.conf_state.specs.declared.draft.Draft.{Draft}
 
@@ -26,7 +26,7 @@ abbrev pub texts_of : List (String Global) → List (List ℕ)
 texts_of [] = []
 texts_of (text ∷ texts) = text_of text ∷ texts_of texts
 
--- the configurations that a draft makes of those of a state
+-- the configurations that a draft makes of these
 abbrev pub drafted : List Entry → Draft → List Entry
 drafted es draft = put_all (cut_all es (texts_of draft.removed.keys)) (entries_of draft.touched)
 
@@ -41,11 +41,11 @@ pub record IsDraft (draft : Draft) : Type 0 where
 abbrev pub IsCounted : List Entry → Draft → Type 0
 IsCounted es draft = draft.length ≡ entries_length (drafted es draft)
 
--- the draft is one of these configurations, in which no name comes twice
+-- the draft is one of these configurations, which are within their limits
 pub record IsDraftOf (es : List Entry) (draft : Draft) : Type 0 where
   pub good : IsDraft draft
   pub counted : IsCounted es draft
-  pub distinct : names_differ (names_of es) ≡ true
+  pub within : AreWithin es
 
 -- the change leads from the configurations `old` to the configurations `new`, of which it changes the one under a name
 pub record ChangesOne (change : Change) (old : List Entry) (name : List ℕ) (new : List Entry) : Type 0 where

@@ -17,3 +17,4 @@ pub mod Drafts
 pub mod Endings
 pub mod EntryTexts
 pub mod Touched
+pub mod Parts

@@ -11,6 +11,11 @@ abbrev pub AreConfigs : List Entry → Type 0
 AreConfigs [] = Unit {0}
 AreConfigs (e ∷ es) = (good_name e.0 ≡ true) × Good e.1 config_limits × AreConfigs es
 
+-- the configurations are within these limits, and no name comes twice
+pub record AreWithin (es : List Entry) : Type 0 where
+  pub configs : AreConfigs es
+  pub distinct : names_differ (names_of es) ≡ true
+
 -- the state keeps its limits
 pub record IsState (s : Contents) : Type 0 where
   pub configs : AreConfigs s.configs

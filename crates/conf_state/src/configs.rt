@@ -174,8 +174,8 @@ impl Configs {
     }
 }
 
-/// Puts a configuration in the place of its name; last, if that place is empty or there is none. It fails only if memory
-/// runs out, and not where there is room to spare.
+/// Puts a configuration in the place of its name; last, if that place is empty or there is none. It fails only if
+/// memory runs out, and not where there is room to spare.
 fn put_place(places: &mut Places, name: String, config: Config) -> Result<(), AllocError>
     ensures ok { OnOk result (present places.new.entries
         ≡ put_under name config (present places.old.entries)) }

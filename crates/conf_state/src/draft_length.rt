@@ -1,14 +1,16 @@
-// How many bytes the configurations that a draft makes of a state's have in the base text.
-ghost use Rattle.std.specs.Prelude.{◌≡◌, ℕ, List, IfOk, option_map};
+// How many bytes the configurations that a draft makes of an origin's have in the base text.
+ghost use Rattle.std.specs.Prelude.{◌≡◌, ℕ, List, min, IfOk};
 ghost use Rattle.std.specs.Str.{chars};
+ghost use Rattle.yaml_grammar.specs.Texts.{byte_len};
 ghost use Rattle.yaml_data.specs.Seen.{tree_of};
 ghost use Rattle.conf_state.specs.BaseTexts.{entries_length};
 ghost use Rattle.conf_state.specs.Drafts.{drafted, ChangesOne, IsDraftOf};
-ghost use Rattle.conf_state.specs.States.{Entry, config_named, put_config, cut_config};
+ghost use Rattle.conf_state.specs.EntryTexts.{entry_named};
+ghost use Rattle.conf_state.specs.States.{Entry, put_config, cut_config};
 
 use crate::base::{ENTRY_INDENT, entry_length};
 use crate::draft::Draft;
-use crate::state::State;
+use crate::origin::Origin;
 use std::alloc::AllocError;
 use yaml_config::{Change, Config};
 
@@ -17,19 +19,19 @@ use yaml_config::{Change, Config};
 
 impl Draft {
     /// How many bytes the configurations would have with this one under its name.
-    pub(crate) fn length_with(
+    pub(crate) fn length_with<O: Origin>(
         &self,
-        state: &State,
+        origin: &O,
         name: &str,
         config: &Config,
     ) -> Result<u64, AllocError>
-        requires { IsDraftOf state.now.configs self.now }
+        requires { IsDraftOf (O.configs origin.now) self.now }
         ensures { IfOk result (λ length. length
-            ≡ entries_length (put_config (drafted state.now.configs self.now) (chars name.now)
+            ≡ entries_length (put_config (drafted (O.configs origin.now) self.now) (chars name.now)
             (tree_of config.now))) }
     {
         let length = self
-            .length_without(state, name)
+            .length_without(origin, name)
             .saturating_add(entry_length(name, config));
         if length == u64::MAX {
             return Err(AllocError);
@@ -38,16 +40,28 @@ impl Draft {
     }
 
     /// How many bytes the configurations would have without the one under a name.
-    pub(crate) fn length_without(&self, state: &State, name: &str) -> u64
-        requires { IsDraftOf state.now.configs self.now }
-        ensures { result
-            ≡ entries_length (cut_config (drafted state.now.configs self.now) (chars name.now)) }
+    pub(crate) fn length_without<O: Origin>(&self, origin: &O, name: &str) -> u64
+        requires { IsDraftOf (O.configs origin.now) self.now }
+        ensures { result ≡ entries_length
+            (cut_config (drafted (O.configs origin.now) self.now) (chars name.now)) }
     {
-        let length = self.length;
-        match self.get(state, name) {
-            Some(config) => length - entry_length(name, config),
-            None => length,
+        self.length - self.length_of(origin, name)
+    }
+
+    /// How many bytes the configuration under a name has in the base text, with its name, at most the greatest `u64`; 0
+    /// if there is none.
+    fn length_of<O: Origin>(&self, origin: &O, name: &str) -> u64
+        requires { IsDraftOf (O.configs origin.now) self.now }
+        ensures { result ≡ min (byte_len
+            (entry_named (drafted (O.configs origin.now) self.now) (chars name.now))) u64.MAX }
+    {
+        if let Some(config) = self.touched.get(name) {
+            return entry_length(name, config);
         }
+        if self.removed.contains(name) {
+            return 0;
+        }
+        origin.length_of(name)
     }
 }
 

@@ -29,8 +29,8 @@ pub(crate) trait Editor {
     /// A target may be changed.
     ghost IsReady: { Self → Self.Target → Type 0 };
 
-    /// How a change ends that makes these configurations or is refused: the target before it, what it makes, the result,
-    /// and the target after it.
+    /// How a change ends that makes these configurations or is refused: the target before it, what it makes, the
+    /// result, and the target after it.
     ghost Ends: { Self → Self.Target → Result (List Entry) StoreFault
         → Result (Unit {0}) StoreFault → Self.Target → Type 0 };
 

@@ -13,9 +13,9 @@ pub fn accepted_commands_are_counted()
         → after s commands ≡ Ok new → new.count ≡ s.count + length commands }
 {}
 
-/// A command is accepted only if there is room for its record, and the count then rises by one, for a batch too. The fault of a
-/// refused one is of the command and the state. It is never a fault of a text that is read, of the disk or of memory,
-/// nor that the store has to be opened again.
+/// A command is accepted only if there is room for its record, and the count then rises by one, for a batch too. The
+/// fault of a refused one is of the command and the state. It is never a fault of a text that is read, of the disk or
+/// of memory, nor that the store has to be opened again.
 pub fn steps_are_counted_or_refused()
     ensures room { (s new : Contents) (command : Command) (room : Room)
         → step s command room ≡ Ok new → room ≡ Enough }

@@ -4,19 +4,26 @@
 //! [`replay`] does so for a state that is dropped then. A command is a single [`Edit`] or a batch of them. A [`Room`]
 //! says whether the journal has room for the command's record. [`good_name`] says which texts name a configuration.
 //! The texts of states and commands are those of `conf_record`.
+//!
+//! A [`Part`] goes through the same commands, and builds only the configurations that they change or that are asked
+//! for: the others are left as its [`Origin`] keeps them.
 #![tactic(auto)]
 
 mod base;
 mod command;
 mod configs;
+mod counting;
 mod draft;
 mod draft_length;
+mod draft_names;
 mod editing;
 mod entries;
 mod fault;
 mod in_place;
 mod laws;
 mod name;
+mod origin;
+mod part;
 mod planning;
 mod replaying;
 mod room;
@@ -28,6 +35,8 @@ pub use command::{Command, Edit};
 pub use fault::StoreFault;
 pub use laws::{accepted_commands_are_counted, runs_are_joined, steps_are_counted_or_refused};
 pub use name::good_name;
+pub use origin::Origin;
+pub use part::Part;
 pub use replaying::replay;
 pub use room::{RECORD_LIMIT, Room};
 pub use state::{Names, State};

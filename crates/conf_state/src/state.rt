@@ -21,6 +21,7 @@ ghost use Rattle.conf_state.specs.Edits.{configs_after_edit};
 
 use crate::base::{BASE_LIMIT, ENTRY_INDENT, base_length, entry_length, write_entry};
 use crate::configs::{Configs, Entries};
+use crate::counting::check_room;
 use crate::draft::Draft;
 use crate::editing::check_limits;
 use crate::fault::StoreFault;
@@ -301,15 +302,7 @@ impl State {
             → entries ≡ min (entries_length configs) u64.MAX
             → next_state self.now room configs ≡ Err fault) }
     {
-        if base_length(u128::from(self.count) + 1, entries) > BASE_LIMIT {
-            return Err(StoreFault::StoreFull);
-        }
-        match room {
-            Room::LongRecord => Err(StoreFault::RecordLong),
-            Room::Missing => Err(StoreFault::JournalLong),
-            Room::Enough if self.count == u64::MAX => Err(StoreFault::CountFull),
-            Room::Enough => Ok(()),
-        }
+        check_room(self.count, entries, room)
     }
 
     /// How many bytes all configurations have in the base text.

@@ -9,6 +9,7 @@ use crate::draft::{Draft, OnDraft};
 use crate::editing::make_edit;
 use crate::fault::StoreFault;
 use crate::in_place::InPlace;
+use crate::origin::Origin;
 use crate::room::Room;
 use crate::state::State;
 use std::alloc::Global;
@@ -70,24 +71,24 @@ fn step_batch(
     }
 }
 
-/// What edits make of a draft of a state, one after the other.
-pub(crate) fn draft_edits(
+/// What edits make of a draft of an origin, one after the other.
+pub(crate) fn draft_edits<O: Origin>(
     alloc: Global,
-    state: &State,
+    origin: &O,
     mut draft: Draft,
     edits: Vec<Edit>,
 ) -> Result<Draft, StoreFault>
-    requires { IsDraftOf state.now.configs draft }
-    ensures draft { IfOk result (IsDraftOf state.now.configs) }
+    requires { IsDraftOf (O.configs origin.now) draft }
+    ensures draft { IfOk result (IsDraftOf (O.configs origin.now)) }
     ensures ok { IfOk result (λ new.
-        all_edited (drafted state.now.configs draft) (map edit_of edits.items)
-        ≡ Ok (drafted state.now.configs new)) }
+        all_edited (drafted (O.configs origin.now) draft) (map edit_of edits.items)
+        ≡ Ok (drafted (O.configs origin.now) new)) }
     ensures refused { IfErr result (λ fault. (fault ≡ StoreFault.OutOfMemory)
-        ⊎ (all_edited (drafted state.now.configs draft) (map edit_of edits.items)
+        ⊎ (all_edited (drafted (O.configs origin.now) draft) (map edit_of edits.items)
         ≡ Err fault)) }
 {
     for edit in edits {
-        make_edit(alloc, &OnDraft { state }, &mut draft, edit)?;
+        make_edit(alloc, &OnDraft { origin }, &mut draft, edit)?;
     }
     Ok(draft)
 }

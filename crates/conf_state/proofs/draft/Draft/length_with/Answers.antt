@@ -6,8 +6,8 @@ use Rattle.conf_state.proofs.LimitLemmas.{entries_length-put}
 use Rattle.conf_state.proofs.draft.Draft.length_with.Goals as goal
 
 pub returns : goal.returns
-returns c =
-    let es = drafted c.args.state.now.configs c.args.self.now in
+returns g c =
+    let es = drafted (g.O.Origin.configs c.args.origin.now) c.args.self.now in
     omega (
       arith,
       c.length_without.ensures,

@@ -4,8 +4,8 @@ use Rattle.conf_state.specs.Drafts.{drafted}
 use Rattle.conf_state.proofs.draft.OnDraftEditor.edit.Goals as goal
 
 pub length_changed-requires : goal.length_changed-requires
-length_changed-requires c =
-    let es = c.args.self.now.state.now.configs in (
+length_changed-requires g c =
+    let es = g.O.Origin.configs c.args.self.now.origin.now in (
       drafted es c.args.target.now,
       drafted es c.edit_uncounted.new.self,
       text_of c.args.name,
@@ -14,8 +14,8 @@ length_changed-requires c =
     )
 
 pub returns : goal.returns
-returns c =
-    let es = c.args.self.now.state.now.configs in
+returns g c =
+    let es = g.O.Origin.configs c.args.self.now.origin.now in
     let good = c.in_ok-change.ensures.draft in
     record {
       ok = c.in_ok-change.ensures.ok;
@@ -23,7 +23,7 @@ returns c =
         good = record { plain = good.plain; configs = good.configs; distinct = good.distinct; removed = good.removed };
         counted = c.in_ok-target.ensures (drafted es c.args.target.now) (drafted es c.edit_uncounted.new.self) (text_of c.args.name)
             (c.in_ok-change.ensures.length ∙ c.requires.ready.counted) c.in_ok-change.ensures.changes;
-        distinct = c.requires.ready.distinct;
+        within = c.requires.ready.within;
       };
       refused = tt;
     }

@@ -13,11 +13,11 @@ use Rattle.conf_state.proofs.NameLemmas.{good_name-ascii}
 use Rattle.conf_state.proofs.draft.OnDraftEditor.put.Goals as goal
 
 pub returns : goal.returns
-returns c =
+returns g c =
     let old = c.args.target.now in
     let touched = c.put.new.self in
     let length = c.in_ok-length.length in
-    let es = c.args.self.now.state.now.configs in
+    let es = g.O.Origin.configs c.args.self.now.origin.now in
     let name = text_of c.args.name in
     let t = tree_of c.args.config in
     let of = c.requires.ready in
@@ -35,7 +35,7 @@ returns c =
         counted = c.in_ok-length.ensures
             ∙ ap (λ bs. entries_length (put_config (drafted es old) (chars bs) t)) c.deref.ensures
             ∙ ap entries_length (sym made);
-        distinct = of.distinct;
+        within = of.within;
       };
       refused = tt;
     }

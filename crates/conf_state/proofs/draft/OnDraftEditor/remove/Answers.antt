@@ -8,16 +8,16 @@ use Rattle.conf_state.proofs.DraftSteps.{is_cut}
 use Rattle.conf_state.proofs.draft.OnDraftEditor.remove.Goals as goal
 
 pub returns : goal.returns
-returns c =
+returns g c =
     let old = c.args.target.now in
-    let es = c.args.self.now.state.now.configs in
+    let es = g.O.Origin.configs c.args.self.now.origin.now in
     let cut = is_cut old (record {
       removed = c.insert.new.self;
       touched = c.remove.new.self;
       length = c.length_without-length.result;
     }) c.args.name
     c.requires.good (c.remove.ensures ∙ ap (λ bs. cut_from bs old.touched) c.deref-2.ensures) c.in_ok-insert.ensures.keys in
-    let made = cut.made es c.requires.distinct in
+    let made = cut.made es c.requires.within.distinct in
     record {
       ok = ap Ok (sym made);
       draft = record {
@@ -25,7 +25,7 @@ returns c =
         counted = c.length_without-length.ensures
             ∙ ap (λ bs. entries_length (cut_config (drafted es old) (chars bs))) c.deref.ensures
             ∙ ap entries_length (sym made);
-        distinct = c.requires.distinct;
+        within = c.requires.within;
       };
       refused = tt;
     }

@@ -1,45 +1,13 @@
-use Rattle.std.proofs.Common.{◌≡◌, ◌+◌, min, ap, ap₂, sym, ◌∙◌, arith}
-use Rattle.conf_state.specs.BaseTexts.{framed_length}
-use Rattle.conf_state.proofs.CountLemmas.{next_state-full, next_state-record, next_state-long, next_state-last, next_state-new}
+use Rattle.std.proofs.Common.{ap, sym}
+use Rattle.std.proofs.lemmas.Result.{on_ok_weaker, IfErr-weaker}
 use Rattle.conf_state.proofs.state.State.check_room.Goals as goal
 
-pub returns-then-base_length-gt-BASE_LIMIT-clause-refused :
-    goal.returns-then-base_length-gt-BASE_LIMIT-clause-refused
-returns-then-base_length-gt-BASE_LIMIT-clause-refused c = λ configs is.
-    let state = c.args.self.now in
-    let count : c.from.result ≡ state.count = c.from.ensures ∙ ap (λ s. s.count) c.self.view_is in
-    next_state-full state c.args.room configs (omega arith) c.base_length.result
-    (c.base_length.ensures ∙ ap₂ (λ n l. min (framed_length (n + 1) l) 18446744073709551615) count is)
-    c.if-base_length-gt-BASE_LIMIT.true
+pub returns-clause-ok : goal.returns-clause-ok
+returns-clause-ok c =
+    let same = sym (ap (λ s. s.count) c.self.view_is) in
+    on_ok_weaker c.check_room.result (λ ok configs is. ok c.args.self.now configs same is) c.check_room.ensures.ok
 
-pub returns-in-LongRecord-clause-refused : goal.returns-in-LongRecord-clause-refused
-returns-in-LongRecord-clause-refused c = λ configs is.
-    let state = c.args.self.now in
-    let count : c.from.result ≡ state.count = c.from.ensures ∙ ap (λ s. s.count) c.self.view_is in
-    next_state-record state c.args.room configs (omega arith) c.base_length.result
-    (c.base_length.ensures ∙ ap₂ (λ n l. min (framed_length (n + 1) l) 18446744073709551615) count is)
-    c.if-base_length-gt-BASE_LIMIT.false c.in-LongRecord.is
-
-pub returns-in-Missing-clause-refused : goal.returns-in-Missing-clause-refused
-returns-in-Missing-clause-refused c = λ configs is.
-    let state = c.args.self.now in
-    let count : c.from.result ≡ state.count = c.from.ensures ∙ ap (λ s. s.count) c.self.view_is in
-    next_state-long state c.args.room configs (omega arith) c.base_length.result
-    (c.base_length.ensures ∙ ap₂ (λ n l. min (framed_length (n + 1) l) 18446744073709551615) count is)
-    c.if-base_length-gt-BASE_LIMIT.false c.in-Missing.is
-
-pub returns-in-Enough-clause-refused : goal.returns-in-Enough-clause-refused
-returns-in-Enough-clause-refused c = λ configs is.
-    let state = c.args.self.now in
-    let count : c.from.result ≡ state.count = c.from.ensures ∙ ap (λ s. s.count) c.self.view_is in
-    next_state-last state c.args.room configs (omega arith) c.base_length.result
-    (c.base_length.ensures ∙ ap₂ (λ n l. min (framed_length (n + 1) l) 18446744073709551615) count is)
-    c.if-base_length-gt-BASE_LIMIT.false c.in-Enough.is (sym (ap (λ s. s.count) c.self.view_is) ∙ c.if-self.true)
-
-pub returns-in-Enough-2-clause-ok : goal.returns-in-Enough-2-clause-ok
-returns-in-Enough-2-clause-ok c = λ configs is.
-    let state = c.args.self.now in
-    let count : c.from.result ≡ state.count = c.from.ensures ∙ ap (λ s. s.count) c.self.view_is in
-    next_state-new state c.args.room configs (omega arith) c.base_length.result
-    (c.base_length.ensures ∙ ap₂ (λ n l. min (framed_length (n + 1) l) 18446744073709551615) count is)
-    c.if-base_length-gt-BASE_LIMIT.false c.in-Enough-2.is (omega (arith, ap (λ s. s.count) c.self.view_is))
+pub returns-clause-refused : goal.returns-clause-refused
+returns-clause-refused c =
+    let same = sym (ap (λ s. s.count) c.self.view_is) in
+    IfErr-weaker c.check_room.result _ _ (λ fault no configs is. no c.args.self.now configs same is) c.check_room.ensures.refused

@@ -28,7 +28,7 @@ returns-clause-draft c =
       counted = whole-counted c.self.inside.configs c.self.inside.count c.self.inside.entries c.self.invariant
           (taken c) c.new-2.ensures.empty c.replace-touched.ensures.value
           c.replace-length.ensures.value;
-      distinct = refl;
+      within = record { configs = tt; distinct = refl };
     })
 
 pub returns-clause-same : goal.returns-clause-same

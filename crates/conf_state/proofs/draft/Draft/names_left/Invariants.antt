@@ -1,0 +1,14 @@
+use Rattle.std.proofs.Common.{◌≡◌, ◌++◌, map, length}
+use Rattle.std.specs.Vec.Iter.{into_iter_items, into_iter_len}
+use Rattle.conf_state.specs.Commands.{text_of}
+use Rattle.conf_state.specs.Drafts.{cut_all, texts_of}
+use Rattle.conf_state.specs.States.{names_of}
+use Rattle.conf_state.proofs.ListedNames.{outside}
+use Rattle.conf_state.proofs.draft.Draft.names_left.Given as goal
+
+-- the names so far, and then those among the others that are not removed, are all that are not removed
+abbrev pub invariant-loop-name : goal.invariant-loop-name
+invariant-loop-name g l =
+    (map text_of l.left.items ++ outside (texts_of l.self.removed.keys) (map text_of (into_iter_items l.name-iterator))
+    ≡ names_of (cut_all (g.O.Origin.configs l.origin) (texts_of l.self.removed.keys)))
+    × (length (into_iter_items l.name-iterator) ≡ into_iter_len l.name-iterator)
