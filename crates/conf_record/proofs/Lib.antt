@@ -10,3 +10,5 @@ pub mod TreeLemmas
 pub mod WrittenLemmas
 pub mod EditLines
 pub mod EntryLemmas
+pub mod BaseSpanLemmas
+pub mod BaseCopyLemmas

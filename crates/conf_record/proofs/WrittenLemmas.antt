@@ -38,8 +38,15 @@ use Rattle.conf_state.specs.Rooms.{record_limit}
 use Rattle.conf_state.proofs.LineLemmas.{line, number_line}
 use Rattle.conf_record.specs.Documents.{IsRecord}
 use Rattle.conf_record.specs.Records.{edit_members, edit_elements, command_members, record_text, record_bytes, FitsRecord}
-use Rattle.conf_record.specs.RecordsRead.{number_from_digits, ReadsRecord, IsEdit, AreEdits}
-use Rattle.conf_record.specs.SmallCommands.{IsSmallEdit, AreSmallEdits}
+use Rattle.conf_record.specs.RecordsRead.{number_from_digits, ReadsRecord, IsEdit, AreEdits, IsCommand}
+use Rattle.conf_record.specs.SmallCommands.{IsSmallEdit, AreSmallEdits, IsSmallCommand}
+use Rattle.conf_record.specs.LineValues.{IsValueLine, FollowsNumber}
+use Rattle.conf_record.specs.NextRecord.{IsNotNext}
+use Rattle.conf_record.specs.declared.next_record.NoNext.{NoNext}
+use Rattle.conf_record.specs.declared.next_record.NoNext.TheVariants.{OutOfMemory}
+use Rattle.conf_state.specs.declared.command.Command as code_command
+use Rattle.std.specs.Prelude.{Result, Ok, Err, IfErr}
+use Rattle.conf_record.specs.declared.lines.LineValue.{LineValue}
 use Rattle.conf_record.specs.EditLines.{member_line, lines_of}
 use Rattle.conf_record.specs.Written.{IsLineOf, IsConfigLine, IsNameLine, IsPathLine, IsWrittenAs, ElementsWritten, IsWritten}
 use Rattle.conf_record.specs.declared.edit_members.EditMembers.TheVariants as cut
@@ -172,6 +179,10 @@ module _ (line value : List ℕ) (is : IsLineOf line value) where
   pub line_size : (t : Tree) → t ≡ text value → ◌≡◌ {A = Size} (record { bytes = length line + 1; lines = 0 }) (element_size t)
   line_size t seen = (λ i. record { bytes = sym line_bytes i; lines = sym is.flat i }) ∙ ap element_size (sym seen)
 
+-- a value on a line as a configuration
+pub value_line : (line : List ℕ) (value : LineValue) → IsValueLine line value → IsConfigLine line (text (chars value.text.now))
+value_line line value on = line_config line (chars value.text.now) on.is (text (chars value.text.now)) refl on.texts on.short
+
 -- a text of the code that is written as the line
 pub text_config : (line bytes : List ℕ) (copy : Text) → text_bytes copy ≡ bytes → IsLineOf line (chars bytes)
     → length line < config_limits.style
@@ -183,6 +194,11 @@ text_config line bytes copy same is short =
       line_config line (chars bytes) is (tree_of (code.Text copy)) seen texts short,
       line_size line (chars bytes) is (tree_of (code.Text copy)) seen,
     )
+
+-- the size of a value by the bytes of its line
+pub value_size : (bytes length : ℕ) (size : Size) → bytes ≡ length + 1
+    → ◌≡◌ {A = Size} (record { bytes = length + 1; lines = 0 }) size → ◌≡◌ {A = Size} (record { bytes = bytes; lines = 0 }) size
+value_size bytes length size is so = (λ i. record { bytes = is i; lines = 0 }) ∙ so
 
 -- ---- the lines of an edit
 
@@ -361,3 +377,19 @@ pub written_is : (bytes : List ℕ) (command : Command) (number : ℕ)
     → IsRecord bytes command number
 written_is bytes command number reads same =
     subst (λ bs. IsRecord bs command number) (sym same) (record_is command command number number reads)
+
+-- bytes with the lines of a command after the number are its record
+pub follows_is : ((command : Command) (number : ℕ) → IsCommand command → IsSmallCommand command → number ≤ count_limit
+    → FitsRecord command number → ReadsRecord (record_text command number) command number)
+    → (bytes : List ℕ) (number : ℕ) (lines : List ℕ) (command : Command) → FollowsNumber bytes number lines
+    → IsWritten lines command → IsRecord bytes command number
+follows_is small bytes number lines command follows written =
+    let same = whole_record bytes lines command number follows.small follows.is written.written in
+    let fits = short_fits bytes command number same follows.short in
+    written_is bytes command number (small command number written.is written.small follows.small fits) same
+
+-- a fault of memory says nothing of the bytes
+pub no_memory : (bytes : List ℕ) (count : ℕ) (read : Result code_command.Command NoNext) → IfErr read (λ fault. fault ≡ OutOfMemory)
+    → IfErr read (IsNotNext bytes count)
+no_memory bytes count (Ok command) is = tt
+no_memory bytes count (Err fault) is = subst (IsNotNext bytes count) (sym is) tt

@@ -7,3 +7,7 @@ pub mod EditLines
 pub mod BaseStart
 pub mod Written
 pub mod Entries
+pub mod BaseSpans
+pub mod HeldBases
+pub mod LineValues
+pub mod NextRecord

@@ -15,13 +15,13 @@ use yaml_tree::{Config, Limits, Size, Text, Tree};
 
 /// A configuration that lines begin with, under its name.
 #[derive(Drop)]
-struct Entry<'t> {
-    name: Text,
-    tree: Tree,
+pub(crate) struct Entry<'t> {
+    pub name: Text,
+    pub tree: Tree,
     /// The size of the tree as an element.
-    size: Size,
+    pub size: Size,
     /// What comes after it.
-    rest: &'t str,
+    pub rest: &'t str,
 }
 
 /// The configurations by name on the lines of a base, up to the end of the document.
@@ -44,7 +44,7 @@ pub(crate) fn read_entries(alloc: Global, lines: &str) -> Result<Vec<(String, Co
 }
 
 /// The configuration that the lines begin with.
-fn read_entry(alloc: Global, lines: &str) -> Result<Entry<'_>, Miss>
+pub(crate) fn read_entry(alloc: Global, lines: &str) -> Result<Entry<'_>, Miss>
     ensures { IfOk result (λ entry. IsEntry lines.now (chars (text_bytes entry.name))
         (tree_of entry.tree) entry.size entry.rest.now) }
 {

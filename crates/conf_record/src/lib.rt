@@ -2,7 +2,8 @@
 //!
 //! [`base_text`] and [`record_text`] write them, [`read_base`] and [`read_record`] read them, in any spelling. The laws
 //! say that what is written is read back, and that bytes are at most one base and one record. They also say where
-//! documents end, even in a file that a crash has cut.
+//! documents end, even in a file that a crash has cut. [`BaseText`] keeps a base as its text, and builds a
+//! configuration only when it is asked for.
 //!
 //! The states and commands are those of `conf_state`, which can be named from here too.
 //!
@@ -14,6 +15,7 @@
 
 mod base_parts;
 mod base_reader;
+mod base_spans;
 mod base_writer;
 mod command_reader;
 mod documents;
@@ -21,8 +23,10 @@ mod edit_lines;
 mod edit_members;
 mod entries;
 mod fields;
+mod held_base;
 mod laws;
 pub mod lines;
+mod next_record;
 mod parts;
 mod read;
 mod record;
@@ -39,7 +43,10 @@ pub use edit_members::{EditMembers, members_from};
 pub use fields::{
     is_same, keys_are, last_text, last_value, next_text, next_value, number_from, split_first,
 };
+pub use held_base::BaseText;
 pub use laws::records_read;
+pub use next_record::{NoNext, read_next};
 pub use parts::part;
 pub use read::{read_base, read_record};
-pub use record::{record_length, record_of_length, record_text};
+pub use record::{record_length, record_of_length, record_text, short_record};
+pub use yaml_styled::Miss;

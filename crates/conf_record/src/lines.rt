@@ -2,20 +2,22 @@
 //!
 //! A line is a key with its `: `, and a value. [`cut_line`] takes the first line of a text off. Each function is exact
 //! where it answers. Where it doesn't, the general reader may still read the value.
-ghost use Rattle.std.specs.Prelude.{◌≡◌, ◌++◌, ◌∷◌, IfOk, IfSome};
-ghost use Rattle.std.specs.List.{list_all};
+ghost use Rattle.std.specs.Prelude.{◌≡◌, ◌++◌, ◌∷◌, ℕ, List, IfOk, IfSome};
 ghost use Rattle.std.specs.Str.{chars};
 ghost use Rattle.yaml_chars.specs.Signs.{line_feed, double_quote};
+ghost use Rattle.yaml_grammar.specs.Trees.{text};
 ghost use Rattle.yaml_data.specs.Seen.{tree_of};
-ghost use Rattle.yaml_writer.specs.Runs.{stands_alone};
 ghost use Rattle.conf_state.specs.Commands.{text_of};
+ghost use Rattle.conf_record.specs.LineValues.{IsValueLine};
 ghost use Rattle.conf_record.specs.Written.{IsLineOf, IsConfigLine, IsNameLine, IsPathLine};
 
 use conf_state::good_name;
 use json_pointer::is_pointer;
-use std::alloc::Global;
+use memchr::memchr;
+use std::alloc::{AllocError, Global};
 use yaml_styled::Miss;
 use yaml_tree::{Config, Limits, ScalarStyle, Size, Text, Tree, value_style};
+use yaml_writer::stand_alone;
 
 /// What is after a key that the lines begin with, up to the end of that line, and the lines after it. `None` if the
 /// lines begin otherwise, or have no line feed after the key.
@@ -24,15 +26,22 @@ pub fn cut_line<'t>(lines: &'t str, key: &str) -> Option<(&'t str, &'t str)>
         ≡ key.now ++ (cut.0.now ++ line_feed ∷ cut.1.now)) }
 {
     let value = lines.strip_prefix(key)?;
-    let (line, rest) = value.split_once('\n')?;
-    Some((line, rest))
+    split_line(value)
+}
+
+/// The first line, and what comes after its line feed. `None` if there is no line feed.
+fn split_line(text: &str) -> Option<(&str, &str)>
+    ensures { IfSome result (λ cut. text.now ≡ cut.0.now ++ line_feed ∷ cut.1.now) }
+{
+    let at = memchr(b'\n', text.as_bytes())?;
+    Some((&text[..at], &text[at + 1..]))
 }
 
 /// The text that the one style writes as this line after a key, after whatever indentation. The line is without its
 /// line feed. The text is not read if it is written with an escape, on several lines, or in quotes with a character
 /// that is not ASCII.
-fn line_text(line: &str) -> Result<&str, Miss>
-    ensures { IfOk result (λ text. IsLineOf line.now (chars text.now)) }
+fn line_text(line: &str) -> Option<&str>
+    ensures { IfSome result (λ text. IsLineOf line.now (chars text.now)) }
 {
     match line.strip_prefix('"') {
         Some(quoted) => quoted_text(quoted),
@@ -41,89 +50,116 @@ fn line_text(line: &str) -> Result<&str, Miss>
 }
 
 /// The text that is written as this line, as it is.
-fn plain_text(line: &str) -> Result<&str, Miss>
-    ensures { IfOk result (λ text. IsLineOf line.now (chars text.now)) }
+fn plain_text(line: &str) -> Option<&str>
+    ensures { IfSome result (λ text. IsLineOf line.now (chars text.now)) }
 {
     match value_style(line) {
-        ScalarStyle::Plain => Ok(line),
-        _ => Err(Miss::OtherForm),
+        ScalarStyle::Plain => Some(line),
+        _ => None,
     }
 }
 
 /// The text that is written in double quotes, as this after the first of them.
-fn quoted_text(quoted: &str) -> Result<&str, Miss>
-    ensures { IfOk result (λ text. IsLineOf (double_quote ∷ quoted.now) (chars text.now)) }
+fn quoted_text(quoted: &str) -> Option<&str>
+    ensures { IfSome result (λ text. IsLineOf (double_quote ∷ quoted.now) (chars text.now)) }
 {
-    let Some(text) = quoted.strip_suffix('"') else {
-        return Err(Miss::OtherForm);
-    };
-    if !are_alone(text.as_bytes()) {
-        return Err(Miss::OtherForm);
+    let text = quoted.strip_suffix('"')?;
+    if !stand_alone(text.as_bytes()) {
+        return None;
     }
     match value_style(text) {
-        ScalarStyle::Double => Ok(text),
-        _ => Err(Miss::OtherForm),
+        ScalarStyle::Double => Some(text),
+        _ => None,
     }
 }
 
-/// Whether each byte is an ASCII character that needs no escape between double quotes. It does not stop at the first
-/// that is none, so that many bytes can be tested at once.
-pub fn are_alone(bytes: &[u8]) -> bool
-    ensures { result ≡ list_all stands_alone bytes.now }
+/// A text that is a value on one line.
+#[derive(Clone, Copy)]
+pub(crate) struct LineValue<'t> {
+    /// The text.
+    pub(crate) text: &'t str,
+    /// How many bytes the line has with its line feed.
+    pub(crate) bytes: usize,
+}
+
+/// The value that is written as this line after a key, as for [`line_text`]. The line has to have fewer than 4,194,304
+/// bytes.
+pub(crate) fn value_on(line: &str) -> Option<LineValue<'_>>
+    ensures { IfSome result (IsValueLine line.now) }
 {
-    let mut all = true;
-    for byte in bytes {
-        all &= is_alone(*byte);
+    if line.len() as u64 >= Limits::CONFIGURATION.style {
+        return None;
     }
-    all
+    let text = line_text(line)?;
+    let bytes = line.len() + 1;
+    Some(LineValue { text, bytes })
 }
 
-/// Whether a byte is an ASCII character that needs no escape between double quotes.
-#[inline]
-fn is_alone(byte: u8) -> bool
-    ensures { result ≡ stands_alone byte }
+/// The name that is written as this line after a key, if it is good.
+pub(crate) fn name_on(line: &str) -> Option<&str>
+    ensures { IfSome result (λ name. IsNameLine line.now (chars name.now)) }
 {
-    matches!(byte, b' '..=b'~') & (byte != b'"') & (byte != b'\\')
+    let name = line_text(line)?;
+    if !good_name(name) {
+        return None;
+    }
+    Some(name)
 }
 
-/// The text that is written as this line after a key, as for [`line_text`], as a configuration. The line has to have
-/// fewer than 4,194,304 bytes. Its length is that of the line, and is not counted.
+/// The path (RFC 6901) that is written as this line after a key. It has at most 8,388,608 bytes, twice those of a
+/// configuration.
+pub(crate) fn path_on(line: &str) -> Option<&str>
+    ensures { IfSome result (λ path. IsPathLine line.now (chars path.now)) }
+{
+    let path = line_text(line)?;
+    if path.len() as u64 > 2 * Limits::CONFIGURATION.style || !is_pointer(path) {
+        return None;
+    }
+    Some(path)
+}
+
+/// The configuration that is such a value. Its length is not counted. It fails only if memory runs out.
+pub(crate) fn made_value(alloc: Global, value: LineValue<'_>) -> Result<Config, AllocError>
+    requires { (line : List ℕ) × IsValueLine line value }
+    ensures { IfOk result (λ config. tree_of config ≡ text (chars value.entry.text.now)) }
+{
+    let size = Size {
+        bytes: value.bytes as u128,
+        lines: 0,
+    };
+    let copy = Text::new(alloc, value.text)?;
+    Ok(Config::with_size(Tree::Text(copy), size))
+}
+
+/// The text that is written as this line after a key, as for [`line_text`], as a configuration.
 pub(crate) fn line_config(alloc: Global, line: &str) -> Result<Config, Miss>
     ensures { IfOk result (λ config. IsConfigLine line.now (tree_of config)) }
 {
-    if line.len() as u64 >= Limits::CONFIGURATION.style {
+    let Some(value) = value_on(line) else {
         return Err(Miss::OtherForm);
-    }
-    let text = line_text(line)?;
-    let size = Size {
-        bytes: line.len() as u128 + 1,
-        lines: 0,
     };
-    let copy = Text::new(alloc, text)?;
-    Ok(Config::with_size(Tree::Text(copy), size))
+    let config = made_value(alloc, value)?;
+    Ok(config)
 }
 
 /// The name that is written as this line after a key, if it is good.
 pub(crate) fn line_name(alloc: Global, line: &str) -> Result<String, Miss>
     ensures { IfOk result (λ name. IsNameLine line.now (text_of name)) }
 {
-    let text = line_text(line)?;
-    if !good_name(text) {
+    let Some(name) = name_on(line) else {
         return Err(Miss::OtherForm);
-    }
-    let name = String::from_str(alloc, text)?;
+    };
+    let name = String::from_str(alloc, name)?;
     Ok(name)
 }
 
-/// The path (RFC 6901) that is written as this line after a key. It has at most 8,388,608 bytes, twice those of a
-/// configuration.
+/// The path that is written as this line after a key, as for [`path_on`].
 pub(crate) fn line_path(alloc: Global, line: &str) -> Result<String, Miss>
     ensures { IfOk result (λ path. IsPathLine line.now (text_of path)) }
 {
-    let text = line_text(line)?;
-    if text.len() as u64 > 2 * Limits::CONFIGURATION.style || !is_pointer(text) {
+    let Some(path) = path_on(line) else {
         return Err(Miss::OtherForm);
-    }
-    let path = String::from_str(alloc, text)?;
+    };
+    let path = String::from_str(alloc, path)?;
     Ok(path)
 }

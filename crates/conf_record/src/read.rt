@@ -40,7 +40,10 @@ pub fn read_record(alloc: Global, bytes: &[u8]) -> Result<Option<(Command, u64)>
 }
 
 /// Reads a record in any spelling, as [`read_record`] does.
-fn spelled_record(alloc: Global, bytes: &[u8]) -> Result<Option<(Command, u64)>, AllocError>
+pub(crate) fn spelled_record(
+    alloc: Global,
+    bytes: &[u8],
+) -> Result<Option<(Command, u64)>, AllocError>
     ensures some { IfOk result (λ read. IfSome read (λ r.
         IsRecord bytes.now (command_of r.0) r.1)) }
     ensures none { IfOk result (λ read. IfNone read (IsNoRecord bytes.now)) }

@@ -1,10 +1,9 @@
 // The text of a record: the document that holds a command and the number under which it was accepted.
-ghost use Rattle.std.specs.Prelude.{◌≡◌, ◌≤◌, ◌++◌, min, map, codes, decimal, string_bytes, IfOk, OnOk};
+ghost use Rattle.std.specs.Prelude.{◌≡◌, ◌≤◌, ◌+◌, ◌++◌, min, map, codes, decimal, string_bytes, IfOk, IfSome, OnOk};
 ghost use Rattle.std.specs.Str.{chars};
 ghost use Rattle.yaml_grammar.specs.Texts.{IsText, byte_len, spaces};
-ghost use Rattle.yaml_grammar.specs.Trees as grammar;
 ghost use Rattle.yaml_grammar.specs.Trees.{text};
-ghost use Rattle.yaml_grammar.specs.Style.{key_lines, value_at, members_at, members_after};
+ghost use Rattle.yaml_grammar.specs.Style.{key_lines, scalar_lines, value_at, members_at, members_after};
 ghost use Rattle.yaml_config.specs.Kept.{IsKept};
 ghost use Rattle.yaml_data.specs.Seen.{tree_of};
 ghost use Rattle.conf_state.specs.Commands.{command_of, edit_of, batch, import_as, set_at, delete_at};
@@ -15,14 +14,15 @@ use crate::record_sink::{EDIT_INDENT, RecordSink};
 use conf_state::{Command, Edit};
 use itoa::Buffer;
 use std::alloc::{AllocError, Global};
-use yaml_tree::{ByteCount, Config, Sink, write_text};
+use yaml_tree::{ByteCount, Config, Sink};
+use yaml_writer::write_scalar;
 
 /// The text of a command's record: an explicit document (YAML 1.2.2, 9.1.4). It is a line of `---`, a mapping in the
 /// one style and a line of `...`. The mapping holds the number as decimal digits (`at`), and then the members of the
 /// edit. These are, in this order, the name (`import`, `set` or `delete`), the path of a set or a delete (`path`), and
 /// the tree of an import (`tree`) or the value of a set (`value`). In place of them a batch has a sequence (`batch`),
-/// with a mapping of such members for each of its edits. It takes time linear in the text's length, and memory once, for
-/// the text. It fails only if memory runs out.
+/// with a mapping of such members for each of its edits. It takes time linear in the text's length, and memory once,
+/// for the text. It fails only if memory runs out.
 ///
 /// [`records_read`](crate::records_read) says that the text reads as that command under that number, if some state
 /// accepts the command, and the record of a batch is not too long.
@@ -52,6 +52,51 @@ pub fn record_of_length(
     let mut text = String::with_capacity(alloc, bytes as usize)?;
     write_record(command, number, &mut text)?;
     Ok(text)
+}
+
+/// The most bytes that a record is expected to have, if it is made without being measured.
+const SHORT_RECORD: u64 = 4_096;
+
+/// The bytes of a record beside the texts in it: of its lines, its keys, its number and some quotes.
+const RECORD_FRAME: u64 = 80;
+
+/// The record of a command, if it is a single edit and the texts in it are short: it is made without being measured.
+/// `None` of any other command. It fails only if memory runs out.
+pub fn short_record(
+    alloc: Global,
+    command: &Command,
+    number: u64,
+) -> Result<Option<String>, AllocError>
+    ensures bytes { IfOk result (λ found. IfSome found (λ text.
+        string_bytes text ≡ record_bytes (command_of command.now) number)) }
+    ensures kept { IfOk result (λ found. IfSome found (λ _. IsCommand (command_of command.now))) }
+{
+    let Some(bytes) = likely_length(command) else {
+        return Ok(None);
+    };
+    if bytes > SHORT_RECORD {
+        return Ok(None);
+    }
+    let text = record_of_length(alloc, command, number, bytes)?;
+    Ok(Some(text))
+}
+
+/// About how many bytes the record of a single edit has. Escapes, and the spaces before lines of a value, are not
+/// counted.
+fn likely_length(command: &Command) -> Option<u64> {
+    let (texts, value) = match command {
+        Command::Import { name, tree } => (name.len(), tree.style_length()),
+        Command::Set { name, path, value } => {
+            (name.len().saturating_add(path.len()), value.style_length())
+        }
+        Command::Delete { name, path } => (name.len().saturating_add(path.len()), 0),
+        Command::Batch { .. } => return None,
+    };
+    Some(
+        value
+            .saturating_add(texts as u64)
+            .saturating_add(RECORD_FRAME),
+    )
 }
 
 /// How many bytes the record of a command has under a number; at most the greatest `u64`. Nothing is written, the size
@@ -146,7 +191,7 @@ fn write_import<S: RecordSink>(
         (import_as (chars name.now) (tree_of tree.now))) indent) sink.new) }
     ensures kept { OnOk result (IsKept (tree_of tree.now)) }
 {
-    write_text_member("import:", name, indent, sink)?;
+    write_text_member("import: ", name, indent, sink)?;
     write_value_member("tree:", tree, indent, sink)
 }
 
@@ -163,9 +208,9 @@ fn write_set<S: RecordSink>(
         (set_at (chars name.now) (chars path.now) (tree_of value.now))) indent) sink.new) }
     ensures kept { OnOk result (IsText (chars path.now) × IsKept (tree_of value.now)) }
 {
-    write_text_member("set:", name, indent, sink)?;
-    sink.put_spaces(indent)?;
-    write_text_member("path:", path, indent, sink)?;
+    write_text_member("set: ", name, indent, sink)?;
+    write_margin(indent, sink)?;
+    write_text_member("path: ", path, indent, sink)?;
     write_value_member("value:", value, indent, sink)
 }
 
@@ -176,12 +221,22 @@ fn write_delete<S: Sink>(name: &str, path: &str, indent: u64, sink: &mut S) -> R
         (delete_at (chars name.now) (chars path.now))) indent) sink.new) }
     ensures kept { OnOk result (IsText (chars path.now)) }
 {
-    write_text_member("delete:", name, indent, sink)?;
-    sink.put_spaces(indent)?;
-    write_text_member("path:", path, indent, sink)
+    write_text_member("delete: ", name, indent, sink)?;
+    write_margin(indent, sink)?;
+    write_text_member("path: ", path, indent, sink)
 }
 
-/// Writes a key with its `:`, as it is, and a text as its value.
+/// Writes the spaces before a line. A line of a single edit has none.
+fn write_margin<S: Sink>(indent: u64, sink: &mut S) -> Result<(), S::Fault>
+    ensures { OnOk result (S.Takes sink.old (spaces indent) sink.new) }
+{
+    if indent == 0 {
+        return Ok(());
+    }
+    sink.put_spaces(indent)
+}
+
+/// Writes a key with its `: `, as it is, and a text as its value.
 fn write_text_member<S: Sink>(
     key: &str,
     text: &str,
@@ -190,10 +245,10 @@ fn write_text_member<S: Sink>(
 ) -> Result<(), S::Fault>
     requires { indent ≤ EDIT_INDENT }
     ensures { OnOk result (S.Takes sink.old
-        (chars key.now ++ value_at (grammar.text (chars text.now)) indent) sink.new) }
+        (chars key.now ++ scalar_lines (indent + 2) (chars text.now)) sink.new) }
 {
     sink.put_text(key)?;
-    write_text(text, indent, sink)
+    write_scalar(text, indent + 2, sink)
 }
 
 /// Writes the spaces before a line, a key with its `:`, as it is, and a configuration as its value.
@@ -208,7 +263,7 @@ fn write_value_member<S: RecordSink>(
         (spaces indent ++ chars key.now ++ value_at (tree_of value.now) indent) sink.new) }
     ensures kept { OnOk result (IsKept (tree_of value.now)) }
 {
-    sink.put_spaces(indent)?;
+    write_margin(indent, sink)?;
     sink.put_text(key)?;
     sink.put_value(value, indent)
 }

@@ -17,7 +17,7 @@ use std::str;
 use yaml_styled::Miss;
 
 /// The key of the tree of an import.
-const TREE_KEY: &str = "tree: ";
+pub(crate) const TREE_KEY: &str = "tree: ";
 
 /// The record that the bytes are, if they are the very text that [`record_text`](crate::record_text) writes for it, and
 /// each text in it is on one line without an escape.
@@ -75,7 +75,7 @@ fn cut_alone(alloc: Global, lines: &str) -> Result<Command, Miss>
 }
 
 /// The batch whose elements these lines are.
-fn cut_batch(alloc: Global, elements: &str) -> Result<Command, Miss>
+pub(crate) fn cut_batch(alloc: Global, elements: &str) -> Result<Command, Miss>
     ensures { IfOk result (λ command.
         IsWritten (codes "batch:\n" ++ elements.now) (command_of command)) }
 {

@@ -34,7 +34,7 @@ pub(crate) fn written_base(alloc: Global, bytes: &[u8]) -> Result<State, Miss>
 }
 
 /// The count of a base, and the lines of its configurations with the end of the document.
-fn cut_frame(text: &str) -> Option<(u64, &str)>
+pub(crate) fn cut_frame(text: &str) -> Option<(u64, &str)>
     ensures { IfSome result (λ cut. text.now ≡ codes "---\nstore: confstore-2\nat: \""
         ++ (encode_utf8_all (decimal cut.0) ++ (codes "\"\nconfigs:\n" ++ cut.1.now))) }
 {

@@ -17,7 +17,7 @@ use Rattle.conf_disk.specs.declared.disk.Name.TheVariants.{Store}
 use Rattle.conf_journal.specs.Store.{file_with_bytes}
 use Rattle.conf_disk.proofs.Moments.{LeavesOnly-start, LeavesOnly-weaker}
 use Rattle.conf_state.specs.BaseTexts.{base_bytes}
-use Rattle.conf_state.specs.Commands.{Command}
+use Rattle.conf_state.specs.Commands.{Command, Edit, single}
 use Rattle.conf_state.specs.Limits.{IsState}
 use Rattle.conf_state.specs.States.{Contents, count_limit}
 use Rattle.conf_state.specs.Steps.{step, after}
@@ -34,10 +34,11 @@ use Rattle.conf_state.proofs.RefusalLemmas.{accepted-room}
 use Rattle.conf_store.proofs.StepLemmas.{accepted-anyway}
 use Rattle.conf_store.proofs.MeaningLemmas.{after-done, after-joined}
 use Rattle.conf_store.proofs.HeldLemmas.{prefix-longer}
-use Rattle.conf_session.specs.Said.{import_text, single_part}
+use Rattle.conf_session.specs.Said.{Part, Says, import_text, plain, single_part}
 use Rattle.conf_session.specs.declared.fault.SessionFault.{SessionFault}
 use Rattle.conf_session.specs.declared.fault.SessionFault.TheVariants as fault
-use Rattle.conf_session.specs.Requests.{MeansRequest, Request, changing, unread, getting, exporting, naming, checkpointing, if_met, bad}
+use Rattle.conf_session.specs.Requests.{Asks, MeansRequest, Request, changing, unread, getting, exporting, naming}
+use Rattle.conf_session.specs.Requests.{checkpointing, if_met, bad}
 use Rattle.conf_session.specs.Answers.{Stored, longest, one, change_answer, stored_after_change, stored_after}
 use Rattle.conf_session.specs.Answers.{file_after_change, accepted_by, accepted_command, is_refused, answered}
 use Rattle.conf_session.specs.Answers.{refused_answer, document_bytes}
@@ -446,3 +447,9 @@ refused-outcome old new command state.CountFull reason is refuses = refuses
 refused-outcome old new command state.Reopen reason is refuses = absurd (cc is)
 refused-outcome old new command state.Device reason is refuses = absurd (cc is)
 refused-outcome old new command state.OutOfMemory reason is refuses = absurd (cc is)
+
+-- lines that say one edit ask for the command that it is
+pub edit_asked : (piece : List ℕ) (part : Part) (command : Command) → Says piece (single_part part)
+    → (edit : Edit) × (command ≡ single edit) × (part ≡ plain edit) → Asks piece (changing command)
+edit_asked piece part command says so =
+    (single_part (plain so.0), subst (λ p. Says piece (single_part p)) so.2 says, ap changing so.1)

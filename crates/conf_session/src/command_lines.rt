@@ -1,13 +1,17 @@
 // Commands that are spelled one key a line, read without the general reader.
 ghost use Rattle.std.specs.Prelude.{◌++◌, codes, IfOk, IfSome};
+ghost use Rattle.conf_state.specs.Commands.{command_of};
 ghost use Rattle.conf_session.specs.CommandLines.{ArePartLines, IsCommandLines};
-ghost use Rattle.conf_session.specs.Said.{Says, parts_seen, said_of};
+ghost use Rattle.conf_session.specs.PartLines.{part_cut};
+ghost use Rattle.conf_session.specs.Requests.{Asks, changing};
+ghost use Rattle.conf_session.specs.Said.{Says, parts_seen, said_of, single_part};
 
 use crate::field_lines::{cut_field, is_end};
-use crate::part_lines::{TEXT_KEY, part_on_lines};
+use crate::part_lines::{TEXT_KEY, made_command, made_part, part_on_lines, texts_on_lines};
 use crate::parts::Part;
 use crate::said::{PIECE_LIMIT, Said};
-use conf_record::{Place, cut_edit, cut_element};
+use conf_record::{EditMembers, Place, cut_edit, cut_element};
+use conf_state::Command;
 use std::alloc::{AllocError, Global};
 use std::str;
 use yaml_recognizers::texts::unambiguous;
@@ -31,6 +35,52 @@ pub(crate) fn said_in_lines(alloc: Global, piece: &[u8]) -> Result<Option<Said>,
         Some(lines) => command_in(alloc, lines),
         None => command_in(alloc, text),
     }
+}
+
+/// The command of a piece that is a `set` or a `delete`, spelled as for [`said_in_lines`]. `None` says nothing of the
+/// piece. It fails only if memory runs out.
+pub(crate) fn edit_in_lines(alloc: Global, piece: &[u8]) -> Result<Option<Command>, AllocError>
+    ensures { IfOk result (λ found. IfSome found
+        (λ command. Asks piece.now (changing (command_of command)))) }
+{
+    match texts_in(piece) {
+        Some(texts) => made_command(alloc, texts),
+        None => Ok(None),
+    }
+}
+
+/// The texts of such a piece.
+fn texts_in(piece: &[u8]) -> Option<EditMembers<&str, &str>>
+    ensures { IfSome result (λ texts. Says piece.now (single_part (part_cut texts))) }
+{
+    unambiguous();
+    if !begins_with_edit(piece) || piece.len() as u64 > PIECE_LIMIT {
+        return None;
+    }
+    let Ok(text) = str::from_utf8(piece) else {
+        return None;
+    };
+    match text.strip_prefix("---\n") {
+        Some(lines) => texts_alone(lines),
+        None => texts_alone(text),
+    }
+}
+
+/// Whether a piece seems to be such a one, by its first key. Other pieces needn't be tried.
+fn begins_with_edit(piece: &[u8]) -> bool {
+    let lines = piece.strip_prefix(b"---\n").unwrap_or(piece);
+    lines.starts_with(b"set: ") || lines.starts_with(b"delete: ")
+}
+
+/// The texts of the one part on these lines.
+fn texts_alone(lines: &str) -> Option<EditMembers<&str, &str>>
+    ensures { IfSome result (λ texts. IsCommandLines lines.now (single_part (part_cut texts))) }
+{
+    let (members, end) = cut_edit(lines, Place::Alone, TEXT_KEY)?;
+    if !is_end(end) {
+        return None;
+    }
+    texts_on_lines(members)
 }
 
 /// The command on these lines.
@@ -68,13 +118,10 @@ fn get_in(alloc: Global, lines: &str) -> Result<Option<Said>, AllocError>
 fn single_in(alloc: Global, lines: &str) -> Result<Option<Said>, AllocError>
     ensures { IfOk result (λ found. IfSome found (λ said. IsCommandLines lines.now (said_of said))) }
 {
-    let Some((members, end)) = cut_edit(lines, Place::Alone, TEXT_KEY) else {
+    let Some(texts) = texts_alone(lines) else {
         return Ok(None);
     };
-    if !is_end(end) {
-        return Ok(None);
-    }
-    let Some(part) = part_on_lines(alloc, members)? else {
+    let Some(part) = made_part(alloc, texts)? else {
         return Ok(None);
     };
     Ok(Some(Said::Single(part)))

@@ -79,8 +79,8 @@ fn condition_in(alloc: Global, tree: Tree) -> Result<Option<Condition>, AllocErr
     }
 }
 
-/// The condition that a mapping with these pairs is, if it has exactly the keys of one, in their order, and values of the
-/// kinds that it takes.
+/// The condition that a mapping with these pairs is, if it has exactly the keys of one, in their order, and values of
+/// the kinds that it takes.
 fn condition_from(alloc: Global, pairs: Vec<(Text, Tree)>) -> Result<Option<Condition>, AllocError>
     requires { AreKept (values (members_of pairs.items)) }
     ensures { IfOk result (λ read. option_map condition_of read

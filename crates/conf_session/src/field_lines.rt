@@ -4,8 +4,9 @@ ghost use Rattle.std.specs.List.{list_all};
 ghost use Rattle.yaml_chars.specs.Signs.{double_quote};
 ghost use Rattle.conf_session.specs.CommandLines.{IsField, IsSpelled, bare_char, begins_bare};
 
-use conf_record::lines::{are_alone, cut_line};
+use conf_record::lines::cut_line;
 use yaml_chars::indicator;
+use yaml_writer::stand_alone;
 
 /// The text of the first line, which has this key with its `: ` and the spaces before it, and the lines after it. The
 /// text is as [`line_value`] has it.
@@ -33,7 +34,7 @@ fn quoted_value(quoted: &str) -> Option<&str>
     ensures { IfSome result (λ value. IsSpelled (double_quote ∷ quoted.now) value.now) }
 {
     let text = quoted.strip_suffix('"')?;
-    if !are_alone(text.as_bytes()) {
+    if !stand_alone(text.as_bytes()) {
         return None;
     }
     Some(text)

@@ -217,8 +217,8 @@ fn tend_checkpoint<D: Disk>(
 /// The input is cut into pieces, and each is answered, as by [`run`](crate::run). All whole pieces that were read
 /// already are one group: each is performed, then one sync flushes all of them, and only then are their answers
 /// handed out. So a client that sends many commands at once pays one sync for all that one read brought, and a client
-/// that waits for each answer pays as many as with `run`. A group ends early once its answers have 65,536 bytes, and what is
-/// kept for the output is at most that and one answer. Nothing is read while a whole piece is at hand.
+/// that waits for each answer pays as many as with `run`. A group ends early once its answers have 65,536 bytes, and
+/// what is kept for the output is at most that and one answer. Nothing is read while a whole piece is at hand.
 ///
 /// Commands that were submitted before, and wait for a flush, are flushed first.
 ///

@@ -30,8 +30,8 @@ impl Input {
         Ok(Input { pieces })
     }
 
-    /// Goes on to the next piece, or to the bytes after the last one, as [`Pieces::advance`]. Returns whether there is a
-    /// piece.
+    /// Goes on to the next piece, or to the bytes after the last one, as [`Pieces::advance`]. Returns whether there is
+    /// a piece.
     ///
     /// # Errors
     /// After an error nothing is promised of the input.

@@ -38,8 +38,8 @@ pub fn answers_stand<D: Disk>()
 {}
 
 /// A command with conditions is answered and performed exactly as it is without them, if all of them hold of the state
-/// that it finds. Otherwise the first that does not hold is answered, by `Unmet`, `BadName` or `BadPath`, and nothing is
-/// changed: no configuration, no file and no count.
+/// that it finds. Otherwise the first that does not hold is answered, by `Unmet`, `BadName` or `BadPath`, and nothing
+/// is changed: no configuration, no file and no count.
 pub fn conditions_guard()
     ensures { ConditionsGuard }
 {}

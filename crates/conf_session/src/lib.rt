@@ -4,8 +4,8 @@
 //! and writer, and the store may be on any disk. [`SessionFault`] says why a session stops before the end of its input.
 //!
 //! [`run_grouped`] does so in groups: it performs all commands that one read brought, syncs once for them, and then
-//! hands out their answers. A group promises less than [`run`] of commands after a cut answer, and of those in hand when
-//! the device fails. It can also write the checkpoints that nobody asked for, in slices between the groups
+//! hands out their answers. A group promises less than [`run`] of commands after a cut answer, and of those in hand
+//! when the device fails. It can also write the checkpoints that nobody asked for, in slices between the groups
 //! ([`Checkpoints`]).
 //!
 //! Both hand the answers to an [`AnswerSink`], which gets an answer only once no crash takes back what it tells. Each

@@ -2,7 +2,8 @@
 ghost use Rattle.std.specs.Prelude.{◌≡◌, codes, IfOk, IfSome};
 ghost use Rattle.std.specs.Str.{chars};
 ghost use Rattle.yaml_grammar.specs.Trees.{text};
-ghost use Rattle.conf_state.specs.Commands.{set_at, delete_at};
+ghost use Rattle.yaml_data.specs.Seen.{tree_of};
+ghost use Rattle.conf_state.specs.Commands.{Edit as GivenEdit, command_of, single, set_at, delete_at};
 ghost use Rattle.conf_record.specs.EditLines.{lines_of};
 ghost use Rattle.conf_session.specs.CommandLines.{SpellsPart};
 ghost use Rattle.conf_session.specs.PartLines.{part_cut};
@@ -11,9 +12,9 @@ ghost use Rattle.conf_session.specs.Said.{import_text, plain, part_seen};
 use crate::field_lines::line_value;
 use crate::parts::Part;
 use conf_record::{EditMembers, part};
-use conf_state::Edit;
+use conf_state::{Command, Edit};
 use std::alloc::{AllocError, Global};
-use yaml_tree::{Limits, Text, Tree};
+use yaml_tree::{Config, Limits, Text, Tree};
 
 /// The key of the text of an import.
 pub(crate) const TEXT_KEY: &str = "text: ";
@@ -34,7 +35,9 @@ pub(crate) fn part_on_lines(
 }
 
 /// The members with their texts, each of which [`line_value`] takes.
-fn texts_on_lines<'t>(lines: EditMembers<&'t str, &'t str>) -> Option<EditMembers<&'t str, &'t str>>
+pub(crate) fn texts_on_lines<'t>(
+    lines: EditMembers<&'t str, &'t str>,
+) -> Option<EditMembers<&'t str, &'t str>>
     ensures { IfSome result (λ texts.
         SpellsPart (lines_of lines.entry (codes "text: ")) (part_cut texts)) }
 {
@@ -60,7 +63,10 @@ fn texts_on_lines<'t>(lines: EditMembers<&'t str, &'t str>) -> Option<EditMember
 
 /// The part with these texts. `None` if it is a `set` of a value longer than a configuration may be. It fails only if
 /// memory runs out.
-fn made_part(alloc: Global, texts: EditMembers<&str, &str>) -> Result<Option<Part>, AllocError>
+pub(crate) fn made_part(
+    alloc: Global,
+    texts: EditMembers<&str, &str>,
+) -> Result<Option<Part>, AllocError>
     ensures { IfOk result (λ made. IfSome made (λ part. part_seen part ≡ part_cut texts.entry)) }
 {
     match texts {
@@ -85,13 +91,23 @@ fn made_set(alloc: Global, name: &str, path: &str, value: &str) -> Result<Option
     ensures { IfOk result (λ made. IfSome made (λ part. part_seen part
         ≡ plain (set_at (chars name.now) (chars path.now) (text (chars value.now))))) }
 {
+    let Some(value) = made_value(alloc, value)? else {
+        return Ok(None);
+    };
+    let name = String::from_str(alloc, name)?;
+    let path = String::from_str(alloc, path)?;
+    Ok(Some(Part::Plain(Edit::Set { name, path, value })))
+}
+
+/// A text as a configuration. `None` if it is longer than a configuration may be. It fails only if memory runs out.
+fn made_value(alloc: Global, value: &str) -> Result<Option<Config>, AllocError>
+    ensures { IfOk result (λ made. IfSome made (λ config. tree_of config ≡ text (chars value.now))) }
+{
     if value.len() as u64 > Limits::CONFIGURATION.style {
         return Ok(None);
     }
-    let name = String::from_str(alloc, name)?;
-    let path = String::from_str(alloc, path)?;
-    let value = part(Tree::Text(Text::new(alloc, value)?));
-    Ok(Some(Part::Plain(Edit::Set { name, path, value })))
+    let value = Text::new(alloc, value)?;
+    Ok(Some(part(Tree::Text(value))))
 }
 
 /// The delete at this path under this name.
@@ -102,4 +118,31 @@ fn made_delete(alloc: Global, name: &str, path: &str) -> Result<Option<Part>, Al
     let name = String::from_str(alloc, name)?;
     let path = String::from_str(alloc, path)?;
     Ok(Some(Part::Plain(Edit::Delete { name, path })))
+}
+
+/// The command that is a `set` or a `delete` with these texts. `None` if they are those of an import, or of a `set` of
+/// a value longer than a configuration may be. It fails only if memory runs out.
+pub(crate) fn made_command(
+    alloc: Global,
+    texts: EditMembers<&str, &str>,
+) -> Result<Option<Command>, AllocError>
+    ensures { IfOk result (λ made. IfSome made (λ command. (edit : GivenEdit)
+        × (command_of command ≡ single edit) × (part_cut texts.entry ≡ plain edit))) }
+{
+    match texts {
+        EditMembers::Import { .. } => Ok(None),
+        EditMembers::Set { name, path, value } => {
+            let Some(value) = made_value(alloc, value)? else {
+                return Ok(None);
+            };
+            let name = String::from_str(alloc, name)?;
+            let path = String::from_str(alloc, path)?;
+            Ok(Some(Command::Set { name, path, value }))
+        }
+        EditMembers::Delete { name, path } => {
+            let name = String::from_str(alloc, name)?;
+            let path = String::from_str(alloc, path)?;
+            Ok(Some(Command::Delete { name, path }))
+        }
+    }
 }

@@ -9,6 +9,7 @@ ghost use Rattle.conf_session.specs.Answers.{answered, condition_answered};
 ghost use Rattle.conf_session.specs.Replies.{Handles, MeansPrefixes, refused_as, unmet_as};
 
 use crate::answer::{count_answer, export_answer, get_answer, names_answer};
+use crate::command_lines::edit_in_lines;
 use crate::fault::SessionFault;
 use crate::reading::{read_batch, read_change, read_single};
 use crate::said::{Said, read_said};
@@ -166,6 +167,21 @@ fn answer_said<D: Disk>(
 
 /// Performs what a piece asks for, and makes the answer. Nothing is flushed, unless it asks for a checkpoint.
 pub fn answer_piece<D: Disk>(
+    alloc: Global,
+    store: &mut Store<D>,
+    piece: &[u8],
+) -> Result<Reply, SessionFault>
+    requires means { MeansPrefixes D.model store.old }
+    ensures { Handles D.model store.old store.new (Asks piece.now) result }
+{
+    match edit_in_lines(alloc, piece)? {
+        Some(command) => change(alloc, store, command),
+        None => answer_any(alloc, store, piece),
+    }
+}
+
+/// The same for a piece that is none of the usual edits.
+fn answer_any<D: Disk>(
     alloc: Global,
     store: &mut Store<D>,
     piece: &[u8],

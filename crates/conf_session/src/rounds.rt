@@ -32,8 +32,8 @@ pub enum RoundFault {
     /// Out of memory. That many pieces, from the first, are performed. Those up to the last `checkpoint` among them are
     /// flushed; those after it wait.
     OutOfMemory { performed: u64 },
-    /// The device failed. The pieces before the one in hand are performed, and that one is or isn't; the store has to be
-    /// opened again.
+    /// The device failed. The pieces before the one in hand are performed, and that one is or isn't; the store has to
+    /// be opened again.
     Device,
     /// The store has to be opened again. Nothing was done.
     Reopen,

@@ -26,7 +26,7 @@ use Rattle.conf_record.specs.Records.{FitsRecord, record_text, record_bytes}
 use Rattle.conf_record.specs.RecordsRead.{IsCommand}
 use Rattle.std.proofs.lemmas.Bool.Decides.{nat_tests}
 use Rattle.conf_state.specs.declared.fault.StoreFault.{StoreFault}
-use Rattle.conf_store.specs.Accepting.{IsAccepted, IsBaseOf}
+use Rattle.conf_store.specs.Accepting.{IsAccepted, IsBaseOf, IsMeasured}
 use Rattle.conf_store.specs.Calls.{next_number, next_record, room_for, outcome}
 use Rattle.conf_store.proofs.StepLemmas.{StepsNeedRoom, StepsCount, accepted-anyway, accepted-number}
 use Rattle.conf_store.specs.Meaning.{FileMeans}
@@ -112,16 +112,33 @@ room-cut is bytes size =
     file-cut = grind (arith, nat_tests)
 
 -- the room for a record whose length was measured
-pub room-measured : (size : ℕ) (s : Contents) (command : Command) (room : Room) (bytes longest : ℕ)
-    → room ≡ room_of (is_batch command) bytes longest store_limit → longest ≡ size
-    → bytes ≡ min (byte_len (record_text command (next_number s))) greatest → room ≡ room_for size s command
+pub room-measured : (command : Command) (number longest bytes : ℕ) (room : Room)
+    → room ≡ room_of (is_batch command) bytes longest store_limit → bytes ≡ min (byte_len (record_text command number)) greatest
+    → room ≡ room_of (is_batch command) (length (record_bytes command number)) longest store_limit
 unfolding record_bytes
-room-measured size s command room bytes longest is same measured =
+room-measured command number longest bytes room is measured =
     is
-    ∙ ap (λ n. room_of (is_batch command) bytes n store_limit) same
-    ∙ ap (λ n. room_of (is_batch command) n size store_limit) measured
-    ∙ room-cut (is_batch command) (byte_len (record_text command (next_number s))) size
-    ∙ ap (λ n. room_of (is_batch command) n size store_limit) (byte_len-encoded (record_text command (next_number s)))
+    ∙ ap (λ n. room_of (is_batch command) n longest store_limit) measured
+    ∙ room-cut (is_batch command) (byte_len (record_text command number)) longest
+    ∙ ap (λ n. room_of (is_batch command) n longest store_limit) (byte_len-encoded (record_text command number))
+
+-- a record that was made before its length was known
+pub made-measured : (command : Command) (number longest bytes : ℕ) (text : List ℕ) (room : Room) → IsCommand command
+    → room ≡ room_of (is_batch command) bytes longest store_limit → bytes ≡ length text → text ≡ record_bytes command number
+    → IsMeasured command number longest text room
+made-measured command number longest bytes text room kept is long same = record {
+  measured = is ∙ ap (λ n. room_of (is_batch command) n longest store_limit) (long ∙ ap length same);
+  made = λ enough. (kept, same);
+}
+
+-- the room for the next record
+pub room-next : (size : ℕ) (s : Contents) (command : Command) (room : Room) (number longest : ℕ)
+    → room ≡ room_of (is_batch command) (length (record_bytes command number)) longest store_limit
+    → number ≡ next_number s → longest ≡ size → room ≡ room_for size s command
+room-next size s command room number longest is next same =
+    is
+    ∙ ap (λ n. room_of (is_batch command) (length (record_bytes command n)) longest store_limit) next
+    ∙ ap (λ n. room_of (is_batch command) (length (record_bytes command (next_number s))) n store_limit) same
 
 -- where there is room, the file with the record is within its limit, and so is the record of a batch
 room-fits : (is : Bool) (bytes size : ℕ) → room_of is bytes size store_limit ≡ Enough

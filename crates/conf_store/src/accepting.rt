@@ -1,18 +1,17 @@
 // Performing a command on the state, and making its record, before anything is written to the disk.
-ghost use Rattle.std.specs.Prelude.{◌≡◌, ◌⊎◌, ◌≤◌, max, min, IfOk, IfErr, OnErr, Err, string_bytes};
-ghost use Rattle.yaml_grammar.specs.Texts.{byte_len};
+ghost use Rattle.std.specs.Prelude.{◌≡◌, ◌⊎◌, ◌≤◌, max, IfOk, IfErr, OnErr, Err, string_bytes};
 ghost use Rattle.conf_journal.specs.Store.{store_limit};
 ghost use Rattle.conf_state.specs.Commands.{command_of};
-ghost use Rattle.conf_record.specs.Records.{record_bytes};
-ghost use Rattle.conf_record.specs.RecordsRead.{IsCommand};
-ghost use Rattle.conf_store.specs.Accepting.{IsAccepted, IsOfState};
+ghost use Rattle.conf_store.specs.Accepting.{IsAccepted, IsMeasured, IsOfState};
 ghost use Rattle.conf_store.specs.Calls.{outcome};
 ghost use Rattle.conf_store.specs.Staged.{staged_length, with_more};
 ghost use Rattle.conf_store.specs.Stagings.{IsReady, staged_of};
 
 use crate::staging::Staging;
 use conf_journal::STORE_LIMIT;
-use conf_record::{documents_are_read, documents_close, record_length, record_of_length};
+use conf_record::{
+    documents_are_read, documents_close, record_length, record_of_length, short_record,
+};
 use conf_state::{Command, Room, State, StoreFault, steps_are_counted_or_refused};
 use std::alloc::{AllocError, Global};
 
@@ -52,31 +51,52 @@ pub fn accept(
     documents_are_read();
     documents_close();
     steps_are_counted_or_refused();
-    // At the greatest count the record is only measured: the command is refused.
+    // At the greatest count the record is made for nothing: the command is refused.
     let number = state.count().saturating_add(1);
-    let bytes = record_length(&command, number);
     let longest = size.max(staging.len());
-    let room = Room::of(&command, bytes, longest, STORE_LIMIT);
-    let record = record_within(alloc, &command, number, bytes, room)?;
+    let (record, room) = record_within(alloc, &command, number, longest)?;
     match staging.step(alloc, state, command, room, &record) {
         Ok(()) => Ok((record, state.count())),
         Err(fault) => Err(fault),
     }
 }
 
-/// The record of a command, which has so many bytes. Without room for it none is made, and this is an empty text.
+/// The record of a command, and whether a file of `longest` bytes has room for it. A short one is made before its
+/// length is known.
 fn record_within(
     alloc: Global,
     command: &Command,
     number: u64,
-    bytes: u64,
-    room: Room,
-) -> Result<String, AllocError>
-    ensures { IfOk result (λ text. room ≡ Room.Enough → IsCommand (command_of command.now)
-        × (string_bytes text ≡ record_bytes (command_of command.now) number)) }
+    longest: u64,
+) -> Result<(String, Room), AllocError>
+    ensures { IfOk result (λ r.
+        IsMeasured (command_of command.now) number longest (string_bytes r.0) r.1) }
 {
-    if !room.is_enough() {
-        return Ok(String::new(alloc));
+    match short_record(alloc, command, number)? {
+        Some(record) => {
+            let room = Room::of(command, record.len() as u64, longest, STORE_LIMIT);
+            Ok((record, room))
+        }
+        None => measured_record(alloc, command, number, longest),
     }
-    record_of_length(alloc, command, number, bytes)
+}
+
+/// The same for a record that may be long. It is measured first; without room for it none is made, and the text is
+/// empty.
+fn measured_record(
+    alloc: Global,
+    command: &Command,
+    number: u64,
+    longest: u64,
+) -> Result<(String, Room), AllocError>
+    ensures { IfOk result (λ r.
+        IsMeasured (command_of command.now) number longest (string_bytes r.0) r.1) }
+{
+    let bytes = record_length(command, number);
+    let room = Room::of(command, bytes, longest, STORE_LIMIT);
+    if !room.is_enough() {
+        return Ok((String::new(alloc), room));
+    }
+    let record = record_of_length(alloc, command, number, bytes)?;
+    Ok((record, room))
 }

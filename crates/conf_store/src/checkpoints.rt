@@ -124,7 +124,8 @@ impl<D: Disk> Store<D> {
     /// how many bytes are left. `store.yaml` isn't synced: what waits still waits. After each 1,048,576 bytes
     /// `next.yaml` is synced, so that the last slice has few to sync. Once nothing is left the new file is synced and
     /// takes the place of `store.yaml`; all commands that wait are acknowledged, the checkpoint is over, and this
-    /// returns `Done`. Takes no memory.
+    /// returns `Done`. It takes no memory, but maybe for the mark of a configuration that is written, where commands
+    /// added many names meanwhile. Without that memory the slice is written all the same.
     ///
     /// # Errors
     /// `Reopen` if the store has to be opened again. `Device`: `store.yaml` is the old file or the whole new one, a

@@ -6,7 +6,7 @@ ghost use Rattle.conf_state.specs.Steps.{step};
 ghost use Rattle.conf_record.specs.Documents.{IsRecord};
 ghost use Rattle.conf_store.specs.NextRecords.{RefusesRecord};
 
-use conf_record::read_record;
+use conf_record::{NoNext, read_next};
 use conf_state::{Command, Room, State, StoreFault, replay, step};
 use std::alloc::{AllocError, Global};
 use thiserror::Error;
@@ -64,22 +64,14 @@ pub fn next_command(alloc: Global, state: &State, piece: &[u8]) -> Result<Comman
     ensures room { OnOk result (state.now.count < u64.MAX) }
     ensures refused { IfErr result (RefusesRecord piece.now state.now) }
 {
-    let Some((command, number)) = read_record(alloc, piece)? else {
-        return Err(RecordFault::Bad(NoRecord::NotARecord));
-    };
-    if !is_next(state.count(), number) {
-        return Err(RecordFault::Bad(NoRecord::WrongNumber { found: number }));
+    match read_next(alloc, piece, state.count()) {
+        Ok(command) => Ok(command),
+        Err(NoNext::NotARecord) => Err(RecordFault::Bad(NoRecord::NotARecord)),
+        Err(NoNext::OtherNumber { found }) => {
+            Err(RecordFault::Bad(NoRecord::WrongNumber { found }))
+        }
+        Err(NoNext::OutOfMemory) => Err(RecordFault::OutOfMemory),
     }
-    Ok(command)
-}
-
-/// Whether a record's number is the next one after a count.
-fn is_next(count: u64, number: u64) -> bool
-    ensures next { result ≡ true → number ≡ count + 1 }
-    ensures other { result ≡ false → number ≢ count + 1 }
-    ensures room { result ≡ true → count < u64.MAX }
-{
-    count < u64::MAX && number == count + 1
 }
 
 /// Performs the command of the next record, which [`next_command`] returned. Returns the new count, which is one more

@@ -77,8 +77,13 @@ impl<D: Disk> Model for Store<D> {
 
     ghost coded = { store_view_code D.code };
 
-    ghost view = { λ s.
-        record { disk = s.disk; state = s.state; size = s.size; staged = staged_of s.state s.staging; reopen = s.reopen } };
+    ghost view = { λ s. record {
+      disk = s.disk;
+      state = s.state;
+      size = s.size;
+      staged = staged_of s.state s.staging;
+      reopen = s.reopen;
+    } };
 
     ghost invariant = { λ s. (s.size ≤ store_limit) × IsState s.state
         × (staged_length (staged_of s.state s.staging) ≤ store_limit)
@@ -264,8 +269,8 @@ impl<D: Disk> Store<D> {
         self.state.count()
     }
 
-    /// By how many bytes `store.yaml` has grown since its base was written: the length of all its records, also of those
-    /// that wait. A [`checkpoint`](Store::checkpoint) makes this 0. After the last [`slice`](Store::slice) of a
+    /// By how many bytes `store.yaml` has grown since its base was written: the length of all its records, also of
+    /// those that wait. A [`checkpoint`](Store::checkpoint) makes this 0. After the last [`slice`](Store::slice) of a
     /// checkpoint it is the length of the records that were accepted while that ran. Once the store has to be opened
     /// again, nothing is known of the file.
     pub fn grown(&self) -> u64

@@ -1,9 +1,7 @@
-use Rattle.std.proofs.Common.{sym, subst, ◌∙◌}
+use Rattle.std.proofs.Common.{sym, subst}
 use Rattle.std.specs.Str.{chars}
 use Rattle.conf_record.specs.Written.{IsNameLine}
 use Rattle.conf_record.proofs.lines.line_name.Goals as goal
 
 pub returns : goal.returns
-returns c =
-    subst (λ bs. IsNameLine c.args.line.now (chars bs)) (sym c.in_ok-name.ensures.ok)
-    (record { is = c.in_ok-text.ensures; good = sym c.good_name.ensures.named ∙ c.if-not-good_name.false })
+returns c = subst (λ bs. IsNameLine c.args.line.now (chars bs)) (sym c.in_ok-name.ensures.ok) c.in-Some.ensures

@@ -1,8 +1,7 @@
-use Rattle.std.proofs.Common.{◌++◌, codes, refl, subst}
+use Rattle.std.proofs.Common.{◌+◌, ◌++◌, codes, refl, subst}
 use Rattle.std.proofs.lemmas.Result.{on_ok_weaker}
 use Rattle.std.specs.Str.{chars}
-use Rattle.yaml_grammar.specs.Style.{value_at}
-use Rattle.yaml_grammar.specs.Trees.{text}
+use Rattle.yaml_grammar.specs.Style.{scalar_lines}
 use Rattle.yaml_config.proofs.TextTreeLemmas.{chars-IsText}
 use Rattle.conf_state.proofs.LineLemmas.{ascii}
 use Rattle.conf_record.proofs.EditLines.{delete_lines_at}
@@ -17,14 +16,14 @@ returns-clause-takes g c =
     let path = chars c.args.path.now in
     let start = c.args.sink.now in
     let named = c.write_text_member.new.sink in
-    let indented = c.put_spaces.new.self in
+    let indented = c.write_margin.new.sink in
     let end = c.write_text_member-2.new.sink in
-    let first = subst (λ key. Takes start (key ++ value_at (text name) i) named)
-    (ascii (codes "delete:") refl) c.in_ok-write_text_member.ensures in
+    let first = subst (λ key. Takes start (key ++ scalar_lines (i + 2) name) named)
+    (ascii (codes "delete: ") refl) c.in_ok-write_text_member.ensures in
     on_ok_weaker c.write_text_member-2.result
     (λ written. subst (λ cs. Takes start cs end) (delete_lines_at i name path)
-    (both _ _ _ _ _ first (both _ _ _ _ _ c.in_ok-put_spaces.ensures
-    (subst (λ key. Takes indented (key ++ value_at (text path) i) end) (ascii (codes "path:") refl) written))))
+    (both _ _ _ _ _ first (both _ _ _ _ _ c.in_ok-write_margin.ensures
+    (subst (λ key. Takes indented (key ++ scalar_lines (i + 2) path) end) (ascii (codes "path: ") refl) written))))
     c.write_text_member-2.ensures
 
 pub returns-clause-kept : goal.returns-clause-kept

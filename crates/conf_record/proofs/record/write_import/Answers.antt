@@ -1,9 +1,8 @@
-use Rattle.std.proofs.Common.{◌++◌, codes, refl, subst}
+use Rattle.std.proofs.Common.{◌+◌, ◌++◌, codes, refl, subst}
 use Rattle.std.proofs.lemmas.Result.{on_ok_weaker}
 use Rattle.std.specs.Str.{chars}
-use Rattle.yaml_grammar.specs.Style.{value_at}
+use Rattle.yaml_grammar.specs.Style.{scalar_lines, value_at}
 use Rattle.yaml_grammar.specs.Texts.{spaces}
-use Rattle.yaml_grammar.specs.Trees.{text}
 use Rattle.yaml_data.specs.Seen.{tree_of}
 use Rattle.conf_state.proofs.LineLemmas.{ascii}
 use Rattle.conf_record.proofs.EditLines.{import_at}
@@ -18,8 +17,8 @@ returns-clause-takes g c =
     let start = c.args.sink.now in
     let between = c.write_text_member.new.sink in
     let end = c.write_value_member.new.sink in
-    let first = subst (λ key. Takes start (key ++ value_at (text name) i) between)
-    (ascii (codes "import:") refl) c.in_ok-write_text_member.ensures in
+    let first = subst (λ key. Takes start (key ++ scalar_lines (i + 2) name) between)
+    (ascii (codes "import: ") refl) c.in_ok-write_text_member.ensures in
     on_ok_weaker c.write_value_member.result
     (λ written. subst (λ cs. Takes start cs end) (import_at i name tree)
     (g.met.S.Sink.takes_both _ _ _ _ _ first (subst (λ key. Takes between (spaces i ++ key ++ value_at tree i) end)

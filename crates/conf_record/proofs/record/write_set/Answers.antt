@@ -1,9 +1,8 @@
-use Rattle.std.proofs.Common.{◌++◌, codes, refl, subst}
+use Rattle.std.proofs.Common.{◌+◌, ◌++◌, codes, refl, subst}
 use Rattle.std.proofs.lemmas.Result.{on_ok_weaker}
 use Rattle.std.specs.Str.{chars}
-use Rattle.yaml_grammar.specs.Style.{value_at}
+use Rattle.yaml_grammar.specs.Style.{scalar_lines, value_at}
 use Rattle.yaml_grammar.specs.Texts.{spaces}
-use Rattle.yaml_grammar.specs.Trees.{text}
 use Rattle.yaml_config.proofs.TextTreeLemmas.{chars-IsText}
 use Rattle.yaml_data.specs.Seen.{tree_of}
 use Rattle.conf_state.proofs.LineLemmas.{ascii}
@@ -20,16 +19,16 @@ returns-clause-takes g c =
     let value = tree_of c.args.value.now in
     let start = c.args.sink.now in
     let named = c.write_text_member.new.sink in
-    let indented = c.put_spaces.new.self in
+    let indented = c.write_margin.new.sink in
     let pathed = c.write_text_member-2.new.sink in
     let end = c.write_value_member.new.sink in
-    let first = subst (λ key. Takes start (key ++ value_at (text name) i) named)
-    (ascii (codes "set:") refl) c.in_ok-write_text_member.ensures in
-    let second = subst (λ key. Takes indented (key ++ value_at (text path) i) pathed)
-    (ascii (codes "path:") refl) c.in_ok-write_text_member-2.ensures in
+    let first = subst (λ key. Takes start (key ++ scalar_lines (i + 2) name) named)
+    (ascii (codes "set: ") refl) c.in_ok-write_text_member.ensures in
+    let second = subst (λ key. Takes indented (key ++ scalar_lines (i + 2) path) pathed)
+    (ascii (codes "path: ") refl) c.in_ok-write_text_member-2.ensures in
     on_ok_weaker c.write_value_member.result
     (λ written. subst (λ cs. Takes start cs end) (set_lines_at i name path value)
-    (both _ _ _ _ _ first (both _ _ _ _ _ (both _ _ _ _ _ c.in_ok-put_spaces.ensures second)
+    (both _ _ _ _ _ first (both _ _ _ _ _ (both _ _ _ _ _ c.in_ok-write_margin.ensures second)
     (subst (λ key. Takes pathed (spaces i ++ key ++ value_at value i) end) (ascii (codes "value:") refl) written))))
     c.write_value_member.ensures.takes
 

@@ -1,20 +1,22 @@
+use Rattle.std.proofs.Common.{◌≡◌, IfSome, subst, sym}
 use Rattle.std.proofs.lemmas.Result.{err_from_is_err_and}
-use Rattle.conf_session.specs.Requests.{Asks, MeansRequest}
-use Rattle.conf_session.specs.Said.{said_of}
+use Rattle.conf_state.specs.Commands.{command_of}
+use Rattle.conf_session.specs.Requests.{Asks, changing}
 use Rattle.conf_session.proofs.RequestLemmas.{handles-none, handles-retold}
 use Rattle.conf_session.proofs.reply.answer_piece.Goals as goal
 
-pub returns-in_err-said : goal.returns-in_err-said
-returns-in_err-said g c =
+pub returns-in_err-command : goal.returns-in_err-command
+returns-in_err-command g c =
     let d = g.D.Disk in
     let none = handles-none d.model c.args.store.now (Asks c.args.piece.now) in
     let p = err_from_is_err_and c.from_residual.result c.from_residual.ensures.1 in
     rw (p.1, p.2) none
 
-pub returns : goal.returns
-returns g c =
+pub returns-in-Some : goal.returns-in-Some
+returns-in-Some g c =
     let d = g.D.Disk in
-    let said = said_of c.in_ok-said.said in
-    handles-retold d.model c.args.store.now c.answer_said.new.store (MeansRequest said) (Asks c.args.piece.now)
-    (λ request is. (said, c.in_ok-said.ensures, is))
-    c.answer_said.result c.answer_said.ensures
+    let command = command_of c.in-Some.command in
+    let asks : Asks c.args.piece.now (changing command) =
+    subst (λ found. IfSome found (λ command. Asks c.args.piece.now (changing (command_of command)))) c.in-Some.is c.in_ok-command.ensures in
+    handles-retold d.model c.args.store.now c.change.new.store (λ request. request ≡ changing command) (Asks c.args.piece.now)
+    (λ request is. subst (Asks c.args.piece.now) (sym is) asks) c.change.result c.change.ensures

@@ -1,15 +1,13 @@
 use Rattle.std.proofs.Common.{rules, ◌≡◌, inl, inr, ⊎_elim, ◌+◌, min, max, ◌∙◌, ap}
 use Rattle.std.specs.Prelude.{string_bytes}
-use Rattle.yaml_grammar.specs.Texts.{byte_len}
-use Rattle.conf_disk.specs.Moments.{greatest}
 use Rattle.conf_state.specs.Commands.{command_of}
 use Rattle.conf_state.specs.States.{count_limit}
-use Rattle.conf_record.specs.Records.{record_bytes, record_text}
+use Rattle.conf_record.specs.Records.{record_bytes}
 use Rattle.conf_store.specs.Stagings.{staged_of}
 use Rattle.conf_store.specs.Calls.{next_number}
 use Rattle.conf_store.specs.Staged.{staged_length}
 use Rattle.conf_store.proofs.RefusalLemmas.{of-state}
-use Rattle.conf_store.proofs.StoreLemmas.{accepted, refused-outcome, room-measured}
+use Rattle.conf_store.proofs.StoreLemmas.{accepted, refused-outcome, room-next}
 use Rattle.conf_store.proofs.accepting.accept.Goals as goal
 
 pub returns-in-Ok-clause-ok : goal.returns-in-Ok-clause-ok
@@ -20,13 +18,13 @@ returns-in-Ok-clause-ok c =
     let number : c.saturating_add-number.result ≡ next_number s = c.saturating_add-number.ensures
     ∙ ap (λ n. min (n + 1) count_limit) c.count.ensures.count in
     let most : c.max-longest.result ≡ longest = search (rules, c.max-longest.ensures, c.len.ensures) in
-    let measured = c.record_length-bytes.ensures ∙ ap (λ n. min (byte_len (record_text command n)) greatest) number in
-    let room = room-measured longest s command c.of-room.result c.record_length-bytes.result c.max-longest.result
-    c.of-room.ensures most measured in (
+    let measured = c.in_ok-record.ensures in
+    let room = room-next longest s command c.in_ok-record.room c.saturating_add-number.result c.max-longest.result
+    measured.measured number most in (
       accepted c.steps_are_counted_or_refused.ensures.room c.steps_are_counted_or_refused.ensures.count
-          c.documents_are_read.ensures.records c.documents_close.ensures.records s c.step.new.state command c.of-room.result
+          c.documents_are_read.ensures.records c.documents_close.ensures.records s c.step.new.state command c.in_ok-record.room
           (string_bytes c.in_ok-record.record) longest c.count.ensures.limits c.count-in-Ok.ensures.limits
-          (λ enough. (let made = c.in_ok-record.ensures enough in
+          (λ enough. (let made = measured.made enough in
           (made.0, made.1 ∙ ap (record_bytes command) number))) c.in-Ok.ensures.ok room,
       c.count-in-Ok.ensures.count,
     )
@@ -39,10 +37,9 @@ returns-in-Err-clause-refused c =
     let number : c.saturating_add-number.result ≡ next_number s = c.saturating_add-number.ensures
     ∙ ap (λ n. min (n + 1) count_limit) c.count.ensures.count in
     let most : c.max-longest.result ≡ longest = search (rules, c.max-longest.ensures, c.len.ensures) in
-    let measured = c.record_length-bytes.ensures ∙ ap (λ n. min (byte_len (record_text command n)) greatest) number in
-    let room = room-measured longest s command c.of-room.result c.record_length-bytes.result c.max-longest.result
-    c.of-room.ensures most measured in
-    ⊎_elim (λ memory. inl memory) (λ e. inr (refused-outcome longest s command c.of-room.result c.in-Err.fault room
+    let room = room-next longest s command c.in_ok-record.room c.saturating_add-number.result c.max-longest.result
+    c.in_ok-record.ensures.measured number most in
+    ⊎_elim (λ memory. inl memory) (λ e. inr (refused-outcome longest s command c.in_ok-record.room c.in-Err.fault room
     e)) c.in-Err.ensures.refused
 
 pub returns-in-Err-clause-of_state : goal.returns-in-Err-clause-of_state

@@ -1,0 +1,116 @@
+-- A configuration that is built from its lines is the one of the base.
+use Rattle.std.proofs.Common.{◌≡◌, Bool, true, false, if◌then◌else◌, List, [], ◌∷◌, ◌++◌, codes, decimal, Some}
+use Rattle.std.proofs.Common.{encode_utf8_all, append-nil, length, ◌≤◌, ℕ, refl, sym, ap, subst, ◌∙◌, arith}
+use Rattle.std.proofs.lemmas.Str.{encodes-append}
+use Rattle.yaml_grammar.specs.Reads.{Good}
+use Rattle.yaml_grammar.specs.Texts.{same_text}
+use Rattle.yaml_grammar.specs.Trees.{Tree}
+use Rattle.yaml_grammar.specs.Style.{members_after}
+use Rattle.yaml_writer.specs.declared.size.Size.{Size}
+use Rattle.yaml_config.specs.Limits.{config_limits}
+use Rattle.yaml_data.proofs.CharacterLemmas.{same_text-true}
+use Rattle.conf_state.specs.BaseTexts.{members, base_bytes, entry_lines}
+use Rattle.conf_state.specs.Limits.{AreConfigs, IsState}
+use Rattle.conf_state.specs.Names.{good_name}
+use Rattle.conf_state.specs.States.{Entry, Contents, config_named, put_config}
+use Rattle.conf_state.proofs.DraftLemmas.{named-put-same}
+use Rattle.conf_state.proofs.LimitLemmas.{AreConfigs-put, names_differ-put}
+use Rattle.conf_record.specs.BaseSpans.{entry_bytes, IsBuilt}
+use Rattle.conf_record.specs.Entries.{IsEntry}
+use Rattle.conf_record.specs.Documents.{IsBase, BasesAreRead, OneBase}
+use Rattle.conf_record.proofs.BaseSpanLemmas.{bytes_length}
+use Rattle.conf_record.proofs.EntryLemmas.{style_within, whole_base}
+
+-- a configuration has a good name
+named_well : (es : List Entry) (name : List ℕ) (t : Tree) → AreConfigs es → config_named es name ≡ Some t → good_name name ≡ true
+named_well [] name t all found = cc
+named_well (e ∷ es) name t all found = by (same_text name e.0) refl found (named_well es name t all.2)
+  where
+    by : (b : Bool) → same_text name e.0 ≡ b → (if b then Some e.1 else config_named es name) ≡ Some t
+        → (config_named es name ≡ Some t → good_name name ≡ true) → good_name name ≡ true
+    by true same is rest = ap good_name (same_text-true name e.0 same) ∙ all.0
+    by false same is rest = rest is
+
+-- configurations one of which is replaced by one with the same lines
+same_lines : (es : List Entry) (name : List ℕ) (t u : Tree) → config_named es name ≡ Some t → entry_bytes name t ≡ entry_bytes name u
+    → encode_utf8_all (members_after (members (put_config es name u)) 2) ≡ encode_utf8_all (members_after (members es) 2)
+same_lines [] name t u found same = cc
+same_lines (e ∷ es) name t u found same = by (same_text name e.0) refl found (same_lines es name t u)
+  where
+    one_more : (k : List ℕ) (v : Tree) (xs : List Entry)
+        → encode_utf8_all (members_after (members ((k, v) ∷ xs)) 2) ≡ entry_bytes k v ++ encode_utf8_all (members_after (members xs) 2)
+    one_more k v xs = encodes-append (entry_lines k v) (members_after (members xs) 2)
+
+    by : (b : Bool) → same_text name e.0 ≡ b → (if b then Some e.1 else config_named es name) ≡ Some t
+        → (config_named es name ≡ Some t → entry_bytes name t ≡ entry_bytes name u
+        → encode_utf8_all (members_after (members (put_config es name u)) 2) ≡ encode_utf8_all (members_after (members es) 2))
+        → encode_utf8_all (members_after (members (if b then (e.0, u) ∷ es else e ∷ put_config es name u)) 2)
+        ≡ encode_utf8_all (members_after (members (e ∷ es)) 2)
+    by true here is rest =
+        let is_it : e.1 ≡ t = cc is in
+        let k = same_text-true name e.0 here in
+        one_more e.0 u es
+        ∙ ap (λ bs. bs ++ encode_utf8_all (members_after (members es) 2))
+        (ap (λ n. entry_bytes n u) (sym k) ∙ sym same ∙ ap (λ n. entry_bytes n t) k ∙ ap (entry_bytes e.0) (sym is_it))
+        ∙ sym (one_more e.0 e.1 es)
+    by false here is rest =
+        one_more e.0 e.1 (put_config es name u) ∙ ap (λ bs. entry_bytes e.0 e.1 ++ bs) (rest is same) ∙ sym (one_more e.0 e.1 es)
+
+none_there : (es : List Entry) (name : List ℕ) (t : Tree) → config_named es name ≡ Some t → es ≡ [] → ⊥
+none_there [] name t found none = cc
+none_there (e ∷ es) name t found none = cc
+
+none_put : (es : List Entry) (name : List ℕ) (t : Tree) → put_config es name t ≡ [] → ⊥
+none_put [] name t none = cc
+none_put (e ∷ es) name t none = by (same_text name e.0) none
+  where
+    by : (b : Bool) → (if b then (e.0, t) ∷ es else e ∷ put_config es name t) ≡ [] → ⊥
+    by true none = cc
+    by false none = cc
+
+-- a good configuration that has the lines of the one under its name is that one
+pub built_is : BasesAreRead → OneBase → (s : Contents) (name : List ℕ) (t u : Tree) → IsState s → config_named s.configs name ≡ Some t
+    → Good u config_limits → entry_bytes name t ≡ entry_bytes name u → config_named s.configs name ≡ Some u
+built_is read one s name t u kept found good same =
+    let es = s.configs in
+    let new = put_config es name u in
+    let other : Contents = record { configs = new; count = s.count } in
+    let end = codes "...\n" in
+    let lines = encode_utf8_all (members_after (members es) 2) ++ end in
+    let text = codes "---\nstore: confstore-2\nat: \"" ++ (encode_utf8_all (decimal s.count) ++ (codes "\"\nconfigs:\n" ++ lines)) in
+    let whole : text ≡ base_bytes s = whole_base text lines es s.count (none_there es name t found) kept.numbered refl refl in
+    let swapped : text ≡ base_bytes other = whole_base text lines new s.count (none_put es name u) kept.numbered refl
+    (ap (λ bs. bs ++ end) (sym (same_lines es name t u found same))) in
+    let bytes : base_bytes other ≡ base_bytes s = sym swapped ∙ whole in
+    let size = bytes_length other ∙ ap (λ bs. length bs) bytes ∙ sym (bytes_length s) in
+    let short = kept.short in
+    let keeps : IsState other = record {
+      configs = AreConfigs-put es name u (named_well es name t kept.configs found) good kept.configs;
+      distinct = names_differ-put es name u kept.distinct;
+      short = omega (arith, size, short);
+      numbered = kept.numbered;
+    } in
+    let is : other ≡ s = one (base_bytes s) s other (read s kept) (subst (λ bs. IsBase bs other) bytes (read other keeps)) in
+    ap (λ c. config_named c.configs name) (sym is) ∙ named-put-same es name u
+
+-- the first characters of a list with none
+pub no_bytes : (rest : List ℕ) → length rest ≡ 0 → rest ≡ []
+no_bytes [] none = refl
+no_bytes (c ∷ cs) none = cc
+
+-- what is read of lines, to their end, is built
+pub built_from : (at lines key rest name : List ℕ) (t : Tree) (size : Size) → lines ≡ at → IsEntry lines key t size rest → rest ≡ []
+    → key ≡ name → size.bytes ≤ 4194304 → IsBuilt at name t
+built_from at lines key rest name t size there read none named small =
+    let bytes = ap (λ s. s.bytes) read.size_is in
+    let sound = read.sound in
+    record {
+      written = sym there ∙ read.written ∙ ap (λ r. entry_bytes key t ++ r) none ∙ append-nil (entry_bytes key t)
+          ∙ ap (λ n. entry_bytes n t) named;
+      within = record {
+        texts = sound.texts;
+        keys = sound.keys;
+        deep = sound.shallow;
+        long = omega (arith, bytes, small, style_within t);
+      };
+    }

@@ -1,0 +1,24 @@
+use Rattle.std.proofs.Common.{◌≡◌, ◌≤◌, ◌++◌, codes, decimal, encode_utf8_all, length, true≢false, sym, subst, ◌∙◌, arith}
+use Rattle.conf_record.specs.BaseSpans.{AreFound}
+use Rattle.conf_record.proofs.BaseSpanLemmas.{found_whole}
+use Rattle.conf_record.proofs.base_spans.Found.of.Goals as goal
+
+pub returns : goal.returns
+returns c =
+    let bytes = c.args.text.now in
+    let lines = c.in-Some.lines.now in
+    let listed = c.in_ok-spans.ensures in
+    let made = c.new.result in
+    let same = sym c.new.ensures.spans in
+    let count = c.new.ensures.count in
+    let short : length bytes ≤ 67108864 = omega arith in
+    let some : length c.in_ok-spans.spans.entries ≡ 0 → ⊥ = λ none.
+    true≢false (sym (c.is_empty.ensures.1 none) ∙ c.if-is_empty.false) in
+    let is = subst (λ n. bytes ≡ codes "---\nstore: confstore-2\nat: \""
+    ++ (encode_utf8_all (decimal n) ++ (codes "\"\nconfigs:\n" ++ lines))) (sym count.0) c.in-Some.ensures in (
+      record { configs = listed.0; count = made.count },
+      found_whole bytes lines made.spans.entries listed.0 made.count made.total
+          (subst (λ spans. AreFound lines spans.entries listed.0 (codes "...\n")) same listed.1)
+          (subst (λ spans. length spans.entries ≡ 0 → ⊥) same some)
+          (subst (λ n. n ≤ 18446744073709551615) (sym count.0) count.1) short c.new.ensures.total is,
+    )

@@ -1,0 +1,16 @@
+use Rattle.std.proofs.Common.{subst, sym, ap, ◌∙◌, arith}
+use Rattle.std.specs.Str.{chars}
+use Rattle.yaml_grammar.specs.Trees.{text}
+use Rattle.yaml_config.specs.Kept.{IsKept}
+use Rattle.yaml_data.specs.Seen.{tree_of}
+use Rattle.yaml_data.proofs.SeenLemmas.{tree_of-Text}
+use Rattle.conf_session.proofs.CommandLineLemmas.{short_kept}
+use Rattle.conf_session.proofs.part_lines.made_value.Goals as goal
+
+pub part-requires : goal.part-requires
+part-requires c =
+    subst IsKept (sym (tree_of-Text c.in_ok-value.value ∙ ap (λ bs. text (chars bs)) c.in_ok-value.ensures))
+    (short_kept c.args.value.now c.utf8.value (omega arith))
+
+pub returns : goal.returns
+returns c = ap tree_of c.part.ensures ∙ tree_of-Text c.in_ok-value.value ∙ ap (λ bs. text (chars bs)) c.in_ok-value.ensures
