@@ -7,3 +7,4 @@ pub mod OutputLemmas
 pub mod LogLemmas
 pub mod LineLemmas
 pub mod SalvageLemmas
+pub mod NarrowLemmas

@@ -7,3 +7,5 @@ pub mod Histories
 pub mod Logs
 pub mod Salvages
 pub mod Walks
+pub mod Bases
+pub mod Narrow

@@ -24,11 +24,12 @@ use yaml_recognizers::closings::one_list_of_pieces;
 ///
 /// The file is read as by [`state_at`](crate::state_at), and can't be changed by this. The bytes after its last closing
 /// line are left out. The new store is made on `disk`, which may have no `store.yaml`, and is synced when this returns
-/// `Ok`. A crash at any moment of the call leaves what it could leave before, or the whole new file. It takes memory for
-/// the state and for the file.
+/// `Ok`. A crash at any moment of the call leaves what it could leave before, or the whole new file. It takes memory
+/// for the state and for the file.
 ///
 /// # Errors
-/// The disk is returned with the fault. `History`: the file can't be read, is no store or is damaged; nothing is written.
+/// The disk is returned with the fault. `History`: the file can't be read, is no store or is damaged; nothing is
+/// written.
 /// `StoreExists`: there is a `store.yaml` on the disk. `Device`: the device failed; there is no `store.yaml`, or the
 /// whole new one. `OutOfMemory`: nothing is written.
 pub fn back_up<R: Read, D: Disk + Drop>(

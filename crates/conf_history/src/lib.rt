@@ -5,18 +5,22 @@
 //! ([`reading_beside_a_writer`]).
 //!
 //! - [`state_at`] returns the state after all commands, or after the one with a number.
+//! - [`config_at`] returns one configuration of it, and [`names_at`] the names of all, without building the others.
 //! - [`write_log`] writes which commands the file holds.
 //! - [`survey_store`] says what an opening would find, also in a damaged file.
 //! - [`salvage`] makes a new store of what stands before the damage.
 //! - [`back_up`] makes a new store with the same base and records.
 #![tactic(auto)]
 
+mod base;
 mod copying;
 mod fault;
 mod laws;
 mod line;
 mod log;
+mod narrow;
 mod output;
+mod part_reading;
 mod place;
 mod reading;
 mod saving;
@@ -29,6 +33,7 @@ pub use fault::{HistoryFault, SalvageFault};
 pub use laws::reading_beside_a_writer;
 pub use line::LineForm;
 pub use log::{LogForm, write_log};
+pub use part_reading::{config_at, names_at};
 pub use place::BadPiece;
 pub use reading::state_at;
 pub use saving::salvage;

@@ -32,8 +32,8 @@ pub enum LogForm {
 ///
 /// With [`LogForm::Lines`] a line has the number, the word `import`, `set` or `delete`, the name, and for a set or a
 /// delete the pointer in double quotes, as `2 set web "/port"`. A batch is one line: its number, the word `batch`, and
-/// its edits with `; ` between them, as `4 batch import web; set web "/port"`. With [`LineForm::Values`] each import and
-/// each set has a space and its value after it, as a JSON text (RFC 8259) without whitespace between its parts:
+/// its edits with `; ` between them, as `4 batch import web; set web "/port"`. With [`LineForm::Values`] each import
+/// and each set has a space and its value after it, as a JSON text (RFC 8259) without whitespace between its parts:
 /// `2 set web "/port" "81"`. With [`LogForm::Records`] the bytes of each record are written.
 ///
 /// # Errors

@@ -57,10 +57,7 @@ impl Walk {
             ((number : ℕ) × (at ≡ Some number) × (number < self.now.state.count)) }
         ensures fault { IfErr result (λ fault. fault ≡ HistoryFault.NoSuchCommand) }
     {
-        match at {
-            Some(number) if number < self.state.count() => Err(HistoryFault::NoSuchCommand),
-            _ => Ok(()),
-        }
+        check_start(self.state.count(), at)
     }
 
     /// Goes on to the next piece, if the command with the number is not performed yet. Returns whether there is one.
@@ -94,16 +91,36 @@ impl Walk {
         ensures fault { IfErr result (λ fault. fault ≡ HistoryFault.NoSuchCommand) }
         ensures limits { IsState self.now.state }
     {
-        let count = self.state.count();
-        match at {
-            Some(number) if number != count => Err(HistoryFault::NoSuchCommand),
-            _ => Ok(()),
-        }
+        check_end(self.state.count(), at)
+    }
+}
+
+/// Fails with `NoSuchCommand` if the number is before that of the base, which has `count` commands.
+pub(crate) fn check_start(count: u64, at: Option<u64>) -> Result<(), HistoryFault>
+    ensures ok { OnOk result ((number : ℕ) → at ≡ Some number → count ≤ number) }
+    ensures before { OnErr result ((number : ℕ) × (at ≡ Some number) × (number < count)) }
+    ensures fault { IfErr result (λ fault. fault ≡ HistoryFault.NoSuchCommand) }
+{
+    match at {
+        Some(number) if number < count => Err(HistoryFault::NoSuchCommand),
+        _ => Ok(()),
+    }
+}
+
+/// Fails with `NoSuchCommand` if the number is another than that of the last of `count` commands.
+pub(crate) fn check_end(count: u64, at: Option<u64>) -> Result<(), HistoryFault>
+    ensures ok { OnOk result ((number : ℕ) → at ≡ Some number → count ≡ number) }
+    ensures other { OnErr result ((number : ℕ) × (at ≡ Some number) × (count ≢ number)) }
+    ensures fault { IfErr result (λ fault. fault ≡ HistoryFault.NoSuchCommand) }
+{
+    match at {
+        Some(number) if number != count => Err(HistoryFault::NoSuchCommand),
+        _ => Ok(()),
     }
 }
 
 /// Whether a count is the number that is asked for.
-fn is_reached(at: Option<u64>, count: u64) -> bool
+pub(crate) fn is_reached(at: Option<u64>, count: u64) -> bool
     ensures reached { result ≡ true → at ≡ Some count }
     ensures not_yet { result ≡ false → at ≢ Some count }
 {

@@ -1,0 +1,9 @@
+-- The configurations of a base.
+use Rattle.std.specs.Prelude.{List}
+use Rattle.conf_state.specs.States.{Entry}
+use Rattle.conf_history.specs.declared.base.Base.{Base}
+use Rattle.conf_history.specs.declared.base.Base.TheVariants.{Written, Spelled}
+
+abbrev pub configs_of : Base → List Entry
+configs_of (Written base) = base.configs
+configs_of (Spelled state) = state.configs

@@ -1,0 +1,83 @@
+// One configuration that a store's file held after a command, and the names of all.
+ghost use Rattle.std.specs.Prelude.{◌≡◌, map, option_map, IfOk, IfErr, IfSome};
+ghost use Rattle.std.specs.Str.{chars};
+ghost use Rattle.yaml_data.specs.Seen.{tree_of};
+ghost use Rattle.conf_state.specs.Commands.{text_of};
+ghost use Rattle.conf_state.specs.States.{Contents, names_of, config_named};
+ghost use Rattle.conf_history.specs.Histories.{ReadsState, RefusesReading};
+
+use crate::base::Base;
+use crate::fault::HistoryFault;
+use crate::narrow::NarrowWalk;
+use crate::reading::{check_end, check_start};
+use conf_state::Part;
+use std::alloc::Global;
+use std::io::Read;
+use yaml_config::Config;
+use yaml_recognizers::closings::one_list_of_pieces;
+
+/// Reads the configuration that a store's file held under a name: after all its commands, or after the one with the
+/// number `at`. Returns `None` if no configuration had the name.
+///
+/// The file is read as by [`state_at`](crate::state_at), with the same faults, and all that is read is checked. Of the
+/// configurations only this one is built, and those that the records put or edit. Of the others the text of the base is
+/// kept, if it is as a store writes it.
+///
+/// # Errors
+/// Those of [`state_at`](crate::state_at).
+pub fn config_at<R: Read>(
+    alloc: Global,
+    reader: &mut R,
+    at: Option<u64>,
+    name: &str,
+) -> Result<Option<Config>, HistoryFault>
+    ensures ok { IfOk result (λ found. (s : Contents)
+        × ReadsState (R.remaining reader.old) (R.remaining reader.new) at s
+        × (option_map tree_of found ≡ config_named s.configs (chars name.now))) }
+    ensures refused { IfErr result (λ fault.
+        IfSome (R.remaining reader.old) (λ bytes. RefusesReading bytes at fault)) }
+{
+    let part = part_at(alloc, reader, at)?;
+    Ok(part.copy_of(alloc, name)?)
+}
+
+/// Reads the names of the configurations that a store's file held, in order: after all its commands, or after the one
+/// with the number `at`. It reads as [`config_at`] does.
+///
+/// # Errors
+/// Those of [`state_at`](crate::state_at).
+pub fn names_at<R: Read>(
+    alloc: Global,
+    reader: &mut R,
+    at: Option<u64>,
+) -> Result<Vec<String>, HistoryFault>
+    ensures ok { IfOk result (λ names. (s : Contents)
+        × ReadsState (R.remaining reader.old) (R.remaining reader.new) at s
+        × (map text_of names.items ≡ names_of s.configs)) }
+    ensures refused { IfErr result (λ fault.
+        IfSome (R.remaining reader.old) (λ bytes. RefusesReading bytes at fault)) }
+{
+    let part = part_at(alloc, reader, at)?;
+    Ok(part.names(alloc)?)
+}
+
+/// Reads the state that a store's file held, as [`state_at`](crate::state_at) does, without building it.
+fn part_at<R: Read>(
+    alloc: Global,
+    reader: &mut R,
+    at: Option<u64>,
+) -> Result<Part<Base>, HistoryFault>
+    ensures ok { IfOk result
+        (ReadsState (R.remaining reader.old) (R.remaining reader.new) at) }
+    ensures refused { IfErr result (λ fault.
+        IfSome (R.remaining reader.old) (λ bytes. RefusesReading bytes at fault)) }
+{
+    one_list_of_pieces();
+    let mut walk = NarrowWalk::begin(alloc, reader)?;
+    check_start(walk.part.count(), at)?;
+    'records: while walk.goes_on(reader, at)? {
+        walk = walk.perform_piece(alloc)?;
+    }
+    check_end(walk.part.count(), at)?;
+    Ok(walk.part)
+}
