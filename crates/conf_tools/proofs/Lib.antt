@@ -8,6 +8,8 @@ pub mod ExportLemmas
 pub mod ChangeLemmas
 pub mod ReadLemmas
 pub mod FoundLemmas
+pub mod DroppedLemmas
+pub mod HeldLemmas
 pub mod FileLemmas
 pub mod OutcomeLemmas
 mod MadeLemmas

@@ -1,12 +1,15 @@
 -- Where the status is 0, nothing was told.
 use Rattle.std.proofs.Common.{◌≡◌, ◌<◌, ◌⊎◌, ℕ, Bool, true, false, List, refl, sym, ◌∙◌, ap, subst, arith, rules, inl, inr, codes}
-use Rattle.std.specs.Prelude.{nat_lt, if◌then◌else◌, Result, Ok, Err, OnOk}
+use Rattle.std.specs.Prelude.{nat_lt, if◌then◌else◌, None, Result, Ok, Err, OnOk}
 use Rattle.std.proofs.lemmas.Grind.{common_steps}
+use Rattle.conf_session.specs.declared.session.Tally.{Tally}
 use Rattle.conf_tools.specs.Dropped.{TellsDropped}
 use Rattle.conf_tools.specs.FaultLines.{text_fault_name}
 use Rattle.conf_tools.specs.Listening.{fault_line}
-use Rattle.conf_tools.specs.Outcomes.{EndsWriting, LeavesText, SilentIfDone, SilentReport, TellsOnlyTold, TellsOutcome, status_of_outcome}
+use Rattle.conf_tools.specs.Outcomes.{EndsWriting, LeavesText, SilentIfDone, SilentReport, TellsOnlyTold, TellsOutcome}
+use Rattle.conf_tools.specs.Outcomes.{TellsSession, TellsUnperformed, status_of_outcome}
 use Rattle.conf_tools.specs.Statuses.{code_of, status_of, worst}
+use Rattle.conf_tools.specs.Tails.{end_of_rest}
 use Rattle.conf_tools.specs.TextWords.{status_after, status_after_check, status_of_report}
 use Rattle.conf_tools.specs.declared.outcome.Ending.{Ending}
 use Rattle.conf_tools.specs.declared.outcome.Ending.TheVariants.{Of, Told}
@@ -14,6 +17,7 @@ use Rattle.conf_tools.specs.declared.outcome.Outcome.{Outcome}
 use Rattle.conf_tools.specs.declared.outcome.Outcome.TheVariants as ends
 use Rattle.conf_tools.specs.declared.program.Status.{Status}
 use Rattle.conf_tools.specs.declared.program.Status.TheVariants.{Done, Device}
+use Rattle.conf_tools.specs.declared.tail.Tail.{Tail}
 use Rattle.conf_tools.specs.declared.texts.ToolFault.{ToolFault}
 use Rattle.conf_tools.specs.declared.texts.ToolFault.TheVariants.{Input, Output, Read, Comments}
 
@@ -95,6 +99,14 @@ module _ {E : Type 0} where
         → TellsDropped hears old mid → TellsOnlyTold ending mid new → LeavesText hears old ending new
     text_left (Of outcome) old mid new told same = subst (TellsDropped hears old) (sym same) told
     text_left (Told status) old mid new told failed = λ zero. absurd (failed zero)
+
+    -- what opening dropped was told, and then what a session did not perform
+    pub session_told : {A F : Type 0} (tail : Tail) (ended : Result (A × Tally) F) (old mid new : E) → TellsDropped hears old mid
+        → TellsUnperformed hears tail ended mid new → TellsSession hears old new
+    session_told tail (Ok (disk, tally)) old mid new dropped told =
+        record { opened = mid; dropped = dropped; end = end_of_rest tail.kept tail.blanks tally.rest; rest = tally.rest; tells = told }
+    session_told tail (Err fault) old mid new dropped same =
+        record { opened = mid; dropped = dropped; end = None; rest = 0; tells = same }
 
     -- a text that was written whole, or not
     pub written_told : (outcome : Outcome) (status : Status) (old new : E)

@@ -1,21 +1,16 @@
 -- What the words that read a store write, piece after piece.
-use Rattle.std.proofs.Common.{◌≡◌, ℕ, List, [], ◌∷◌, ◌++◌, sym, ap, ◌∙◌, append_assoc, append-nil, codes, Ok, Err}
+use Rattle.std.proofs.Common.{◌≡◌, ℕ, List, [], ◌∷◌, ◌++◌, refl, sym, ap, ◌∙◌, append_assoc, arith, ◌≤◌, codes, Ok, Err}
 use Rattle.std.proofs.lemmas.Str.{encodes-chars}
-use Rattle.std.specs.Prelude.{encode_utf8_all, Result, OnOk, is_ok, if◌then◌else◌, Option, Some, None}
+use Rattle.std.specs.Prelude.{encode_utf8_all, Result, OnOk, is_ok, suc, if◌then◌else◌, Option, Some, None}
 use Rattle.std.specs.Str.{IsUtf8, chars}
-use Rattle.yaml_grammar.specs.Trees.{Tree}
-use Rattle.tree_path.specs.Paths.{at}
-use Rattle.json_pointer.specs.Pointers.{path_of}
-use Rattle.json_pointer.specs.declared.fault.PathFault.{PathFault}
+use Rattle.yaml_grammar.specs.Trees.{Tree, depth}
+use Rattle.tree_path.specs.Paths.{at, at_from, at_step, child, refusal}
+use Rattle.tree_path.specs.declared.place.Miss.{Miss}
+use Rattle.yaml_config.specs.Kept.{IsKept, own_limits}
+use Rattle.yaml_config.proofs.Located.{child-within}
 use Rattle.conf_state.specs.States.{Contents}
-use Rattle.conf_state.specs.Steps.{and_then, by_path}
-use Rattle.conf_state.specs.declared.fault.StoreFault.{StoreFault}
-use Rattle.conf_state.specs.declared.fault.StoreFault.TheVariants.{Path}
-use Rattle.conf_store.specs.Calls.{tree_at, tree_named}
-use Rattle.conf_session.specs.Answers.{value_at_path}
 use Rattle.conf_history.specs.declared.fault.HistoryFault.TheVariants as history
 use Rattle.conf_history.specs.declared.survey.Findings.{Findings}
-use Rattle.conf_tools.specs.Reads.{name_lines}
 use Rattle.conf_tools.specs.Surveys.{CannotWrite, FileIsAs, RefusesWriting}
 use Rattle.conf_tools.specs.declared.reading_fault.ReadingFault.{ReadingFault}
 use Rattle.conf_tools.specs.declared.reading_fault.ReadingFault.TheVariants as reading
@@ -33,57 +28,21 @@ name_pushed old one two name utf8 first second =
     second ∙ ap (λ x. x ++ codes "\n") first ∙ append_assoc old name (codes "\n")
     ∙ ap (λ b. old ++ (b ++ codes "\n")) (sym (encodes-chars name utf8))
 
--- the line of one more name, and then those of the rest
-pub one_name_more : (lines new all name : List ℕ) (rest more : List (List ℕ)) → rest ≡ name ∷ more
-    → new ≡ lines ++ (encode_utf8_all name ++ codes "\n")
-    → lines ++ name_lines rest ≡ all → new ++ name_lines more ≡ all
-one_name_more lines new all name rest more split grows whole =
-    ap (λ x. x ++ name_lines more) grows ∙ append_assoc lines (encode_utf8_all name ++ codes "\n") (name_lines more)
-    ∙ ap (λ ns. lines ++ name_lines ns) (sym split) ∙ whole
-
--- where no name is left, all lines were written
-pub all_names : (lines all : List ℕ) (rest : List (List ℕ)) → rest ≡ [] → lines ++ name_lines rest ≡ all → lines ≡ all
-all_names lines all rest none whole = sym (append-nil lines) ∙ ap (λ ns. lines ++ name_lines ns) (sym none) ∙ whole
-
--- five pieces that were written one after the other
-pub five_pieces : (old a b c d e one two three four five : List ℕ) → one ≡ old ++ a → two ≡ one ++ b
-    → three ≡ two ++ c → four ≡ three ++ d → five ≡ four ++ e
-    → five ≡ old ++ (a ++ b ++ c ++ d ++ e)
-five_pieces old a b c d e one two three four five p q r s t =
-    t ∙ ap (λ x. x ++ e) (s ∙ ap (λ x. x ++ d) (r ∙ ap (λ x. x ++ c) (q ∙ ap (λ x. x ++ b) p ∙ append_assoc old a b)
-    ∙ append_assoc old (a ++ b) c) ∙ append_assoc old (a ++ b ++ c) d)
-    ∙ append_assoc old (a ++ b ++ c ++ d) e
-
 -- ---- the value at a pointer
 
-module _ (s : Contents) (name p : List ℕ) where
-  -- there is no configuration
-  pub value_unnamed : (f : StoreFault) → tree_named s name ≡ Err f → value_at_path s name p ≡ Err f
-  value_unnamed f e = ap (λ r. and_then r (λ t. and_then (by_path (path_of p)) (λ tokens. by_path (at t tokens)))) e
+at-within : (step : ℕ) (t v : Tree) (tokens : List (List ℕ)) → at_from step t tokens ≡ Ok v → depth v ≤ depth t
+at-within step t v [] e = let same : t ≡ v = cc in let deep = ap depth same in omega (arith, deep)
+at-within step t v (token ∷ tokens) e = by (child t token) (λ u. at-within (suc step) u v tokens) refl e
+  where
+    by : (r : Result Tree Miss) → ((u : Tree) → at_from (suc step) u tokens ≡ Ok v → depth v ≤ depth u) → child t token ≡ r
+        → at_step step r (λ u. at_from (suc step) u tokens) ≡ Ok v → depth v ≤ depth t
+    by (Ok u) rest is e = let deeper = rest u e in let here = (child-within t u token is).1 in omega (arith, deeper, here)
+    by (Err miss) rest is e = let never : Err (refusal miss step) ≡ Ok v = e in cc
 
-  module _ (t : Tree) (named : tree_named s name ≡ Ok t) where
-    by_name : value_at_path s name p ≡ and_then (by_path (path_of p)) (λ tokens. by_path (at t tokens))
-    by_name = ap (λ r. and_then r (λ u. and_then (by_path (path_of p)) (λ tokens. by_path (at u tokens)))) named
-
-    -- the text is no pointer
-    pub value_no_pointer : (f : PathFault) → path_of p ≡ Err f → value_at_path s name p ≡ Err (Path f)
-    value_no_pointer f e = by_name ∙ ap (λ r. and_then (by_path r) (λ tokens. by_path (at t tokens))) e
-
-    module _ (tokens : List (List ℕ)) (path : path_of p ≡ Ok tokens) where
-      by_tokens : value_at_path s name p ≡ by_path (at t tokens)
-      by_tokens = by_name ∙ ap (λ r. and_then (by_path r) (λ ts. by_path (at t ts))) path
-
-      -- the pointer leads to a value
-      pub value_there : (v : Tree) → at t tokens ≡ Ok v → value_at_path s name p ≡ Ok v
-      value_there v e = by_tokens ∙ ap by_path e
-
-      -- the pointer leads nowhere
-      pub value_nowhere : (f : PathFault) → at t tokens ≡ Err f → value_at_path s name p ≡ Err (Path f)
-      value_nowhere f e = by_tokens ∙ ap by_path e
-
-  -- the value at the tokens of a path
-  pub value_at_tokens : (t v : Tree) (tokens : List (List ℕ)) → tree_named s name ≡ Ok t → at t tokens ≡ Ok v → tree_at s name tokens ≡ Ok v
-  value_at_tokens t v tokens named e = ap (λ r. and_then r (λ u. by_path (at u tokens))) named ∙ ap by_path e
+-- a value in a configuration is no deeper than what is written
+pub value-shallow : (t v : Tree) (tokens : List (List ℕ)) → IsKept t → at t tokens ≡ Ok v → depth v ≤ own_limits.depth
+value-shallow t v tokens kept e =
+    let within = at-within 1 t v tokens e in let deep = kept.deep in omega (arith, within, deep)
 
 -- ---- findings
 

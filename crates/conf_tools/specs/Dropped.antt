@@ -1,5 +1,5 @@
 -- What is said of the bytes after the last whole record of a `store.yaml`, which opening drops.
-use Rattle.std.specs.Prelude.{◌≡◌, ◌⊎◌, ℕ, ◌==◌, if◌then◌else◌, List, [], ◌++◌, Option, codes, decimal}
+use Rattle.std.specs.Prelude.{◌≡◌, ◌⊎◌, ℕ, zero, suc, ◌==◌, if◌then◌else◌, List, ◌++◌, Option, codes, decimal}
 use Rattle.conf_state.specs.States.{Contents}
 use Rattle.conf_store.specs.Opens.{FileRecoversTo}
 
@@ -9,12 +9,16 @@ dropped_bytes_line dropped =
     codes "confstore: the last " ++ decimal dropped
     ++ codes " bytes of store.yaml were dropped: they were no whole record\n"
 
--- the line for so many bytes; nothing where there are none
+-- the line for so many bytes
 abbrev pub dropped_line : ℕ → List ℕ
 dropped_line dropped =
-    if dropped == 0 then []
-    else if dropped == 1 then codes "confstore: the last byte of store.yaml was dropped: it was no whole record\n"
+    if dropped == 1 then codes "confstore: the last byte of store.yaml was dropped: it was no whole record\n"
     else dropped_bytes_line dropped
+
+-- that so many bytes were dropped was told in a line; nothing was told where there were none
+abbrev pub TellsCount : {E : Type 0} → (E → List ℕ → E → Type 0) → ℕ → E → E → Type 0
+TellsCount hears zero old new = new ≡ old
+TellsCount hears (suc less) old new = hears old (dropped_line (suc less)) new
 
 -- what opening dropped was told in a line, if it dropped anything
 abbrev pub TellsDropped : {E : Type 0} → (E → List ℕ → E → Type 0) → E → E → Type 0
@@ -23,3 +27,11 @@ TellsDropped hears old new = (new ≡ old) ⊎ ((dropped : ℕ) × hears old (dr
 -- no bytes follow the last whole record of the file
 abbrev pub HasNoRest : Option (List ℕ) → Type 0
 HasNoRest file = (s : Contents) (records dropped : ℕ) → FileRecoversTo file s records dropped → dropped ≡ 0
+
+-- what opening dropped of this file was told: the bytes after its last whole record
+pub record TellsDroppedOf {E : Type 0} (hears : E → List ℕ → E → Type 0) (file : Option (List ℕ)) (old new : E) : Type 0 where
+  pub s : Contents
+  pub records : ℕ
+  pub dropped : ℕ
+  pub recovers : FileRecoversTo file s records dropped
+  pub tells : TellsCount hears dropped old new

@@ -1,5 +1,6 @@
 -- How a run of the program ends, and what is told of it.
-use Rattle.std.specs.Prelude.{◌≡◌, ◌⊎◌, ℕ, List, Result, Ok, Err, codes, string_bytes}
+use Rattle.std.specs.Prelude.{◌≡◌, ◌⊎◌, ℕ, List, Option, Result, Ok, Err, codes, string_bytes}
+use Rattle.conf_session.specs.declared.session.Tally.{Tally}
 use Rattle.conf_words.specs.declared.invocation.Invocation.{Invocation}
 use Rattle.conf_words.specs.declared.invocation.Invocation.TheVariants.{Init, Import, Set, Delete, Copy, Rename}
 use Rattle.conf_words.specs.declared.invocation.Invocation.TheVariants.{Checkpoint, Run, Export, Names, Get, Exists}
@@ -11,12 +12,14 @@ use Rattle.conf_tools.specs.FaultLines.{reading_fault_name, store_fault_name, te
 use Rattle.conf_tools.specs.Listening.{fault_line}
 use Rattle.conf_tools.specs.ReadingStatuses.{status_of_reading}
 use Rattle.conf_tools.specs.Statuses.{code_of, status_of, status_of_store}
+use Rattle.conf_tools.specs.Tails.{TellsRest, end_of_rest}
 use Rattle.conf_tools.specs.declared.outcome.Ending.{Ending}
 use Rattle.conf_tools.specs.declared.outcome.Ending.TheVariants.{Of, Told}
 use Rattle.conf_tools.specs.declared.outcome.Outcome.{Outcome}
 use Rattle.conf_tools.specs.declared.outcome.Outcome.TheVariants as ends
 use Rattle.conf_tools.specs.declared.program.Status.{Status}
 use Rattle.conf_tools.specs.declared.program.Status.TheVariants.{Done, Absent, Refused, WrongWords, Device}
+use Rattle.conf_tools.specs.declared.tail.Tail.{Tail}
 use Rattle.conf_tools.specs.declared.texts.ToolFault.{ToolFault}
 use Rattle.conf_tools.specs.declared.texts.ToolFault.TheVariants.{Output}
 
@@ -65,6 +68,19 @@ module _ {E : Type 0} (hears : E → List ℕ → E → Type 0) where
   TellsEnding (Of outcome) old new = TellsOutcome outcome old new
   TellsEnding (Told status) old new = new ≡ old
 
+-- what a session did not perform of an input with this tail was told, where it came to the end of the input
+abbrev pub TellsUnperformed : {E A F : Type 0} → (E → List ℕ → E → Type 0) → Tail → Result (A × Tally) F → E → E → Type 0
+TellsUnperformed hears tail (Ok (disk, tally)) old new = TellsRest hears (end_of_rest tail.kept tail.blanks tally.rest) tally.rest old new
+TellsUnperformed hears tail (Err fault) old new = new ≡ old
+
+-- what opening dropped was told, if it dropped anything, and then what a session did not perform, if there is any
+pub record TellsSession {E : Type 0} (hears : E → List ℕ → E → Type 0) (old new : E) : Type 0 where
+  pub opened : E
+  pub dropped : TellsDropped hears old opened
+  pub end : Option (List ℕ)
+  pub rest : ℕ
+  pub tells : TellsRest hears end rest opened new
+
 -- where the status is 0, nothing was told
 abbrev pub SilentIfDone : {E : Type 0} → Status → E → E → Type 0
 SilentIfDone status old new = code_of status ≡ 0 → new ≡ old
@@ -109,7 +125,7 @@ module _ {E : Type 0} (hears : E → List ℕ → E → Type 0) where
   Leaves (Copy folder name to conditions) old ending new = LeavesOpened old ending new
   Leaves (Rename folder name to conditions) old ending new = LeavesOpened old ending new
   Leaves (Checkpoint folder) old ending new = LeavesOpened old ending new
-  Leaves (Run folder grouping) old ending new = IsUntold ending
+  Leaves (Run folder grouping) old ending new = IsUntold ending × TellsSession hears old new
   Leaves (Export folder name form) old ending new = LeavesOpened old ending new
   Leaves (Names folder at form) old ending new = LeavesAll old ending new
   Leaves (Get folder name pointer at absent form) old ending new = LeavesAll old ending new

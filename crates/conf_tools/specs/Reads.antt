@@ -1,17 +1,24 @@
 -- What is written of a store's file by the words that only read it: names, and a value. And whether something is there.
 use Rattle.std.specs.Prelude.{◌≡◌, ◌⊎◌, ℕ, Bool, true, false, if◌then◌else◌, List, [], ◌∷◌, ◌++◌, Option, Some, None}
 use Rattle.std.specs.Prelude.{IfSome, Result, Ok, Err, option_map, codes, encode_utf8_all}
+use Rattle.std.specs.Borrow.{Bor}
 use Rattle.std.specs.Io.KnownBytes.{Keeps, Appends}
 use Rattle.std.specs.Str.{chars}
 use Rattle.yaml_grammar.specs.Style.{style_text}
 use Rattle.yaml_grammar.specs.Trees.{Tree, text, sequence, mapping}
+use Rattle.yaml_data.specs.Seen.{tree_of}
+use Rattle.yaml_data.specs.declared.tree.Tree as code
 use Rattle.yaml_forms.specs.Json.{json_line, json_texts}
 use Rattle.yaml_forms.specs.KeyLines.{index_lines, member_lines}
 use Rattle.yaml_forms.specs.PlainForm.{plain_text}
+use Rattle.json_pointer.specs.Pointers.{path_of}
 use Rattle.json_pointer.specs.declared.fault.PathFault.TheVariants.{NoSuchPlace, NotIndex}
+use Rattle.tree_path.specs.Paths.{at}
+use Rattle.conf_state.specs.Names.{good_name}
 use Rattle.conf_state.specs.States.{Contents, names_of}
+use Rattle.conf_state.specs.Steps.{and_then, by_path, found}
 use Rattle.conf_state.specs.declared.fault.StoreFault.{StoreFault}
-use Rattle.conf_state.specs.declared.fault.StoreFault.TheVariants.{NoConfig, Path, OutOfMemory}
+use Rattle.conf_state.specs.declared.fault.StoreFault.TheVariants.{BadName, NoConfig, Path, OutOfMemory}
 use Rattle.conf_history.specs.Histories.{HoldsAt, RefusesReading}
 use Rattle.conf_session.specs.Answers.{value_at_path}
 use Rattle.conf_words.specs.declared.invocation.MissingValue.{MissingValue}
@@ -73,6 +80,21 @@ found_or missing found = found
 abbrev pub presence_of : Result Tree StoreFault → Result Presence StoreFault
 presence_of (Ok value) = Ok Present
 presence_of (Err fault) = if is_absent fault then Ok Absent else Err fault
+
+-- ---- what was found under a name
+
+-- the tree of a configuration, where there is one
+abbrev pub tree_found : Option (Bor code.Tree) → Option Tree
+tree_found config = option_map (λ c. tree_of c.now) config
+
+-- the tree that was found under a name, or BadName or NoConfig
+abbrev pub tree_or : Option Tree → List ℕ → Result Tree StoreFault
+tree_or tree name = if good_name name then found tree else Err BadName
+
+-- the value at the path that a text means, if it means one, in what was found under a name
+abbrev pub value_in : Option Tree → List ℕ → List ℕ → Result Tree StoreFault
+value_in tree name pointer = and_then (tree_or tree name)
+    (λ t. and_then (by_path (path_of pointer)) (λ tokens. by_path (at t tokens)))
 
 -- ---- what was written
 

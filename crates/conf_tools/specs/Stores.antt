@@ -123,6 +123,11 @@ pub record CannotOpen {D : Type 0} (model : DiskModel D) (old new : D) (fault : 
       → IsOldOrBase (bytes_under (model.folder old) Store) (bytes_under (model.folder new) Store)
   pub at_any_moment : model.honest → LeavesOnly model old new (λ image. MeantAtEntry (model.folder old) image.store)
 
+-- the store was opened, whatever came after that
+abbrev pub WasOpened : {A D : Type 0} → Result A (D × StoreToolFault) → Type 0
+WasOpened (Err (disk, Open fault)) = ⊥
+WasOpened result = Unit {0}
+
 -- ---- a session on a disk
 
 -- A session from one value of a store to the next, as the call for its grouping says.

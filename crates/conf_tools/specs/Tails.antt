@@ -1,6 +1,6 @@
 -- The end of what a reader gave, and why its rest has no closing line.
 use Rattle.std.specs.Prelude.{◌≡◌, ℕ, ◌+◌, ◌-◌, ◌^◌, min, nat_le, Bool, false, ◌||◌, ◌==◌, if◌then◌else◌, List, []}
-use Rattle.std.specs.Prelude.{◌∷◌, ◌++◌, length, drop, codes, Option, Some, None}
+use Rattle.std.specs.Prelude.{◌∷◌, ◌++◌, length, drop, codes, decimal, Option, Some, None}
 use Rattle.std.specs.List.{list_any, starts_with, ends_with}
 use Rattle.conf_tools.specs.declared.tail.Tail.{Tail}
 use Rattle.conf_tools.specs.declared.rest.Cause.{Cause}
@@ -41,3 +41,31 @@ cause_of end =
     else if ends_with ◌==◌ end (codes "...") then NoLineFeed
     else if has_part (codes "\n---") end then Dashes
     else NoClosingLine
+
+-- ---- what is told of a rest
+
+-- what is told of a cause
+abbrev pub cause_text : Cause → List ℕ
+cause_text NulBytes = codes "it has NUL bytes, as in UTF-16, and commands are UTF-8"
+cause_text CrLf = codes "its lines end in CR LF, and a closing line ends in LF alone"
+cause_text NoLineFeed = codes "no line feed follows its last \"...\""
+cause_text Dashes = codes "a line of \"---\" begins a document, and \"...\" closes one"
+cause_text NoClosingLine = codes "a command ends with a line of exactly \"...\" and a line feed"
+
+-- that more than one byte was not performed
+abbrev pub many_bytes : ℕ → List ℕ
+many_bytes rest = codes "confstore: the last " ++ decimal rest ++ codes " bytes of the input were not performed: "
+
+-- that so many bytes were not performed
+abbrev pub unperformed_bytes : ℕ → List ℕ
+unperformed_bytes rest =
+    if rest == 1 then codes "confstore: the last byte of the input was not performed: " else many_bytes rest
+
+-- the line for a rest of so many bytes, and its cause
+abbrev pub unperformed_line : ℕ → Cause → List ℕ
+unperformed_line rest cause = unperformed_bytes rest ++ cause_text cause ++ codes "\n"
+
+-- That a rest which ends so was not performed was told in a line. Nothing was told where all of it is blank.
+abbrev pub TellsRest : {E : Type 0} → (E → List ℕ → E → Type 0) → Option (List ℕ) → ℕ → E → E → Type 0
+TellsRest hears None rest old new = new ≡ old
+TellsRest hears (Some end) rest old new = hears old (unperformed_line rest (cause_of end)) new

@@ -13,8 +13,8 @@ use conf_words::{Conditions, Wanted};
 use std::alloc::{AllocError, Global};
 use yaml_tree::ReadFault;
 
-/// The conditions that the words give on a place of a configuration, in the order in which they are judged: what is wanted
-/// at the place, and then the count.
+/// The conditions that the words give on a place of a configuration, in the order in which they are judged: what is
+/// wanted at the place, and then the count.
 ///
 /// # Errors
 /// `Read` if the wanted text can't be a value, and memory that runs out.

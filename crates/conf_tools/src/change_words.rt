@@ -225,8 +225,8 @@ fn tell_import<E: Write>(
     }
 }
 
-/// Sets a value, which may be given by a file or by `input`, at a place of the store in a folder. Why a text was not read
-/// or is refused is written.
+/// Sets a value, which may be given by a file or by `input`, at a place of the store in a folder. Why a text was not
+/// read or is refused is written.
 pub(crate) fn set_at<A: World, R: Read, E: Listener>(
     world: &mut A,
     reporter: Reporter,
@@ -517,7 +517,8 @@ fn rename_change(alloc: Global, name: &str, to: &str) -> Result<Change<'static>,
     })
 }
 
-/// Makes a change at a place of the store in a folder, if memory was there for it and what is wanted of the place holds.
+/// Makes a change at a place of the store in a folder, if memory was there for it and what is wanted of the place
+/// holds.
 fn make_change<A: World, E: Listener>(
     world: &mut A,
     alloc: Global,

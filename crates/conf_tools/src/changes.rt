@@ -11,8 +11,9 @@ ghost use Rattle.conf_store.specs.Changing.{AppendsRecord, DeviceHasCause, Failu
 ghost use Rattle.conf_store.specs.Durable.{AllImagesMean, HasFlushed};
 ghost use Rattle.conf_store.specs.Opens.{MeantAtEntry};
 ghost use Rattle.conf_tools.specs.Changes.{CannotChange, CannotMake, ChangesOn, ChangeSurvives, IsMadeOf, LacksTree, MakesStore, Makes, MeansOneOf, ReadsChanged, RefusesChange, copies, renames};
-ghost use Rattle.conf_tools.specs.Dropped.{HasNoRest, TellsDropped};
+ghost use Rattle.conf_tools.specs.Dropped.{HasNoRest, TellsDropped, TellsDroppedOf};
 ghost use Rattle.conf_tools.specs.Exports.{disk_handed_back};
+ghost use Rattle.conf_tools.specs.Stores.{WasOpened};
 
 use crate::dropped::open_told;
 use crate::listener::Listener;
@@ -188,13 +189,13 @@ fn copy_named<D: Disk>(alloc: Global, store: &Store<D>, name: &str) -> Result<Co
         Err(fault) => Err(fault),
     }
 }
-/// Opens the store on `disk` and makes one change, if all conditions hold of the state that was opened. They are judged in
-/// order. Returns the disk, with the change on it. One line to `errors` says how many bytes opening dropped, if there were
-/// any.
+/// Opens the store on `disk` and makes one change, if all conditions hold of the state that was opened. They are judged
+/// in order. Returns the disk, with the change on it. One line to `errors` says how many bytes opening dropped, if
+/// there were any.
 ///
 /// While the store is opened, a crash leaves a `store.yaml` that means what it might have meant before the call. From
-/// then on, a crash at any moment leaves the state before the change or after it. Once this has returned `Ok`, it leaves
-/// the one after it.
+/// then on, a crash at any moment leaves the state before the change or after it. Once this has returned `Ok`, it
+/// leaves the one after it.
 ///
 /// # Errors
 /// The disk is returned with the fault. `Open` if the store can't be opened, `Condition` with the fault of the first
@@ -214,6 +215,9 @@ pub fn change_store<D: Disk + Drop, E: Listener>(
     // No crash loses a change that was made, or keeps one that was refused.
     ensures crashes { D.model.honest → ChangeSurvives D.model disk change.entry result }
     ensures told { TellsDropped E.hears errors.old errors.new }
+    // The line says how many bytes followed the last whole record of the file.
+    ensures dropped { D.model.honest → WasOpened result →
+        TellsDroppedOf E.hears (bytes_under (D.model.folder disk) Name.Store) errors.old errors.new }
     // Nothing is told if no bytes are dropped.
     ensures quiet { D.model.honest → HasNoRest (bytes_under (D.model.folder disk) Name.Store)
         → errors.new ≡ errors.old }

@@ -1,20 +1,17 @@
 // What is said of the bytes after the last whole record of a store's file, which opening it drops.
 ghost use Rattle.std.specs.Prelude.{◌≡◌, IfErr, IfOk, OnOk};
-ghost use Rattle.std.specs.Io.KnownBytes.{Appends, Keeps};
 ghost use Rattle.conf_disk.specs.Folder.{bytes_under};
-ghost use Rattle.conf_tools.specs.Dropped.{HasNoRest, TellsDropped, dropped_bytes_line, dropped_line};
+ghost use Rattle.conf_tools.specs.Dropped.{HasNoRest, TellsCount, TellsDropped, TellsDroppedOf, dropped_bytes_line};
 ghost use Rattle.conf_tools.specs.Stores.{CannotOpen, OpensOn};
 
 use crate::listener::Listener;
-use crate::texts::{ToolFault, write_whole};
 use conf_disk::{Disk, Name};
 use conf_store::{OpenFault, Store};
 use itoa::Buffer;
 use std::alloc::Global;
-use std::io::Write;
 
-/// Opens the store on `disk`, and tells in one line how many bytes after the last whole record were dropped, if any were.
-/// Nothing waits then, and no checkpoint runs.
+/// Opens the store on `disk`, and tells in one line how many bytes after the last whole record were dropped, if any
+/// were. Nothing waits then, and no checkpoint runs.
 ///
 /// # Errors
 /// Those of [`Store::open`], with the disk. Nothing is told.
@@ -27,6 +24,8 @@ pub(crate) fn open_told<D: Disk + Drop, E: Listener>(
     ensures refused { IfErr result (λ r.
         CannotOpen D.model disk r.0 r.1) }
     ensures told { TellsDropped E.hears errors.old errors.new }
+    ensures dropped { D.model.honest → OnOk result
+        (TellsDroppedOf E.hears (bytes_under (D.model.folder disk) Name.Store) errors.old errors.new) }
     ensures quiet { D.model.honest → HasNoRest (bytes_under (D.model.folder disk) Name.Store)
         → errors.new ≡ errors.old }
 {
@@ -41,8 +40,7 @@ pub(crate) fn open_told<D: Disk + Drop, E: Listener>(
 
 /// Tells in one line how many bytes were dropped; nothing if none were.
 fn tell_dropped<E: Listener>(errors: &mut E, dropped: u64)
-    ensures told { TellsDropped E.hears errors.old errors.new }
-    ensures quiet { dropped ≡ 0 → errors.new ≡ errors.old }
+    ensures { TellsCount E.hears dropped errors.old errors.new }
 {
     match dropped {
         0 => {}
@@ -61,38 +59,4 @@ fn tell_dropped_bytes<E: Listener>(errors: &mut E, dropped: u64)
     errors.tell("confstore: the last ");
     errors.tell(digits.format(dropped));
     errors.tell(" bytes of store.yaml were dropped: they were no whole record\n");
-}
-
-/// Writes in one line how many bytes were dropped; nothing if none were.
-///
-/// # Errors
-/// `Output` if the writer fails. Some of the line may be written.
-pub(crate) fn write_dropped<E: Write>(errors: &mut E, dropped: u64) -> Result<(), ToolFault>
-    ensures told { OnOk result (Appends (E.contents errors.old) (E.contents errors.new)
-        (dropped_line dropped)) }
-    ensures quiet { dropped ≡ 0 → Keeps (E.contents errors.old) (E.contents errors.new) }
-{
-    match dropped {
-        0 => Ok(()),
-        1 => write_whole(
-            errors,
-            b"confstore: the last byte of store.yaml was dropped: it was no whole record\n",
-        ),
-        _ => write_dropped_bytes(errors, dropped),
-    }
-}
-
-/// Writes the line for more than one byte.
-fn write_dropped_bytes<E: Write>(errors: &mut E, dropped: u64) -> Result<(), ToolFault>
-    ensures { OnOk result (Appends (E.contents errors.old) (E.contents errors.new)
-        (dropped_bytes_line dropped)) }
-{
-    let mut digits = Buffer::new();
-    write_whole(errors, b"confstore: the last ")?;
-    write_whole(errors, digits.format(dropped).as_bytes())?;
-    write_whole(
-        errors,
-        b" bytes of store.yaml were dropped: they were no whole record\n",
-    )?;
-    Ok(())
 }

@@ -29,7 +29,7 @@ fn text_in(alloc: Global, state: &State, name: &str, form: TreeForm) -> Result<S
     ensures refused { IfErr result (λ fault.
         (fault ≡ StoreFault.OutOfMemory) ⊎ (tree_named state.now (chars name.now) ≡ Err fault)) }
 {
-    match config_of(state, name) {
+    match config_of(state.get(name), name) {
         Ok(config) => Ok(tree_text(alloc, config.tree(), form)?),
         Err(fault) => Err(fault),
     }

@@ -1,10 +1,7 @@
-// The names of faults, as lines on standard error have them.
+// The names by which faults of the crates below are told. But for that of a failed read, each is the fault's message.
 ghost use Rattle.std.specs.Prelude.{◌≡◌};
-ghost use Rattle.conf_tools.specs.FaultLines.{condition_fault_name, folder_fault_name, history_fault_name, open_fault_name, reading_fault_name, salvage_fault_name, session_fault_name, store_fault_name, text_fault_name};
+ghost use Rattle.conf_tools.specs.FaultLines.{condition_fault_name, folder_fault_name, history_fault_name, open_fault_name, salvage_fault_name, session_fault_name};
 
-use crate::reading_fault::ReadingFault;
-use crate::stores::StoreToolFault;
-use crate::texts::ToolFault;
 use conf_conditions::ConditionFault;
 use conf_folder::FolderFault;
 use conf_history::{HistoryFault, SalvageFault};
@@ -12,49 +9,7 @@ use conf_session::SessionFault;
 use conf_state::StoreFault;
 use conf_store::OpenFault;
 
-/// The name of a fault of a text.
-pub(crate) fn text_fault_name(fault: ToolFault) -> &'static str
-    ensures { result.now ≡ text_fault_name fault }
-{
-    match fault {
-        ToolFault::Input => "Input",
-        ToolFault::Output => "Output",
-        ToolFault::Read(fault) => StoreFault::Read(fault).name(),
-        ToolFault::Comments(_) => "Comments",
-    }
-}
-
-/// The name of a fault of a word that opens a store.
-pub(crate) fn store_fault_name(fault: StoreToolFault) -> &'static str
-    ensures { result.now ≡ store_fault_name fault }
-{
-    match fault {
-        StoreToolFault::Folder(fault) => folder_fault_name(fault),
-        StoreToolFault::Open(fault) => open_fault_name(fault),
-        StoreToolFault::Session(fault) => session_fault_name(fault),
-        StoreToolFault::Export(fault) => fault.name(),
-        StoreToolFault::Condition(fault) => condition_fault_name(fault),
-        StoreToolFault::Refused(fault) => fault.name(),
-        StoreToolFault::StoreExists => "StoreExists",
-    }
-}
-
-/// The name of a fault of a word that reads the file of a store.
-pub(crate) fn reading_fault_name(fault: ReadingFault) -> &'static str
-    ensures { result.now ≡ reading_fault_name fault }
-{
-    match fault {
-        ReadingFault::Folder(fault) => folder_fault_name(fault),
-        ReadingFault::History(fault) => history_fault_name(fault),
-        ReadingFault::Value(fault) => fault.name(),
-        ReadingFault::NotText => "NotText",
-        ReadingFault::NotCollection => "NotCollection",
-        ReadingFault::Salvage(fault) => salvage_fault_name(fault),
-        ReadingFault::Output => "Output",
-    }
-}
-
-fn folder_fault_name(fault: FolderFault) -> &'static str
+pub(crate) fn folder_fault_name(fault: FolderFault) -> &'static str
     ensures { result.now ≡ folder_fault_name fault }
 {
     match fault {
@@ -66,7 +21,7 @@ fn folder_fault_name(fault: FolderFault) -> &'static str
     }
 }
 
-fn open_fault_name(fault: OpenFault) -> &'static str
+pub(crate) fn open_fault_name(fault: OpenFault) -> &'static str
     ensures { result.now ≡ open_fault_name fault }
 {
     match fault {
@@ -77,7 +32,7 @@ fn open_fault_name(fault: OpenFault) -> &'static str
     }
 }
 
-fn session_fault_name(fault: SessionFault) -> &'static str
+pub(crate) fn session_fault_name(fault: SessionFault) -> &'static str
     ensures { result.now ≡ session_fault_name fault }
 {
     match fault {
@@ -91,7 +46,7 @@ fn session_fault_name(fault: SessionFault) -> &'static str
     }
 }
 
-fn condition_fault_name(fault: ConditionFault) -> &'static str
+pub(crate) fn condition_fault_name(fault: ConditionFault) -> &'static str
     ensures { result.now ≡ condition_fault_name fault }
 {
     match fault {
@@ -103,7 +58,7 @@ fn condition_fault_name(fault: ConditionFault) -> &'static str
 }
 
 /// A read that failed is a fault of the device, which holds the file.
-fn history_fault_name(fault: HistoryFault) -> &'static str
+pub(crate) fn history_fault_name(fault: HistoryFault) -> &'static str
     ensures { result.now ≡ history_fault_name fault }
 {
     match fault {
@@ -116,7 +71,7 @@ fn history_fault_name(fault: HistoryFault) -> &'static str
     }
 }
 
-fn salvage_fault_name(fault: SalvageFault) -> &'static str
+pub(crate) fn salvage_fault_name(fault: SalvageFault) -> &'static str
     ensures { result.now ≡ salvage_fault_name fault }
 {
     match fault {

@@ -69,8 +69,8 @@ fn refuse_comments(alloc: Global, text: &[u8]) -> Result<(), ToolFault>
     }
 }
 
-/// Returns whether the tree of a text has another text in the one style. If so, it writes the file's name and a line feed
-/// to `writer`.
+/// Returns whether the tree of a text has another text in the one style. If so, it writes the file's name and a line
+/// feed to `writer`.
 ///
 /// # Errors
 ///
@@ -110,8 +110,8 @@ fn write_name<W: Write>(alloc: Global, writer: &mut W, file: &str) -> Result<(),
     write_whole(writer, &line)
 }
 
-/// Writes a line to `writer` for each finding of a text, in the order of [`check`]. The line has the file's name, a colon,
-/// the number of the line, from 1, a colon and a space, the rule's name, a space, and words for the rule, as
+/// Writes a line to `writer` for each finding of a text, in the order of [`check`]. The line has the file's name, a
+/// colon, the number of the line, from 1, a colon and a space, the rule's name, a space, and words for the rule, as
 /// `web.yaml:3: S1 the line ends in a space or TAB`. Returns how many findings there are.
 ///
 /// # Errors

@@ -18,12 +18,13 @@ pub fn call_holds<D: Disk>()
 ///
 /// Take any list of calls of [`run_store`](crate::run_store), [`change_store`](crate::change_store),
 /// [`export_text`](crate::export_text) and [`make_store`](crate::make_store) on an honest disk. Each of them returned,
-/// whatever it returned, or was cut off. What it may have left then is what its clause `crashes` says, and the next call
-/// finds a folder of which a crash leaves no more than that. So a crash may come between two calls, or not. Let each
-/// image that a crash leaves of the first folder mean a state, as a folder without `store.yaml` means the empty one;
-/// these states may differ. Then what a crash leaves in the end, and what is read there, means what a list of commands
-/// makes of one of these states. This list has, for each call in turn, a prefix of the commands that it accepted. If the
-/// call returned, the prefix has every command whose answer was written, and that of a change that was made.
+/// whatever it returned, or was cut off. What it may have left then is what its clause `crashes` says, and the next
+/// call finds a folder of which a crash leaves no more than that. So a crash may come between two calls, or not. Let
+/// each image that a crash leaves of the first folder mean a state, as a folder without `store.yaml` means the empty
+/// one; these states may differ. Then what a crash leaves in the end, and what is read there, means what a list of
+/// commands makes of one of these states. This list has, for each call in turn, a prefix of the commands that it
+/// accepted. If the call returned, the prefix has every command whose answer was written, and that of a change that was
+/// made.
 pub fn calls_hold<D: Disk>()
     ensures { D.model.honest → CallsHold D.model }
 {

@@ -6,7 +6,6 @@ ghost use Rattle.conf_tools.specs.Outcomes.{TellsDamage, TellsEnding, TellsOutco
 ghost use Rattle.conf_tools.specs.ReadingStatuses.{status_of_reading};
 ghost use Rattle.conf_tools.specs.Statuses.{status_of, status_of_store};
 
-use crate::fault_names::{reading_fault_name, store_fault_name, text_fault_name};
 use crate::listener::{Listener, tell_name};
 use crate::program::{Status, status_of, status_of_store};
 use crate::read_words::status_of_reading;
@@ -75,7 +74,7 @@ fn tell_text_fault<E: Listener>(errors: &mut E, fault: ToolFault) -> Status
     ensures status { result ≡ status_of fault }
     ensures tells { E.hears errors.old (fault_line (text_fault_name fault)) errors.new }
 {
-    tell_name(errors, text_fault_name(fault));
+    tell_name(errors, fault.name());
     status_of(fault)
 }
 
@@ -84,7 +83,7 @@ fn tell_store_fault<E: Listener>(errors: &mut E, fault: StoreToolFault) -> Statu
     ensures status { result ≡ status_of_store fault }
     ensures tells { E.hears errors.old (fault_line (store_fault_name fault)) errors.new }
 {
-    tell_name(errors, store_fault_name(fault));
+    tell_name(errors, fault.name());
     status_of_store(fault)
 }
 
@@ -93,7 +92,7 @@ fn tell_reading_fault<E: Listener>(errors: &mut E, fault: ReadingFault) -> Statu
     ensures status { result ≡ status_of_reading fault }
     ensures tells { E.hears errors.old (fault_line (reading_fault_name fault)) errors.new }
 {
-    tell_name(errors, reading_fault_name(fault));
+    tell_name(errors, fault.name());
     status_of_reading(fault)
 }
 

@@ -2,7 +2,7 @@
 ghost use Rattle.std.specs.Prelude.{◌≡◌, ◌⊎◌};
 ghost use Rattle.conf_tools.specs.Dropped.{TellsDropped};
 ghost use Rattle.conf_tools.specs.Exports.{disk_back};
-ghost use Rattle.conf_tools.specs.Outcomes.{EndsWriting, Leaves, RefusesWords, Tells, TellsNoMemory, TellsUnparsed, status_of_ending, status_of_outcome};
+ghost use Rattle.conf_tools.specs.Outcomes.{EndsWriting, Leaves, RefusesWords, Tells, TellsNoMemory, TellsSession, TellsUnparsed, TellsUnperformed, status_of_ending, status_of_outcome};
 ghost use Rattle.conf_tools.specs.Performs.{Performs, checkpoints_of, grouping_of};
 ghost use Rattle.conf_tools.specs.Statuses.{ShowsUnparsed, code_of, status_of, status_of_store};
 ghost use Rattle.conf_tools.specs.StoreWords.{ExportsFromFolder, RunsOnFolder, WritesFound, WritesWhole, status_at_end};
@@ -23,7 +23,7 @@ use crate::read_words::{
 };
 use crate::reads::Place;
 use crate::reporter::{Reporter, write_cause};
-use crate::rest::write_rest;
+use crate::rest::tell_rest;
 use crate::stores::{Grouping, StoreToolFault, run_store};
 use crate::tail::{Tail, TailReader};
 use crate::texts::{ToolFault, write_whole};
@@ -79,12 +79,12 @@ impl Status {
 /// performed, and the likely cause. Another line there says how many bytes after the last whole record of a store were
 /// dropped, if there were any.
 ///
-/// A fault of a store is told by its name, as `confstore: NoConfig`, and nothing else is told where a file of a store is
-/// only read. Where a folder or a file could not be used, a line after the fault says why, as
+/// A fault of a store is told by its name, as `confstore: NoConfig`, and nothing else is told where a file of a store
+/// is only read. Where a folder or a file could not be used, a line after the fault says why, as
 /// `store.yaml: No space left on device`.
 ///
-/// Each disk that the world hands out is given back to it before this returns, and before anything is written to `output`
-/// but the answers of a session.
+/// Each disk that the world hands out is given back to it before this returns, and before anything is written to
+/// `output` but the answers of a session.
 pub fn perform<A: World, R: Read, W: Write, E: Listener>(
     world: &mut A,
     alloc: Global,
@@ -301,9 +301,9 @@ fn reporter_of<A: World>(world: &A, alloc: Global, asked: Reporting) -> Reporter
     Reporter { alloc, reporting }
 }
 
-/// Performs the commands of `input` on the store in a folder. One line to `errors` says if bytes at the end of the input
-/// were not performed.
-fn run_folder<A: World, R: Read, W: Write, E: Write>(
+/// Performs the commands of `input` on the store in a folder. One line to `errors` says how many bytes opening dropped,
+/// and one if bytes at the end of the input were not performed.
+fn run_folder<A: World, R: Read, W: Write, E: Listener>(
     world: &mut A,
     alloc: Global,
     folder: &str,
@@ -312,10 +312,11 @@ fn run_folder<A: World, R: Read, W: Write, E: Write>(
     output: &mut W,
     errors: &mut E,
 ) -> Outcome<'static>
-    ensures { RunsOnFolder A.model A.Disk.model folder.now grouping
+    ensures runs { RunsOnFolder A.model A.Disk.model folder.now grouping
         (around world.old (R.remaining input.old.inner) (W.contents output.old))
         (around world.new (R.remaining input.new.inner) (W.contents output.new))
         (status_of_outcome result) }
+    ensures told { TellsSession E.hears errors.old errors.new }
 {
     match world.open(alloc, Access::Making, folder) {
         Ok(disk) => {
@@ -326,8 +327,8 @@ fn run_folder<A: World, R: Read, W: Write, E: Write>(
     }
 }
 
-/// Gives the disk back, and writes how many bytes a session did not perform, if it came to the end of its input.
-fn end_session<A: World, E: Write>(
+/// Gives the disk back, and tells how many bytes a session did not perform, if it came to the end of its input.
+fn end_session<A: World, E: Listener>(
     world: &mut A,
     ended: Result<(A::Disk, Tally), (A::Disk, StoreToolFault)>,
     tail: &Tail,
@@ -335,11 +336,12 @@ fn end_session<A: World, E: Write>(
 ) -> Outcome<'static>
     ensures back { A.model.given_back (disk_back ended) world.old world.new }
     ensures ends { status_of_outcome result ≡ status_at_end ended }
+    ensures told { TellsUnperformed E.hears tail.now ended errors.old errors.new }
 {
     match ended {
         Ok((disk, tally)) => {
             world.give_back(disk);
-            write_rest(errors, tail, tally.rest);
+            tell_rest(errors, tail, tally.rest);
             Outcome::Done
         }
         Err((disk, fault)) => {

@@ -224,8 +224,8 @@ fn save_in_folder<A: World, W: Write>(
     }
 }
 
-/// Gives the disk back, and writes what stands in the file of which a store was made, if one was. No other run waits for
-/// whoever reads the output.
+/// Gives the disk back, and writes what stands in the file of which a store was made, if one was. No other run waits
+/// for whoever reads the output.
 fn write_saved<A: World, W: Write>(
     world: &mut A,
     alloc: Global,
@@ -249,8 +249,8 @@ fn write_saved<A: World, W: Write>(
     }
 }
 
-/// The disk of a folder that is to hold a new store, which takes after the file of another one. A missing folder is made.
-/// One that has a `store.yaml` stays as it is.
+/// The disk of a folder that is to hold a new store, which takes after the file of another one. A missing folder is
+/// made. One that has a `store.yaml` stays as it is.
 pub(crate) fn open_new<A: World>(
     world: &mut A,
     alloc: Global,
@@ -273,7 +273,8 @@ pub(crate) fn open_new<A: World>(
     }
 }
 
-/// Opens the file of the store in a folder to be read, beside whoever holds the store. A folder without one is no store.
+/// Opens the file of the store in a folder to be read, beside whoever holds the store. A folder without one is no
+/// store.
 pub(crate) fn open_file<A: World>(
     world: &mut A,
     alloc: Global,

@@ -1,33 +1,30 @@
 // The names and values of a store's file, over any reader and writer.
-ghost use Rattle.std.specs.Prelude.{◌≡◌, ◌≤◌, ◌⊎◌, ◌++◌, Ok, Err, IfOk, IfErr, OnOk, string_bytes, encode_utf8_all, codes};
+ghost use Rattle.std.specs.Prelude.{◌≡◌, ◌≤◌, ◌⊎◌, ◌++◌, Ok, Err, IfOk, IfErr, OnOk, map, string_bytes, encode_utf8_all, codes};
 ghost use Rattle.std.specs.Str.{chars};
 ghost use Rattle.yaml_grammar.specs.Style.{style_text};
 ghost use Rattle.yaml_forms.specs.Json.{json_texts};
 ghost use Rattle.yaml_grammar.specs.Trees.{depth, text as one_text};
 ghost use Rattle.yaml_config.specs.Kept.{own_limits};
 ghost use Rattle.yaml_data.specs.Seen.{tree_of};
-ghost use Rattle.conf_session.specs.Answers.{value_at_path};
-ghost use Rattle.conf_state.specs.Limits.{IsState};
-ghost use Rattle.conf_state.specs.States.{names_of};
-ghost use Rattle.conf_store.specs.Calls.{tree_named};
-ghost use Rattle.conf_tools.specs.Reads.{CannotShow, FindsPresence, HidesPresence, LacksFound, RefusesNames, RefusesPresence, RefusesValue, ShowsFound, ShowsTree, WritesNames, WritesValue, found_or, is_absent, name_lines, names_text, presence_of, tree_text, value_or};
+ghost use Rattle.conf_state.specs.Commands.{text_of};
+ghost use Rattle.conf_tools.specs.Reads.{CannotShow, FindsPresence, HidesPresence, LacksFound, RefusesNames, RefusesPresence, RefusesValue, ShowsFound, ShowsTree, WritesNames, WritesValue, found_or, is_absent, name_lines, names_text, presence_of, tree_found, tree_or, tree_text, value_in};
 
 use crate::reading_fault::ReadingFault;
 use crate::texts::write_whole;
-use conf_history::{HistoryFault, state_at};
-use conf_state::{State, StoreFault, good_name};
+use conf_history::{HistoryFault, config_at, names_at};
+use conf_state::{StoreFault, good_name};
 use conf_words::{MissingValue, NamesForm, RawEnd, TreeForm, ValueForm};
 use std::alloc::{AllocError, Global};
 use std::io::{Read, Write};
-use tree_path::{Path, PathFault};
+use tree_path::{Path, PathFault, at};
 use yaml_forms::{KeysFault, TextArray, json_line, keys, plain};
 use yaml_tree::{Config, Sink, Text, Tree, write_style};
 
 /// Writes the names of the configurations that a store's file holds, in order and in a form: after all its commands, or
-/// after the one with the number `at`. The file is read as by [`state_at`].
+/// after the one with the number `at`. The file is read as by [`names_at`].
 ///
 /// # Errors
-/// - `History` if [`state_at`] fails. Nothing is written.
+/// - `History` if [`names_at`] fails. Nothing is written.
 /// - `Output` if the writer fails. Some of the names may be written.
 pub fn write_names<R: Read, W: Write>(
     alloc: Global,
@@ -41,11 +38,11 @@ pub fn write_names<R: Read, W: Write>(
     ensures refused { IfErr result (RefusesNames (R.remaining reader.old) at
         (W.contents writer.old) (W.contents writer.new)) }
 {
-    let state = match state_at(alloc, reader, at) {
-        Ok(state) => state,
+    let names = match names_at(alloc, reader, at) {
+        Ok(names) => names,
         Err(fault) => return Err(ReadingFault::History(fault)),
     };
-    let text = match names_text(alloc, &state, form) {
+    let text = match names_text(alloc, &names, form) {
         Ok(text) => text,
         Err(_) => return Err(ReadingFault::History(HistoryFault::OutOfMemory)),
     };
@@ -55,44 +52,44 @@ pub fn write_names<R: Read, W: Write>(
     }
 }
 
-/// The names of a state in a form.
-fn names_text(alloc: Global, state: &State, form: NamesForm) -> Result<Vec<u8>, AllocError>
-    ensures { IfOk result (λ text. text.items ≡ names_text form (names_of state.now.configs)) }
+/// Names in a form.
+fn names_text(alloc: Global, names: &[String], form: NamesForm) -> Result<Vec<u8>, AllocError>
+    ensures { IfOk result (λ text. text.items ≡ names_text form (map text_of names.now)) }
 {
     match form {
-        NamesForm::Lines => name_lines(alloc, state),
-        NamesForm::Json => Ok(name_array(alloc, state)?.into_bytes()),
+        NamesForm::Lines => name_lines(alloc, names),
+        NamesForm::Json => Ok(name_array(alloc, names)?.into_bytes()),
     }
 }
 
-/// The names of a state as a JSON array, with a line feed after it.
-fn name_array(alloc: Global, state: &State) -> Result<String, AllocError>
+/// Names as a JSON array, with a line feed after it.
+fn name_array(alloc: Global, names: &[String]) -> Result<String, AllocError>
     ensures { IfOk result (λ line. string_bytes line
-        ≡ encode_utf8_all (json_texts (names_of state.now.configs) ++ codes "\n")) }
+        ≡ encode_utf8_all (json_texts (map text_of names.now) ++ codes "\n")) }
 {
-    let mut array = names_array(alloc, state)?;
+    let mut array = names_array(alloc, names)?;
     array.put_char('\n')?;
     Ok(array)
 }
 
-/// The names of a state as a JSON array.
-fn names_array(alloc: Global, state: &State) -> Result<String, AllocError>
+/// Names as a JSON array.
+fn names_array(alloc: Global, names: &[String]) -> Result<String, AllocError>
     ensures { IfOk result (λ json.
-        string_bytes json ≡ encode_utf8_all (json_texts (names_of state.now.configs))) }
+        string_bytes json ≡ encode_utf8_all (json_texts (map text_of names.now))) }
 {
     let mut array = TextArray::new(alloc);
-    for name in state.names() {
+    for name in names {
         array.push(name)?;
     }
     array.finish()
 }
 
-/// The names of a state as lines.
-fn name_lines(alloc: Global, state: &State) -> Result<Vec<u8>, AllocError>
-    ensures { IfOk result (λ lines. lines.items ≡ name_lines (names_of state.now.configs)) }
+/// Names as lines.
+fn name_lines(alloc: Global, names: &[String]) -> Result<Vec<u8>, AllocError>
+    ensures { IfOk result (λ lines. lines.items ≡ name_lines (map text_of names.now)) }
 {
     let mut lines = Vec::new(alloc);
-    for name in state.names() {
+    for name in names {
         push_name(&mut lines, name)?;
     }
     Ok(lines)
@@ -118,10 +115,10 @@ pub struct Place<'w> {
     pub at: Option<u64>,
 }
 
-/// Writes the value at a place of a store's file. The file is read as by [`state_at`].
+/// Writes the value at a place of a store's file. The file is read as by [`config_at`].
 ///
 /// # Errors
-/// - `History` if [`state_at`] fails.
+/// - `History` if [`config_at`] fails.
 /// - `Value` with the first of these that holds: `BadName` if the name may not be used, `NoConfig` if no configuration
 ///   has it, and the pointer's fault. Where `missing` gives a text, `NoConfig`, `NoSuchPlace` and `NotIndex` are no
 ///   faults: that text is written. Or with `OutOfMemory`.
@@ -144,11 +141,11 @@ pub fn write_value<R: Read, W: Write>(
         (chars place.entry.name.now) (chars place.entry.pointer.now) missing.entry form
         (W.contents writer.old) (W.contents writer.new)) }
 {
-    let state = match state_at(alloc, reader, place.at) {
-        Ok(state) => state,
+    let config = match config_at(alloc, reader, place.at, place.name) {
+        Ok(config) => config,
         Err(fault) => return Err(ReadingFault::History(fault)),
     };
-    let text = match value_text(alloc, &state, place, missing, form) {
+    let text = match value_text(alloc, config.as_ref(), place, missing, form) {
         Ok(text) => text,
         Err(fault) => return Err(fault),
     };
@@ -167,10 +164,10 @@ pub enum Presence {
     Absent,
 }
 
-/// Looks whether something is at a place of a store's file. The file is read as by [`state_at`].
+/// Looks whether something is at a place of a store's file. The file is read as by [`config_at`].
 ///
 /// # Errors
-/// - `History` if [`state_at`] fails.
+/// - `History` if [`config_at`] fails.
 /// - `Value` with `BadName` if the name may not be used, with `BadPath` if the pointer is none, or with `OutOfMemory`.
 pub fn find_presence<R: Read>(
     alloc: Global,
@@ -182,24 +179,28 @@ pub fn find_presence<R: Read>(
     ensures refused { IfErr result (RefusesPresence (R.remaining reader.old) place.entry.at
         (chars place.entry.name.now) (chars place.entry.pointer.now)) }
 {
-    let state = match state_at(alloc, reader, place.at) {
-        Ok(state) => state,
+    let found = match config_at(alloc, reader, place.at, place.name) {
+        Ok(found) => found,
         Err(fault) => return Err(ReadingFault::History(fault)),
     };
-    match presence_in(alloc, &state, place) {
+    match presence_in(alloc, found.as_ref(), place) {
         Ok(presence) => Ok(presence),
         Err(fault) => Err(ReadingFault::Value(fault)),
     }
 }
 
-/// Whether a state has something at a place.
-fn presence_in(alloc: Global, state: &State, place: Place<'_>) -> Result<Presence, StoreFault>
-    ensures ok { IfOk result (λ presence. presence_of (value_at_path state.now
+/// Whether something is at a place, where `found` is the configuration under its name.
+fn presence_in(
+    alloc: Global,
+    found: Option<&Config>,
+    place: Place<'_>,
+) -> Result<Presence, StoreFault>
+    ensures ok { IfOk result (λ presence. presence_of (value_in (tree_found found.entry)
         (chars place.entry.name.now) (chars place.entry.pointer.now)) ≡ Ok presence) }
-    ensures refused { IfErr result (HidesPresence (presence_of (value_at_path state.now
+    ensures refused { IfErr result (HidesPresence (presence_of (value_in (tree_found found.entry)
         (chars place.entry.name.now) (chars place.entry.pointer.now)))) }
 {
-    match value_at(alloc, state, place) {
+    match value_at(alloc, found, place) {
         Ok(_) => Ok(Presence::Present),
         Err(fault) => presence_after(fault),
     }
@@ -227,20 +228,20 @@ fn is_absent(fault: StoreFault) -> bool
     }
 }
 
-/// The text of the value at a place of a state, or of what stands for it.
+/// The text of the value at a place, or of what stands for it, where `found` is the configuration under its name.
 fn value_text(
     alloc: Global,
-    state: &State,
+    found: Option<&Config>,
     place: Place<'_>,
     missing: MissingValue<'_>,
     form: ValueForm,
 ) -> Result<String, ReadingFault>
-    ensures ok { IfOk result (λ text. ShowsFound (value_or missing.entry state.now
-        (chars place.entry.name.now) (chars place.entry.pointer.now)) form (string_bytes text)) }
-    ensures refused { IfErr result (LacksFound (value_or missing.entry state.now
-        (chars place.entry.name.now) (chars place.entry.pointer.now)) form) }
+    ensures ok { IfOk result (λ text. ShowsFound (found_or missing.entry (value_in (tree_found found.entry)
+        (chars place.entry.name.now) (chars place.entry.pointer.now))) form (string_bytes text)) }
+    ensures refused { IfErr result (LacksFound (found_or missing.entry (value_in (tree_found found.entry)
+        (chars place.entry.name.now) (chars place.entry.pointer.now))) form) }
 {
-    match value_at(alloc, state, place) {
+    match value_at(alloc, found, place) {
         Ok(value) => shown(alloc, value, form),
         Err(fault) => missing_text(alloc, fault, missing, form),
     }
@@ -282,18 +283,23 @@ fn default_text(
     }
 }
 
-/// The value at a place of a state.
+/// The value at a place, where `found` is the configuration under its name.
 ///
 /// # Errors
 /// The first of these that holds: `BadName`, `NoConfig`, and the pointer's fault. `OutOfMemory` may come at any point.
-fn value_at<'s>(alloc: Global, state: &'s State, place: Place<'_>) -> Result<&'s Tree, StoreFault>
-    ensures ok { IfOk result (λ value. value_at_path state.now
+fn value_at<'c>(
+    alloc: Global,
+    found: Option<&'c Config>,
+    place: Place<'_>,
+) -> Result<&'c Tree, StoreFault>
+    ensures ok { IfOk result (λ value. value_in (tree_found found.entry)
         (chars place.entry.name.now) (chars place.entry.pointer.now) ≡ Ok (tree_of value.now)) }
     ensures shallow { IfOk result (λ value. depth (tree_of value.now) ≤ own_limits.depth) }
-    ensures refused { IfErr result (λ fault. (fault ≡ StoreFault.OutOfMemory) ⊎ (value_at_path state.now
+    ensures refused { IfErr result (λ fault. (fault ≡ StoreFault.OutOfMemory)
+        ⊎ (value_in (tree_found found.entry)
         (chars place.entry.name.now) (chars place.entry.pointer.now) ≡ Err fault)) }
 {
-    let config = match config_of(state, place.name) {
+    let config = match config_of(found, place.name) {
         Ok(config) => config,
         Err(fault) => return Err(fault),
     };
@@ -302,27 +308,26 @@ fn value_at<'s>(alloc: Global, state: &'s State, place: Place<'_>) -> Result<&'s
         Err(PathFault::OutOfMemory) => return Err(StoreFault::OutOfMemory),
         Err(fault) => return Err(StoreFault::Path(fault)),
     };
-    match config.value_at(&path) {
+    match at(config.tree(), &path) {
         Ok(value) => Ok(value),
         Err(fault) => Err(StoreFault::Path(fault)),
     }
 }
 
-/// The configuration under a name.
+/// The configuration that was found under a name.
 ///
 /// # Errors
 /// `BadName` if the name may not be used, and `NoConfig` if no configuration has it.
-pub(crate) fn config_of<'s>(state: &'s State, name: &str) -> Result<&'s Config, StoreFault>
-    ensures limits { OnOk result (IsState state.now) }
-    ensures ok { IfOk result (λ config. tree_named state.now (chars name.now)
-        ≡ Ok (tree_of config.now)) }
-    ensures refused { IfErr result (λ fault. tree_named state.now (chars name.now)
-        ≡ Err fault) }
+pub(crate) fn config_of<'c>(found: Option<&'c Config>, name: &str) -> Result<&'c Config, StoreFault>
+    ensures ok { IfOk result (λ config.
+        tree_or (tree_found found.entry) (chars name.now) ≡ Ok (tree_of config.now)) }
+    ensures refused { IfErr result (λ fault.
+        tree_or (tree_found found.entry) (chars name.now) ≡ Err fault) }
 {
     if !good_name(name) {
         return Err(StoreFault::BadName);
     }
-    match state.get(name) {
+    match found {
         Some(config) => Ok(config),
         None => Err(StoreFault::NoConfig),
     }

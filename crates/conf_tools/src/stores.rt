@@ -1,13 +1,16 @@
 // Sessions on a store, over any disk, reader and writer.
-ghost use Rattle.std.specs.Prelude.{◌≡◌, ◌≤◌, ◌⊎◌, ◌↔◌, true, IfOk, IfErr, IsErrOf};
-ghost use Rattle.std.specs.Io.KnownBytes.{Keeps};
+ghost use Rattle.std.specs.Prelude.{◌≡◌, ◌≤◌, ◌⊎◌, ◌↔◌, true, IsErrOf};
 ghost use Rattle.conf_disk.specs.Folder.{bytes_under};
 ghost use Rattle.conf_store.specs.Calls.{HasFailed};
-ghost use Rattle.conf_tools.specs.Dropped.{HasNoRest};
-ghost use Rattle.conf_tools.specs.Stores.{CannotOpen, OpensOn, RunsOn, SessionRuns, SurvivesCrashes};
+ghost use Rattle.conf_tools.specs.Dropped.{HasNoRest, TellsDropped, TellsDroppedOf};
+ghost use Rattle.conf_tools.specs.Stores.{RunsOn, SessionRuns, SurvivesCrashes, WasOpened};
 ghost use Rattle.conf_session.specs.Streams.{streams_of};
 
-use crate::dropped::write_dropped;
+use crate::dropped::open_told;
+use crate::fault_names::{
+    condition_fault_name, folder_fault_name, open_fault_name, session_fault_name,
+};
+use crate::listener::Listener;
 use conf_conditions::ConditionFault;
 use conf_disk::{Disk, Name};
 use conf_folder::FolderFault;
@@ -17,34 +20,56 @@ use conf_session::{
 use conf_state::StoreFault;
 use conf_store::{OpenFault, Store};
 use std::alloc::Global;
-use std::io::{Read, Write};
-use thiserror::Error;
+use std::error::Error;
+use std::fmt;
+use std::fmt::{Display, Formatter};
+use std::io::Read;
 
-/// Why a tool on a store ended early. The message is the innermost fault's own name.
-#[derive(Clone, Copy, Debug, PartialEq, Eq, Error)]
+/// Why a tool on a store ended early. The message is [`StoreToolFault::name`].
+#[derive(Clone, Copy, Debug, PartialEq, Eq)]
 pub enum StoreToolFault {
     /// The folder can't be used. Nothing was read or written.
-    #[error(transparent)]
     Folder(FolderFault),
     /// The store can't be opened. Nothing was read or written.
-    #[error(transparent)]
     Open(OpenFault),
     /// The session ended before the end of its input.
-    #[error(transparent)]
     Session(SessionFault),
     /// The configuration can't be exported. Nothing was written.
-    #[error(transparent)]
     Export(StoreFault),
     /// A condition of a change does not hold, or can't be judged. Nothing has changed.
-    #[error(transparent)]
     Condition(ConditionFault),
     /// The store refuses a change. Each but `Device` leaves it as it was.
-    #[error(transparent)]
     Refused(StoreFault),
     /// There is a `store.yaml` where a store is to be made. Nothing was written.
-    #[error("StoreExists")]
     StoreExists,
 }
+
+impl StoreToolFault {
+    ghost use Rattle.conf_tools.specs.FaultLines.{store_fault_name};
+
+    /// The name of the innermost fault, by which it is told.
+    pub fn name(self) -> &'static str
+        ensures { result.now ≡ store_fault_name self }
+    {
+        match self {
+            StoreToolFault::Folder(fault) => folder_fault_name(fault),
+            StoreToolFault::Open(fault) => open_fault_name(fault),
+            StoreToolFault::Session(fault) => session_fault_name(fault),
+            StoreToolFault::Export(fault) => fault.name(),
+            StoreToolFault::Condition(fault) => condition_fault_name(fault),
+            StoreToolFault::Refused(fault) => fault.name(),
+            StoreToolFault::StoreExists => "StoreExists",
+        }
+    }
+}
+
+impl Display for StoreToolFault {
+    fn fmt<W: fmt::Write>(&self, f: &mut Formatter<W>) -> fmt::Result {
+        f.write_str(self.name())
+    }
+}
+
+impl Error for StoreToolFault {}
 
 /// How many commands of a session share one sync.
 #[derive(Clone, Copy, Debug, PartialEq, Eq)]
@@ -53,28 +78,6 @@ pub enum Grouping {
     Single,
     /// All commands that one read brought share one, as by [`run_grouped`](conf_session::run_grouped).
     Grouped(Checkpoints),
-}
-
-/// Opens the store on `disk`. Nothing waits then, and no checkpoint runs. One line to `errors` says how many bytes after
-/// the last whole record were dropped, if there were any.
-pub(crate) fn open_store<D: Disk + Drop, E: Write>(
-    alloc: Global,
-    disk: D,
-    errors: &mut E,
-) -> Result<Store<D>, (D, OpenFault)>
-    ensures opens { IfOk result (OpensOn D.model disk) }
-    ensures refused { IfErr result (λ r.
-        CannotOpen D.model disk r.0 r.1) }
-    ensures quiet { D.model.honest → HasNoRest (bytes_under (D.model.folder disk) Name.Store)
-        → Keeps (E.contents errors.old) (E.contents errors.new) }
-{
-    match Store::open(alloc, disk) {
-        Ok((store, opened)) => {
-            let _ = write_dropped(errors, opened.dropped);
-            Ok(store)
-        }
-        Err(refused) => Err(refused),
-    }
 }
 
 /// Performs the commands that `reader` gives on an open store, and hands the answers to `sink`.
@@ -105,7 +108,8 @@ fn run_session<D: Disk, R: Read, S: AnswerSink<D>>(
 }
 
 /// Opens the store on `disk`, performs the commands that `reader` gives, and hands the answers to `sink`. The
-/// grouping says which call of `conf_session` does so. Returns the disk, and what was done.
+/// grouping says which call of `conf_session` does so. Returns the disk, and what was done. One line to `errors` says
+/// how many bytes opening dropped, if there were any.
 ///
 /// While the store is opened, a crash leaves a `store.yaml` that means what it might have meant before the call. From
 /// then on, a crash at any moment leaves the state after a prefix of the accepted commands. Once an answer is handed to
@@ -115,7 +119,7 @@ fn run_session<D: Disk, R: Read, S: AnswerSink<D>>(
 /// # Errors
 /// The disk is returned with the fault. `Open` if the store can't be opened: nothing is read or written, and, but for
 /// `Device`, no file has changed. `Session` if the session ends before the end of its input.
-pub fn run_store<D: Disk + Drop, R: Read, S: AnswerSink<D>, E: Write>(
+pub fn run_store<D: Disk + Drop, R: Read, S: AnswerSink<D>, E: Listener>(
     alloc: Global,
     disk: D,
     grouping: Grouping,
@@ -131,12 +135,16 @@ pub fn run_store<D: Disk + Drop, R: Read, S: AnswerSink<D>, E: Write>(
     ensures crashes { D.model.honest → SurvivesCrashes D.model (streams_of (R.remaining reader.old)
         (R.remaining reader.new) (S.taken sink.old) (S.taken sink.new))
         grouping disk result }
-    // Nothing is written to `errors` if no bytes are dropped.
+    ensures told { TellsDropped E.hears errors.old errors.new }
+    // The line says how many bytes followed the last whole record of the file.
+    ensures dropped { D.model.honest → WasOpened result →
+        TellsDroppedOf E.hears (bytes_under (D.model.folder disk) Name.Store) errors.old errors.new }
+    // Nothing is told if no bytes are dropped.
     ensures quiet { D.model.honest → HasNoRest (bytes_under (D.model.folder disk) Name.Store)
-        → Keeps (E.contents errors.old) (E.contents errors.new) }
+        → errors.new ≡ errors.old }
 {
     answers_acknowledge();
-    let mut store = match open_store(alloc, disk, errors) {
+    let mut store = match open_told(alloc, disk, errors) {
         Ok(store) => store,
         Err((disk, fault)) => return Err((disk, StoreToolFault::Open(fault))),
     };

@@ -59,19 +59,19 @@ impl Tail {
     }
 }
 
-/// How many bytes were given since the last one that is not blank, where it was `blanks` before these bytes.
+/// How many bytes were given since the last one that is not blank, where it was `blanks` before these bytes. It looks
+/// at the last bytes alone, as far as they are blank.
 fn blanks_after(blanks: u64, bytes: &[u8]) -> u64
     ensures { result ≡ blanks_after blanks bytes.now }
 {
-    let mut blanks = blanks;
-    for byte in bytes {
-        blanks = if is_blank(*byte) {
-            blanks.saturating_add(1)
-        } else {
-            0
-        };
+    let mut at = bytes.len();
+    'blanks: while at > 0 {
+        if !is_blank(bytes[at - 1]) {
+            return (bytes.len() - at) as u64;
+        }
+        at -= 1;
     }
-    blanks
+    blanks.saturating_add(bytes.len() as u64)
 }
 
 /// Whether a byte is a space, a TAB, a CR or an LF.

@@ -5,9 +5,12 @@ ghost use Rattle.conf_tools.specs.Tools.{Checks, Formats, IsTaken, Stops};
 
 use crate::input::read_up_to;
 use crate::report::report;
+use conf_state::StoreFault;
 use std::alloc::{AllocError, Global};
+use std::error::Error;
+use std::fmt;
+use std::fmt::{Display, Formatter};
 use std::io::{Read, Write};
-use thiserror::Error;
 use yaml_refusals::Place;
 use yaml_style::check;
 use yaml_tree::{Limits, ReadFault, format_one};
@@ -15,22 +18,46 @@ use yaml_tree::{Limits, ReadFault, format_one};
 /// The most bytes that are read: one more than a text may have, by which a text that is too long is found.
 pub(crate) const MOST_INPUT: usize = Limits::CONFIGURATION.bytes as usize + 1;
 
-/// Why a tool stopped.
-#[derive(Clone, Copy, Debug, PartialEq, Eq, Error)]
+/// Why a tool stopped. The message is [`ToolFault::name`], with the place and the reason of a text's syntax fault:
+/// `Syntax 3:7 Flow`.
+#[derive(Clone, Copy, Debug, PartialEq, Eq)]
 pub enum ToolFault {
     /// The reader failed. Nothing was written.
-    #[error("Input")]
     Input,
     /// The writer failed. Some of the text may have been written.
-    #[error("Output")]
     Output,
     /// The text was refused, or memory ran out. Nothing was written.
-    #[error("{}", .0.brief())]
     Read(ReadFault),
     /// The text has comments, of which the first is here. Nothing was written.
-    #[error("Comments")]
     Comments(Place),
 }
+
+impl ToolFault {
+    ghost use Rattle.conf_tools.specs.FaultLines.{text_fault_name};
+
+    /// The name of the innermost fault, by which it is told.
+    pub fn name(self) -> &'static str
+        ensures { result.now ≡ text_fault_name self }
+    {
+        match self {
+            ToolFault::Input => "Input",
+            ToolFault::Output => "Output",
+            ToolFault::Read(fault) => StoreFault::Read(fault).name(),
+            ToolFault::Comments(_) => "Comments",
+        }
+    }
+}
+
+impl Display for ToolFault {
+    fn fmt<W: fmt::Write>(&self, f: &mut Formatter<W>) -> fmt::Result {
+        match *self {
+            ToolFault::Read(fault) => Display::fmt(&fault.brief(), f),
+            fault => f.write_str(fault.name()),
+        }
+    }
+}
+
+impl Error for ToolFault {}
 
 impl From<AllocError> for ToolFault {
     ghost use Rattle.conf_tools.specs.declared.texts.ToolFault.TheVariants.{Read};
@@ -43,8 +70,8 @@ impl From<AllocError> for ToolFault {
     }
 }
 
-/// Reads a text from `reader` to its end. Of one that is too long it reads one byte more than the 4,194,304 that a text may
-/// have.
+/// Reads a text from `reader` to its end. Of one that is too long it reads one byte more than the 4,194,304 that a text
+/// may have.
 ///
 /// # Errors
 ///
@@ -74,9 +101,9 @@ pub fn format_text<W: Write>(alloc: Global, text: &[u8], writer: &mut W) -> Resu
     Ok(())
 }
 
-/// Writes a line to `writer` for each finding of a text, in the order of [`check`]. The line has the rule's name, a space,
-/// and the number of the line, from 1. Returns how many findings there are. The lines are held in memory and written at
-/// once. They have at most some 50 MB, since a text has at most two findings more than bytes.
+/// Writes a line to `writer` for each finding of a text, in the order of [`check`]. The line has the rule's name, a
+/// space, and the number of the line, from 1. Returns how many findings there are. The lines are held in memory and
+/// written at once. They have at most some 50 MB, since a text has at most two findings more than bytes.
 ///
 /// # Errors
 ///

@@ -23,8 +23,8 @@ pub enum Access {
 
 /// The folders of stores, and the files that the program's words name.
 ///
-/// Each clause is of the world's own model, so whoever uses a world can't say what it didn't do: a fact of a folder is had
-/// by a call alone, and each call leads from one world to the next.
+/// Each clause is of the world's own model, so whoever uses a world can't say what it didn't do: a fact of a folder is
+/// had by a call alone, and each call leads from one world to the next.
 pub trait World {
     /// The disk of a folder.
     type Disk: Disk + Drop;
@@ -41,8 +41,8 @@ pub trait World {
     /// How much is said of a text that is refused, where the words ask for no more. Nothing is claimed of it.
     fn reporting(&self) -> Reporting;
 
-    /// Why the call on a folder that failed last did, if the system said so, with the path that the call was given. Nothing
-    /// is claimed of it.
+    /// Why the call on a folder that failed last did, if the system said so, with the path that the call was given.
+    /// Nothing is claimed of it.
     fn cause(&self) -> Option<(Cause, &str)>;
 
     /// Why the last call on a file failed, if it did and the system said so. Nothing is claimed of it.
@@ -58,8 +58,8 @@ pub trait World {
     /// Hands out the disk of a folder.
     ///
     /// # Errors
-    /// `Device` if there is no folder or it can't be used, `Locked` if another run holds it, and `OutOfMemory`. `NotAStore` if
-    /// a store is wanted and there is none, and `StoreExists` if there is one and none is wanted.
+    /// `Device` if there is no folder or it can't be used, `Locked` if another run holds it, and `OutOfMemory`.
+    /// `NotAStore` if a store is wanted and there is none, and `StoreExists` if there is one and none is wanted.
     fn open(
         &mut self,
         alloc: Global,
@@ -68,8 +68,8 @@ pub trait World {
     ) -> Result<Self::Disk, FolderFault>
         ensures { model.opened access folder.now self.old result self.new };
 
-    /// Hands out the disk of a folder in which a new store is to be made, as [`open`](World::open) does. The new store has
-    /// the owner, the group and the mode of `like`, the file of another store, as far as the system allows it.
+    /// Hands out the disk of a folder in which a new store is to be made, as [`open`](World::open) does. The new store
+    /// has the owner, the group and the mode of `like`, the file of another store, as far as the system allows it.
     ///
     /// # Errors
     /// Those of [`open`](World::open), where no store is wanted.

@@ -119,8 +119,8 @@ impl History {
             && met.state.as_str() == state)
     }
 
-    /// Which of the states an image may have if the last run of a list left this when it was cut off: those from the one
-    /// after the last acknowledged command on, to the one after the last command that it can have begun.
+    /// Which of the states an image may have if the last run of a list left this when it was cut off: those from the
+    /// one after the last acknowledged command on, to the one after the last command that it can have begun.
     pub(crate) fn span(&self, last: &Asked, ran: &Ran) -> Span {
         let end = self.states.len().saturating_sub(1);
         if ran.status == Status::Done {

@@ -2,6 +2,7 @@
 use crate::crashes::crash;
 use crate::images::Zeros;
 use crate::list::{Asked, Given, List};
+use crate::names::names;
 use probe_words::{Answers, bytes_of, no_order, text_of, wrong_escape};
 use std::alloc::{AllocError, Global};
 use std::io;
@@ -42,6 +43,7 @@ fn answer(alloc: Global, list: &mut List, order: &str) -> Result<String, AllocEr
         ("confstore", _) => run_next(alloc, list, order),
         ("crash", "") => crash(alloc, list, Zeros::Each),
         ("crash", "ends") => crash(alloc, list, Zeros::Ends),
+        ("names", "") => names(alloc),
         _ => no_order(alloc),
     }
 }

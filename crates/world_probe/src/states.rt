@@ -17,8 +17,8 @@ const NO_STORE: &str = "confstore: NotAStore\n";
 /// What a folder without a store is shown as, and one that is not there.
 pub(crate) const NOTHING: &str = "no store";
 
-/// What the folder at a path holds, after it was opened again, as `2 a="x"`, or `no store`. Where the words do not answer
-/// as they have to, it is what they said.
+/// What the folder at a path holds, after it was opened again, as `2 a="x"`, or `no store`. Where the words do not
+/// answer as they have to, it is what they said.
 pub(crate) fn told(
     alloc: Global,
     world: &mut MemoryWorld,

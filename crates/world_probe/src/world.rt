@@ -9,8 +9,8 @@ use std::collections::BTreeMap;
 use std::io::Cursor;
 use test_disks::{Fuse, FusedDisk, MemoryDisk};
 
-/// Folders and files in memory, by their paths, which are taken as they are written. After a number of calls of its disks
-/// all stop, as if the program had been killed.
+/// Folders and files in memory, by their paths, which are taken as they are written. After a number of calls of its
+/// disks all stop, as if the program had been killed.
 #[derive(Drop)]
 pub(crate) struct MemoryWorld {
     alloc: Global,

@@ -1,7 +1,9 @@
 -- Opening made what it says, and nothing waits.
-use Rattle.std.proofs.Common.{◌+◌, length, ap}
+use Rattle.std.proofs.Common.{◌+◌, length, ap, subst}
 use Rattle.std.specs.Prelude.{option_map}
 use Rattle.conf_store.specs.Staged.{Staged}
+use Rattle.conf_tools.specs.Dropped.{TellsCount}
+use Rattle.conf_tools.proofs.DroppedLemmas.{any_told}
 use Rattle.conf_tools.proofs.dropped.open_told.Goals as goal
 
 pub returns-in-Ok-clause-opens : goal.returns-in-Ok-clause-opens
@@ -25,6 +27,21 @@ returns-in-Ok-clause-opens g c =
       risen = opened.risen;
     }
 
+pub returns-in-Ok-clause-told : goal.returns-in-Ok-clause-told
+returns-in-Ok-clause-told g c =
+    any_told g.E.Listener.hears c.args.errors.now c.tell_dropped.new.errors c.in-Ok.opened.dropped c.tell_dropped.ensures
+
+pub returns-in-Ok-clause-dropped : goal.returns-in-Ok-clause-dropped
+returns-in-Ok-clause-dropped g c h = record {
+  s = c.in-Ok.store.state;
+  records = c.in-Ok.opened.commands;
+  dropped = c.in-Ok.opened.dropped;
+  recovers = c.in-Ok.ensures.found h;
+  tells = c.tell_dropped.ensures;
+}
+
 pub returns-in-Ok-clause-quiet : goal.returns-in-Ok-clause-quiet
 returns-in-Ok-clause-quiet g c h none =
-    c.tell_dropped.ensures.quiet (none c.in-Ok.store.state c.in-Ok.opened.commands c.in-Ok.opened.dropped (c.in-Ok.ensures.found h))
+    subst (λ count. TellsCount g.E.Listener.hears count c.args.errors.now c.tell_dropped.new.errors)
+    (none c.in-Ok.store.state c.in-Ok.opened.commands c.in-Ok.opened.dropped (c.in-Ok.ensures.found h))
+    c.tell_dropped.ensures

@@ -1,11 +1,13 @@
 -- The line is that for more than one byte.
-use Rattle.std.proofs.Common.{rules, arith, inr}
+use Rattle.std.proofs.Common.{◌≢◌, rules, arith}
 use Rattle.std.proofs.lemmas.Grind.{common_steps}
 use Rattle.conf_tools.specs.Dropped.{dropped_line}
+use Rattle.conf_tools.proofs.DroppedLemmas.{some_told}
 use Rattle.conf_tools.proofs.dropped.tell_dropped.Goals as goal
 
-pub returns-in_default-clause-told : goal.returns-in_default-clause-told
-returns-in_default-clause-told g c =
+pub returns-in_default : goal.returns-in_default
+returns-in_default g c =
     let told : g.E.Listener.hears c.args.errors.now (dropped_line c.args.dropped) c.tell_dropped_bytes.new.errors =
     first_of (search rules, grind (arith, common_steps)) in
-    inr (c.args.dropped, told)
+    let some : c.args.dropped ≢ 0 = first_of (search rules, grind (arith, common_steps)) in
+    some_told g.E.Listener.hears c.args.errors.now c.tell_dropped_bytes.new.errors c.args.dropped some told

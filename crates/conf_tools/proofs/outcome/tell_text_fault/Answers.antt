@@ -6,4 +6,4 @@ use Rattle.conf_tools.proofs.outcome.tell_text_fault.Goals as goal
 pub returns-clause-tells : goal.returns-clause-tells
 returns-clause-tells g c =
     subst (λ name. g.E.Listener.hears c.args.errors.now (fault_line name) c.tell_name.new.errors)
-    c.text_fault_name.ensures c.tell_name.ensures
+    c.name.ensures c.tell_name.ensures

@@ -1,11 +1,12 @@
 -- The array and its line feed are put one after the other.
 use Rattle.std.proofs.Common.{[], codes, string_bytes}
-use Rattle.conf_state.specs.States.{names_of}
+use Rattle.std.specs.Prelude.{map}
+use Rattle.conf_state.specs.Commands.{text_of}
 use Rattle.yaml_forms.specs.Json.{json_texts}
 use Rattle.yaml_writer.specs.Encoded.{encoded_both}
 use Rattle.conf_tools.proofs.reads.name_array.Goals as goal
 
 pub returns : goal.returns
 returns c =
-    encoded_both [] _ (string_bytes c.put_char.new.self) (json_texts (names_of c.args.state.now.configs))
+    encoded_both [] _ (string_bytes c.put_char.new.self) (json_texts (map text_of c.args.names.now))
     (codes "\n") c.in_ok-array.ensures c.in_ok-put_char.ensures

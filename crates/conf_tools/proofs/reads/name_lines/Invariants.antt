@@ -1,8 +1,10 @@
 -- The lines so far, and then those of the names that are left, are all of them.
-use Rattle.std.proofs.Common.{◌≡◌, ◌++◌}
-use Rattle.conf_state.specs.States.{names_of}
+use Rattle.std.proofs.Common.{◌≡◌, ◌++◌, drop}
+use Rattle.std.specs.Prelude.{map}
+use Rattle.conf_state.specs.Commands.{text_of}
 use Rattle.conf_tools.specs.Reads.{name_lines}
 use Rattle.conf_tools.proofs.reads.name_lines.Given as goal
 
 abbrev pub invariant-loop-name : goal.invariant-loop-name
-invariant-loop-name l = l.lines.items ++ name_lines l.name-iterator ≡ name_lines (names_of l.state.configs)
+invariant-loop-name l =
+    l.lines.items ++ name_lines (map text_of (drop l.name-index l.names)) ≡ name_lines (map text_of l.names)

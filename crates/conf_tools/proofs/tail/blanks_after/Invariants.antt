@@ -1,7 +1,14 @@
--- What is left makes of the number so far what all bytes make of the first.
-use Rattle.std.proofs.Common.{◌≡◌, drop}
-use Rattle.conf_tools.specs.Tails.{blanks_after}
+-- The bytes from the place on are blank.
+use Rattle.std.proofs.Common.{◌^◌, ◌<◌, ◌≤◌, length}
+use Rattle.conf_tools.proofs.TailLemmas.{AreBlankFrom}
 use Rattle.conf_tools.proofs.tail.blanks_after.Given as goal
 
-abbrev pub invariant-loop-byte : goal.invariant-loop-byte
-invariant-loop-byte l = blanks_after l.blanks (drop l.byte-index l.bytes) ≡ blanks_after l.fn.blanks l.bytes
+abbrev pub invariant-blanks : goal.invariant-blanks
+invariant-blanks l = record {
+  within : l.at ≤ length l.bytes;
+  short : length l.bytes < 2 ^ 64;
+  blank : AreBlankFrom l.bytes l.at;
+}
+
+abbrev pub decreases-blanks : goal.decreases-blanks
+decreases-blanks l = l.at
