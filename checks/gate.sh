@@ -17,7 +17,7 @@ room=$(mktemp -d) || exit 1
 trap 'rm -rf "$room"' EXIT
 
 SCRIPTS=(
-    released.sh names.py edits.py program.py cases.py fail_calls.py fail_word_calls.py fail_file_calls.py
+    released.sh names.py edits.py lines.py program.py cases.py fail_calls.py fail_word_calls.py fail_file_calls.py
     refuse_allocations.sh refuse_tree_allocations.sh refuse_state_allocations.py refuse_store_allocations.py
     refuse_session_allocations.py refuse_word_allocations.py worlds.py release.py
 )

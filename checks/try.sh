@@ -29,7 +29,7 @@ SCRIPTS=(
     "checks/kills.py" "checks/release.py xz" "python/tests" "checks/completions.py" "checks/many_clients.py"
     "checks/fail_file_calls.py cc" "checks/refuse_session_allocations.py cc" "checks/refuse_word_allocations.py cc"
     "checks/refuse_allocations.sh cc" "packaging/deb/try.sh dpkg-deb $as_root" "checks/editors.py git"
-    "checks/names.py" "checks/program.py" "checks/guide.py" "checks/edits.py"
+    "checks/names.py" "checks/program.py" "checks/guide.py" "checks/edits.py" "checks/lines.py"
 )
 passed=0
 failed=0

@@ -78,8 +78,8 @@ pub(crate) fn elsewhere_by_now() -> io::Error
     io::Error::new(ErrorKind::InvalidInput, "its name leads elsewhere by now")
 }
 
-/// Opens the plain file under a path, which is the one that was looked at before. Returns `None` if it is another one by
-/// now.
+/// Opens the plain file under a path, which is the one that was looked at before. Returns `None` if it is another one
+/// by now.
 ///
 /// # Errors
 /// `NotFound` if nothing is there. If it is no plain file, or the system refuses.

@@ -22,9 +22,10 @@ use std::{fs, io};
 /// and a handle for appending to each file that it appended to, until it is dropped. Where a name has no plain file but
 /// a link, a FIFO or a folder, a call on it fails.
 ///
-/// A run that appended and was killed, or whose sync failed, may have left bytes of `store.yaml` in memory that the device
-/// doesn't have, and that no later sync writes. A note in `store.lock` tells the next run, whose read of `store.yaml` puts
-/// all bytes on the device before it returns them. [`release`](FolderDisk::release) notes that there are none.
+/// A run that appended and was killed, or whose sync failed, may have left bytes of `store.yaml` in memory that the
+/// device doesn't have, and that no later sync writes. A note in `store.lock` tells the next run, whose read of
+/// `store.yaml` puts all bytes on the device before it returns them. [`release`](FolderDisk::release) notes that there
+/// are none.
 ///
 /// One that was opened [`for_reading`](FolderDisk::for_reading) holds no lock, and reads what the system gives. On it
 /// each call but `read` and `failures` fails, and changes nothing.

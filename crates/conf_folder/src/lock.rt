@@ -104,8 +104,9 @@ fn open_marked<R: Files<File = File>>(rt: &R, path: &str) -> io::Result<Option<F
     Ok(Some(file))
 }
 
-/// Locks a `store.lock` that a run has made, and shares the lock on the folder with whoever only looks at it. If another
-/// program holds the folder's lock alone, the run does without: no other run is there, since it would hold the file's.
+/// Locks a `store.lock` that a run has made, and shares the lock on the folder with whoever only looks at it. If
+/// another program holds the folder's lock alone, the run does without: no other run is there, since it would hold the
+/// file's.
 fn lock_marked<R: Files<File = File>>(
     rt: &R,
     folder: &OpenFolder,
@@ -201,8 +202,8 @@ fn admit(folder: &OpenFolder, file: &File, like: Option<&Metadata>) -> io::Resul
     Ok(())
 }
 
-/// The mode of a `store.lock` which those may open who are writers by a mode. Who may not write may not read either, since
-/// whoever opens the file can hold its lock.
+/// The mode of a `store.lock` which those may open who are writers by a mode. Who may not write may not read either,
+/// since whoever opens the file can hold its lock.
 fn lock_mode(mode: u32) -> u32
     ensures nobody { bit_and mode 0o22 ≡ 0 → result ≡ 0o1600 }
     ensures writers { (result ≡ 0o1600) ⊎ (result ≡ 0o1660) ⊎ (result ≡ 0o1606) ⊎ (result ≡ 0o1666) }

@@ -4,8 +4,8 @@ use std::io;
 use std::io::ErrorKind;
 use std::os::unix::fs::FileExt;
 
-/// What a run notes of the bytes of `store.yaml`. It is one byte at the start of `store.lock`, and need not be synced: a
-/// crash of the machine, which may lose it, also takes away what was in memory alone.
+/// What a run notes of the bytes of `store.yaml`. It is one byte at the start of `store.lock`, and need not be synced:
+/// a crash of the machine, which may lose it, also takes away what was in memory alone.
 #[derive(Clone, Copy, PartialEq, Eq)]
 pub(crate) enum Note {
     /// `-`: the device has them.

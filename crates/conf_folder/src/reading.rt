@@ -9,8 +9,9 @@ use std::fs::File;
 use std::io::ErrorKind;
 use std::rt::Files;
 
-/// Opens `store.yaml` in the folder at a path, to be read. It takes no lock, and makes and changes no file, so it serves
-/// beside a run that holds the store, and for a folder that can't be written. `None` if the folder has no such file.
+/// Opens `store.yaml` in the folder at a path, to be read. It takes no lock, and makes and changes no file, so it
+/// serves beside a run that holds the store, and for a folder that can't be written. `None` if the folder has no such
+/// file.
 ///
 /// What another run is about to append may be read in part, and what was read may not be synced, or not be what the
 /// device has. If another run puts a new file in the place of `store.yaml`, the one that was opened is still read.

@@ -1,7 +1,7 @@
 //! What runs of the program keep of the store in a folder, one run after the other.
 //!
-//! [`runs_hold`] is a law of [`perform`](conf_tools::perform) by its contract: it speaks of lists of runs, with any words,
-//! that return or are cut off.
+//! [`runs_hold`] is a law of [`perform`](conf_tools::perform) by its contract: it speaks of lists of runs, with any
+//! words, that return or are cut off.
 #![tactic(auto)]
 
 mod laws;

@@ -181,8 +181,8 @@ pub(crate) fn set_invocation<'w>(words: &ArgMatches<'w>) -> Option<Invocation<'w
     })
 }
 
-/// Tests the pointer of `set` or `delete`: it is empty exactly if the words say that the whole configuration is meant. So a
-/// variable of a shell that is not set removes nothing.
+/// Tests the pointer of `set` or `delete`: it is empty exactly if the words say that the whole configuration is meant.
+/// So a variable of a shell that is not set removes nothing.
 pub(crate) fn test_pointer(alloc: Global, words: &ArgMatches<'_>) -> Result<(), Unparsed> {
     match (words.get_str(POINTER), words.get_flag(ALLOW_WHOLE)) {
         (Some(""), false) => Err(refused(alloc, "an empty POINTER needs --whole")),

@@ -31,8 +31,8 @@ pub enum Invocation<'w> {
         conditions: Conditions<'w>,
         reporting: Reporting,
     },
-    /// Removes what is at a JSON Pointer of a configuration. The pointer is empty if the words leave it out, or say that
-    /// the whole configuration is meant: then the configuration is removed.
+    /// Removes what is at a JSON Pointer of a configuration. The pointer is empty if the words leave it out, or say
+    /// that the whole configuration is meant: then the configuration is removed.
     Delete {
         folder: &'w str,
         name: &'w str,
@@ -74,8 +74,8 @@ pub enum Invocation<'w> {
         at: Option<u64>,
         form: NamesForm,
     },
-    /// Writes the value at a JSON Pointer of a configuration, or its keys, of the store as it was after command `at`, or
-    /// as it is.
+    /// Writes the value at a JSON Pointer of a configuration, or its keys, of the store as it was after command `at`,
+    /// or as it is.
     /// The pointer is empty if the words leave it out: then the value is the whole configuration.
     Get {
         folder: &'w str,

@@ -27,8 +27,8 @@ pub(crate) fn cut_off(
     Ok(())
 }
 
-/// Cuts an opening off after so many calls, and opens what a crash leaves then. Returns how many images that is; none if
-/// opening makes no more calls.
+/// Cuts an opening off after so many calls, and opens what a crash leaves then. Returns how many images that is; none
+/// if opening makes no more calls.
 fn cut_off_after(alloc: Global, image: MemoryDisk, calls: u64, count: u64) -> Result<u64, Wrong> {
     let disk = match Store::open(alloc, FusedDisk::new(image, calls, Fuse::Stop)) {
         Ok(_) => return Ok(0),

@@ -10,13 +10,13 @@
 //!   leaves then, each of which is opened, and how many more after each of their openings was cut off.
 //! - `waiting;CALLS`: three commands are submitted and then flushed, over a disk that stops after so many calls. The
 //!   answer is how many of the images that a crash leaves have how many of the commands.
-//! - `batch;CALLS`: a batch of three edits is applied over a disk that stops after so many calls. The answer is how many
-//!   of the images that a crash leaves have none of the edits, and how many have all of them.
+//! - `batch;CALLS`: a batch of three edits is applied over a disk that stops after so many calls. The answer is how
+//!   many of the images that a crash leaves have none of the edits, and how many have all of them.
 //! - `lists;LENGTH`: each list of so many calls, which are submit, flush, slice (a checkpoint begins if none runs),
-//!   checkpoint, apply, and close and open. It is stopped after each disk call of its last call, and what a crash leaves
-//!   is cut at the ends of records and beside them. Each image is opened, and its store goes on. The answer is how many
-//!   lists, stops and images there are. `lists again;LENGTH`: each opening is cut off too, and the answer has how many
-//!   images that leaves, each of which is opened.
+//!   checkpoint, apply, and close and open. It is stopped after each disk call of its last call, and what a crash
+//!   leaves is cut at the ends of records and beside them. Each image is opened, and its store goes on. The answer is
+//!   how many lists, stops and images there are. `lists again;LENGTH`: each opening is cut off too, and the answer has
+//!   how many images that leaves, each of which is opened.
 //! - `device;FUSE;CALLS`: the worked session over a disk that lets so many calls pass. Then all fail (`stop`), or one
 //!   fails, which has no effect (`undone`) or has it (`done`). The answer is how the session ends, whether the store
 //!   has to be opened again, how many bytes are answered, the count that the file has then, and the count that it has

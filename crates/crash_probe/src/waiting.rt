@@ -1,8 +1,8 @@
 // Three commands are submitted and then flushed, over a disk that stops. Every image that a crash leaves is opened.
 //
 // After the nine calls of opening, each submit makes one, whose record is then pending, of 34, 41 and 35 bytes, and the
-// flush one. Of `n` pending bytes a crash leaves `(n + 1) * (n + 2) / 2` images, those that keep `k` of them as often as
-// there are numbers of zeros from 0 to `n - k`. An image has the commands whose records it keeps whole.
+// flush one. Of `n` pending bytes a crash leaves `(n + 1) * (n + 2) / 2` images, those that keep `k` of them as often
+// as there are numbers of zeros from 0 to `n - k`. An image has the commands whose records it keeps whole.
 use crate::found::{Found, images_of, shown};
 use crate::run::{STATES, delete_a, import_a, set_a};
 use crate::wrong::Wrong;

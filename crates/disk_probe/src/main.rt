@@ -1,7 +1,7 @@
 //! Answers orders on a disk in memory and on disks of folders, so that the gate can compare the answers with expected
 //! ones. Each line of standard input is an order, a word and what belongs to it, with `;` between them. It is answered
-//! in one line, but for `images`. A line that begins with `#` is printed as it is. The program ends with 0, or with 1 if
-//! reading or printing failed.
+//! in one line, but for `images`. A line that begins with `#` is printed as it is. The program ends with 0, or with 1
+//! if reading or printing failed.
 //!
 //! - `new`: takes an empty disk. `files;STORE;NEXT`: one with these files, all synced; `-` means none.
 //! - `claim;BYTES`: from now on a read of `store.yaml` with a smaller limit returns `TooLong`, whatever the file has.

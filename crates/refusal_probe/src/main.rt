@@ -1,8 +1,8 @@
-//! Answers orders on refused texts: where they are at fault, and why. Each line of standard input is an order, a word and
-//! a text, with `;` between them. It is answered in one line.
+//! Answers orders on refused texts: where they are at fault, and why. Each line of standard input is an order, a word
+//! and a text, with `;` between them. It is answered in one line.
 //!
-//! - `line;BYTES`: the place, and the refusal in a few words, as an editor reads them. `small;BYTES` does so within small
-//!   limits: 40 bytes, a depth of 3, and 48 bytes in the one style.
+//! - `line;BYTES`: the place, and the refusal in a few words, as an editor reads them. `small;BYTES` does so within
+//!   small limits: 40 bytes, a depth of 3, and 48 bytes in the one style.
 //! - `sentence;BYTES`: the refusal in a sentence.
 //! - `excerpt;BYTES`: the line of the text and the mark below it, as `Debug` shows a text.
 //! - `remedy;BYTES`: what to do.

@@ -10,8 +10,8 @@
 //! - `open`: opens it. The answer is how many commands were found and how many bytes dropped, or why it is refused.
 //!   `open;FUSE;CALLS` does so over a disk that lets so many calls pass. Then all fail (`stop`), or one fails, which
 //!   has no effect (`undone`) or has it (`done`).
-//! - `create;TEXT`: makes a store of the state that this text means as a `store.yaml`. The answer is `made`, or why none
-//!   is made, or why the text means nothing. `create;FUSE;CALLS;TEXT` does so over such a disk.
+//! - `create;TEXT`: makes a store of the state that this text means as a `store.yaml`. The answer is `made`, or why
+//!   none is made, or why the text means nothing. `create;FUSE;CALLS;TEXT` does so over such a disk.
 //! - `file` and `next`: the length of `store.yaml` or of `next.yaml`, and its text if it has at most 1,000 bytes.
 //! - `image;STAGE`: takes what a crash leaves of this stage if it keeps no pending byte.
 //!
@@ -19,23 +19,23 @@
 //!
 //! - `import;NAME;TEXT`, `set;NAME;PATH;TREE` and `delete;NAME;PATH`: the count after it, or why it is refused.
 //! - `batch;EDIT;EDIT;..`: the same of a batch of edits. An `EDIT` is such an order with `|` in place of each `;`.
-//! - `submit;CLIENT;` before such a command: submits it for the client of this number, without a sync. The answer is the
-//!   same.
+//! - `submit;CLIENT;` before such a command: submits it for the client of this number, without a sync. The answer is
+//!   the same.
 //! - `flush`: syncs what was submitted. The answer is `done`, or why it is refused.
 //! - `begin`: begins a checkpoint in slices. The answer is `done`, or why it is refused; `a checkpoint runs`, and no
 //!   call, if one runs.
 //! - `slice`: writes the next slice. The answer is how many bytes are `left`, or `done`, or why it is refused; `no
-//!   checkpoint runs`, and no call, if none runs. `slices` writes all that are left: how many there were, or why one was
-//!   refused.
+//!   checkpoint runs`, and no call, if none runs. `slices` writes all that are left: how many there were, or why one
+//!   was refused.
 //! - `running`: whether a checkpoint runs.
 //! - `checkpoint`, `count`, `names`, `export;NAME`, `get;NAME;PATH` and `reopen`: the call of this name, the last one
 //!   for whether the store has to be opened again.
-//! - `round;TEXT;TEXT;..`: a round of these pieces. The answer is how many answers there are and their text, or why there
-//!   are none.
+//! - `round;TEXT;TEXT;..`: a round of these pieces. The answer is how many answers there are and their text, or why
+//!   there are none.
 //! - `session;TEXT`: a session on this input. The answer is how it ends, how many bytes of its input are not read, and
-//!   its output. `grouped;TEXT`: the same in groups. `parts;BYTES;TEXT`: at most so many bytes are read at a time. `broken;TEXT` and `interrupted;TEXT`: at
-//!   most 100, and after them a read fails. `room;BYTES;TEXT`: the output takes so many bytes. `copies;COUNT;TEXT`: the
-//!   input is so many times the text, and the output takes nothing.
+//!   its output. `grouped;TEXT`: the same in groups. `parts;BYTES;TEXT`: at most so many bytes are read at a time.
+//!   `broken;TEXT` and `interrupted;TEXT`: at most 100, and after them a read fails. `room;BYTES;TEXT`: the output
+//!   takes so many bytes. `copies;COUNT;TEXT`: the input is so many times the text, and the output takes nothing.
 //!
 //! A `TREE` is a text of YAML. In it and in a `TEXT`, `*COUNT*` means that many letters `x`. `\n`, `\r` and `\t` mean a
 //! line feed, a carriage return and a tab, `\0` a zero byte, and `\\` and `\s` a backslash.

@@ -113,8 +113,8 @@ pub fn delete(tree: &mut Tree, path: &Path) -> Result<Tree, PathFault>
     delete_at(path.allocator(), tree, path.tokens(), Known::Nothing)
 }
 
-/// The edit of [`delete`], where the places of the path's steps are known. [`StepPlaces::find`] finds them, so that each
-/// key is searched for once. The faults are those of [`delete`].
+/// The edit of [`delete`], where the places of the path's steps are known. [`StepPlaces::find`] finds them, so that
+/// each key is searched for once. The faults are those of [`delete`].
 pub fn delete_planned(tree: &mut Tree, path: &Path, places: &StepPlaces) -> Result<Tree, PathFault>
     requires steps { 0 < length path.now }
     requires places { ArePlaces places.now (tree_of tree.old) path.now }

@@ -1,6 +1,6 @@
-//! Answers what words ask the program for. Each line of standard input has the words behind the program's name, with one
-//! space between two of them, and is answered in one line: by the invocation as `Debug` shows it, or by `shown: ` and the
-//! first line of what is shown, or by `wrong: ` and the first line of what is said.
+//! Answers what words ask the program for. Each line of standard input has the words behind the program's name, with
+//! one space between two of them, and is answered in one line: by the invocation as `Debug` shows it, or by `shown: `
+//! and the first line of what is shown, or by `wrong: ` and the first line of what is said.
 //!
 //! `probe_words` says how a word is written, what a heading is, and how the program ends.
 #![tactic(auto)]

@@ -66,7 +66,8 @@ impl Change {
     }
 }
 
-/// The size of a part of a tree that is indented by `by` spaces more: each of its indented lines has as many bytes more.
+/// The size of a part of a tree that is indented by `by` spaces more: each of its indented lines has as many bytes
+/// more.
 fn shifted_size(size: Size, by: u128) -> Size
     requires { size.bytes + by * size.lines < 2 ^ 128 }
     ensures { result ≡ shifted_size by size }

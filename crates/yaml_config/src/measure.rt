@@ -217,8 +217,8 @@ fn parent_at<'t>(
     Ok(Parent { node, slot })
 }
 
-/// What putting a value into a node changes in its length, where the place of its key is known. `element` is the value's
-/// size as an element.
+/// What putting a value into a node changes in its length, where the place of its key is known. `element` is the
+/// value's size as an element.
 fn put_change(
     parent: &Parent<'_>,
     token: &str,

@@ -92,8 +92,8 @@ pub fn plain_line_end(text: &str, at: usize, n: u64, context: FlowContext) -> Op
     Some(end)
 }
 
-/// Returns the end of the first line of the plain scalar at `at`, if it begins with an ASCII letter or digit. The caller
-/// finds whether a further line follows. Returns None at any other, and where none is at `at`.
+/// Returns the end of the first line of the plain scalar at `at`, if it begins with an ASCII letter or digit. The
+/// caller finds whether a further line follows. Returns None at any other, and where none is at `at`.
 #[inline(always)]
 pub fn plain_first_line_end(text: &str, at: usize, context: FlowContext) -> Option<usize>
     requires { IsCharBoundary text.now at }

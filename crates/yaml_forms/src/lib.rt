@@ -4,8 +4,8 @@
 //! [`json`] is the JSON text of a tree (RFC 8259), which is YAML too and gives the same tree ([`json_reads`]).
 //! [`write_json`] and [`write_json_string`] write it to a [`Sink`](yaml_writer::Sink), and a [`TextArray`] is the JSON
 //! text of a sequence of texts, without its tree. [`plain`] is the one style, but numbers, truth values and null stand
-//! plain, for readers with types; it gives the same tree ([`plain_reads`]). [`keys`] are the keys of a mapping, or the indexes of a sequence, a
-//! line each.
+//! plain, for readers with types; it gives the same tree ([`plain_reads`]). [`keys`] are the keys of a mapping, or the
+//! indexes of a sequence, a line each.
 #![tactic(auto)]
 
 mod json_string;

@@ -11,16 +11,16 @@ use yaml_docs::{Place, events, place_at};
 use yaml_events::{EventRef, Events, Span, Style};
 use yaml_tree::{Limits, ReadFault};
 
-/// Returns the place of the first comment of a text, and `None` if it has none. The one style has no comments, so this is
-/// what the text loses where it is replaced by that of its tree.
+/// Returns the place of the first comment of a text, and `None` if it has none. The one style has no comments, so this
+/// is what the text loses where it is replaced by that of its tree.
 ///
 /// A comment begins with a `#` outside of every scalar, or on the line of a `|` or `>` (YAML 1.2.2, 6.6 and 8.1.1). No
 /// contract says which line and column a place has.
 ///
 /// # Errors
 ///
-/// Those of [`events`] for a text of a configuration ([`Limits::CONFIGURATION`]): it is too long, no UTF-8, or malformed,
-/// or memory ran out.
+/// Those of [`events`] for a text of a configuration ([`Limits::CONFIGURATION`]): it is too long, no UTF-8, or
+/// malformed, or memory ran out.
 pub fn first_comment(alloc: Global, bytes: &[u8]) -> Result<Option<Place>, ReadFault>
     ensures found { IfOk result (λ place.
         MatchOption place (HasNoComment bytes.now) (λ _. HasComment bytes.now)) }
@@ -55,7 +55,8 @@ fn comment_start(bytes: &[u8], events: &Events<'_>) -> Option<usize>
     first_mark(bytes, from, bytes.len())
 }
 
-/// The byte of a text, from 0, at which a scalar's own text begins: that of a block scalar begins behind the line of its
+/// The byte of a text, from 0, at which a scalar's own text begins: that of a block scalar begins behind the line of
+/// its
 /// `|` or `>`.
 fn text_start(bytes: &[u8], style: Style, span: Span) -> usize
     requires ordered { span.start ≤ span.end }

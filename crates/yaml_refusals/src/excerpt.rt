@@ -23,7 +23,8 @@ pub struct Excerpt<'t> {
 }
 
 impl<'t> Excerpt<'t> {
-    /// The line of `bytes` that has the place. Of bytes that are not UTF-8 it is what comes before the first that isn't.
+    /// The line of `bytes` that has the place. Of bytes that are not UTF-8 it is what comes before the first that
+    /// isn't.
     pub fn new(bytes: &'t [u8], place: Place) -> Excerpt<'t> {
         let text = match str::from_utf8(bytes) {
             Ok(text) => text,

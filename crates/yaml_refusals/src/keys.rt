@@ -1,5 +1,5 @@
-// The first node of a text that is at fault: a key that comes twice, a key that is no text, a node that is too deep, and
-// the second document.
+// The first node of a text that is at fault: a key that comes twice, a key that is no text, a node that is too deep,
+// and the second document.
 use crate::nodes::{Nodes, next_sign};
 use std::alloc::{AllocError, Global};
 use std::collections::BTreeMap;

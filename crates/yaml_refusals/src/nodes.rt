@@ -8,8 +8,8 @@ const MARK: &[u8] = b"\xef\xbb\xbf";
 /// An event, by where it is in the text and in the tree.
 #[derive(Clone, Copy)]
 pub(crate) struct Step {
-    /// The byte at which the node begins, from 0. A list that is written in lines begins at its first `-`, and a mapping
-    /// that is written in lines at its first key. Of an end it is where the text goes on.
+    /// The byte at which the node begins, from 0. A list that is written in lines begins at its first `-`, and a
+    /// mapping that is written in lines at its first key. Of an end it is where the text goes on.
     pub(crate) start: usize,
     /// Whether it is a node in the place of a key.
     pub(crate) is_key: bool,

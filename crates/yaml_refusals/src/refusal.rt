@@ -24,8 +24,8 @@ pub struct Refusal {
 }
 
 impl Refusal {
-    /// Looks for the place of a fault. `bytes` are the text, and `fault` is what [`read_one`](yaml_tree::read_one) answers
-    /// for it within `limits`. Of another fault there may be no place and no detail.
+    /// Looks for the place of a fault. `bytes` are the text, and `fault` is what [`read_one`](yaml_tree::read_one)
+    /// answers for it within `limits`. Of another fault there may be no place and no detail.
     ///
     /// # Errors
     /// It fails only if memory runs out.

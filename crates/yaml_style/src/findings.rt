@@ -19,8 +19,8 @@ use yaml_tree::{Document, Limits, ReadFault};
 ///
 /// The text is read as [`read_one`](yaml_tree::read_one) reads it, within the limits of a configuration
 /// ([`Limits::CONFIGURATION`]). Its lines are looked at once. The text of its tree in the one style is compared with it
-/// piece by piece, and neither that text nor the tree is ever held. A byte order mark counts as a character of the first
-/// line. Breaks are LF, CR LF and CR (YAML 1.2.2, 5.4).
+/// piece by piece, and neither that text nor the tree is ever held. A byte order mark counts as a character of the
+/// first line. Breaks are LF, CR LF and CR (YAML 1.2.2, 5.4).
 ///
 /// # Errors
 ///

@@ -72,14 +72,14 @@ pub struct Document<'a> {
 impl<'a> Document<'a> {
     /// Reads a text that is one document.
     ///
-    /// `bytes` are UTF-8 (YAML 1.2.2, 5.2), read by the failsafe schema (10.1) without aliases, anchors and tags. Of the
-    /// limits only that of bytes is tested. The call stack doesn't grow with the text.
+    /// `bytes` are UTF-8 (YAML 1.2.2, 5.2), read by the failsafe schema (10.1) without aliases, anchors and tags. Of
+    /// the limits only that of bytes is tested. The call stack doesn't grow with the text.
     ///
     /// # Errors
     ///
     /// Of those of [`read_one`](crate::read_one) the ones that need no tree: [`ReadFault::TooLong`],
-    /// [`ReadFault::NotUtf8`], [`ReadFault::Syntax`] and [`ReadFault::Documents`]. Each is returned only if it holds and
-    /// no earlier one does; [`ReadFault::OutOfMemory`] may come at any point.
+    /// [`ReadFault::NotUtf8`], [`ReadFault::Syntax`] and [`ReadFault::Documents`]. Each is returned only if it holds
+    /// and no earlier one does; [`ReadFault::OutOfMemory`] may come at any point.
     pub fn read(alloc: Global, bytes: &'a [u8], limits: &Limits) -> Result<Document<'a>, ReadFault>
         ensures read { IfOk result (IsDocument bytes.now (limits_of limits.now)) }
         ensures too_long { (result ≡ Err ReadFault.TooLong)

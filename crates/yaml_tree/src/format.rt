@@ -34,8 +34,8 @@ const MOST_INDENT: u64 = 4_294_967_295;
 /// # Errors
 ///
 /// Those of [`read_one`](crate::read_one): each fault of [`ReadFault`] is returned only if it holds and no earlier one
-/// does; [`ReadFault::OutOfMemory`] may come at any point. It also comes if more than 2,147,483,647 collections are open
-/// at once, where the limits allow that many.
+/// does; [`ReadFault::OutOfMemory`] may come at any point. It also comes if more than 2,147,483,647 collections are
+/// open at once, where the limits allow that many.
 pub fn format_one(alloc: Global, bytes: &[u8], limits: &Limits) -> Result<String, ReadFault>
     ensures given { IfOk result (λ text.
         IsFormatted bytes.now (limits_of limits.now) (string_bytes text)) }
