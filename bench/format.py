@@ -5,15 +5,21 @@ For each form of text that is read, and each size, it prints the least processor
 without the start of the program, and the greatest memory; then the time of `check`, also as a multiple of that of
 `format`, and its memory. At the end it says whether the time a byte grew by at most a quarter from the smallest size to
 the largest, whether the memory was at most 12 times the input, and whether `check` took at most 1.3 times the time of
-`format` at the largest size. The status is 0 if all three hold. Run it from the repository's root after the program is
-built:
+`format` at the largest size. The status is 0 if all three hold.
 
-    python3 bench/format.py
+First it prints the greatest memory of `format` on 3 MiB of short lines of several forms, and what it says of them: most
+are refused, since they would be too long in the one style. With `-m` it prints that alone.
+
+Run it from the repository's root after the program is built:
+
+    python3 bench/format.py [-m]
 """
 
 from __future__ import annotations
 
 import os
+import string
+import subprocess
 import sys
 import tempfile
 
@@ -29,9 +35,24 @@ FORMS: dict[str, Part] = {
     # a finding on each line
     "single quotes": lambda i: f"key-{i:07}: 'the value of key {i}, as text' \n",
 }
+# Short lines, of which so many bytes are read.
+SHORT_LINES = 3 * MIB
+SHORT: dict[str, Part] = {
+    "lines `-`": lambda i: "-\n",
+    "lines `- `": lambda i: "- \n",
+    "lines `k:`": lambda i: "k:\n",
+    "lines `- k:`": lambda i: "- k:\n",
+    # as many to a mapping as there are
+    "three letters": lambda i: f"{'  ' if i % 26**3 else '- '}{three_letters(i)}:\n",
+    "other keys": lambda i: f"k{i:06}:\n",
+}
 FORMAT, CHECK = [PROGRAM, "format"], [PROGRAM, "check"]
 # How often each run is made.
 TIMES = 15
+
+
+def three_letters(number: int) -> str:
+    return "".join(string.ascii_lowercase[number // 26**place % 26] for place in (2, 1, 0))
 
 
 def best(words: Words, path: str) -> float:
@@ -63,6 +84,17 @@ class Cost:
         )
 
 
+def show_memory(form: str, path: str) -> None:
+    """Prints the greatest memory of `format` on short lines, and what it says of them."""
+    with open(path, "w", encoding="utf-8") as target:
+        target.write(until(SHORT_LINES, SHORT[form]))
+    length, memory = os.path.getsize(path), greatest_memory(FORMAT, path)
+    with open(path, "rb") as text:
+        done = subprocess.run(FORMAT, stdin=text, stdout=subprocess.DEVNULL, stderr=subprocess.PIPE, check=False)
+    said = done.stderr.decode().strip() or "written"
+    print(f"{form:14} {length:8} bytes  {memory / MIB:6.1f} MiB ({memory / length:4.1f} times the input)  {said}")
+
+
 def is_within(form: str, folder: str, start: float, floor: int) -> bool:
     """Prints what a form of text takes at each size, and returns whether that is within the bounds."""
     path, costs = os.path.join(folder, "input.yaml"), []
@@ -80,6 +112,10 @@ def is_within(form: str, folder: str, start: float, floor: int) -> bool:
 def main() -> int:
     need_program()
     with tempfile.TemporaryDirectory() as folder:
+        for form in SHORT:
+            show_memory(form, os.path.join(folder, "input.yaml"))
+        if "-m" in sys.argv[1:]:
+            return 0
         word = os.path.join(folder, "word")
         with open(word, "w", encoding="utf-8") as target:
             target.write("a: b\n")

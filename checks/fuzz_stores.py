@@ -5,7 +5,8 @@ Ten stores are made by sessions. Their files are changed at random: bits flipped
 swapped, doubled, taken out or exchanged with those of another store, cut anywhere, and followed by zeros. Then a
 checkpoint is made, and the state is read from the new base.
 
-- Each file is opened, or refused by `NotAStore` or `Damaged`. A refused file stays as it is.
+- Each file is opened, or refused by `NotAStore` or `Damaged`. A refused file stays as it is. Standard error has the name
+  of the refusal, or else one line if bytes after the last piece are dropped, which says how many.
 - After a change of whole pieces, a cut, or zeros, the state or the refusal has to be that of lib/store_model.py.
 - After a change of bytes, the states have to be the same where both find one. The model reads by libyaml, which
   reads another YAML in places. Files that only one of them opens are counted, and so are those with breaks of YAML
@@ -37,7 +38,7 @@ from typing import Union
 
 from lib.mutations import changed, flip_bit, place
 from lib.store_model import OLD_BREAKS, Damaged, NotAStore, meaning, pieces_of, read_base
-from lib.store_runs import EMPTY, PROGRAM, Failures, need_program, read_file, session, write_file
+from lib.store_runs import EMPTY, PROGRAM, Failures, dropped, need_program, read_file, session, write_file
 from lib.trees import Refused, Tree
 
 COUNT = 100_000
@@ -173,21 +174,24 @@ def outcome_of_program(folder: str, content: bytes, failures: Failures) -> Outco
     if (status, output, errors) in ((1, b"", "confstore: NotAStore\n"), (1, b"", "confstore: Damaged\n")):
         failures.expect(f"the refused file {content!r}", left, content)
         return errors.removeprefix("confstore: ").strip()
-    failures.expect(f"the session over {content!r}", (status, errors), (0, ""))
+    rest = pieces_of(content)[1]
+    failures.expect(f"the session over {content!r}", (status, errors), (0, dropped(rest)))
     try:
         configs, count = read_base(left)
     except Refused:
         failures.expect(f"the base of {content!r}", left, "a base")
         return "no base"
     failures.expect(f"the answer over {content!r}", output, f'---\nok: "{count}"\n...\n'.encode())
-    return list(configs.items()), count, len(pieces_of(content)[1])
+    return list(configs.items()), count, len(rest)
 
 
 def opening_changes_nothing(folder: str, content: bytes, outcome: Outcome, failures: Failures) -> None:
-    """A session without commands leaves the file, unless it drops bytes after the last piece."""
+    """A session without commands says what it drops, and leaves the file unless it drops bytes after the last piece."""
     file = os.path.join(folder, "store.yaml")
     write_file(file, content)
-    session(folder, b"", timeout=HANGS)
+    said = f"confstore: {outcome}\n" if isinstance(outcome, str) else dropped(pieces_of(content)[1])
+    status = 1 if isinstance(outcome, str) else 0
+    failures.expect(f"opening {content!r}", session(folder, b"", timeout=HANGS), (status, b"", said))
     left = read_file(file)
     if isinstance(outcome, str) or outcome[2] == 0:
         failures.expect(f"the file {content!r} after opening", left, content)
