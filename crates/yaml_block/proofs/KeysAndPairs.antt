@@ -16,7 +16,7 @@ use Rattle.yaml_grammar.specs.Texts.{byte_len, first}
 use Rattle.yaml_recognizers.specs.BlockFrames.{BlockFrame, key_on_line, waits_key, waits_value}
 use Rattle.yaml_recognizers.specs.BlockNodes.{bar}
 use Rattle.yaml_recognizers.specs.Comments.{all_comments, closes_line}
-use Rattle.yaml_recognizers.specs.Prefixes.{sign, take_while}
+use Rattle.yaml_recognizers.specs.Prefixes.{drop_while, sign, take_while}
 use Rattle.yaml_recognizers.specs.Reading.{Read}
 use Rattle.yaml_recognizers.specs.Recognizers.{flow_node_at}
 use Rattle.yaml_recognizers.proofs.Flow.OneLineText.{unbroken}
@@ -271,19 +271,18 @@ module _ (text : List ℕ) (u : IsUtf8 text) where
           (sym tests ∙ n)
 
   -- a flow node before the end of its line is a leaf
-  pub leaf_line : (leaf : Leaf) (end colon : ℕ) (line : Line) (old new : Reader) (mid : List Event)
+  pub leaf_line : (leaf : Leaf) (end : ℕ) (line : Line) (old new : Reader) (mid : List Event)
       → IsCharBoundary text leaf.at → FlowNodeRead leaf.least outer text leaf.at end old.events mid
-      → AreTaken white text end colon → sign 58 (rest text colon) ≡ false → IsSolidLine false text end line
+      → sign 58 (drop_while white (rest text end)) ≡ false → IsSolidLine false text end line
       → closes_line (all_comments false (rest text end)) ≡ true
       → new.collections ≡ old.collections → new.events ≡ mid → new.end ≡ end
       → Leads text (BeforeLeaf text leaf) old new (next.Line (record { line = line; is_solid = true }))
-  leaf_line leaf end colon line old new mid b f t c l close i e d = λ W from base fs evs held here.
+  leaf_line leaf end line old new mid b f c l close i e d = λ W from base fs evs held here.
       let at : ℕ = leaf.at in
       let len : at + byte_len (flow_text f.node) ≡ end =
       (flow_to text at end f.node leaf.least outer (line_starts text at) u b f.boundary f.found).0 in
       let read : AtLine W text from fs (evs ++ flow_events f.node at) line.start end =
-      leaf_read W text from fs evs leaf.least leaf.pairs at f.node end line.start here f.found len
-      (ap (sign 58) t.leaves ∙ c) close l.leaves
+      leaf_read W text from fs evs leaf.least leaf.pairs at f.node end line.start here f.found len c close l.leaves
       (comments_to text end line.start false u f.boundary l.boundary l.leaves).0 in
       record {
         fs = fs;

@@ -1,6 +1,6 @@
 -- The steps of the reader at a value that is the rest of its line.
 use Rattle.std.proofs.Common.{ap, append_assoc, arith, inl, length, refl, subst, sym, ◌<◌, ◌∙◌, ◌≡◌, ◌≤◌}
-use Rattle.std.specs.Prelude.{Bool, List, None, Option, Some, [], false, nat_le, true, ℕ, ◌*◌, ◌++◌, ◌+◌, ◌-◌, ◌∷◌, ◌&&◌, insert}
+use Rattle.std.specs.Prelude.{Bool, IfSome, List, None, Option, Some, [], false, nat_le, true, ℕ, ◌*◌, ◌++◌, ◌+◌, ◌-◌, ◌∷◌, ◌&&◌, insert}
 use Rattle.std.specs.Str.{IsCharBoundary, IsUtf8}
 use Rattle.std.proofs.lemmas.Bool.{and_from, false≢true}
 use Rattle.std.proofs.Math.Seq.{drop-append_seam, take-append_seam}
@@ -39,8 +39,7 @@ use Rattle.yaml_flow_scalars.proofs.InsideLines.{ends_inside_line}
 use Rattle.yaml_flow_scalars.proofs.PlainLines.{key_no_line}
 use Rattle.yaml_flow.specs.FlowNodes.{FlowNodeRead}
 use Rattle.yaml_block.specs.Frames.{AfterPair, AtLeaf, AtLine}
-use Rattle.yaml_block.specs.LineValues.{IsLeadIn, IsLinePair, IsLineValue, IsPlainLine}
-use Rattle.yaml_block.specs.declared.first_pair.LinePair.{LinePair}
+use Rattle.yaml_block.specs.LineValues.{IsFirstKey, IsLeadIn, IsLineValue, IsPlainLine, IsRestOfLine}
 use Rattle.yaml_block.specs.Lines.{IsNextLine}
 use Rattle.yaml_block.specs.States.{BeforeColon, BeforeLeaf, BeforeLineValue, Holds, IsAfterSign, Leads, Onward, Stack}
 use Rattle.yaml_block.specs.declared.frame.Collection.{Collection}
@@ -53,9 +52,10 @@ use Rattle.yaml_block.specs.declared.line_sign.Sign.TheVariants.{Colon}
 use Rattle.yaml_block.specs.declared.line_value.LineValue.{LineValue}
 use Rattle.yaml_block.specs.declared.next_line.NextLine.{NextLine}
 use Rattle.yaml_block.specs.declared.reader.Reader.{Reader}
-use Rattle.yaml_block.proofs.KeysAndPairs.{key_waits, leaf_waits}
+use Rattle.yaml_block.proofs.KeysAndPairs.{key_waits, leaf_key, leaf_line, leaf_waits}
 use Rattle.yaml_block.proofs.LeafSteps.{leaf_read}
 use Rattle.yaml_block.proofs.PlaceSteps.{comments_to, flow_to}
+use Rattle.yaml_block.proofs.PlainStarts.{plain_start}
 use Rattle.yaml_block.proofs.SignsAndLines.{leaf_there, onward_from}
 use Rattle.yaml_block.proofs.Stacks.{appended_before, appended_more}
 use Rattle.yaml_block.proofs.TextPlaces.{IsPastSign, past_sign}
@@ -107,6 +107,16 @@ module _ (text : List ℕ) (u : IsUtf8 text) where
         white = taken;
         goes_on = open_line text at u b there.below (solid_no_end text at (at + 1) u b taken s);
       }
+
+  -- after one space the rest of the line is read
+  pub lead_to : (at n : ℕ) (found : Option LineValue) → IsCharBoundary text at
+      → first (is_sign 32) (rest text at) ≡ true → IfSome found (IsRestOfLine text n)
+      → IfSome found (λ value. value.start ≡ at + 1) → IfSome found (λ value. IsLeadIn text at value.start)
+  lead_to at n (Some value) b space f s =
+      let start = plain_start n outer text value.start value.end _ f.plain.scalar in
+      subst (λ (j : ℕ). IsLeadIn text at j) (sym s)
+      (lead_in at b space (subst (λ (j : ℕ). first solid (rest text j) ≡ true) s start.solid_is))
+  lead_to at n None b space f s = f
 
   -- the place after the `:` and the space
   pub past_space : (at : ℕ) → IsCharBoundary text at → first (is_sign 58) (rest text at) ≡ true
@@ -188,28 +198,62 @@ module _ (text : List ℕ) (u : IsUtf8 text) where
         inside_line = ends_inside_line plain_style n outer text at (between text at end) end u b whole;
       }
 
-  -- the first pair of a mapping is a whole line
-  pub first_pair_leads : (leaf : Leaf) (k : ℕ) (p : LinePair) (old opened mid new : Reader) (to : Next)
-      → leaf.pairs ≡ Some k → k ≤ leaf.at → IsCharBoundary text leaf.at → IsLinePair text leaf.at k p
-      → opened.collections ≡ old.collections → opened.events ≡ old.events ++ MapStart ∷ []
-      → mid.collections ≡ opened.collections
-      → FlowNodeRead leaf.least outer text leaf.at p.key_end opened.events mid.events
-      → Leads text (BeforeLineValue text k p.value.start) mid new to → Leads text (BeforeLeaf text leaf) old new to
-  first_pair_leads leaf k p old opened mid new to n deep b pair i e j key l =
-      let more : List Event = key.appended.more in
-      leaf_value leaf k p.key_end p.key_end p.value.start old mid new (old.events ++ more) to n deep b
-      (record {
-        above = key.above;
-        boundary = key.boundary;
-        within = key.within;
-        inside_line = key.inside_line;
-        node = key.node;
-        found = key.found;
-        appended = record { more = more; is = refl; means = key.appended.means; borrows = key.appended.borrows };
-      })
-      (no_white_taken text p.key_end pair.key.boundary (sign_solid 58 (rest text p.key_end) refl pair.colon)) pair.colon
-      (and_from _ _ pair.key.unbroken pair.short) (j ∙ i)
-      (key.appended.is ∙ (ap (λ es. es ++ more) e ∙ inserted old.events more MapStart)) pair.lead l
+  -- the first key is read after the start of its mapping, as if the start were put in before it
+  first_key_read : (leaf : Leaf) (end : ℕ) (old opened mid : Reader) → opened.events ≡ old.events ++ MapStart ∷ []
+      → FlowNodeRead leaf.least outer text leaf.at end opened.events mid.events
+      → (keys : List Event) × FlowNodeRead leaf.least outer text leaf.at end old.events keys
+      × (mid.events ≡ insert keys (length old.events) MapStart)
+  first_key_read leaf end old opened mid e key =
+      let more : List Event = key.appended.more in (
+        old.events ++ more,
+        record {
+          above = key.above;
+          boundary = key.boundary;
+          within = key.within;
+          inside_line = key.inside_line;
+          node = key.node;
+          found = key.found;
+          appended = record { more = more; is = refl; means = key.appended.means; borrows = key.appended.borrows };
+        },
+        key.appended.is ∙ (ap (λ es. es ++ more) e ∙ inserted old.events more MapStart),
+      )
+
+  module _ (leaf : Leaf) (k end : ℕ) (old opened mid : Reader) (n : leaf.pairs ≡ Some k)
+      (b : IsCharBoundary text leaf.at) (f : IsFirstKey text leaf.at end)
+      (i : opened.collections ≡ old.collections) (e : opened.events ≡ old.events ++ MapStart ∷ [])
+      (j : mid.collections ≡ opened.collections)
+      (key : FlowNodeRead leaf.least outer text leaf.at end opened.events mid.events) where
+    -- after the first key of a mapping its value is the rest of the line
+    pub first_key_value : (start : ℕ) (new : Reader) (to : Next) → k ≤ leaf.at → IsLeadIn text (end + 1) start
+        → Leads text (BeforeLineValue text k start) mid new to → Leads text (BeforeLeaf text leaf) old new to
+    first_key_value start new to deep lead l =
+        let read = first_key_read leaf end old opened mid e key in
+        leaf_value leaf k end end start old mid new read.0 to n deep b read.1
+        (no_white_taken text end f.line.boundary (sign_solid 58 (rest text end) refl f.colon)) f.colon
+        (and_from _ _ f.line.unbroken f.short) (j ∙ i) read.2 lead l
+
+    -- after the first key of a mapping its value is read next
+    pub first_key_waits : (new : Reader)
+        → new.collections.items ≡ mid.collections.items ++ (record { waits = Value; indent = k }) ∷ []
+        → new.events ≡ mid.events → Leads text (BeforeLeaf text leaf) old new (next.After (end + 1) k Colon)
+    first_key_waits new w same =
+        let read = first_key_read leaf end old opened mid e key in
+        leaf_key text u leaf k end end old new read.0 n b read.1
+        (no_white_taken text end f.line.boundary (sign_solid 58 (rest text end) refl f.colon)) f.colon
+        (and_from _ _ f.line.unbroken f.short)
+        (w ∙ ap (λ v. v.items ++ (record { waits = Value; indent = k }) ∷ []) (j ∙ i)) (same ∙ read.2)
+
+  -- a leaf is the rest of its line
+  pub leaf_is_line : (leaf : Leaf) (value : LineValue) (old new : Reader) → value.start ≡ leaf.at
+      → IsRestOfLine text leaf.least value
+      → FlowNodeRead leaf.least outer text leaf.at value.end old.events new.events
+      → new.collections ≡ old.collections → new.end ≡ value.end
+      → Leads text (BeforeLeaf text leaf) old new
+      (next.Line (record { line = value.after; is_solid = true }))
+  leaf_is_line leaf value old new s v f i d =
+      leaf_line text u leaf value.end value.after old new new.events
+      (subst (λ (j : ℕ). IsCharBoundary text j) s v.boundary) f (no_colon (rest text value.end) v.closes) v.line
+      v.closes i refl d
 
   -- the value is read, and so is the pair
   pub value_read : (k : ℕ) (value : LineValue) (old mid : Reader) → IsLineValue text k value
@@ -271,26 +315,26 @@ module _ (text : List ℕ) (u : IsUtf8 text) where
 
 -- ---- places
 
--- the line after the value is a next line
-line_placed : (text : List ℕ) (k : ℕ) (value : LineValue) → IsLineValue text k value
+-- the line after the scalar is a next line
+line_placed : (text : List ℕ) (n : ℕ) (value : LineValue) → IsRestOfLine text n value
     → IsNextLine text (record { line = value.after; is_solid = true })
-line_placed text k value v = record {
+line_placed text n value v = record {
   line = record { boundary = (v.line).boundary; spaces = (v.line).spaces; starts = v.starts };
   solid = (v.line).solid;
 }
 
--- the line after the value is further on
-pub line_onward : (text : List ℕ) (value : LineValue) (k : ℕ) → IsLineValue text k value
+-- the line after the scalar is further on
+pub line_onward : (text : List ℕ) (value : LineValue) (n : ℕ) → IsRestOfLine text n value
     → Onward text value.start (3 * (length text - value.start))
     (next.Line (record { line = value.after; is_solid = true }))
-line_onward text value k v =
+line_onward text value n v =
     let long = ((v.plain).scalar).above in
     let after = (v.line).above in
     let within = (v.line).boundary.0 in
     record {
       above = omega (arith, long, after);
       less = omega (arith, long, after, within);
-      placed = line_placed text k value v;
+      placed = line_placed text n value v;
     }
 
 -- and so is a pair on it

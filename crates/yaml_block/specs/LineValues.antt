@@ -14,7 +14,6 @@ use Rattle.yaml_scan.specs.ScanPlaces.{AreTaken, unbroken_between}
 use Rattle.yaml_scan.specs.Lines.{IsLineStart, IsSolidLine}
 use Rattle.yaml_flow_scalars.specs.PlainPlaces.{IsFirstLine}
 use Rattle.yaml_flow_scalars.specs.Standing.{ScalarAt}
-use Rattle.yaml_block.specs.declared.first_pair.LinePair.{LinePair}
 use Rattle.yaml_block.specs.declared.line_value.LineValue.{LineValue}
 
 -- A plain scalar on one line is between the two places, and no further line of it follows.
@@ -23,14 +22,18 @@ pub record IsPlainLine (n : ℕ) (c : FlowContext) (text : List ℕ) (start end 
   pub unbroken : unbroken_between text start end ≡ true
   pub inside_line : line_starts text end ≡ false
 
--- The value of a pair of a mapping at k is a plain scalar on one line, and nothing but whitespace and a comment follows
--- it there.
-pub record IsLineValue (text : List ℕ) (k : ℕ) (value : LineValue) : Type 0 where
+-- A plain scalar on one line is the rest of that line: nothing but whitespace and a comment follows it there. No further
+-- line of it follows where it needs n spaces.
+pub record IsRestOfLine (text : List ℕ) (n : ℕ) (value : LineValue) : Type 0 where
   pub boundary : IsCharBoundary text value.start
-  pub plain : IsPlainLine (k + 1) outer text value.start value.end
+  pub plain : IsPlainLine n outer text value.start value.end
   pub line : IsSolidLine false text value.end value.after
   pub starts : IsLineStart text value.after.start
   pub closes : closes_line (all_comments false (rest text value.end)) ≡ true
+
+-- the value of a pair of a mapping at k is the rest of its line
+abbrev pub IsLineValue : List ℕ → ℕ → LineValue → Type 0
+IsLineValue text k = IsRestOfLine text (k + 1)
 
 -- Whitespace is between the two places, and the line goes on after it.
 pub record IsLeadIn (text : List ℕ) (at start : ℕ) : Type 0 where
@@ -38,11 +41,8 @@ pub record IsLeadIn (text : List ℕ) (at start : ℕ) : Type 0 where
   pub white : AreTaken white text at start
   pub goes_on : closes_line (all_comments false (rest text at)) ≡ false
 
--- A pair of a mapping at k begins at the place, and is a whole line: its key is a plain scalar with its `:` right after
--- it, and its value is the rest of the line.
-pub record IsLinePair (text : List ℕ) (at k : ℕ) (pair : LinePair) : Type 0 where
-  pub key : IsFirstLine outer text at pair.key_end
-  pub short : nat_le (length (between text at pair.key_end)) key_limit ≡ true
-  pub colon : sign colon (rest text pair.key_end) ≡ true
-  pub value : IsLineValue text k pair.value
-  pub lead : IsLeadIn text (pair.key_end + 1) pair.value.start
+-- A mapping may begin with the plain scalar between the two places: its `:` is right after it, and it is short enough.
+pub record IsFirstKey (text : List ℕ) (at end : ℕ) : Type 0 where
+  pub line : IsFirstLine outer text at end
+  pub short : nat_le (length (between text at end)) key_limit ≡ true
+  pub colon : sign colon (rest text end) ≡ true

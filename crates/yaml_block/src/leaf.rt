@@ -7,27 +7,71 @@ ghost use Rattle.yaml_grammar.specs.Texts.{first};
 ghost use Rattle.yaml_recognizers.specs.BlockNodes.{bar};
 ghost use Rattle.yaml_recognizers.specs.Prefixes.{sign};
 ghost use Rattle.yaml_events.specs.EventPlaces.{Refuses};
+ghost use Rattle.yaml_block.specs.LineValues.{IsRestOfLine};
 ghost use Rattle.yaml_block.specs.States.{fits_as_key, IsOpened, Grown, Onward, Leads, FailsBy, BeforeLeaf};
 
-use crate::first_pair::first_pair;
+use crate::first_key::has_colon;
 use crate::frame::{Leaf, Next, Waits};
 use crate::line_sign::Sign;
-use crate::line_value::line_value;
+use crate::line_value::{LineValue, line_value, rest_of_line};
 use crate::next_line::NextLine;
 use crate::reader::Reader;
 use crate::refusals::{line_goes_on, no_node, refusal};
 use crate::scalar::begins_block_scalar;
 use yaml_events::{Event, FlowContext, ScanFault, Why};
 use yaml_flow::{KEY_LIMIT, flow_node};
+use yaml_flow_scalars::plain_first_line_end;
 use yaml_scan::{at_most_chars, has_break, line_after, sign_at, white_end};
 
 impl<'a> Reader<'a> {
     /// Reads what a block node begins with, where it is no `- `: a block scalar, a flow node, or the first key of a
     /// mapping, which it opens. Appends its events. Returns what is read next, and where.
     ///
+    /// Most are plain scalars that are a first key or the rest of their line. Those are read once.
+    ///
     /// It fails if no block node begins so, or memory runs out.
     #[inline(always)]
     pub(crate) fn leaf(&mut self, text: &'a str, leaf: Leaf) -> Result<Next, ScanFault>
+        requires at { IsCharBoundary text.now leaf.at }
+        requires least { leaf.least ≤ 2 ^ 63 }
+        requires pairs { IfSome leaf.pairs (λ indent. indent ≤ leaf.at) }
+        ensures onward { IfOk result (Onward text.now leaf.at (3 * (length text.now - leaf.at))) }
+        ensures leads { IfOk result (Leads text.now (BeforeLeaf text.now leaf) self.old self.new) }
+        ensures grown { Grown self.old.events self.new.events }
+        ensures none { IfErr result (FailsBy text.now (BeforeLeaf text.now leaf) self.old) }
+    {
+        if let Some(end) = plain_first_line_end(text, leaf.at, FlowContext::Outer) {
+            if let Some(indent) = leaf.pairs {
+                if has_colon(text, leaf.at, end) {
+                    return self.first_key(text, leaf, indent, end);
+                }
+            }
+            if let Some(scalar) = rest_of_line(text, leaf.at, end, leaf.least) {
+                return self.line_leaf(text, leaf, scalar);
+            }
+        }
+        self.any_leaf(text, leaf)
+    }
+
+    /// Reads a leaf that is a plain scalar and the rest of its line. Returns the line after it.
+    fn line_leaf(&mut self, text: &'a str, leaf: Leaf, scalar: LineValue) -> Result<Next, ScanFault>
+        requires scalar { IsRestOfLine text.now leaf.least scalar }
+        requires start { scalar.start ≡ leaf.at }
+        ensures onward { IfOk result (Onward text.now leaf.at (3 * (length text.now - leaf.at))) }
+        ensures leads { IfOk result (Leads text.now (BeforeLeaf text.now leaf) self.old self.new) }
+        ensures grown { Grown self.old.events self.new.events }
+        ensures none { IfErr result (λ fault. Refuses fault ⊥) }
+    {
+        self.put_plain(text, scalar.start, scalar.end)?;
+        Ok(Next::Line(NextLine {
+            line: scalar.after,
+            is_solid: true,
+        }))
+    }
+
+    /// Reads what a block node begins with, of any kind, as [`Reader::leaf`] does.
+    #[inline(never)]
+    fn any_leaf(&mut self, text: &'a str, leaf: Leaf) -> Result<Next, ScanFault>
         requires at { IsCharBoundary text.now leaf.at }
         requires least { leaf.least ≤ 2 ^ 63 }
         requires pairs { IfSome leaf.pairs (λ indent. indent ≤ leaf.at) }
@@ -42,9 +86,6 @@ impl<'a> Reader<'a> {
         if let Some(indent) = leaf.pairs {
             if sign_at(text, leaf.at, b'?') {
                 return self.first_asked(leaf.at, indent);
-            }
-            if let Some(pair) = first_pair(text, leaf.at, indent) {
-                return self.first_line(text, leaf, indent, pair);
             }
         }
         self.flow_leaf(text, leaf)

@@ -6,7 +6,7 @@
 #![tactic(auto)]
 
 mod block;
-mod first_pair;
+mod first_key;
 mod frame;
 mod indentation;
 mod leaf;

@@ -18,6 +18,7 @@ use yaml_scan::{Line, white_end};
 
 impl<'a> Reader<'a> {
     /// Reads the start of a node that is on a line of its own. Returns what is read next.
+    #[inline(always)]
     pub(crate) fn on_line(
         &mut self,
         text: &'a str,

@@ -7,15 +7,14 @@ ghost use Rattle.yaml_grammar.specs.FlowScalars as flow;
 ghost use Rattle.yaml_recognizers.specs.Prefixes as prefixes;
 ghost use Rattle.yaml_events.specs.EventPlaces.{Refuses};
 ghost use Rattle.yaml_flow.specs.FlowNodes.{FlowNodeRead};
-ghost use Rattle.yaml_block.specs.LineValues.{IsLeadIn, IsLineValue, IsPlainLine};
+ghost use Rattle.yaml_flow_scalars.specs.PlainPlaces.{IsFirstLine};
+ghost use Rattle.yaml_block.specs.LineValues.{IsLeadIn, IsLineValue, IsPlainLine, IsRestOfLine};
 ghost use Rattle.yaml_block.specs.States.{Grown, Onward, Leads, BeforeLineValue};
 
 use crate::frame::Next;
 use crate::next_line::NextLine;
 use crate::reader::Reader;
-use std::borrow::CowStr;
-use yaml_events::{FlowContext, ScanFault, Style};
-use yaml_flow::FlowScalar;
+use yaml_events::{FlowContext, ScanFault, Span};
 use yaml_flow_scalars::plain_first_line_end;
 use yaml_scan::{Line, rest_of_line_end, solid_line, stands_at};
 
@@ -53,11 +52,24 @@ pub(crate) fn line_value(text: &str, colon: usize, indent: usize) -> Option<Line
     let Some(end) = plain_first_line_end(text, start, FlowContext::Outer) else {
         return None;
     };
+    rest_of_line(text, start, end, indent + 1)
+}
+
+/// Returns the plain scalar whose first line is between two places, if it is the rest of that line: a comment at most
+/// is after it, and the next line is indented by fewer than `least` spaces. Returns None at any other, and where the
+/// text ends without a break.
+#[inline(always)]
+pub(crate) fn rest_of_line(text: &str, start: usize, end: usize, least: usize) -> Option<LineValue>
+    requires start { IsCharBoundary text.now start }
+    requires line { IsFirstLine flow.outer text.now start end }
+    ensures rest { IfSome result (IsRestOfLine text.now least) }
+    ensures start { IfSome result (λ value. value.start ≡ start) }
+{
     let Some(next) = rest_of_line_end(text, end) else {
         return None;
     };
     let after = solid_line(text, next);
-    if after.first - after.start > indent {
+    if after.first - after.start >= least {
         return None;
     }
     Some(LineValue { start, end, after })
@@ -83,12 +95,7 @@ impl<'a> Reader<'a> {
         ensures grown { Grown self.old.events self.new.events }
         ensures none { IfErr result (λ fault. Refuses fault ⊥) }
     {
-        let scalar = FlowScalar {
-            style: Style::Plain,
-            value: CowStr::Borrowed(&text[start..end]),
-            end,
-        };
-        self.put(scalar.into_event(start))?;
+        self.put_borrowed(Span { start, end }, &text[start..end])?;
         self.end = end;
         Ok(())
     }

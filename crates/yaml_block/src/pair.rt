@@ -90,7 +90,7 @@ impl<'a> Reader<'a> {
     }
 
     /// Reads the `:` after the key between two places. Returns what is read next.
-    #[inline(never)]
+    #[inline(always)]
     fn after_key(
         &mut self,
         text: &'a str,

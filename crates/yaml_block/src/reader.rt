@@ -1,6 +1,7 @@
 // A block node that is being read.
 ghost use Rattle.std.specs.Prelude.{◌≡◌, ◌≤◌, List, ◌++◌, [], ◌∷◌, length, insert, IfErr, OnErr, OnOk, MatchBool};
-ghost use Rattle.yaml_events.specs.declared.event.Event.TheVariants.{MapStart};
+ghost use Rattle.std.specs.declared.borrow.CowStr.TheVariants.{Borrowed};
+ghost use Rattle.yaml_events.specs.declared.event.Event.TheVariants.{MapStart, Scalar};
 ghost use Rattle.yaml_events.specs.EventPlaces.{Refuses};
 ghost use Rattle.yaml_events.specs.Omitted.{AppendsOmitted};
 ghost use Rattle.yaml_recognizers.specs.BlockFrames.{BlockFrame};
@@ -9,7 +10,7 @@ ghost use Rattle.yaml_block.specs.States.{IsOpened, Grown, Stack};
 
 use crate::frame::{Collection, Waits};
 use std::alloc::Global;
-use yaml_events::{Event, Events, ScanFault};
+use yaml_events::{Event, Events, ScanFault, Span, Style};
 
 /// A block node that is being read.
 #[derive(Drop)]
@@ -47,6 +48,22 @@ impl<'a> Reader<'a> {
         ensures none { IfErr result (λ fault. Refuses fault ⊥) }
     {
         match self.events.push(event) {
+            Ok(()) => Ok(()),
+            Err(_) => Err(ScanFault::OutOfMemory),
+        }
+    }
+
+    /// Appends the event of a plain scalar whose value is borrowed from the text.
+    #[inline(always)]
+    pub(crate) fn put_borrowed(&mut self, span: Span, value: &'a str) -> Result<(), ScanFault>
+        ensures events { OnOk result
+            (self.new.events ≡ self.old.events ++ Scalar Style.Plain span (Borrowed value.entry) ∷ []) }
+        ensures collections { self.new.collections ≡ self.old.collections }
+        ensures end { self.new.end ≡ self.old.end }
+        ensures grown { Grown self.old.events self.new.events }
+        ensures none { IfErr result (λ fault. Refuses fault ⊥) }
+    {
+        match self.events.push_borrowed(Style::Plain, span, value) {
             Ok(()) => Ok(()),
             Err(_) => Err(ScanFault::OutOfMemory),
         }

@@ -5,13 +5,12 @@ use Rattle.std.proofs.lemmas.List.{append-nil, drop-append-le, length-take-le, t
 use Rattle.std.proofs.lemmas.List.Sums.{sum_by-append, sum_by-cons, sum_by-take-le}
 use Rattle.std.proofs.Math.Seq.{take-append_seam, drop-append_seam}
 use Rattle.std.specs.List.{sum_by, insert}
-use Rattle.std.specs.declared.borrow.CowStr.TheVariants as text
 use Rattle.std.specs.Str.{chars}
 use Rattle.std.proofs.lemmas.Str.{chars-nil}
 use Rattle.yaml_grammar.specs.Events.{omitted_style, scalar_event}
 use Rattle.yaml_events.specs.Omitted.{AppendsOmitted}
 use Rattle.yaml_events.specs.Parts.{kind_of, borrowed_of, others_of, borrows, omits, has_other, stored_event}
-use Rattle.yaml_events.specs.Parts.{omitted_event, event_at, events_in, Fits}
+use Rattle.yaml_events.specs.Parts.{borrowed_event, omitted_event, event_at, events_in, Fits}
 use Rattle.yaml_events.specs.declared.event.Event.{Event}
 use Rattle.yaml_events.specs.declared.event.Event.TheVariants.{MapStart}
 use Rattle.yaml_events.specs.declared.event.Style.{Style}
@@ -102,6 +101,23 @@ fits-push ks bs us os e fits =
       omega (arith, sum_by-append omits ks (kind_of e ∷ []), fits.1, counts.1),
       omega (arith, sum_by-append has_other ks (kind_of e ∷ []), length-append os (others_of e), fits.2, counts.2),
     )
+
+-- ---- a borrowed scalar more
+
+pub events-push_borrowed : (empty : Bor (List ℕ)) (ks : List Kind) (bs : List BorrowedScalar) (us : List ℕ)
+    (os : List OtherScalar) (style : Style) (b : BorrowedScalar) → Fits ks bs us os
+    → events_in empty (ks ++ kind.Borrowed style ∷ []) (bs ++ b ∷ []) us os
+    ≡ events_in empty ks bs us os ++ borrowed_event style b ∷ []
+events-push_borrowed empty ks bs us os style b fits =
+    subst (λ l. events_in empty (ks ++ kind.Borrowed style ∷ []) (bs ++ b ∷ []) us l
+    ≡ events_in empty ks bs us os ++ borrowed_event style b ∷ []) (append-nil os)
+    (events-push empty ks bs us os (stored.Borrowed style b) fits)
+
+pub fits-push_borrowed : (ks : List Kind) (bs : List BorrowedScalar) (us : List ℕ) (os : List OtherScalar) (style : Style)
+    (b : BorrowedScalar) → Fits ks bs us os → Fits (ks ++ kind.Borrowed style ∷ []) (bs ++ b ∷ []) us os
+fits-push_borrowed ks bs us os style b fits =
+    subst (λ l. Fits (ks ++ kind.Borrowed style ∷ []) (bs ++ b ∷ []) us l) (append-nil os)
+    (fits-push ks bs us os (stored.Borrowed style b) fits)
 
 -- ---- an omitted value more
 

@@ -1,15 +1,18 @@
 // A list of events that grows.
 ghost use Rattle.std.specs.Prelude.{◌≡◌, ◌≤◌, ◌<◌, ◌^◌, List, [], ◌∷◌, ◌++◌, length, take, insert, OnOk, OnErr, IfErr};
+ghost use Rattle.std.specs.declared.borrow.CowStr.TheVariants.{Borrowed};
 ghost use Rattle.yaml_events.specs.declared.event.Event;
 ghost use Rattle.yaml_events.specs.Meant.{events_of};
 ghost use Rattle.yaml_events.specs.Omitted.{AppendsOmitted};
 
-use crate::event::Event;
+use crate::event::{Event, Span, Style};
 use crate::iter::{EventIntoIter, EventIter};
 use crate::parts::{
-    BorrowedScalar, Edge, Kind, OtherScalar, Stored, keep_value, omitted_scalar, value_counts,
+    BorrowedScalar, Edge, Kind, OtherScalar, Stored, keep_value, omitted_scalar, short_place,
+    value_counts,
 };
 use std::alloc::{AllocError, AllocFailed, Global};
+use std::borrow::CowStr;
 use std::marker::Model;
 
 /// The events of a text, or of a part of it, in order. Contracts see the list of the events.
@@ -98,6 +101,50 @@ impl<'a> Events<'a> {
                     value: refused.value.event(),
                 })
             }
+        }
+    }
+
+    /// Appends the event of a scalar whose value is borrowed from the text. It makes no [`Event`] on the way, and takes
+    /// 26 bytes, or more at a place of 2^32 or more. If there is no memory for it, the list is unchanged.
+    #[inline(always)]
+    pub fn push_borrowed(
+        &mut self,
+        style: Style,
+        span: Span,
+        value: &'a str,
+    ) -> Result<(), AllocError>
+        ensures ok { OnOk result
+            (self.new ≡ self.old ++ Event.Scalar style span (Borrowed value.entry) ∷ []) }
+        ensures back { OnErr result (self.new ≡ self.old) }
+    {
+        let Some((start, end)) = short_place(span) else {
+            return self.push_far_borrowed(style, span, value);
+        };
+        self.kinds.push(Kind::Borrowed(style))?;
+        let scalar = BorrowedScalar { start, end, value };
+        if self.borrowed.push(scalar).is_err() {
+            let _ = self.kinds.pop();
+            return Err(AllocError);
+        }
+        Ok(())
+    }
+
+    /// Appends the event of a scalar whose value is borrowed, as that of another scalar.
+    #[inline(never)]
+    fn push_far_borrowed(
+        &mut self,
+        style: Style,
+        span: Span,
+        value: &'a str,
+    ) -> Result<(), AllocError>
+        ensures ok { OnOk result
+            (self.new ≡ self.old ++ Event.Scalar style span (Borrowed value.entry) ∷ []) }
+        ensures back { OnErr result (self.new ≡ self.old) }
+    {
+        let value = CowStr::Borrowed(value);
+        match self.push(Event::Scalar { style, span, value }) {
+            Ok(()) => Ok(()),
+            Err(_) => Err(AllocError),
         }
     }
 

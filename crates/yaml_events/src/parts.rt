@@ -258,7 +258,7 @@ impl<'a> Stored<'a> {
 
 /// Returns the start and the end of a short place. Returns None if one is 2^32 or more.
 #[inline(always)]
-fn short_place(span: Span) -> Option<(u32, u32)>
+pub(crate) fn short_place(span: Span) -> Option<(u32, u32)>
     ensures { IfSome result (λ place. (place.0 ≡ span.start) × (place.1 ≡ span.end)) }
 {
     if span.start > u32::MAX as usize || span.end > u32::MAX as usize {

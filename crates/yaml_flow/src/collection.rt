@@ -14,7 +14,7 @@ ghost use Rattle.yaml_events.specs.Borrowed.{BorrowsPlain};
 ghost use Rattle.yaml_scan.specs.Gaps.{NoGap};
 
 use crate::pair::plug;
-use crate::push::push;
+use crate::push::{push, push_scalar};
 use crate::refusals::{bracket_fault, no_scalar, why_not_ended};
 use crate::scalar::scalar_at;
 use std::alloc::Global;
@@ -407,7 +407,7 @@ fn scalar<'a>(
     if found.is_over_lines(text, start) {
         *line = end;
     }
-    push(events, found.into_event(start))?;
+    push_scalar(events, start, found)?;
     plug(events, text, end, node_end, setting, top, line)
 }
 

@@ -12,7 +12,7 @@ ghost use Rattle.yaml_flow.specs.Frames.{Kept};
 ghost use Rattle.yaml_flow.specs.Scalars.{scalar_event_at};
 
 use crate::collection::{bracket_at, collection};
-use crate::push::push;
+use crate::push::push_scalar;
 use crate::scalar::{FlowScalar, plain_line_at, scalar_at};
 use std::alloc::Global;
 use yaml_events::{Events, FlowContext, ScanFault};
@@ -122,6 +122,6 @@ fn put_scalar<'a>(
     ensures kept { (k : ℕ) → Kept k events.old events.new }
 {
     let end = found.end;
-    push(events, found.into_event(at))?;
+    push_scalar(events, at, found)?;
     Ok(end)
 }

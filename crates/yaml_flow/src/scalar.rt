@@ -4,12 +4,12 @@ ghost use Rattle.std.specs.Cow.{IsBorrowedStr};
 ghost use Rattle.std.specs.Str.{IsCharBoundary};
 ghost use Rattle.yaml_events.specs.Meant.{context_of};
 ghost use Rattle.yaml_events.specs.EventPlaces.{Refuses};
-ghost use Rattle.yaml_flow.specs.Scalars.{FlowScalarRead, NoFlowScalar, scalar_event_at};
+ghost use Rattle.yaml_flow.specs.Scalars.{FlowScalarRead, NoFlowScalar};
 ghost use Rattle.yaml_scan.specs.ScanPlaces.{unbroken_between};
 
 use std::alloc::Global;
 use std::borrow::CowStr;
-use yaml_events::{Event, FlowContext, ScanFault, Span, Style};
+use yaml_events::{FlowContext, ScanFault, Style};
 use yaml_flow_scalars::{double, plain, plain_line_end, single};
 use yaml_scan::{has_break, stands_at};
 
@@ -25,21 +25,6 @@ pub struct FlowScalar<'a> {
 }
 
 impl<'a> FlowScalar<'a> {
-    /// Returns the event of the scalar, which starts at `start`.
-    #[inline(always)]
-    pub fn into_event(self, start: usize) -> Event<'a>
-        ensures { result ≡ scalar_event_at start self.entry }
-    {
-        Event::Scalar {
-            style: self.style,
-            span: Span {
-                start,
-                end: self.end,
-            },
-            value: self.value,
-        }
-    }
-
     /// Returns whether the scalar, which starts at `start`, runs over lines. A scalar whose value is borrowed has no
     /// break, so only the others are searched for one.
     pub fn is_over_lines(&self, text: &str, start: usize) -> bool

@@ -1,5 +1,5 @@
-use Rattle.std.proofs.Common.{◌≡◌, sym, subst, ap, ◌∙◌, arith, ◌-◌, ◌*◌, ◌<◌, length}
-use Rattle.std.specs.Prelude.{not, [], ◌∷◌, ◌++◌}
+use Rattle.std.proofs.Common.{◌≡◌, sym, subst, arith, ◌-◌, ◌*◌, ◌<◌, length}
+use Rattle.std.specs.Prelude.{not}
 use Rattle.yaml_events.specs.Meant.{context_of}
 use Rattle.yaml_scan.specs.ScanPlaces.{unbroken_between}
 use Rattle.yaml_scan.proofs.Outcomes.{fault_kept, faults_so, ok_so}
@@ -51,9 +51,9 @@ returns-clause-stands c =
     let events = c.args.events.now in
     ok_so c.plug.result _ _
     (λ next h. λ w here. h w (scalar_node n d text w top c.node_end-node_end.result c.in-Ok.found events
-    c.push.new.events c.utf8.text c.requires.at c.requires.no_seq c.requires.no_map c.requires.count
+    c.push_scalar.new.events c.utf8.text c.requires.at c.requires.no_seq c.requires.no_map c.requires.count
     c.in-Ok.ensures.found c.node_end-node_end.ensures
-    (c.in_ok-push.ensures.ok ∙ ap (λ e. events ++ e ∷ []) c.into_event.ensures) here)) c.plug.ensures.stands
+    c.in_ok-push_scalar.ensures.ok here)) c.plug.ensures.stands
 
 pub returns-clause-none : goal.returns-clause-none
 returns-clause-none c =
@@ -63,10 +63,10 @@ returns-clause-none c =
     let top = c.args.top.now in
     let events = c.args.events.now in
     faults_so c.plug.result _ _
-    (λ h. λ w here. h w (scalar_node n d text w top c.node_end-node_end.result c.in-Ok.found events c.push.new.events
+    (λ h. λ w here. h w (scalar_node n d text w top c.node_end-node_end.result c.in-Ok.found events c.push_scalar.new.events
     c.utf8.text c.requires.at c.requires.no_seq c.requires.no_map c.requires.count
     c.in-Ok.ensures.found c.node_end-node_end.ensures
-    (c.in_ok-push.ensures.ok ∙ ap (λ e. events ++ e ∷ []) c.into_event.ensures) here)) c.plug.ensures.none
+    c.in_ok-push_scalar.ensures.ok here)) c.plug.ensures.none
 
 pub plug-requires-clause-line : goal.plug-requires-clause-line
 plug-requires-clause-line c =
@@ -103,12 +103,12 @@ returns-clause-less c =
 pub plug-requires-clause-count : goal.plug-requires-clause-count
 plug-requires-clause-count c =
     let count = c.requires.count in
-    let pushed = c.push.ensures.kept (length c.args.events.now) (omega arith) in
+    let pushed = c.push_scalar.ensures.kept (length c.args.events.now) (omega arith) in
     let room = pushed.0 in
     omega (arith, count, room)
 
 pub returns-clause-kept : goal.returns-clause-kept
 returns-clause-kept c = λ k l.
     let count = c.requires.count in
-    kept_then k c.args.events.now c.push.new.events c.plug.new.events (c.push.ensures.kept k)
+    kept_then k c.args.events.now c.push_scalar.new.events c.plug.new.events (c.push_scalar.ensures.kept k)
     (c.plug.ensures.kept k (omega (arith, count, l))) l

@@ -1,8 +1,5 @@
 use Rattle.std.proofs.lemmas.Result.{err_from_is_err_and}
-use Rattle.std.proofs.Common.{ap, ◌∙◌}
-use Rattle.std.specs.Prelude.{[], ◌∷◌, ◌++◌}
 use Rattle.yaml_events.specs.Meant.{context_of}
-use Rattle.yaml_grammar.specs.FlowNodes.{scalar}
 use Rattle.yaml_scan.proofs.Outcomes.{fault_passed, ok_so}
 use Rattle.yaml_flow.specs.FlowNodes.{FlowNodeRead}
 use Rattle.yaml_flow.specs.Scalars.{NoFlowScalar}

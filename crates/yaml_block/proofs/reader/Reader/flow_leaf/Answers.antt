@@ -2,6 +2,7 @@ use Rattle.std.proofs.Common.{arith, length, refl, sym, ◌*◌, ◌-◌, ◌∙
 use Rattle.std.specs.Prelude.{ℕ, [], ◌∷◌, ◌++◌, Option, IfSome, insert}
 use Rattle.std.proofs.lemmas.Result.{err_from_is_err_and}
 use Rattle.yaml_grammar.specs.FlowScalars.{outer}
+use Rattle.yaml_recognizers.specs.Prefixes.{sign}
 use Rattle.yaml_events.specs.declared.event.Event.TheVariants.{MapStart}
 use Rattle.yaml_scan.proofs.Outcomes.{fault_kept, fault_passed, faults_so, ok_so, refuses}
 use Rattle.yaml_flow.specs.FlowNodes.{NoFlowNodeFound}
@@ -64,10 +65,10 @@ returns-then-sign_at-clause-leads c =
 
 pub returns-in-Some-line_after-clause-leads : goal.returns-in-Some-line_after-clause-leads
 returns-in-Some-line_after-clause-leads c =
-    leaf_line c.args.text.now c.utf8.text c.args.leaf c.in-Ok.end c.white_end-colon.result c.in-Some-line_after.line
-    c.args.self.now _ c.flow_node.new.events c.requires.at (c.in-Ok.ensures).reads
-    (c.white_end-colon.ensures).taken (sym c.sign_at.ensures ∙ c.if-sign_at.false) (c.in-Some-line_after.ensures).found
-    (c.in-Some-line_after.ensures).closes refl refl refl
+    leaf_line c.args.text.now c.utf8.text c.args.leaf c.in-Ok.end c.in-Some-line_after.line c.args.self.now _
+    c.flow_node.new.events c.requires.at (c.in-Ok.ensures).reads
+    (ap (sign 58) (c.white_end-colon.ensures).taken.leaves ∙ (sym c.sign_at.ensures ∙ c.if-sign_at.false))
+    (c.in-Some-line_after.ensures).found (c.in-Some-line_after.ensures).closes refl refl refl
 
 pub returns-in-None-clause-none : goal.returns-in-None-clause-none
 returns-in-None-clause-none c =

@@ -27,4 +27,5 @@ returns-in-Some-clause-onward c =
     c.in-Some.next c.requires.value refl c.in_ok-next.ensures.turn.onward c.in-Some.is
 
 pub returns-in-None-clause-onward : goal.returns-in-None-clause-onward
-returns-in-None-clause-onward c = line_onward c.args.text.now c.args.value c.args.indent c.requires.value
+returns-in-None-clause-onward c =
+    line_onward c.args.text.now c.args.value (c.args.indent + 1) c.requires.value

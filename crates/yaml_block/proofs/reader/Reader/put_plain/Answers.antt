@@ -1,5 +1,4 @@
-use Rattle.std.proofs.Common.{ap, refl, subst, sym, ◌∙◌}
-use Rattle.std.specs.Prelude.{[], ◌∷◌, ◌++◌}
+use Rattle.std.proofs.Common.{ap, refl, subst, sym}
 use Rattle.std.specs.Str.{chars}
 use Rattle.yaml_flow_scalars.specs.Standing.{ScalarAt}
 use Rattle.yaml_grammar.specs.Events.{plain_style}
@@ -15,9 +14,9 @@ returns-clause-read c = λ n d plain.
     let end = c.args.end in
     let events = c.args.self.now.events in
     let begins = plain_start n d text start end _ plain.scalar in
-    scalar_node_read n d text start end _ events c.put.new.self.events c.utf8.text c.requires.start begins.no_seq
+    scalar_node_read n d text start end _ events c.put_borrowed.new.self.events c.utf8.text c.requires.start begins.no_seq
     begins.no_map
     (scalar_read n d text start plain_style _ refl
     (subst (λ t. ScalarAt plain_style n d text start t end) (ap chars (sym c.range.ensures.value)) plain.scalar)
     plain.inside_line (λ _. (tt, c.range.ensures.value)) (λ _. plain.unbroken))
-    refl (c.in_ok-put.ensures.events ∙ ap (λ e. events ++ e ∷ []) c.into_event.ensures)
+    refl c.in_ok-put_borrowed.ensures.events

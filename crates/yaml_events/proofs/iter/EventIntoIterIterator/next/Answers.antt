@@ -1,6 +1,6 @@
 use Rattle.std.proofs.Common.{◌∷◌, length, ap, ◌∙◌}
 use Rattle.std.specs.Vec.Iter.{into_iter_items}
-use Rattle.yaml_events.proofs.PartLemmas.{borrowed-lacks, omitted-lacks, other-lacks}
+use Rattle.yaml_events.proofs.PartLemmas.{borrowed-lacks, omitted-lacks}
 use Rattle.yaml_events.proofs.iter.EventIntoIterIterator.next.Goals as goal
 
 pub returns-in_default-next-clause-steps : goal.returns-in_default-next-clause-steps

@@ -1,4 +1,4 @@
-use Rattle.std.proofs.Common.{◌≡◌, ◌∷◌, ◌++◌, [], ap, ◌∙◌}
+use Rattle.std.proofs.Common.{◌∷◌, ◌++◌, [], ap, ◌∙◌}
 use Rattle.yaml_events.proofs.PartLemmas.{appends_omitted}
 use Rattle.yaml_events.proofs.list.Events.push_far_omitted.Goals.{in-Ok, in-Err}
 use Rattle.yaml_events.proofs.list.Events.push_far_omitted.Goals as goal

@@ -1,4 +1,4 @@
-use Rattle.std.proofs.Common.{◌≡◌, true, is_ok, ◌∙◌}
+use Rattle.std.proofs.Common.{◌≡◌, true, is_ok}
 use Rattle.yaml_events.proofs.PartLemmas.{appends_omitted, events-push_omitted}
 use Rattle.yaml_events.proofs.list.Events.push_omitted.Goals as goal
 
