@@ -4,7 +4,8 @@ pub mod WordLemmas
 pub mod TakingLemmas
 pub mod BuildLemmas
 pub mod SoundLemmas
+pub mod NameLemmas
+pub mod AscentLemmas
 pub mod RowLemmas
 pub mod ValueLemmas
 pub mod StyledLemmas
-pub mod MadeKeys

@@ -1,28 +1,19 @@
 -- Rows of a collection that are read one after another.
 use Rattle.std.proofs.Common.{◌≡◌, ℕ, ◌+◌, ◌≤◌, true, List, [], ◌∷◌, ◌++◌, codes, refl, sym, ap, ◌∙◌, append-nil, append_assoc, arith}
-use Rattle.std.specs.Str.{chars}
+use Rattle.std.specs.Str.{chars, IsUtf8}
 use Rattle.yaml_grammar.specs.Texts.{spaces}
 use Rattle.yaml_grammar.specs.Trees.{Tree, sequence, mapping, Elements, no_element, element, Members, no_member, member}
 use Rattle.yaml_grammar.specs.Style.{key_lines, elements_at, elements_after, lines_after_dash, members_at, members_after, value_at}
-use Rattle.yaml_data.specs.Keys.{keys_differ}
-use Rattle.yaml_data.specs.TextBytes.{text_bytes}
-use Rattle.yaml_data.specs.declared.text.Text.{Text}
-use Rattle.yaml_data.proofs.SeenLemmas.{join_elements, join_members}
-use Rattle.yaml_data.proofs.TextLemmas.{IsUtf8-text_bytes}
+use Rattle.yaml_data.specs.Keys.{nothing, keys_differ}
 use Rattle.yaml_writer.specs.Sizes.{indented, elements_indented, elements_after_indented, indented_key_lines}
 use Rattle.yaml_writer.specs.Sizes.{members_indented, members_after_indented, value_indented, is_filled}
 use Rattle.yaml_styled.specs.Taking.{Took, took_none, took_both}
-use Rattle.yaml_styled.specs.Parts.{lines_of, AreElements, AreMembers, IsRead}
+use Rattle.yaml_styled.specs.Parts.{lines_of, elements_and, members_and, IsRead}
+use Rattle.yaml_styled.specs.Names.{named, keys_alone}
 use Rattle.yaml_styled.specs.Sounds.{SoundElements, SoundMembers}
+use Rattle.yaml_styled.proofs.NameLemmas.{Key, keys_differ-alone, keys_alone-and, named-and}
 use Rattle.yaml_styled.proofs.SoundLemmas.{chars-IsText, more_elements, more_members, sequence_sound, mapping_sound, looser}
 use Rattle.yaml_styled.proofs.TakingLemmas.{took_as, took_end, took_after_none}
-
--- one element or member more
-abbrev pub elements_and : Elements → Tree → Elements
-elements_and ts t = join_elements ts (element t no_element)
-
-abbrev pub members_and : Members → List ℕ → Tree → Members
-members_and ms key t = join_members ms (member key t no_member)
 
 -- ---- elements
 
@@ -86,65 +77,61 @@ elements_filled : (ts : Elements) (t : Tree) → is_filled (sequence (elements_a
 elements_filled no_element t = refl
 elements_filled (element u ts) t = refl
 
-module _ {V : Type 0} (Means : V → Tree → Type 0) where
-  are_elements-more : (vs : List V) (ts : Elements) (v : V) (t : Tree) → AreElements Means vs ts → Means v t
-      → AreElements Means (vs ++ v ∷ []) (elements_and ts t)
-  are_elements-more [] no_element v t are means = (means, tt)
-  are_elements-more [] (element u ts) v t are means = absurd are
-  are_elements-more (w ∷ vs) no_element v t are means = absurd are
-  are_elements-more (w ∷ vs) (element u ts) v t are means = (are.0, are_elements-more vs ts v t are.1 means)
+-- elements that were read, and the spaces before the next row
+pub record StartedElements (Are : Elements → Type 0) (most i : ℕ) (before : List ℕ) (counted : ℕ) (rest : List ℕ) (after : ℕ) : Type 0 where
+  pub elements : Elements
+  pub are : Are elements
+  pub took : Took before counted (elements_started elements i) (elements_started_lines elements) rest after
+  pub sound : SoundElements elements most
 
-  -- elements that were read, and the spaces before the next row
-  pub record StartedElements (vs : List V) (most i : ℕ) (before : List ℕ) (counted : ℕ) (rest : List ℕ) (after : ℕ) : Type 0 where
-    pub elements : Elements
-    pub are : AreElements Means vs elements
-    pub took : Took before counted (elements_started elements i) (elements_started_lines elements) rest after
-    pub sound : SoundElements elements most
+pub no_elements : {Are : Elements → Type 0} (most i : ℕ) (before : List ℕ) (counted : ℕ) → Are no_element
+    → StartedElements Are most i before counted before counted
+no_elements most i before counted are = record {
+  elements = no_element;
+  are = are;
+  took = took_none before counted;
+  sound = record { texts = tt; keys = refl; shallow = omega arith };
+}
 
-  pub no_elements : (most i : ℕ) (before : List ℕ) (counted : ℕ) → StartedElements [] most i before counted before counted
-  no_elements most i before counted = record {
-    elements = no_element;
-    are = tt;
-    took = took_none before counted;
-    sound = record { texts = tt; keys = refl; shallow = omega arith };
-  }
+-- an element more is added
+abbrev pub AddsElement : (Elements → Type 0) → (Tree → Type 0) → (Elements → Type 0) → Type 0
+AddsElement Are Is More = (ts : Elements) (t : Tree) → Are ts → Is t → More (elements_and ts t)
 
-  module _ {vs : List V} {v : V} {most i : ℕ} {before a b c d : List ℕ} {counted k l m n : ℕ} where
-    -- one element more, and another after it
-    pub element_more : StartedElements vs most i before counted a k → Took a k (codes "- ") 0 b l
-        → IsRead (Means v) (λ t. lines_after_dash t i) indented most b l c m → Took c m (spaces i) 1 d n
-        → StartedElements (vs ++ v ∷ []) most i before counted d n
-    element_more started dash read next =
-        let ts = started.elements in
-        let t = read.tree in
-        let row = took_both (took_after_none dash read.took) next in
-        let whole = took_both started.took row in
-        record {
-          elements = elements_and ts t;
-          are = are_elements-more vs ts v t started.are read.is;
-          took = took_as (elements_started-more ts t i) (elements_started_lines-more ts t) whole;
-          sound = more_elements ts t most started.sound read.sound;
-        }
+module _ {Are More : Elements → Type 0} {Element : Tree → Type 0} {most i : ℕ} {before a b c d : List ℕ} {counted k l m n : ℕ} where
+  -- one element more, and another after it
+  pub element_more : AddsElement Are Element More → StartedElements Are most i before counted a k → Took a k (codes "- ") 0 b l
+      → IsRead Element (λ t. lines_after_dash t i) indented most b l c m → Took c m (spaces i) 1 d n
+      → StartedElements More most i before counted d n
+  element_more adds started dash read next =
+      let ts = started.elements in
+      let t = read.tree in
+      let row = took_both (took_after_none dash read.took) next in
+      let whole = took_both started.took row in
+      record {
+        elements = elements_and ts t;
+        are = adds ts t started.are read.is;
+        took = took_as (elements_started-more ts t i) (elements_started_lines-more ts t) whole;
+        sound = more_elements ts t most started.sound read.sound;
+      }
 
-    -- one element more, which is the last
-    pub element_last : {Is : Tree → Type 0} (whole : ℕ) → most + 1 ≤ whole
-        → StartedElements vs most i before counted a k → Took a k (codes "- ") 0 b l
-        → IsRead (Means v) (λ t. lines_after_dash t i) indented most b l c m → Took c m [] 0 d n
-        → ((ts : Elements) → AreElements Means (vs ++ v ∷ []) ts → Is (sequence ts))
-        → IsRead (λ t. Is t × (is_filled t ≡ true)) (λ t. lines_of t i) indented whole before counted d n
-    element_last whole within started dash read next made =
-        let ts = started.elements in
-        let t = read.tree in
-        let row = took_end (took_after_none dash read.took) next in
-        let all = took_both started.took row in
-        let are = are_elements-more vs ts v t started.are read.is in
-        let sound = sequence_sound (elements_and ts t) most (more_elements ts t most started.sound read.sound) in
-        record {
-          tree = sequence (elements_and ts t);
-          is = (made (elements_and ts t) are, elements_filled ts t);
-          took = took_as (elements_ended ts t i) (elements_ended_lines ts t) all;
-          sound = looser (omega arith) sound;
-        }
+  -- one element more, which is the last
+  pub element_last : {Is : Tree → Type 0} (whole : ℕ) → most + 1 ≤ whole → AddsElement Are Element More
+      → StartedElements Are most i before counted a k → Took a k (codes "- ") 0 b l
+      → IsRead Element (λ t. lines_after_dash t i) indented most b l c m → Took c m [] 0 d n
+      → ((ts : Elements) → More ts → Is (sequence ts))
+      → IsRead (λ t. Is t × (is_filled t ≡ true)) (λ t. lines_of t i) indented whole before counted d n
+  element_last whole within adds started dash read next made =
+      let ts = started.elements in
+      let t = read.tree in
+      let row = took_end (took_after_none dash read.took) next in
+      let all = took_both started.took row in
+      let sound = sequence_sound (elements_and ts t) most (more_elements ts t most started.sound read.sound) in
+      record {
+        tree = sequence (elements_and ts t);
+        is = (made (elements_and ts t) (adds ts t started.are read.is), elements_filled ts t);
+        took = took_as (elements_ended ts t i) (elements_ended_lines ts t) all;
+        sound = looser (omega arith) sound;
+      }
 
 -- ---- members
 
@@ -208,70 +195,82 @@ members_filled : (ms : Members) (key : List ℕ) (t : Tree) → is_filled (mappi
 members_filled no_member key t = refl
 members_filled (member k u ms) key t = refl
 
-module _ {V : Type 0} (Means : V → Tree → Type 0) where
-  are_members-more : (ps : List (Text × V)) (ms : Members) (p : Text × V) (t : Tree) → AreMembers Means ps ms → Means p.1 t
-      → AreMembers Means (ps ++ p ∷ []) (members_and ms (chars (text_bytes p.0)) t)
-  are_members-more [] no_member p t are means = (refl, means, tt)
-  are_members-more [] (member k u ms) p t are means = absurd are
-  are_members-more (q ∷ ps) no_member p t are means = absurd are
-  are_members-more (q ∷ ps) (member k u ms) p t are means = (are.0, are.1, are_members-more ps ms p t are.2 means)
+-- members that have these keys, one after another
+abbrev pub HaveKeys : List Key → Members → Type 0
+HaveKeys keys ms = keys_alone ms ≡ named keys
 
-  -- members that were read, and the spaces before the next row
-  pub record StartedMembers (ps : List (Text × V)) (most i : ℕ) (before : List ℕ) (counted : ℕ) (rest : List ℕ) (after : ℕ) : Type 0 where
-    pub members : Members
-    pub are : AreMembers Means ps members
-    pub took : Took before counted (members_started members i) (members_started_lines members) rest after
-    pub sound : SoundMembers members most
+have_keys-more : (ms : Members) (keys : List Key) (key : Key) (t : Tree) → HaveKeys keys ms
+    → HaveKeys (keys ++ key ∷ []) (members_and ms (chars key.now) t)
+have_keys-more ms keys key t have =
+    keys_alone-and ms (chars key.now) t ∙ ap (λ ns. members_and ns (chars key.now) nothing) have ∙ sym (named-and keys key)
 
-  pub no_members : (most i : ℕ) (before : List ℕ) (counted : ℕ) → StartedMembers [] most i before counted before counted
-  no_members most i before counted = record {
-    members = no_member;
-    are = tt;
-    took = took_none before counted;
-    sound = record { texts = tt; keys = refl; shallow = omega arith };
-  }
+-- members that were read with these keys, and the spaces before the next row
+pub record StartedMembers (Are : Members → Type 0) (keys : List Key) (most i : ℕ) (before : List ℕ) (counted : ℕ)
+    (rest : List ℕ) (after : ℕ) : Type 0 where
+  pub members : Members
+  pub are : Are members
+  pub have : HaveKeys keys members
+  pub took : Took before counted (members_started members i) (members_started_lines members) rest after
+  pub sound : SoundMembers members most
 
-  -- a key that is taken
-  abbrev pub TookKey : Text → ℕ → List ℕ → ℕ → List ℕ → ℕ → Type 0
-  TookKey key i a k b l = Took a k (key_lines i (chars (text_bytes key))) (indented_key_lines (chars (text_bytes key))) b l
+pub no_members : {Are : Members → Type 0} (most i : ℕ) (before : List ℕ) (counted : ℕ) → Are no_member
+    → StartedMembers Are [] most i before counted before counted
+no_members most i before counted are = record {
+  members = no_member;
+  are = are;
+  have = refl;
+  took = took_none before counted;
+  sound = record { texts = tt; keys = refl; shallow = omega arith };
+}
 
-  module _ {ps : List (Text × V)} {v : V} {most i : ℕ} {before a b c d : List ℕ} {counted k l m n : ℕ} where
-    -- one member more, and another after it
-    pub member_more : (key : Text) → StartedMembers ps most i before counted a k → TookKey key i a k b l
-        → IsRead (Means v) (λ t. value_at t i) value_indented most b l c m → Took c m (spaces i) 1 d n
-        → StartedMembers (ps ++ (key, v) ∷ []) most i before counted d n
-    member_more key started named read next =
-        let ms = started.members in
-        let t = read.tree in
-        let name = chars (text_bytes key) in
-        let row = took_both (took_both named read.took) next in
-        let whole = took_both started.took row in
-        record {
-          members = members_and ms name t;
-          are = are_members-more ps ms (key, v) t started.are read.is;
-          took = took_as (members_started-more ms name t i) (members_started_lines-more ms name t) whole;
-          sound = more_members ms name t most started.sound (chars-IsText (text_bytes key) (IsUtf8-text_bytes key)) read.sound;
-        }
+-- a key that is taken
+abbrev pub TookKey : Key → ℕ → List ℕ → ℕ → List ℕ → ℕ → Type 0
+TookKey key i a k b l = Took a k (key_lines i (chars key.now)) (indented_key_lines (chars key.now)) b l
 
-    -- one member more, which is the last
-    pub member_last : {Is : Tree → Type 0} (key : Text) (whole : ℕ) → most + 1 ≤ whole
-        → StartedMembers ps most i before counted a k → TookKey key i a k b l
-        → IsRead (Means v) (λ t. value_at t i) value_indented most b l c m → Took c m [] 0 d n
-        → ((ms : Members) → AreMembers Means (ps ++ (key, v) ∷ []) ms → Is (mapping ms) × (keys_differ ms ≡ true))
-        → IsRead (λ t. Is t × (is_filled t ≡ true)) (λ t. lines_of t i) indented whole before counted d n
-    member_last key whole within started named read next made =
-        let ms = started.members in
-        let t = read.tree in
-        let name = chars (text_bytes key) in
-        let row = took_end (took_both named read.took) next in
-        let all = took_both started.took row in
-        let are = are_members-more ps ms (key, v) t started.are read.is in
-        let is = made (members_and ms name t) are in
-        let values = more_members ms name t most started.sound (chars-IsText (text_bytes key) (IsUtf8-text_bytes key)) read.sound in
-        let sound = mapping_sound (members_and ms name t) most is.1 values in
-        record {
-          tree = mapping (members_and ms name t);
-          is = (is.0, members_filled ms name t);
-          took = took_as (members_ended ms name t i) (members_ended_lines ms name t) all;
-          sound = looser (omega arith) sound;
-        }
+-- a member more is added
+abbrev pub AddsMember : (Members → Type 0) → Key → (Tree → Type 0) → (Members → Type 0) → Type 0
+AddsMember Are key Is More = (ms : Members) (t : Tree) → Are ms → Is t → More (members_and ms (chars key.now) t)
+
+module _ {Are More : Members → Type 0} {Value : Tree → Type 0} {keys : List Key} {most i : ℕ} {before a b c d : List ℕ}
+    {counted k l m n : ℕ} where
+  -- one member more, and another after it
+  pub member_more : (key : Key) → IsUtf8 key.now → AddsMember Are key Value More
+      → StartedMembers Are keys most i before counted a k → TookKey key i a k b l
+      → IsRead Value (λ t. value_at t i) value_indented most b l c m → Took c m (spaces i) 1 d n
+      → StartedMembers More (keys ++ key ∷ []) most i before counted d n
+  member_more key utf8 adds started taken read next =
+      let ms = started.members in
+      let t = read.tree in
+      let name = chars key.now in
+      let row = took_both (took_both taken read.took) next in
+      let whole = took_both started.took row in
+      record {
+        members = members_and ms name t;
+        are = adds ms t started.are read.is;
+        have = have_keys-more ms keys key t started.have;
+        took = took_as (members_started-more ms name t i) (members_started_lines-more ms name t) whole;
+        sound = more_members ms name t most started.sound (chars-IsText key.now utf8) read.sound;
+      }
+
+  -- one member more, which is the last
+  pub member_last : {Is : Tree → Type 0} (key : Key) (whole : ℕ) → most + 1 ≤ whole → IsUtf8 key.now
+      → AddsMember Are key Value More → StartedMembers Are keys most i before counted a k → TookKey key i a k b l
+      → IsRead Value (λ t. value_at t i) value_indented most b l c m → Took c m [] 0 d n
+      → keys_differ (named (keys ++ key ∷ [])) ≡ true → ((ms : Members) → More ms → Is (mapping ms))
+      → IsRead (λ t. Is t × (is_filled t ≡ true)) (λ t. lines_of t i) indented whole before counted d n
+  member_last key whole within utf8 adds started taken read next differ made =
+      let ms = started.members in
+      let t = read.tree in
+      let name = chars key.now in
+      let row = took_end (took_both taken read.took) next in
+      let all = took_both started.took row in
+      let have = have_keys-more ms keys key t started.have in
+      let own = sym (keys_differ-alone (members_and ms name t)) ∙ ap keys_differ have ∙ differ in
+      let values = more_members ms name t most started.sound (chars-IsText key.now utf8) read.sound in
+      let sound = mapping_sound (members_and ms name t) most own values in
+      record {
+        tree = mapping (members_and ms name t);
+        is = (made (members_and ms name t) (adds ms t started.are read.is), members_filled ms name t);
+        took = took_as (members_ended ms name t i) (members_ended_lines ms name t) all;
+        sound = looser (omega arith) sound;
+      }

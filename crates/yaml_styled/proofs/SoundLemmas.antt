@@ -12,7 +12,7 @@ use Rattle.yaml_grammar.specs.Trees.{member, depth, elements_depth, members_dept
 use Rattle.yaml_grammar.specs.Trees.{members_distinct, has_key}
 use Rattle.yaml_chars.specs.Classes.{code_point}
 use Rattle.yaml_data.specs.Keys.{keys_differ, values_distinct}
-use Rattle.yaml_data.proofs.SeenLemmas.{join_elements, join_members}
+use Rattle.yaml_styled.specs.Parts.{elements_and, members_and}
 use Rattle.yaml_styled.specs.Sounds.{Sound, SoundElements, SoundMembers}
 
 passes : (c : ℕ) → (c < 55296) ⊎ ((57344 ≤ c) × (c < 1114112)) → code_point c ≡ true
@@ -45,7 +45,7 @@ max_within : (a b most : ℕ) → a ≤ most → b ≤ most → max a b ≤ most
 max_within a b most first second = omega arith
 
 pub more_elements : (ts : Elements) (t : Tree) (most : ℕ) → SoundElements ts most → Sound t most
-    → SoundElements (join_elements ts (element t no_element)) most
+    → SoundElements (elements_and ts t) most
 more_elements no_element t most before last = record {
   texts = (last.texts, tt);
   keys = and_from (distinct t) true last.keys refl;
@@ -58,12 +58,12 @@ more_elements (element u ts) t most before last =
     let after = more_elements ts t most (record { texts = before.texts.1; keys = parts.1; shallow = others }) last in
     record {
       texts = (before.texts.0, after.texts);
-      keys = and_from (distinct u) (elements_distinct (join_elements ts (element t no_element))) parts.0 after.keys;
-      shallow = max_within (depth u) (elements_depth (join_elements ts (element t no_element))) most first after.shallow;
+      keys = and_from (distinct u) (elements_distinct (elements_and ts t)) parts.0 after.keys;
+      shallow = max_within (depth u) (elements_depth (elements_and ts t)) most first after.shallow;
     }
 
 pub more_members : (ms : Members) (key : List ℕ) (t : Tree) (most : ℕ) → SoundMembers ms most → IsText key → Sound t most
-    → SoundMembers (join_members ms (member key t no_member)) most
+    → SoundMembers (members_and ms key t) most
 more_members no_member key t most before named last = record {
   texts = (named, last.texts, tt);
   keys = and_from (distinct t) true last.keys refl;
@@ -76,8 +76,8 @@ more_members (member k u ms) key t most before named last =
     let after = more_members ms key t most (record { texts = before.texts.2; keys = parts.1; shallow = others }) named last in
     record {
       texts = (before.texts.0, before.texts.1, after.texts);
-      keys = and_from (distinct u) (values_distinct (join_members ms (member key t no_member))) parts.0 after.keys;
-      shallow = max_within (depth u) (members_depth (join_members ms (member key t no_member))) most first after.shallow;
+      keys = and_from (distinct u) (values_distinct (members_and ms key t)) parts.0 after.keys;
+      shallow = max_within (depth u) (members_depth (members_and ms key t)) most first after.shallow;
     }
 
 -- ---- a collection of them

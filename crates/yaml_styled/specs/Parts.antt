@@ -1,12 +1,9 @@
 -- What lines are read as.
-use Rattle.std.specs.Prelude.{◌≡◌, ℕ, List, [], ◌∷◌}
-use Rattle.std.specs.Str.{chars}
+use Rattle.std.specs.Prelude.{◌≡◌, ℕ, List}
 use Rattle.yaml_grammar.specs.Trees.{Tree, text, sequence, mapping, Elements, no_element, element, Members, no_member, member}
 use Rattle.yaml_grammar.specs.Style.{scalar_lines, elements_at, members_at}
-use Rattle.yaml_data.specs.Seen.{tree_of}
+use Rattle.yaml_data.specs.Seen.{Pair, tree_of, elements_of, members_of}
 use Rattle.yaml_data.specs.declared.tree.Tree as code
-use Rattle.yaml_data.specs.TextBytes.{text_bytes}
-use Rattle.yaml_data.specs.declared.text.Text.{Text}
 use Rattle.yaml_styled.specs.Taking.{Took}
 use Rattle.yaml_styled.specs.Sounds.{Sound}
 
@@ -16,19 +13,15 @@ lines_of (text value) i = scalar_lines i value
 lines_of (sequence ts) i = elements_at ts i
 lines_of (mapping ms) i = members_at ms i
 
--- values that are made of elements, in order
-abbrev pub AreElements : {V : Type 0} → (V → Tree → Type 0) → List V → Elements → Type 0
-AreElements Means [] no_element = Unit {0}
-AreElements Means [] (element t ts) = ⊥
-AreElements Means (v ∷ vs) no_element = ⊥
-AreElements Means (v ∷ vs) (element t ts) = Means v t × AreElements Means vs ts
+-- elements, and one more after them
+abbrev pub elements_and : Elements → Tree → Elements
+elements_and no_element t = element t no_element
+elements_and (element u ts) t = element u (elements_and ts t)
 
--- keys with values that are made of members, in order
-abbrev pub AreMembers : {V : Type 0} → (V → Tree → Type 0) → List (Text × V) → Members → Type 0
-AreMembers Means [] no_member = Unit {0}
-AreMembers Means [] (member key t ms) = ⊥
-AreMembers Means (p ∷ ps) no_member = ⊥
-AreMembers Means (p ∷ ps) (member key t ms) = (chars (text_bytes p.0) ≡ key) × Means p.1 t × AreMembers Means ps ms
+-- members, and one more after them
+abbrev pub members_and : Members → List ℕ → Tree → Members
+members_and no_member key t = member key t no_member
+members_and (member k u ms) key t = member k u (members_and ms key t)
 
 -- lines are taken off a text that are a tree, of whose lines some are counted
 pub record IsRead (Is : Tree → Type 0) (written : Tree → List ℕ) (lines : Tree → ℕ) (most : ℕ)
@@ -45,3 +38,14 @@ IsTree made t = tree_of made ≡ t
 -- any value and any tree
 abbrev pub IsAny : {V : Type 0} → V → Tree → Type 0
 IsAny made t = Unit {0}
+
+-- elements and members of the code that are these
+abbrev pub AreElements : List code.Tree → Elements → Type 0
+AreElements made ts = elements_of made ≡ ts
+
+abbrev pub AreMembers : List Pair → Members → Type 0
+AreMembers made ms = members_of made ≡ ms
+
+-- any value, and any elements or members
+abbrev pub AreAny : {V Parts : Type 0} → V → Parts → Type 0
+AreAny made parts = Unit {0}

@@ -165,7 +165,7 @@ fn read_empty_sequence<V: Build>(
         lines.old.rest.now lines.old.counted lines.new.rest.now lines.new.counted) }
 {
     lines.take("[]\n")?;
-    Ok(V::from_elements(Vec::new(alloc)))
+    Ok(V::from_elements(V::no_elements(alloc)))
 }
 
 /// Reads a mapping that holds nothing.
@@ -179,5 +179,5 @@ fn read_empty_mapping<V: Build>(
         lines.old.rest.now lines.old.counted lines.new.rest.now lines.new.counted) }
 {
     lines.take("{}\n")?;
-    Ok(V::from_members(Vec::new(alloc)))
+    Ok(V::from_members(V::no_members(alloc)))
 }

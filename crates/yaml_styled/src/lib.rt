@@ -13,6 +13,7 @@ mod guess;
 mod keys;
 mod lines;
 mod miss;
+mod open_keys;
 mod read;
 mod styled;
 mod words;

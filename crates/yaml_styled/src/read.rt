@@ -1,10 +1,8 @@
 // Trees read from their lines, as `style.rt` of `yaml_writer` writes them.
-ghost use Rattle.std.specs.Prelude.{◌≡◌, ◌+◌, ◌*◌, ◌^◌, ◌<◌, IfOk, true, false};
-ghost use Rattle.yaml_grammar.specs.Trees as grammar;
+ghost use Rattle.std.specs.Prelude.{◌≡◌, ◌+◌, ◌*◌, ◌^◌, ◌<◌, IfOk, OnOk, true, false};
 ghost use Rattle.yaml_grammar.specs.Style.{lines_after_dash, value_at};
-ghost use Rattle.yaml_data.specs.Keys.{keys_differ};
 ghost use Rattle.yaml_writer.specs.Sizes.{indented, value_indented, is_filled};
-ghost use Rattle.yaml_styled.specs.Parts.{lines_of, AreMembers, IsRead};
+ghost use Rattle.yaml_styled.specs.Parts.{lines_of, IsRead};
 
 use crate::build::Build;
 use crate::flat::read_flat;
@@ -12,54 +10,58 @@ use crate::guess::begins_collection;
 use crate::keys::take_key;
 use crate::lines::Lines;
 use crate::miss::Miss;
+use crate::open_keys::OpenKeys;
 use std::alloc::Global;
-use yaml_data::{Text, keys_differ};
 
 /// Reads a collection with rows, the first of which is without the spaces before it. It may be `levels` deeper than a
 /// text.
 #[cycle(reading)]
-pub(crate) fn read_rows<V: Build>(
+pub(crate) fn read_rows<'t, V: Build>(
     alloc: Global,
-    lines: &mut Lines<'_>,
+    lines: &mut Lines<'t>,
+    keys: &mut OpenKeys<'t>,
     indent: u64,
     levels: u64,
 ) -> Result<V, Miss>
     requires room { indent + 2 * levels + 4 < 2 ^ 64 }
-    ensures { IfOk result (λ made. IsRead (λ t. V.Means made t × (is_filled t ≡ true))
+    ensures read { IfOk result (λ made. IsRead (λ t. V.Means made t × (is_filled t ≡ true))
         (λ t. lines_of t indent) indented (levels + 1)
         lines.old.rest.now lines.old.counted lines.new.rest.now lines.new.counted) }
+    ensures keys { OnOk result (keys.new.keys.items ≡ keys.old.keys.items) }
 {
     if levels == 0 {
         return Err(Miss::OtherForm);
     }
     if lines.first() == Some(b'-') {
-        read_elements(alloc, lines, indent, levels - 1)
+        read_elements(alloc, lines, keys, indent, levels - 1)
     } else {
-        read_members(alloc, lines, indent, levels - 1)
+        read_members(alloc, lines, keys, indent, levels - 1)
     }
 }
 
 /// Reads the elements of a sequence at `indent`; each may be `levels` deeper than a text.
 #[cycle(reading)]
-fn read_elements<V: Build>(
+fn read_elements<'t, V: Build>(
     alloc: Global,
-    lines: &mut Lines<'_>,
+    lines: &mut Lines<'t>,
+    keys: &mut OpenKeys<'t>,
     indent: u64,
     levels: u64,
 ) -> Result<V, Miss>
     requires room { indent + 2 * levels + 6 < 2 ^ 64 }
-    ensures { IfOk result (λ made. IsRead (λ t. V.Means made t × (is_filled t ≡ true))
+    ensures read { IfOk result (λ made. IsRead (λ t. V.Means made t × (is_filled t ≡ true))
         (λ t. lines_of t indent) indented (levels + 2)
         lines.old.rest.now lines.old.counted lines.new.rest.now lines.new.counted) }
+    ensures keys { OnOk result (keys.new.keys.items ≡ keys.old.keys.items) }
 {
-    let mut items = Vec::new(alloc);
+    let mut elements = V::no_elements(alloc);
     'rows: for _ in 0..u64::MAX {
         lines.take("- ")?;
-        let item = read_element(alloc, lines, indent, levels)?;
-        items.push(item)?;
+        let element = read_element(alloc, lines, keys, indent, levels)?;
+        V::add_element(&mut elements, element)?;
         let more = lines.next_row(indent)?;
         if !more {
-            return Ok(V::from_elements(items));
+            return Ok(V::from_elements(elements));
         }
     }
     Err(Miss::OtherForm)
@@ -67,19 +69,21 @@ fn read_elements<V: Build>(
 
 /// Reads an element after its `- ` at `indent`.
 #[cycle(reading)]
-fn read_element<V: Build>(
+fn read_element<'t, V: Build>(
     alloc: Global,
-    lines: &mut Lines<'_>,
+    lines: &mut Lines<'t>,
+    keys: &mut OpenKeys<'t>,
     indent: u64,
     levels: u64,
 ) -> Result<V, Miss>
     requires room { indent + 2 * levels + 6 < 2 ^ 64 }
-    ensures { IfOk result (λ made. IsRead (V.Means made)
+    ensures read { IfOk result (λ made. IsRead (V.Means made)
         (λ t. lines_after_dash t indent) indented (levels + 1)
         lines.old.rest.now lines.old.counted lines.new.rest.now lines.new.counted) }
+    ensures keys { OnOk result (keys.new.keys.items ≡ keys.old.keys.items) }
 {
     if begins_collection(lines.rest()) {
-        read_rows(alloc, lines, indent + 2, levels)
+        read_rows(alloc, lines, keys, indent + 2, levels)
     } else {
         read_flat(alloc, lines, indent + 2)
     }
@@ -87,26 +91,30 @@ fn read_element<V: Build>(
 
 /// Reads the members of a mapping at `indent`; each value may be `levels` deeper than a text.
 #[cycle(reading)]
-fn read_members<V: Build>(
+fn read_members<'t, V: Build>(
     alloc: Global,
-    lines: &mut Lines<'_>,
+    lines: &mut Lines<'t>,
+    keys: &mut OpenKeys<'t>,
     indent: u64,
     levels: u64,
 ) -> Result<V, Miss>
     requires room { indent + 2 * levels + 6 < 2 ^ 64 }
-    ensures { IfOk result (λ made. IsRead (λ t. V.Means made t × (is_filled t ≡ true))
+    ensures read { IfOk result (λ made. IsRead (λ t. V.Means made t × (is_filled t ≡ true))
         (λ t. lines_of t indent) indented (levels + 2)
         lines.old.rest.now lines.old.counted lines.new.rest.now lines.new.counted) }
+    ensures keys { OnOk result (keys.new.keys.items ≡ keys.old.keys.items) }
 {
-    let mut pairs = Vec::new(alloc);
+    let from = keys.count();
+    let mut members = V::no_members(alloc);
     'rows: for _ in 0..u64::MAX {
         let key = take_key(lines, indent)?;
-        let value = read_value_lines(alloc, lines, indent, levels)?;
-        let text = Text::new(alloc, key)?;
-        pairs.push((text, value))?;
+        keys.add(key)?;
+        let value = read_value_lines(alloc, lines, keys, indent, levels)?;
+        V::add_member(alloc, &mut members, key, value)?;
         let more = lines.next_row(indent)?;
         if !more {
-            return made_mapping(alloc, pairs);
+            keys.close(alloc, from)?;
+            return Ok(V::from_members(members));
         }
     }
     Err(Miss::OtherForm)
@@ -114,40 +122,44 @@ fn read_members<V: Build>(
 
 /// Reads a value after the `:` of its key, which is at `indent`. It may be `levels` deeper than a text.
 #[cycle(reading)]
-fn read_value_lines<V: Build>(
+fn read_value_lines<'t, V: Build>(
     alloc: Global,
-    lines: &mut Lines<'_>,
+    lines: &mut Lines<'t>,
+    keys: &mut OpenKeys<'t>,
     indent: u64,
     levels: u64,
 ) -> Result<V, Miss>
     requires room { indent + 2 * levels + 6 < 2 ^ 64 }
-    ensures { IfOk result (λ made. IsRead (V.Means made) (λ t. value_at t indent) value_indented
+    ensures read { IfOk result (λ made. IsRead (V.Means made) (λ t. value_at t indent) value_indented
         (levels + 1)
         lines.old.rest.now lines.old.counted lines.new.rest.now lines.new.counted) }
+    ensures keys { OnOk result (keys.new.keys.items ≡ keys.old.keys.items) }
 {
     if lines.first() == Some(b' ') {
         read_beside(alloc, lines, indent)
     } else {
-        read_below(alloc, lines, indent, levels)
+        read_below(alloc, lines, keys, indent, levels)
     }
 }
 
 /// Reads a value with rows below its key, which is at `indent`.
 #[cycle(reading)]
-pub(crate) fn read_below<V: Build>(
+pub(crate) fn read_below<'t, V: Build>(
     alloc: Global,
-    lines: &mut Lines<'_>,
+    lines: &mut Lines<'t>,
+    keys: &mut OpenKeys<'t>,
     indent: u64,
     levels: u64,
 ) -> Result<V, Miss>
     requires room { indent + 2 * levels + 6 < 2 ^ 64 }
-    ensures { IfOk result (λ made. IsRead (λ t. V.Means made t × (is_filled t ≡ true))
+    ensures read { IfOk result (λ made. IsRead (λ t. V.Means made t × (is_filled t ≡ true))
         (λ t. value_at t indent) value_indented (levels + 1)
         lines.old.rest.now lines.old.counted lines.new.rest.now lines.new.counted) }
+    ensures keys { OnOk result (keys.new.keys.items ≡ keys.old.keys.items) }
 {
     lines.take("\n")?;
     lines.indent(indent + 2)?;
-    read_rows(alloc, lines, indent + 2, levels)
+    read_rows(alloc, lines, keys, indent + 2, levels)
 }
 
 /// Reads a value on the line of its key, which is at `indent`.
@@ -163,15 +175,4 @@ pub(crate) fn read_beside<V: Build>(
 {
     lines.take(" ")?;
     read_flat(alloc, lines, indent + 2)
-}
-
-/// What is made of a mapping, if its keys differ.
-fn made_mapping<V: Build>(alloc: Global, pairs: Vec<(Text, V)>) -> Result<V, Miss>
-    ensures { IfOk result (λ made. (ms : grammar.Members) → AreMembers V.Means pairs.items ms
-        → V.Means made (grammar.mapping ms) × (keys_differ ms ≡ true)) }
-{
-    if !keys_differ(alloc, &pairs)? {
-        return Err(Miss::OtherForm);
-    }
-    Ok(V::from_members(pairs))
 }

@@ -13,6 +13,7 @@ use crate::guess::begins_collection;
 use crate::keys::take_key;
 use crate::lines::Lines;
 use crate::miss::Miss;
+use crate::open_keys::OpenKeys;
 use crate::read::{read_below, read_beside, read_rows};
 use std::alloc::Global;
 use yaml_data::{Text, Tree};
@@ -136,7 +137,8 @@ fn styled_below<V: Build>(alloc: Global, text: &str, indent: u64) -> Result<Styl
         read.size text.now read.rest.now) }
 {
     let mut lines = Lines::new(text);
-    let value = read_below(alloc, &mut lines, indent, MOST_DEPTH - 1)?;
+    let mut keys = OpenKeys::new(alloc);
+    let value = read_below(alloc, &mut lines, &mut keys, indent, MOST_DEPTH - 1)?;
     let size = size_below(at_margin(text, &lines, indent), lines.counted());
     Ok(Styled {
         value,
@@ -196,7 +198,8 @@ fn styled_rows<V: Build>(alloc: Global, text: &str) -> Result<Styled<'_, V>, Mis
         read.size text.now read.rest.now) }
 {
     let mut lines = Lines::new(text);
-    let value = read_rows(alloc, &mut lines, 0, MOST_DEPTH - 1)?;
+    let mut keys = OpenKeys::new(alloc);
+    let value = read_rows(alloc, &mut lines, &mut keys, 0, MOST_DEPTH - 1)?;
     let size = size_of_rows(at_margin(text, &lines, 0), lines.counted());
     Ok(Styled {
         value,

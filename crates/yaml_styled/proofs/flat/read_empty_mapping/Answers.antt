@@ -1,8 +1,7 @@
-use Rattle.std.proofs.Common.{codes, refl, sym, subst}
+use Rattle.std.proofs.Common.{codes, refl, subst}
 use Rattle.yaml_grammar.specs.Trees.{mapping, no_member}
 use Rattle.yaml_data.proofs.CharacterLemmas.{chars-literal}
 use Rattle.yaml_styled.specs.Taking.{Took}
-use Rattle.yaml_styled.specs.Parts.{AreMembers}
 use Rattle.yaml_styled.proofs.SoundLemmas.{no_members_sound}
 use Rattle.yaml_styled.proofs.flat.read_empty_mapping.Goals as goal
 
@@ -10,10 +9,9 @@ pub returns : goal.returns
 returns g c =
     let a = c.args.lines.now in
     let b = c.take.new.self in
-    let none = subst (λ vs. AreMembers g.V.Build.Means vs no_member) (sym c.new.ensures.items) tt in
     record {
       tree = mapping no_member;
-      is = (c.from_members.ensures no_member none, refl);
+      is = (c.from_members.ensures no_member c.no_members.ensures, refl);
       took = subst (λ cs. Took a.rest.now a.counted cs 0 b.rest.now b.counted) (chars-literal (codes "{}\n") refl) c.in_ok-take.ensures;
       sound = no_members_sound;
     }

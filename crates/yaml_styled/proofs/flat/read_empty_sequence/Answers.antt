@@ -1,8 +1,7 @@
-use Rattle.std.proofs.Common.{codes, refl, sym, subst}
+use Rattle.std.proofs.Common.{codes, refl, subst}
 use Rattle.yaml_grammar.specs.Trees.{sequence, no_element}
 use Rattle.yaml_data.proofs.CharacterLemmas.{chars-literal}
 use Rattle.yaml_styled.specs.Taking.{Took}
-use Rattle.yaml_styled.specs.Parts.{AreElements}
 use Rattle.yaml_styled.proofs.SoundLemmas.{no_elements_sound}
 use Rattle.yaml_styled.proofs.flat.read_empty_sequence.Goals as goal
 
@@ -10,10 +9,9 @@ pub returns : goal.returns
 returns g c =
     let a = c.args.lines.now in
     let b = c.take.new.self in
-    let none = subst (λ vs. AreElements g.V.Build.Means vs no_element) (sym c.new.ensures.items) tt in
     record {
       tree = sequence no_element;
-      is = (c.from_elements.ensures no_element none, refl);
+      is = (c.from_elements.ensures no_element c.no_elements.ensures, refl);
       took = subst (λ cs. Took a.rest.now a.counted cs 0 b.rest.now b.counted) (chars-literal (codes "[]\n") refl) c.in_ok-take.ensures;
       sound = no_elements_sound;
     }

@@ -1,16 +1,20 @@
-use Rattle.std.proofs.Common.{◌+◌, ◌*◌}
+use Rattle.std.proofs.Common.{◌≡◌, ◌+◌, ◌*◌, ◌++◌, List}
+use Rattle.yaml_styled.proofs.NameLemmas.{Key}
 use Rattle.yaml_styled.proofs.RowLemmas.{StartedElements, StartedMembers}
 use Rattle.yaml_styled.proofs.read.+reading.Given as goal
 
 -- the rows so far were read, and the spaces before the next
 abbrev pub invariant-read_elements-rows : goal.invariant-read_elements-rows
 invariant-read_elements-rows g l =
-    StartedElements g.V.Build.Means l.items.items (l.levels + 1) l.indent
+    StartedElements (g.V.Build.MeansElements l.elements) (l.levels + 1) l.indent
     l.initial.lines.rest.now l.initial.lines.counted l.lines.rest.now l.lines.counted
+    × (l.keys.keys.items ≡ l.initial.keys.keys.items)
 
+-- and their keys stand after those that stood before
 abbrev pub invariant-read_members-rows : goal.invariant-read_members-rows
 invariant-read_members-rows g l =
-    StartedMembers g.V.Build.Means l.pairs.items (l.levels + 1) l.indent
+    (own : List Key) × (l.keys.keys.items ≡ l.initial.keys.keys.items ++ own)
+    × StartedMembers (g.V.Build.MeansMembers l.members) own (l.levels + 1) l.indent
     l.initial.lines.rest.now l.initial.lines.counted l.lines.rest.now l.lines.counted
 
 -- rows are a level deeper than what holds them

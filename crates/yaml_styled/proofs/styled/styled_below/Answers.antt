@@ -14,5 +14,5 @@ returns g c =
     subst (λ rest. IsStyled Is (λ t. value_at t c.args.indent) size c.args.text.now rest) (sym c.rest.ensures)
     (lemmas.styled_below {Is = Is} c.args.indent left.counted c.at_margin.result size c.args.text.now begun.rest.now
     left.rest.now begun.counted
-    c.new-lines.ensures.rest c.new-lines.ensures.counted c.in_ok-value.ensures c.at_margin.ensures.bytes
+    c.new-lines.ensures.rest c.new-lines.ensures.counted c.in_ok-value.ensures.read c.at_margin.ensures.bytes
     c.size_below-size.ensures.bytes lines)

@@ -14,4 +14,4 @@ returns g c =
     let lines = c.size_of_rows-size.ensures.lines ∙ c.counted.ensures in
     subst (λ rest. IsStyled Is style_text size c.args.text.now rest) (sym c.rest.ensures)
     (lemmas.styled_rows {Is = Is} left.counted c.at_margin.result size c.args.text.now begun.rest.now left.rest.now begun.counted
-    c.new-lines.ensures.rest c.new-lines.ensures.counted c.in_ok-value.ensures c.at_margin.ensures.bytes bytes lines)
+    c.new-lines.ensures.rest c.new-lines.ensures.counted c.in_ok-value.ensures.read c.at_margin.ensures.bytes bytes lines)

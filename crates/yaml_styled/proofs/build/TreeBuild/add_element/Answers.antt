@@ -1,0 +1,11 @@
+use Rattle.std.proofs.Common.{ap, ap₂, ◌∙◌}
+use Rattle.yaml_data.specs.Seen.{elements_of}
+use Rattle.yaml_styled.specs.Parts.{elements_and}
+use Rattle.yaml_styled.proofs.BuildLemmas.{elements_of-and}
+use Rattle.yaml_styled.proofs.build.TreeBuild.add_element.Goals as goal
+
+pub returns : goal.returns
+returns c ts t are is =
+    ap elements_of c.in_ok-push.ensures.items
+    ∙ elements_of-and c.args.elements.now.items c.args.element
+    ∙ ap₂ elements_and are is

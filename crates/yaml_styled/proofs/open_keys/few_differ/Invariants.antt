@@ -1,0 +1,8 @@
+use Rattle.std.proofs.Common.{◌≡◌, drop}
+use Rattle.yaml_data.specs.Keys.{keys_differ}
+use Rattle.yaml_styled.specs.Names.{named}
+use Rattle.yaml_styled.proofs.open_keys.few_differ.Given as goal
+
+-- the keys differ where those that are left do
+abbrev pub invariant-loop-place : goal.invariant-loop-place
+invariant-loop-place l = keys_differ (named (drop l.place l.keys)) ≡ keys_differ (named l.keys)
