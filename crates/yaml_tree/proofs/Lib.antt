@@ -13,3 +13,4 @@ pub mod InnermostLemmas
 pub mod EventLemmas
 pub mod KeptLemmas
 pub mod CheckLemmas
+pub mod InStyleLemmas

@@ -7,3 +7,4 @@ pub mod Building
 pub mod Kept
 pub mod OpenParts
 pub mod Frames
+pub mod InStyle

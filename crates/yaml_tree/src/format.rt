@@ -13,6 +13,7 @@ ghost use Rattle.yaml_tree.specs.Reading.{Refuses};
 
 use crate::Limits;
 use crate::documents::Document;
+use crate::in_style::lines_in_style;
 use crate::kept::Emptiness;
 use crate::open_text::write_event;
 use crate::parts::Parts;
@@ -37,6 +38,19 @@ const MOST_INDENT: u64 = 4_294_967_295;
 /// does; [`ReadFault::OutOfMemory`] may come at any point. It also comes if more than 2,147,483,647 collections are
 /// open at once, where the limits allow that many.
 pub fn format_one(alloc: Global, bytes: &[u8], limits: &Limits) -> Result<String, ReadFault>
+    ensures given { IfOk result (λ text.
+        IsFormatted bytes.now (limits_of limits.now) (string_bytes text)) }
+    ensures too_long { (result ≡ Err ReadFault.TooLong) ↔ (limits.now.bytes < length bytes.now) }
+    ensures refused { IfErr result (Refuses bytes.now (limits_of limits.now)) }
+{
+    match lines_in_style(alloc, bytes, limits)? {
+        Some(lines) => Ok(String::from_str(alloc, lines)?),
+        None => format_by_events(alloc, bytes, limits),
+    }
+}
+
+/// Reads a text in any form, and returns its tree in the one style, as [`format_one`] does, with the same faults.
+fn format_by_events(alloc: Global, bytes: &[u8], limits: &Limits) -> Result<String, ReadFault>
     ensures given { IfOk result (λ text.
         IsFormatted bytes.now (limits_of limits.now) (string_bytes text)) }
     ensures too_long { (result ≡ Err ReadFault.TooLong) ↔ (limits.now.bytes < length bytes.now) }

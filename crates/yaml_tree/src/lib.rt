@@ -5,12 +5,14 @@
 //! [`style_len`] is the text's length. A [`Document`] is a text that was read, and writes that text to a [`Sink`]
 //! without building the tree. [`format_one`] returns it.
 //!
-//! A tree is built from the events of its document by a loop with a stack. Before that it is known how many values
-//! each collection has, so that memory for them is taken once.
+//! A text that stands in the one style is read in one pass over its lines, by `yaml_styled`. Of any other text a tree
+//! is built from the events of its document, by a loop with a stack. Before that it is known how many values each
+//! collection has, so that memory for them is taken once.
 #![tactic(auto)]
 
 mod documents;
 mod format;
+mod in_style;
 mod kept;
 mod open_text;
 mod parts;

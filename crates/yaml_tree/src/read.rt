@@ -7,6 +7,7 @@ ghost use Rattle.yaml_tree.specs.Reading.{IsRead, Refuses};
 ghost use Rattle.yaml_data.specs.Seen.{tree_of};
 
 use crate::documents::Document;
+use crate::in_style::read_in_style;
 use crate::parts::document_value;
 use crate::sizes::Sizes;
 use crate::{Config, Limits};
@@ -25,6 +26,21 @@ use yaml_events::{Events, ReadFault};
 /// Each fault of [`ReadFault`] is returned only if it holds and no earlier one does; [`ReadFault::OutOfMemory`] may
 /// come at any point.
 pub fn read_one(alloc: Global, bytes: &[u8], limits: &Limits) -> Result<Config, ReadFault>
+    requires deep { limits.now.depth ≤ own_limits.depth }
+    requires long { limits.now.style ≤ own_limits.style }
+    ensures given { IfOk result (λ config.
+        IsRead bytes.now (limits_of limits.now) (tree_of config)) }
+    ensures too_long { (result ≡ Err ReadFault.TooLong) ↔ (limits.now.bytes < length bytes.now) }
+    ensures refused { IfErr result (Refuses bytes.now (limits_of limits.now)) }
+{
+    match read_in_style(alloc, bytes, limits)? {
+        Some(config) => Ok(config),
+        None => read_by_events(alloc, bytes, limits),
+    }
+}
+
+/// Reads a text in any form as [`read_one`] does, with the same faults.
+fn read_by_events(alloc: Global, bytes: &[u8], limits: &Limits) -> Result<Config, ReadFault>
     requires deep { limits.now.depth ≤ own_limits.depth }
     requires long { limits.now.style ≤ own_limits.style }
     ensures given { IfOk result (λ config.

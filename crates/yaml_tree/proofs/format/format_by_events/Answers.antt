@@ -3,7 +3,7 @@ use Rattle.std.proofs.lemmas.Result.{err_from_is_err_and}
 use Rattle.yaml_config.specs.Kept.{limits_of}
 use Rattle.yaml_tree.specs.Formatting.{IsFormatted}
 use Rattle.yaml_tree.proofs.WriterLemmas.{formatted, too_large, not_too_long}
-use Rattle.yaml_tree.proofs.format.format_one.Goals as goal
+use Rattle.yaml_tree.proofs.format.format_by_events.Goals as goal
 
 pub returns-in_err-write-clause-too_long : goal.returns-in_err-write-clause-too_long
 returns-in_err-write-clause-too_long c =

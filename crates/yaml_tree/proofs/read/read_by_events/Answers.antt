@@ -10,7 +10,7 @@ use Rattle.yaml_tree.specs.Reading.{IsRead}
 use Rattle.yaml_data.specs.Seen.{tree_of}
 use Rattle.yaml_data.specs.declared.tree.Tree as trees
 use Rattle.yaml_tree.proofs.ReadLemmas.{tree_read, shallow_refused, deep_refused}
-use Rattle.yaml_tree.proofs.read.read_one.Goals as goal
+use Rattle.yaml_tree.proofs.read.read_by_events.Goals as goal
 
 -- the tree is that of the events
 tree_built : (es : List Event) (t : trees.Tree) (differ : Bool)
