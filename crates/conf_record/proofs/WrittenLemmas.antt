@@ -41,11 +41,6 @@ use Rattle.conf_record.specs.Records.{edit_members, edit_elements, command_membe
 use Rattle.conf_record.specs.RecordsRead.{number_from_digits, ReadsRecord, IsEdit, AreEdits, IsCommand}
 use Rattle.conf_record.specs.SmallCommands.{IsSmallEdit, AreSmallEdits, IsSmallCommand}
 use Rattle.conf_record.specs.LineValues.{IsValueLine, FollowsNumber}
-use Rattle.conf_record.specs.NextRecord.{IsNotNext}
-use Rattle.conf_record.specs.declared.next_record.NoNext.{NoNext}
-use Rattle.conf_record.specs.declared.next_record.NoNext.TheVariants.{OutOfMemory}
-use Rattle.conf_state.specs.declared.command.Command as code_command
-use Rattle.std.specs.Prelude.{Result, Ok, Err, IfErr}
 use Rattle.conf_record.specs.declared.lines.LineValue.{LineValue}
 use Rattle.conf_record.specs.EditLines.{member_line, lines_of}
 use Rattle.conf_record.specs.Written.{IsLineOf, IsConfigLine, IsNameLine, IsPathLine, IsWrittenAs, ElementsWritten, IsWritten}
@@ -168,7 +163,7 @@ module _ (line value : List ℕ) (is : IsLineOf line value) where
   line_bytes = omega (arith, byte_len-encoded (scalar_lines 2 value), ap length (is.written 2), length-append line (line_feed ∷ []))
 
   -- it is within the limits if the line is short
-  pub line_config : (t : Tree) → t ≡ text value → IsText value → length line < config_limits.style → IsConfigLine line t
+  line_config : (t : Tree) → t ≡ text value → IsText value → length line < config_limits.style → IsConfigLine line t
   line_config t seen texts short = subst (IsConfigLine line) (sym seen) (record {
     written = text_value line value is;
     kept = record { texts = texts; keys = refl; deep = omega arith; long = omega (arith, line_bytes) };
@@ -387,9 +382,3 @@ follows_is small bytes number lines command follows written =
     let same = whole_record bytes lines command number follows.small follows.is written.written in
     let fits = short_fits bytes command number same follows.short in
     written_is bytes command number (small command number written.is written.small follows.small fits) same
-
--- a fault of memory says nothing of the bytes
-pub no_memory : (bytes : List ℕ) (count : ℕ) (read : Result code_command.Command NoNext) → IfErr read (λ fault. fault ≡ OutOfMemory)
-    → IfErr read (IsNotNext bytes count)
-no_memory bytes count (Ok command) is = tt
-no_memory bytes count (Err fault) is = subst (IsNotNext bytes count) (sym is) tt

@@ -7,15 +7,13 @@ ghost use Rattle.std.specs.Str.{chars};
 ghost use Rattle.yaml_chars.specs.Signs.{line_feed, double_quote};
 ghost use Rattle.yaml_grammar.specs.Trees.{text};
 ghost use Rattle.yaml_data.specs.Seen.{tree_of};
-ghost use Rattle.conf_state.specs.Commands.{text_of};
 ghost use Rattle.conf_record.specs.LineValues.{IsValueLine};
-ghost use Rattle.conf_record.specs.Written.{IsLineOf, IsConfigLine, IsNameLine, IsPathLine};
+ghost use Rattle.conf_record.specs.Written.{IsLineOf, IsNameLine, IsPathLine};
 
 use conf_state::good_name;
 use json_pointer::is_pointer;
 use memchr::memchr;
 use std::alloc::{AllocError, Global};
-use yaml_styled::Miss;
 use yaml_tree::{Config, Limits, ScalarStyle, Size, Text, Tree, value_style};
 use yaml_writer::stand_alone;
 
@@ -129,37 +127,4 @@ pub(crate) fn made_value(alloc: Global, value: LineValue<'_>) -> Result<Config, 
     };
     let copy = Text::new(alloc, value.text)?;
     Ok(Config::with_size(Tree::Text(copy), size))
-}
-
-/// The text that is written as this line after a key, as for [`line_text`], as a configuration.
-pub(crate) fn line_config(alloc: Global, line: &str) -> Result<Config, Miss>
-    ensures { IfOk result (λ config. IsConfigLine line.now (tree_of config)) }
-{
-    let Some(value) = value_on(line) else {
-        return Err(Miss::OtherForm);
-    };
-    let config = made_value(alloc, value)?;
-    Ok(config)
-}
-
-/// The name that is written as this line after a key, if it is good.
-pub(crate) fn line_name(alloc: Global, line: &str) -> Result<String, Miss>
-    ensures { IfOk result (λ name. IsNameLine line.now (text_of name)) }
-{
-    let Some(name) = name_on(line) else {
-        return Err(Miss::OtherForm);
-    };
-    let name = String::from_str(alloc, name)?;
-    Ok(name)
-}
-
-/// The path that is written as this line after a key, as for [`path_on`].
-pub(crate) fn line_path(alloc: Global, line: &str) -> Result<String, Miss>
-    ensures { IfOk result (λ path. IsPathLine line.now (text_of path)) }
-{
-    let Some(path) = path_on(line) else {
-        return Err(Miss::OtherForm);
-    };
-    let path = String::from_str(alloc, path)?;
-    Ok(path)
 }

@@ -1,18 +1,13 @@
 // The record after a count: of a single edit it is read as a store writes it, with no more than the command made.
-ghost use Rattle.std.specs.Prelude.{◌≡◌, ◌≢◌, ◌<◌, ◌+◌, true, false, codes, IfOk, IfErr, IfSome, OnOk};
-ghost use Rattle.conf_state.specs.Commands.{command_of, single};
+ghost use Rattle.std.specs.Prelude.{◌≡◌, ◌≢◌, ◌<◌, ◌+◌, true, false, IfOk, IfErr, IfSome, OnOk};
+ghost use Rattle.conf_state.specs.Commands.{command_of};
 ghost use Rattle.conf_record.specs.Documents.{IsRecord};
-ghost use Rattle.conf_record.specs.EditLines.{lines_of};
-ghost use Rattle.conf_record.specs.LineValues.{FollowsNumber, HasValueLine, edit_cut};
+ghost use Rattle.conf_record.specs.LineValues.{FollowsNumber};
 ghost use Rattle.conf_record.specs.NextRecord.{IsNotNext};
-ghost use Rattle.conf_record.specs.Written.{IsWritten, IsWrittenAs};
 
-use crate::edit_lines::{Place, cut_edit};
-use crate::edit_members::EditMembers;
 use crate::laws::records_read;
-use crate::lines::{LineValue, made_value, name_on, path_on, value_on};
 use crate::read::spelled_record;
-use crate::written::{TREE_KEY, cut_batch, is_end};
+use crate::written::{cut_many, cut_single, made_command};
 use conf_state::{Command, RECORD_LIMIT};
 use itoa::Buffer;
 use std::alloc::{AllocError, Global};
@@ -56,7 +51,7 @@ pub fn read_next(alloc: Global, bytes: &[u8], count: u64) -> Result<Command, NoN
         return spelled_next(alloc, bytes, count);
     };
     match cut_single(lines) {
-        Some(texts) => made_command(alloc, texts),
+        Some(texts) => Ok(made_command(alloc, texts)?),
         None => match cut_many(alloc, lines) {
             Ok(command) => Ok(command),
             Err(Miss::OtherForm) => spelled_next(alloc, bytes, count),
@@ -105,80 +100,4 @@ fn lines_after(bytes: &[u8], count: u64) -> Option<&str>
     let quote = digits.strip_prefix(buffer.format(count + 1))?;
     let lines = quote.strip_prefix("\"\n")?;
     Some(lines)
-}
-
-/// The texts of the one edit on the lines after the number, each on one line without an escape.
-fn cut_single(lines: &str) -> Option<EditMembers<&str, LineValue<'_>>>
-    ensures written { IfSome result (λ texts. IsWritten lines.now (single (edit_cut texts))) }
-    ensures values { IfSome result (λ texts. HasValueLine texts) }
-{
-    let (members, end) = cut_edit(lines, Place::Alone, TREE_KEY)?;
-    if !is_end(end) {
-        return None;
-    }
-    texts_on(members)
-}
-
-/// The texts of these members, each as it is written after its key, if the name and the path are good.
-fn texts_on<'t>(
-    members: EditMembers<&'t str, &'t str>,
-) -> Option<EditMembers<&'t str, LineValue<'t>>>
-    ensures written { IfSome result (λ texts.
-        IsWrittenAs (lines_of members.entry (codes "tree: ")) (edit_cut texts)) }
-    ensures values { IfSome result (λ texts. HasValueLine texts) }
-{
-    match members {
-        EditMembers::Import { name, value } => {
-            let name = name_on(name)?;
-            let value = value_on(value)?;
-            Some(EditMembers::Import { name, value })
-        }
-        EditMembers::Set { name, path, value } => {
-            let name = name_on(name)?;
-            let path = path_on(path)?;
-            let value = value_on(value)?;
-            Some(EditMembers::Set { name, path, value })
-        }
-        EditMembers::Delete { name, path } => {
-            let name = name_on(name)?;
-            let path = path_on(path)?;
-            Some(EditMembers::Delete { name, path })
-        }
-    }
-}
-
-/// The command with these members. It fails only if memory runs out.
-fn made_command(alloc: Global, texts: EditMembers<&str, LineValue<'_>>) -> Result<Command, NoNext>
-    requires { HasValueLine texts }
-    ensures made { IfOk result (λ command. command_of command ≡ single (edit_cut texts.entry)) }
-    ensures refused { IfErr result (λ fault. fault ≡ NoNext.OutOfMemory) }
-{
-    match texts {
-        EditMembers::Import { name, value } => {
-            let name = String::from_str(alloc, name)?;
-            let tree = made_value(alloc, value)?;
-            Ok(Command::Import { name, tree })
-        }
-        EditMembers::Set { name, path, value } => {
-            let name = String::from_str(alloc, name)?;
-            let path = String::from_str(alloc, path)?;
-            let value = made_value(alloc, value)?;
-            Ok(Command::Set { name, path, value })
-        }
-        EditMembers::Delete { name, path } => {
-            let name = String::from_str(alloc, name)?;
-            let path = String::from_str(alloc, path)?;
-            Ok(Command::Delete { name, path })
-        }
-    }
-}
-
-/// The batch on the lines after the number.
-fn cut_many(alloc: Global, lines: &str) -> Result<Command, Miss>
-    ensures { IfOk result (λ command. IsWritten lines.now (command_of command)) }
-{
-    match lines.strip_prefix("batch:\n") {
-        Some(elements) => cut_batch(alloc, elements),
-        None => Err(Miss::OtherForm),
-    }
 }

@@ -1,23 +1,24 @@
 // Records as a store writes them, taken apart line by line.
 ghost use Rattle.std.specs.Prelude.{◌≡◌, ◌≤◌, ◌++◌, codes, decimal, encode_utf8_all, map, IfOk, IfSome, IsTrue};
-ghost use Rattle.conf_state.specs.Commands.{edit_of, command_of};
+ghost use Rattle.conf_state.specs.Commands.{edit_of, command_of, single};
 ghost use Rattle.conf_state.specs.States.{count_limit};
 ghost use Rattle.conf_record.specs.Documents.{IsRecord};
 ghost use Rattle.conf_record.specs.EditLines.{lines_of};
+ghost use Rattle.conf_record.specs.LineValues.{HasValueLine, edit_cut};
 ghost use Rattle.conf_record.specs.Written.{IsWritten, IsWrittenAs, ElementsWritten};
 
 use crate::edit_lines::{Place, cut_edit, cut_element};
 use crate::edit_members::EditMembers;
 use crate::fields::number_from;
 use crate::laws::records_read;
-use crate::lines::{cut_line, line_config, line_name, line_path};
+use crate::lines::{LineValue, cut_line, made_value, name_on, path_on, value_on};
 use conf_state::{Command, Edit, RECORD_LIMIT};
-use std::alloc::Global;
+use std::alloc::{AllocError, Global};
 use std::str;
 use yaml_styled::Miss;
 
 /// The key of the tree of an import.
-pub(crate) const TREE_KEY: &str = "tree: ";
+const TREE_KEY: &str = "tree: ";
 
 /// The record that the bytes are, if they are the very text that [`record_text`](crate::record_text) writes for it, and
 /// each text in it is on one line without an escape.
@@ -54,28 +55,103 @@ fn cut_number(text: &str) -> Option<(u64, &str)>
 fn cut_command(alloc: Global, lines: &str) -> Result<Command, Miss>
     ensures { IfOk result (λ command. IsWritten lines.now (command_of command)) }
 {
-    match lines.strip_prefix("batch:\n") {
-        Some(elements) => cut_batch(alloc, elements),
-        None => cut_alone(alloc, lines),
+    match cut_single(lines) {
+        Some(texts) => Ok(made_command(alloc, texts)?),
+        None => cut_many(alloc, lines),
     }
 }
 
-/// The single edit on the lines after the number.
-fn cut_alone(alloc: Global, lines: &str) -> Result<Command, Miss>
-    ensures { IfOk result (λ command. IsWritten lines.now (command_of command)) }
+/// The texts of the one edit on the lines after the number, each on one line without an escape.
+pub(crate) fn cut_single(lines: &str) -> Option<EditMembers<&str, LineValue<'_>>>
+    ensures written { IfSome result (λ texts. IsWritten lines.now (single (edit_cut texts))) }
+    ensures values { IfSome result (λ texts. HasValueLine texts) }
 {
-    let Some((members, end)) = cut_edit(lines, Place::Alone, TREE_KEY) else {
-        return Err(Miss::OtherForm);
-    };
+    let (members, end) = cut_edit(lines, Place::Alone, TREE_KEY)?;
     if !is_end(end) {
-        return Err(Miss::OtherForm);
+        return None;
     }
-    let edit = made_edit(alloc, members)?;
+    texts_on(members)
+}
+
+/// The texts of these members, each as it is written after its key, if the name and the path are good.
+fn texts_on<'t>(
+    members: EditMembers<&'t str, &'t str>,
+) -> Option<EditMembers<&'t str, LineValue<'t>>>
+    ensures written { IfSome result (λ texts.
+        IsWrittenAs (lines_of members.entry (codes "tree: ")) (edit_cut texts)) }
+    ensures values { IfSome result (λ texts. HasValueLine texts) }
+{
+    match members {
+        EditMembers::Import { name, value } => {
+            let name = name_on(name)?;
+            let value = value_on(value)?;
+            Some(EditMembers::Import { name, value })
+        }
+        EditMembers::Set { name, path, value } => {
+            let name = name_on(name)?;
+            let path = path_on(path)?;
+            let value = value_on(value)?;
+            Some(EditMembers::Set { name, path, value })
+        }
+        EditMembers::Delete { name, path } => {
+            let name = name_on(name)?;
+            let path = path_on(path)?;
+            Some(EditMembers::Delete { name, path })
+        }
+    }
+}
+
+/// The command that is the edit with these texts. It fails only if memory runs out.
+#[inline(always)]
+pub(crate) fn made_command(
+    alloc: Global,
+    texts: EditMembers<&str, LineValue<'_>>,
+) -> Result<Command, AllocError>
+    requires { HasValueLine texts }
+    ensures { IfOk result (λ command. command_of command ≡ single (edit_cut texts.entry)) }
+{
+    let edit = edit_with(alloc, texts)?;
     Ok(Command::from(edit))
 }
 
+/// The edit with these texts. It fails only if memory runs out.
+#[inline(always)]
+fn edit_with(alloc: Global, texts: EditMembers<&str, LineValue<'_>>) -> Result<Edit, AllocError>
+    requires { HasValueLine texts }
+    ensures { IfOk result (λ edit. edit_of edit ≡ edit_cut texts.entry) }
+{
+    match texts {
+        EditMembers::Import { name, value } => {
+            let name = String::from_str(alloc, name)?;
+            let tree = made_value(alloc, value)?;
+            Ok(Edit::Import { name, tree })
+        }
+        EditMembers::Set { name, path, value } => {
+            let name = String::from_str(alloc, name)?;
+            let path = String::from_str(alloc, path)?;
+            let value = made_value(alloc, value)?;
+            Ok(Edit::Set { name, path, value })
+        }
+        EditMembers::Delete { name, path } => {
+            let name = String::from_str(alloc, name)?;
+            let path = String::from_str(alloc, path)?;
+            Ok(Edit::Delete { name, path })
+        }
+    }
+}
+
+/// The batch on the lines after the number.
+pub(crate) fn cut_many(alloc: Global, lines: &str) -> Result<Command, Miss>
+    ensures { IfOk result (λ command. IsWritten lines.now (command_of command)) }
+{
+    match lines.strip_prefix("batch:\n") {
+        Some(elements) => cut_batch(alloc, elements),
+        None => Err(Miss::OtherForm),
+    }
+}
+
 /// The batch whose elements these lines are.
-pub(crate) fn cut_batch(alloc: Global, elements: &str) -> Result<Command, Miss>
+fn cut_batch(alloc: Global, elements: &str) -> Result<Command, Miss>
     ensures { IfOk result (λ command.
         IsWritten (codes "batch:\n" ++ elements.now) (command_of command)) }
 {
@@ -109,24 +185,11 @@ fn made_edit(alloc: Global, members: EditMembers<&str, &str>) -> Result<Edit, Mi
     ensures { IfOk result (λ edit.
         IsWrittenAs (lines_of members.entry (codes "tree: ")) (edit_of edit)) }
 {
-    match members {
-        EditMembers::Import { name, value } => {
-            let name = line_name(alloc, name)?;
-            let tree = line_config(alloc, value)?;
-            Ok(Edit::Import { name, tree })
-        }
-        EditMembers::Set { name, path, value } => {
-            let name = line_name(alloc, name)?;
-            let path = line_path(alloc, path)?;
-            let value = line_config(alloc, value)?;
-            Ok(Edit::Set { name, path, value })
-        }
-        EditMembers::Delete { name, path } => {
-            let name = line_name(alloc, name)?;
-            let path = line_path(alloc, path)?;
-            Ok(Edit::Delete { name, path })
-        }
-    }
+    let Some(texts) = texts_on(members) else {
+        return Err(Miss::OtherForm);
+    };
+    let edit = edit_with(alloc, texts)?;
+    Ok(edit)
 }
 
 /// Whether this is the last line of a document.

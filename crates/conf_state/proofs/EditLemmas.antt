@@ -1,6 +1,6 @@
 -- What an edit inside a configuration makes of a state's configurations and of their length.
 use Rattle.std.proofs.Common.{inl, inr, ◌⊎◌, ◌==◌, length, ◌≡◌, ℕ, ◌+◌, ◌*◌, ◌<◌, ◌≤◌, nat_le, Bool, true, false}
-use Rattle.std.proofs.Common.{if◌then◌else◌, List, [], ◌∷◌, ◌++◌, Option, Some, None, option_map, Result, Ok, Err}
+use Rattle.std.proofs.Common.{if◌then◌else◌, List, [], ◌∷◌, ◌++◌, Option, Some, None, is_some, option_map, Result, Ok, Err}
 use Rattle.std.proofs.Common.{String, Global, IsUtf8, refl, sym, ap, subst, ◌∙◌, arith}
 use Rattle.std.proofs.lemmas.Bool.Decides.{nat_tests}
 use Rattle.std.specs.Map.{lookup}
@@ -11,6 +11,7 @@ use Rattle.yaml_grammar.specs.Trees as grammar
 use Rattle.yaml_grammar.specs.Trees.{depth}
 use Rattle.yaml_grammar.specs.Style.{style_text, key_lines, value_at}
 use Rattle.yaml_writer.specs.BudgetLaws.{byte_len-append}
+use Rattle.yaml_data.proofs.CharacterLemmas.{same_text-true}
 use Rattle.yaml_data.specs.Seen.{tree_of}
 use Rattle.yaml_writer.specs.Sizes.{length_at}
 use Rattle.yaml_data.specs.declared.tree.Tree.{Tree}
@@ -25,8 +26,9 @@ use Rattle.yaml_config.specs.declared.change.Change.{Change}
 use Rattle.json_pointer.specs.declared.fault.PathFault.{PathFault}
 use Rattle.conf_state.specs.Configs.{is_name}
 use Rattle.conf_state.specs.BaseTexts.{entry_length, entries_length}
-use Rattle.conf_state.specs.Edits.{configs_with_edit, configs_after_edit}
+use Rattle.conf_state.specs.Edits.{configs_with_edit, configs_after_edit, configs_edited, absence}
 use Rattle.conf_state.specs.Kept.{entries_of, ArePlain}
+use Rattle.conf_state.specs.Names.{good_name}
 use Rattle.conf_state.specs.Limits.{AreConfigs}
 use Rattle.conf_state.specs.PathFaults.{store_fault_of}
 use Rattle.conf_state.specs.States.{Entry, base_limit, config_named, put_config, cut_config}
@@ -35,9 +37,10 @@ use Rattle.yaml_config.specs.declared.edit.Edit.{Edit}
 use Rattle.yaml_config.specs.declared.edit.Edit.TheVariants.{Delete}
 use Rattle.conf_state.specs.Steps.{and_then, by_path, found, configs_after, configs_after_delete}
 use Rattle.conf_state.specs.Commands.{delete_at}
-use Rattle.conf_state.specs.declared.fault.StoreFault.TheVariants.{NoConfig, OutOfMemory}
+use Rattle.conf_state.specs.declared.fault.StoreFault.TheVariants.{OutOfMemory}
 use Rattle.conf_state.proofs.EntryLemmas.{lookup-named}
 use Rattle.conf_state.proofs.LimitLemmas.{entries_length-found, entries_length-put}
+use Rattle.conf_state.proofs.StepLemmas.{by_absence}
 
 -- a configuration under a name keeps the limits
 pub named-good : (es : List Entry) (name : List ℕ) (t : grammar.Tree) → AreConfigs es → config_named es name ≡ Some t → Good t config_limits
@@ -48,6 +51,16 @@ named-good (e ∷ es) name t all is = by (same_text name e.0) is (named-good es 
         → (config_named es name ≡ Some t → Good t config_limits) → Good t config_limits
     by true found rest = let same : e.1 ≡ t = cc in subst (λ x. Good x config_limits) same all.1
     by false found rest = rest found
+
+-- a name under which a configuration is found is good
+pub found-good : (es : List Entry) (name : List ℕ) → AreConfigs es → is_some (config_named es name) ≡ true → good_name name ≡ true
+found-good [] name all is = cc
+found-good (e ∷ es) name all is = by (same_text name e.0) refl is (found-good es name all.2)
+  where
+    by : (b : Bool) → same_text name e.0 ≡ b → is_some (if b then Some e.1 else config_named es name) ≡ true
+        → (is_some (config_named es name) ≡ true → good_name name ≡ true) → good_name name ≡ true
+    by true same here rest = ap good_name (same_text-true name e.0 same) ∙ all.0
+    by false other here rest = rest here
 
 -- ---- what the map finds under a name
 
@@ -169,10 +182,15 @@ delete-edits es name pointer utf8 some = by (chars pointer) refl
         there (Some t) = at_path t (c ∷ cs) (path_of (c ∷ cs)) refl (omega arith)
         there None = refl
 
--- an edit under a name without a configuration is refused by `NoConfig`
-pub tree_after_edit-nothing : (es : List Entry) (name : List ℕ) (edit : Edit) (pointer : List ℕ) → config_named es name ≡ None
-    → configs_after_edit es name edit pointer ≡ Err NoConfig
-tree_after_edit-nothing es name edit pointer absent = rw absent refl
+-- an edit under a name without a configuration is refused, as the name is good or not
+pub edited-nothing : (es : List Entry) (name : List ℕ) (edit : Edit) (pointer : List ℕ) → config_named es name ≡ None
+    → configs_edited es name edit pointer ≡ Err (absence name)
+edited-nothing es name edit pointer absent = by_absence es name (configs_after_edit es name edit pointer) (rw absent refl)
+
+-- an edit under a name with a configuration is made, since the name is good
+pub edited-there : (es : List Entry) (name : List ℕ) (edit : Edit) (pointer : List ℕ) (t : grammar.Tree) → AreConfigs es
+    → config_named es name ≡ Some t → configs_edited es name edit pointer ≡ configs_after_edit es name edit pointer
+edited-there es name edit pointer t all there = rw (found-good es name all (ap is_some there)) refl
 
 -- a number that passes the test is at most the other
 pub at_most : (a b : ℕ) → nat_le a b ≡ true → a ≤ b

@@ -1,9 +1,9 @@
 -- The length of a configuration's lines in a base text, and what an edit leaves of the others.
-use Rattle.std.proofs.Common.{◌≡◌, ℕ, ◌+◌, ◌≤◌, min, true, false, List, [], ◌∷◌, Some, None, Ok, Err, refl, sym, ap, ◌∙◌, subst, arith}
-use Rattle.yaml_grammar.specs.Texts.{byte_len, same_text}
+use Rattle.std.proofs.Common.{◌≡◌, ℕ, min, List, Some, sym, ap, ◌∙◌, arith}
+use Rattle.yaml_grammar.specs.Texts.{byte_len}
 use Rattle.yaml_grammar.specs.Trees.{Tree}
-use Rattle.conf_state.specs.States.{Entry, Contents, config_named, cut_config}
-use Rattle.conf_state.specs.BaseTexts.{entry_length, entries_length}
+use Rattle.conf_state.specs.States.{Contents, config_named}
+use Rattle.conf_state.specs.BaseTexts.{entry_length}
 use Rattle.conf_state.specs.Limits.{IsState}
 use Rattle.conf_state.specs.EntryTexts.{lines_if_there, entry_named}
 use Rattle.conf_state.proofs.BaseLemmas.{entries_length-short}

@@ -3,6 +3,7 @@ pub mod CopyLemmas
 pub mod CountLemmas
 pub mod DraftLemmas
 pub mod DraftSteps
+pub mod DraftEdits
 pub mod PlanningLemmas
 pub mod EditLemmas
 pub mod EntryLemmas

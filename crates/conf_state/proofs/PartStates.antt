@@ -1,5 +1,5 @@
 -- A draft and a count as a state, and the state after one command more.
-use Rattle.std.proofs.Common.{◌≡◌, ℕ, ◌+◌, ◌<◌, ◌≤◌, ◌^◌, min, List, Result, Ok, Err, ap, sym, subst, ◌∙◌, arith}
+use Rattle.std.proofs.Common.{◌≡◌, ℕ, ◌+◌, ◌<◌, ◌≤◌, ◌^◌, min, List, Result, Ok, ap, sym, subst, ◌∙◌, arith}
 use Rattle.conf_state.specs.BaseTexts.{base_length, framed_length, entries_length}
 use Rattle.conf_state.specs.Commands.{Edit, single}
 use Rattle.conf_state.specs.Drafts.{drafted, IsDraftOf}

@@ -9,12 +9,14 @@ use Rattle.yaml_config.specs.Limits.{config_limits}
 use Rattle.yaml_config.specs.declared.edit.Edit.{Edit as PathEdit}
 use Rattle.json_pointer.specs.Pointers.{path_of}
 use Rattle.json_pointer.specs.declared.fault.PathFault.{PathFault}
-use Rattle.conf_state.specs.Edits.{configs_with_edit, configs_after_edit, checked_edit, edited_at, IsPlan}
+use Rattle.conf_state.specs.Edits.{configs_with_edit, configs_after_edit, configs_edited, checked_edit, edited_at, IsPlan}
+use Rattle.conf_state.specs.Limits.{AreConfigs}
 use Rattle.conf_state.specs.States.{Entry, config_named, put_config}
 use Rattle.conf_state.specs.Steps.{and_then, found, by_path, checked_tree, with_checked_config}
 use Rattle.conf_state.specs.declared.planning.EditPlan.{EditPlan}
 use Rattle.conf_state.specs.declared.fault.StoreFault.{StoreFault}
 use Rattle.conf_state.specs.declared.fault.StoreFault.TheVariants.{TooDeep, ConfigLarge}
+use Rattle.conf_state.proofs.EditLemmas.{edited-there}
 use Rattle.conf_state.proofs.StepLemmas.{checked_tree-deep, checked_tree-large, checked_tree-within}
 
 -- ---- the limits, in their order
@@ -68,12 +70,17 @@ edit-put es name edit pointer t there =
     by (Ok path) = with-edit-put es name edit t path
     by (Err fault) = refl
 
-module _ (es : List Entry) (name : List ℕ) (edit : PathEdit) (pointer : List ℕ) (t : Tree) (there : config_named es name ≡ Some t) where
-  pub edit-made : (u : Tree) → edited_at edit t pointer ≡ Ok u → configs_after_edit es name edit pointer ≡ Ok (put_config es name u)
-  edit-made u made = edit-put es name edit pointer t there ∙ ap (λ r. and_then r (λ u. Ok (put_config es name u))) made
+-- where each name is good
+module _ (es : List Entry) (all : AreConfigs es) (name : List ℕ) (edit : PathEdit) (pointer : List ℕ) (t : Tree)
+    (there : config_named es name ≡ Some t) where
+  edit-there : configs_edited es name edit pointer ≡ and_then (edited_at edit t pointer) (λ u. Ok (put_config es name u))
+  edit-there = edited-there es name edit pointer t all there ∙ edit-put es name edit pointer t there
 
-  pub edit-refused : (fault : StoreFault) → edited_at edit t pointer ≡ Err fault → configs_after_edit es name edit pointer ≡ Err fault
-  edit-refused fault refused = edit-put es name edit pointer t there ∙ ap (λ r. and_then r (λ u. Ok (put_config es name u))) refused
+  pub edit-made : (u : Tree) → edited_at edit t pointer ≡ Ok u → configs_edited es name edit pointer ≡ Ok (put_config es name u)
+  edit-made u made = edit-there ∙ ap (λ r. and_then r (λ u. Ok (put_config es name u))) made
+
+  pub edit-refused : (fault : StoreFault) → edited_at edit t pointer ≡ Err fault → configs_edited es name edit pointer ≡ Err fault
+  edit-refused fault refused = edit-there ∙ ap (λ r. and_then r (λ u. Ok (put_config es name u))) refused
 
 -- what follows from the second of two cases
 pub or_so : {A B C : Type 0} → (B → C) → A ⊎ B → A ⊎ C

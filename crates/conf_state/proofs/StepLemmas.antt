@@ -1,6 +1,6 @@
 -- What edits make that put in or take out a whole configuration, or are refused before any change; and batches.
 use Rattle.std.proofs.Common.{◌≡◌, ℕ, ◌<◌, ◌≤◌, ◌==◌, Bool, true, false, List, [], ◌∷◌, ◌++◌, length, Option, Some}
-use Rattle.std.proofs.Common.{None, option_map, option_to_list, is_some, Result, Ok, Err, length-append, refl, ap}
+use Rattle.std.proofs.Common.{if◌then◌else◌, None, option_map, option_to_list, is_some, Result, Ok, Err, length-append, refl, ap}
 use Rattle.std.proofs.Common.{◌∙◌, arith}
 use Rattle.std.proofs.lemmas.Bool.Decides.{nat_tests}
 use Rattle.yaml_grammar.specs.Style.{style_text}
@@ -8,6 +8,7 @@ use Rattle.yaml_grammar.specs.Texts.{byte_len}
 use Rattle.yaml_grammar.specs.Trees.{Tree, depth}
 use Rattle.yaml_config.specs.Limits.{config_limits}
 use Rattle.conf_state.specs.Commands.{Edit, import_as, set_at, delete_at, single, batch, name_of}
+use Rattle.conf_state.specs.Edits.{absence}
 use Rattle.conf_state.specs.Names.{good_name}
 use Rattle.conf_state.specs.States.{Entry, Contents, config_named, put_config, cut_config}
 use Rattle.conf_state.specs.Steps.{and_then, found, checked_tree, with_checked_config, configs_after, edited, all_edited, next_state, step}
@@ -62,13 +63,23 @@ module _ (es : List Entry) (name : List ℕ) where
   pub import-refused : (t : Tree) (fault : StoreFault) → checked_tree t ≡ Err fault → configs_after es (import_as name t) ≡ Err fault
   import-refused t fault is = ap (λ r. and_then r (λ u. Ok (put_config es name u))) is
 
+  -- what is refused by `NoConfig` where the name is good is refused where there is no configuration
+  pub by_absence : (after : Result (List Entry) StoreFault) → after ≡ Err NoConfig
+      → (if good_name name then after else Err BadName) ≡ Err (absence name)
+  by_absence after none = by (good_name name)
+    where
+      by : (named : Bool) → (if named then after else Err BadName) ≡ Err (if named then NoConfig else BadName)
+      by true = none
+      by false = refl
+
   -- a set and a delete need a configuration of the name
   pub set-nothing : (path : List ℕ) (t : Tree) → is_some (config_named es name) ≡ false
-      → configs_after es (set_at name path t) ≡ Err NoConfig
-  set-nothing path t none = rw (is_none (config_named es name) none) refl
+      → edited es (set_at name path t) ≡ Err (absence name)
+  set-nothing path t none = by_absence (configs_after es (set_at name path t)) (rw (is_none (config_named es name) none) refl)
 
-  pub delete-nothing : (path : List ℕ) → is_some (config_named es name) ≡ false → configs_after es (delete_at name path) ≡ Err NoConfig
-  delete-nothing path none = rw (is_none (config_named es name) none) refl
+  pub delete-nothing : (path : List ℕ) → is_some (config_named es name) ≡ false
+      → edited es (delete_at name path) ≡ Err (absence name)
+  delete-nothing path none = by_absence (configs_after es (delete_at name path)) (rw (is_none (config_named es name) none) refl)
 
   -- at the empty path, where there is one
   module _ (path : List ℕ) (empty : path ≡ []) (there : is_some (config_named es name) ≡ true) where

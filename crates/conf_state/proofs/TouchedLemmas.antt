@@ -1,6 +1,6 @@
 -- A command changes no configuration but those under the names of its edits.
-use Rattle.std.proofs.Common.{◌≡◌, ◌+◌, Bool, true, false, nat_le, nat_lt, if◌then◌else◌, List, ℕ, [], ◌∷◌, Result}
-use Rattle.std.proofs.Common.{Ok, Err, Some, None, map, refl, sym, ap, ◌∙◌, subst}
+use Rattle.std.proofs.Common.{◌≡◌, ◌+◌, Bool, true, false, nat_le, nat_lt, if◌then◌else◌, List, ℕ, [], ◌∷◌}
+use Rattle.std.proofs.Common.{Ok, Err, map, sym, ap, ◌∙◌}
 use Rattle.yaml_grammar.specs.Texts.{same_text}
 use Rattle.yaml_grammar.specs.Trees.{Tree}
 use Rattle.json_pointer.specs.Pointers.{path_of}
@@ -12,7 +12,6 @@ use Rattle.conf_state.specs.BaseTexts.{base_length}
 use Rattle.conf_state.specs.Steps.{and_then, found, by_path, checked_tree, with_checked_config, configs_after_delete}
 use Rattle.conf_state.specs.Steps.{configs_after, edited, all_edited, performed, with_room, next_state, step}
 use Rattle.conf_state.specs.Touched.{touched}
-use Rattle.conf_state.specs.declared.fault.StoreFault.{StoreFault}
 use Rattle.conf_state.specs.declared.fault.StoreFault.TheVariants.{StoreFull, CountFull, BadName, EmptyBatch}
 use Rattle.conf_state.specs.declared.room.Room.{Room}
 use Rattle.conf_state.specs.declared.room.Room.TheVariants.{Enough, LongRecord, Missing}

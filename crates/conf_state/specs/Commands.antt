@@ -8,6 +8,8 @@ use Rattle.conf_state.specs.declared.command.Command as code
 use Rattle.conf_state.specs.declared.command.Command.TheVariants.{Import, Set, Delete, Batch}
 use Rattle.conf_state.specs.declared.command.Edit as code_edit
 use Rattle.conf_state.specs.declared.command.Edit.TheVariants as edits
+use Rattle.conf_state.specs.declared.command.Edits as code_edits
+use Rattle.conf_state.specs.declared.command.Edits.TheVariants as either
 
 -- a tree is put under a name; a value is set, or what is there is removed, at a path in the configuration under a name
 pub data Edit : Type 0 where
@@ -46,3 +48,8 @@ command_of (Import name tree) = single (import_as (text_of name) (tree_of tree))
 command_of (Set name path value) = single (set_at (text_of name) (text_of path) (tree_of value))
 command_of (Delete name path) = single (delete_at (text_of name) (text_of path))
 command_of (Batch edits) = batch (map edit_of edits.items)
+
+-- the command that has these edits
+abbrev pub command_with : code_edits.Edits → Command
+command_with (either.Single edit) = single (edit_of edit)
+command_with (either.Batch edits) = batch (map edit_of edits.items)

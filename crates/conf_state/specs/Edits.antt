@@ -1,14 +1,16 @@
 -- Edits inside a configuration.
-use Rattle.std.specs.Prelude.{◌≡◌, ℕ, ◌<◌, ◌≤◌, List, length, Result, Ok}
+use Rattle.std.specs.Prelude.{◌≡◌, ℕ, ◌<◌, ◌≤◌, if◌then◌else◌, List, length, Result, Ok, Err}
 use Rattle.yaml_grammar.specs.Texts.{byte_len}
 use Rattle.yaml_grammar.specs.Trees.{Tree, depth}
 use Rattle.yaml_grammar.specs.Style.{style_text}
 use Rattle.tree_path.specs.Steps.{ArePlaces}
 use Rattle.json_pointer.specs.Pointers.{path_of}
+use Rattle.conf_state.specs.Names.{good_name}
 use Rattle.conf_state.specs.States.{Entry, config_named}
 use Rattle.yaml_config.specs.Limits.{config_limits}
 use Rattle.conf_state.specs.Steps.{and_then, found, by_path, checked_tree, with_checked_config}
 use Rattle.conf_state.specs.declared.fault.StoreFault.{StoreFault}
+use Rattle.conf_state.specs.declared.fault.StoreFault.TheVariants.{BadName, NoConfig}
 use Rattle.yaml_config.specs.Changes.{Changes}
 use Rattle.yaml_config.specs.Edits.{tree_after_edit}
 use Rattle.yaml_config.specs.declared.edit.Edit.{Edit as PathEdit}
@@ -24,6 +26,15 @@ abbrev pub configs_after_edit : List Entry → List ℕ → PathEdit → List �
 configs_after_edit configs name edit pointer =
     and_then (found (config_named configs name))
     (λ t. and_then (by_path (path_of pointer)) (configs_with_edit configs name edit t))
+
+-- why there is no configuration under a name
+abbrev pub absence : List ℕ → StoreFault
+absence name = if good_name name then NoConfig else BadName
+
+-- the configurations after an edit, at a pointer, of the one under a name that may not be good
+abbrev pub configs_edited : List Entry → List ℕ → PathEdit → List ℕ → Result (List Entry) StoreFault
+configs_edited configs name edit pointer =
+    if good_name name then configs_after_edit configs name edit pointer else Err BadName
 
 -- ---- one configuration
 

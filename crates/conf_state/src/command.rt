@@ -69,14 +69,33 @@ pub enum Command {
     },
 }
 
+/// The edits of a command: a single one, or those of a batch.
+#[derive(Drop)]
+pub(crate) enum Edits {
+    Single(Edit),
+    Batch(Vec<Edit>),
+}
+
 impl Command {
-    ghost use Rattle.conf_state.specs.Commands.{command_of, is_batch};
+    ghost use Rattle.conf_state.specs.Commands.{command_of, command_with, is_batch};
 
     /// Whether the command is a batch, also of one edit or of none.
     pub fn is_batch(&self) -> bool
         ensures { result ≡ is_batch (command_of self.now) }
     {
         matches!(self, Command::Batch { .. })
+    }
+
+    /// The command's edits.
+    pub(crate) fn into_edits(self) -> Edits
+        ensures { command_with result ≡ command_of self }
+    {
+        match self {
+            Command::Import { name, tree } => Edits::Single(Edit::Import { name, tree }),
+            Command::Set { name, path, value } => Edits::Single(Edit::Set { name, path, value }),
+            Command::Delete { name, path } => Edits::Single(Edit::Delete { name, path }),
+            Command::Batch { edits } => Edits::Batch(edits),
+        }
     }
 }
 

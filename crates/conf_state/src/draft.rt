@@ -1,17 +1,17 @@
 // What the edits of a batch make of a state, before the state is changed.
-ghost use Rattle.std.specs.Prelude.{◌≡◌, ◌⊎◌, ◌<◌, true, Ok, Err, OnOk, IfOk, IfErr, is_some, length, option_map};
+ghost use Rattle.std.specs.Prelude.{◌≡◌, ◌⊎◌, ◌<◌, Ok, Err, OnOk, IfOk, IfErr, is_some, length, option_map};
 ghost use Rattle.std.specs.Str.{chars};
 ghost use Rattle.yaml_data.specs.Seen.{tree_of};
-ghost use Rattle.conf_state.specs.Names.{good_name};
 ghost use Rattle.conf_state.specs.Commands.{text_of};
 ghost use Rattle.conf_state.specs.Drafts.{cut_all, drafted, texts_of, ChangesOne, IsDraft, IsDraftOf};
-ghost use Rattle.conf_state.specs.Edits.{configs_after_edit};
+ghost use Rattle.conf_state.specs.Edits.{configs_edited};
 ghost use Rattle.conf_state.specs.States.{config_named};
 
 use crate::configs::Configs;
 use crate::draft_length::length_changed;
 use crate::editing::Editor;
 use crate::fault::StoreFault;
+use crate::name::absence;
 use crate::origin::Origin;
 use crate::planning::edit_config;
 use indexmap::IndexSet;
@@ -58,10 +58,9 @@ impl Draft {
         pointer: &str,
         edit: PathEdit,
     ) -> Result<Change, StoreFault>
-        requires named { good_name (text_of name) ≡ true }
         requires draft { IsDraftOf (O.configs origin.now) self.old }
         requires steps { 0 < length pointer.now }
-        ensures ok { OnOk result (configs_after_edit (drafted (O.configs origin.now) self.old)
+        ensures ok { OnOk result (configs_edited (drafted (O.configs origin.now) self.old)
             (text_of name) edit (chars pointer.now)
             ≡ Ok (drafted (O.configs origin.now) self.new)) }
         ensures draft { OnOk result (IsDraft self.new) }
@@ -70,14 +69,14 @@ impl Draft {
             (drafted (O.configs origin.now) self.new)) }
         ensures length { OnOk result (self.new.length ≡ self.old.length) }
         ensures refused { IfErr result (λ fault. (fault ≡ StoreFault.OutOfMemory)
-            ⊎ (configs_after_edit (drafted (O.configs origin.now) self.old)
+            ⊎ (configs_edited (drafted (O.configs origin.now) self.old)
             (text_of name) edit (chars pointer.now) ≡ Err fault)) }
     {
         if let Some(config) = self.touched.get_mut(&name) {
             return edit_config(alloc, config, pointer, edit);
         }
         let Some(mut copy) = self.untouched(alloc, origin, &name)? else {
-            return Err(StoreFault::NoConfig);
+            return Err(absence(&name));
         };
         let change = edit_config(alloc, &mut copy, pointer, edit)?;
         self.touched.put(name, copy)?;

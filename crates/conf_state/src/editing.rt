@@ -1,11 +1,11 @@
 // The rules of an edit, for a state in place and for a draft of one.
-ghost use Rattle.std.specs.Prelude.{◌≡◌, ◌<◌, true, List, Result, Ok, Err, OnOk, IfErr, is_some, length};
+ghost use Rattle.std.specs.Prelude.{◌≡◌, ◌<◌, IsTrue, true, List, Result, Ok, Err, OnOk, IfErr, is_some, length};
 ghost use Rattle.std.specs.Str.{chars};
 ghost use Rattle.yaml_grammar.specs.Reads.{Good};
 ghost use Rattle.yaml_data.specs.Seen.{tree_of};
 ghost use Rattle.yaml_config.specs.Limits.{config_limits};
 ghost use Rattle.conf_state.specs.Commands.{edit_of, text_of, import_as, set_at, delete_at};
-ghost use Rattle.conf_state.specs.Edits.{configs_after_edit};
+ghost use Rattle.conf_state.specs.Edits.{configs_edited};
 ghost use Rattle.conf_state.specs.Names.{good_name};
 ghost use Rattle.conf_state.specs.States.{Entry, config_named, put_config, cut_config};
 ghost use Rattle.conf_state.specs.Steps.{checked_tree, configs_after, edited};
@@ -13,7 +13,7 @@ ghost use Rattle.conf_state.specs.declared.fault.StoreFault.{StoreFault};
 
 use crate::command::Edit;
 use crate::fault::StoreFault;
-use crate::name::good_name;
+use crate::name::{absence, good_name};
 use std::alloc::Global;
 use yaml_config::{Config, Edit as PathEdit, Limits};
 
@@ -37,8 +37,9 @@ pub(crate) trait Editor {
     /// Whether there is a configuration under a name.
     fn has(&self, target: &Self::Target, name: &str) -> bool
         requires { IsReady self.now target.now }
-        ensures { result
-            ≡ is_some (config_named (configs self.now target.now) (chars name.now)) };
+        ensures found { result
+            ≡ is_some (config_named (configs self.now target.now) (chars name.now)) }
+        ensures named { IsTrue result → good_name (chars name.now) ≡ true };
 
     /// Puts a configuration under a name.
     fn put(&self, target: &mut Self::Target, name: String, config: Config) -> Result<(), StoreFault>
@@ -48,7 +49,8 @@ pub(crate) trait Editor {
         ensures { Ends self.now target.old (Ok (put_config (configs self.now target.old)
             (text_of name) (tree_of config))) result target.new };
 
-    /// Makes an edit inside the configuration under a name, at a pointer that is not empty.
+    /// Makes an edit inside the configuration under a name, at a pointer that is not empty. The name is tested only if
+    /// no configuration has it.
     fn edit(
         &self,
         alloc: Global,
@@ -58,9 +60,8 @@ pub(crate) trait Editor {
         edit: PathEdit,
     ) -> Result<(), StoreFault>
         requires ready { IsReady self.now target.old }
-        requires named { good_name (text_of name) ≡ true }
         requires steps { 0 < length pointer.now }
-        ensures { Ends self.now target.old (configs_after_edit (configs self.now target.old)
+        ensures { Ends self.now target.old (configs_edited (configs self.now target.old)
             (text_of name) edit (chars pointer.now)) result target.new };
 
     /// Removes the configuration under a name, if there is one.
@@ -89,9 +90,6 @@ pub(crate) fn make_edit<E: Editor>(
     ensures { E.Ends editor.now target.old
         (edited (E.configs editor.now target.old) (edit_of edit)) result target.new }
 {
-    if !good_name(edit.name()) {
-        return Err(StoreFault::BadName);
-    }
     match edit {
         Edit::Import { name, tree } => import(editor, target, name, tree),
         Edit::Set { name, path, value } => set(alloc, editor, target, name, &path, value),
@@ -100,6 +98,23 @@ pub(crate) fn make_edit<E: Editor>(
 }
 
 fn import<E: Editor>(
+    editor: &E,
+    target: &mut E::Target,
+    name: String,
+    config: Config,
+) -> Result<(), StoreFault>
+    requires { E.IsReady editor.now target.old }
+    ensures { E.Ends editor.now target.old (edited (E.configs editor.now target.old)
+        (import_as (text_of name) (tree_of config))) result target.new }
+{
+    if !good_name(&name) {
+        return Err(StoreFault::BadName);
+    }
+    put_within(editor, target, name, config)
+}
+
+/// Puts a configuration under a good name, if it is within its limits.
+fn put_within<E: Editor>(
     editor: &E,
     target: &mut E::Target,
     name: String,
@@ -122,18 +137,17 @@ fn set<E: Editor>(
     path: &str,
     value: Config,
 ) -> Result<(), StoreFault>
-    requires ready { E.IsReady editor.now target.old }
-    requires named { good_name (text_of name) ≡ true }
-    ensures { E.Ends editor.now target.old (configs_after (E.configs editor.now target.old)
+    requires { E.IsReady editor.now target.old }
+    ensures { E.Ends editor.now target.old (edited (E.configs editor.now target.old)
         (set_at (text_of name) (chars path.now) (tree_of value))) result target.new }
 {
     if !path.is_empty() {
         return editor.edit(alloc, target, name, path, PathEdit::Set(value));
     }
     if !editor.has(target, &name) {
-        return Err(StoreFault::NoConfig);
+        return Err(absence(&name));
     }
-    import(editor, target, name, value)
+    put_within(editor, target, name, value)
 }
 
 fn delete<E: Editor>(
@@ -143,16 +157,15 @@ fn delete<E: Editor>(
     name: String,
     path: &str,
 ) -> Result<(), StoreFault>
-    requires ready { E.IsReady editor.now target.old }
-    requires named { good_name (text_of name) ≡ true }
-    ensures { E.Ends editor.now target.old (configs_after (E.configs editor.now target.old)
+    requires { E.IsReady editor.now target.old }
+    ensures { E.Ends editor.now target.old (edited (E.configs editor.now target.old)
         (delete_at (text_of name) (chars path.now))) result target.new }
 {
     if !path.is_empty() {
         return editor.edit(alloc, target, name, path, PathEdit::Delete);
     }
     if !editor.has(target, &name) {
-        return Err(StoreFault::NoConfig);
+        return Err(absence(&name));
     }
     editor.remove(target, name)
 }

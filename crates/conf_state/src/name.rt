@@ -4,6 +4,9 @@ ghost use Rattle.std.specs.Str.{chars};
 ghost use Rattle.std.specs.List.{list_all};
 ghost use Rattle.yaml_grammar.specs.Texts.{first};
 ghost use Rattle.conf_state.specs.Names.{small_letter, name_char, good_name};
+ghost use Rattle.conf_state.specs.Edits.{absence};
+
+use crate::fault::StoreFault;
 
 /// Whether a text may name a configuration: 1 to 64 lowercase ASCII letters, digits, `_` and `-`, starting with a
 /// letter.
@@ -11,7 +14,7 @@ pub fn good_name(name: &str) -> bool
     ensures named { result ≡ good_name (chars name.now) }
     ensures ascii { IsTrue result → chars name.now ≡ name.now }
 {
-    starts_with_letter(name) && has_name_chars(name) && name.len() <= 64
+    starts_with_letter(name) && has_name_bytes(name) && name.len() <= 64
 }
 
 fn starts_with_letter(name: &str) -> bool
@@ -20,15 +23,27 @@ fn starts_with_letter(name: &str) -> bool
     name.chars().next().is_some_and(|c| matches!(c, 'a'..='z'))
 }
 
-fn has_name_chars(name: &str) -> bool
+/// Whether all bytes are those of name characters, which are ASCII.
+fn has_name_bytes(name: &str) -> bool
     ensures named { result ≡ list_all name_char (chars name.now) }
     ensures ascii { IsTrue result → chars name.now ≡ name.now }
 {
-    name.chars().all(is_name_char)
+    name.bytes().all(is_name_byte)
 }
 
-fn is_name_char(c: char) -> bool
-    ensures { result ≡ name_char c }
+fn is_name_byte(byte: u8) -> bool
+    ensures { result ≡ name_char byte }
 {
-    matches!(c, 'a'..='z' | '0'..='9' | '_' | '-')
+    byte.is_ascii_lowercase() || byte.is_ascii_digit() || matches!(byte, b'_' | b'-')
+}
+
+/// Why there is no configuration under a name: `BadName` if the name is not good, and else `NoConfig`.
+pub(crate) fn absence(name: &str) -> StoreFault
+    ensures { result ≡ absence (chars name.now) }
+{
+    if good_name(name) {
+        StoreFault::NoConfig
+    } else {
+        StoreFault::BadName
+    }
 }

@@ -9,7 +9,7 @@ ghost use Rattle.conf_state.specs.States.{config_named, names_of};
 ghost use Rattle.conf_state.specs.Steps.{next_state, step};
 
 use crate::base::{BASE_LIMIT, base_length};
-use crate::command::{Command, Edit};
+use crate::command::{Command, Edit, Edits};
 use crate::counting::check_room;
 use crate::draft::{Draft, OnDraft};
 use crate::editing::make_edit;
@@ -98,13 +98,9 @@ impl<O: Origin> Part<O> {
         ensures refused { IfErr result (λ fault. (fault ≡ StoreFault.OutOfMemory)
             ⊎ (step self (command_of command) Room.Enough ≡ Err fault)) }
     {
-        match command {
-            Command::Import { name, tree } => self.replay_edit(alloc, Edit::Import { name, tree }),
-            Command::Set { name, path, value } => {
-                self.replay_edit(alloc, Edit::Set { name, path, value })
-            }
-            Command::Delete { name, path } => self.replay_edit(alloc, Edit::Delete { name, path }),
-            Command::Batch { edits } => self.replay_batch(alloc, edits),
+        match command.into_edits() {
+            Edits::Single(edit) => self.replay_edit(alloc, edit),
+            Edits::Batch(edits) => self.replay_batch(alloc, edits),
         }
     }
 

@@ -3,23 +3,23 @@ ghost use Rattle.std.specs.Prelude.{◌≡◌, ◌⊎◌, Ok, Err, OnOk, IfErr, 
 ghost use Rattle.conf_state.specs.Commands.{command_of, edit_of, batch};
 ghost use Rattle.conf_state.specs.Steps.{step};
 
-use crate::command::{Command, Edit};
+use crate::command::{Command, Edit, Edits};
 use crate::fault::StoreFault;
 use crate::room::Room;
 use crate::state::State;
-use crate::steps::{draft_edits, step};
+use crate::steps::{draft_edits, step_edit};
 use std::alloc::Global;
 
-/// Performs a command as [`step`] does, where there is room for its record. After a refusal the state has to be
-/// dropped. So a batch makes its edits in place, and copies no configuration.
+/// Performs a command as [`step`](crate::step) does, where there is room for its record. After a refusal the state
+/// has to be dropped. So a batch makes its edits in place, and copies no configuration.
 pub fn replay(alloc: Global, state: &mut State, command: Command) -> Result<(), StoreFault>
     ensures ok { OnOk result (step state.old (command_of command) Room.Enough ≡ Ok state.new) }
     ensures refused { IfErr result (λ fault. (fault ≡ StoreFault.OutOfMemory)
         ⊎ (step state.old (command_of command) Room.Enough ≡ Err fault)) }
 {
-    match command {
-        Command::Batch { edits } => replay_batch(alloc, state, edits),
-        command => step(alloc, state, command, Room::Enough),
+    match command.into_edits() {
+        Edits::Single(edit) => step_edit(alloc, state, edit, Room::Enough),
+        Edits::Batch(edits) => replay_batch(alloc, state, edits),
     }
 }
 

@@ -10,29 +10,27 @@ ghost use Rattle.conf_state.specs.Kept.{entries_of, ArePlain, Appended, IsFit, I
 ghost use Rattle.conf_state.specs.Limits.{IsState};
 ghost use Rattle.conf_state.specs.States.{Entry, names_of, config_named, put_config, cut_config};
 ghost use Rattle.yaml_config.specs.Limits.{config_limits};
-ghost use Rattle.yaml_config.specs.Changes.{Changes};
-ghost use Rattle.yaml_grammar.specs.Texts.{byte_len};
-ghost use Rattle.yaml_grammar.specs.Trees.{Tree as Meant, mapping};
-ghost use Rattle.yaml_grammar.specs.Style.{style_text, value_at};
+ghost use Rattle.yaml_grammar.specs.Trees.{mapping};
+ghost use Rattle.yaml_grammar.specs.Style.{value_at};
 ghost use Rattle.conf_state.specs.BaseTexts.{members, base_length, entry_length, entries_length};
 ghost use Rattle.conf_state.specs.Steps.{and_then, next_state};
 ghost use Rattle.conf_state.specs.Drafts.{drafted, IsDraftOf};
-ghost use Rattle.conf_state.specs.Edits.{configs_after_edit};
+ghost use Rattle.conf_state.specs.Edits.{configs_edited};
 
-use crate::base::{BASE_LIMIT, ENTRY_INDENT, base_length, entry_length, write_entry};
+use crate::base::{BASE_LIMIT, base_length, entry_length, write_entry};
 use crate::configs::{Configs, Entries};
-use crate::counting::check_room;
+use crate::counting::{check_room, length_after};
 use crate::draft::Draft;
 use crate::editing::check_limits;
 use crate::fault::StoreFault;
-use crate::name::good_name;
+use crate::name::{absence, good_name};
 use crate::planning::EditPlan;
 use crate::room::Room;
 use indexmap::IndexSet;
 use std::alloc::{AllocError, Global};
 use std::marker::Model;
 use std::mem;
-use yaml_config::{Change, Config, Edit as PathEdit};
+use yaml_config::{Config, Edit as PathEdit};
 use yaml_writer::Sink;
 
 /// The configurations of a store by name, in order, and how many commands were accepted. The number of bytes that the
@@ -173,44 +171,28 @@ impl State {
         edit: PathEdit,
         room: Room,
     ) -> Result<(), StoreFault>
-        requires named { good_name (chars name.now) ≡ true }
-        requires steps { 0 < length pointer.now }
+        requires { 0 < length pointer.now }
         ensures ok { OnOk result
             (and_then
-            (configs_after_edit self.old.configs (chars name.now) edit (chars pointer.now))
+            (configs_edited self.old.configs (chars name.now) edit (chars pointer.now))
             (next_state self.old room) ≡ Ok self.new) }
         ensures refused { IfErr result (λ fault. (fault ≡ StoreFault.OutOfMemory)
             ⊎ (and_then
-            (configs_after_edit self.old.configs (chars name.now) edit (chars pointer.now))
+            (configs_edited self.old.configs (chars name.now) edit (chars pointer.now))
             (next_state self.old room) ≡ Err fault)) }
         ensures unchanged { OnErr result (self.new ≡ self.old) }
     {
-        let Some(config) = self.configs.get(name) else {
-            return Err(StoreFault::NoConfig);
+        let before = self.entries_length();
+        let Some(config) = self.configs.get_mut(name) else {
+            return Err(absence(name));
         };
         let plan = EditPlan::new(alloc, config, pointer, &edit)?;
-        let entries = self.length_changed(plan.change);
-        self.check_room(entries, room)?;
-        let config = self.configs.get_mut(name).unwrap();
+        let entries = length_after(before, plan.change);
+        check_room(self.count, entries, room)?;
         plan.perform(alloc, config, edit)?;
         self.entries = entries;
         self.count += 1;
         Ok(())
-    }
-
-    /// How many bytes all configurations have in the base text after a change of one of them, which then is within its
-    /// limits.
-    fn length_changed(&self, change: Change) -> u64
-        requires { (name : List ℕ) × (old new : Meant)
-            × (config_named self.now.configs name ≡ Some old)
-            × Changes change old new
-            × (byte_len (style_text new) ≤ config_limits.style) }
-        ensures { (name : List ℕ) (old new : Meant)
-            → config_named self.now.configs name ≡ Some old
-            → Changes change old new
-            → result ≡ entries_length (put_config self.now.configs name new) }
-    {
-        change.length_after(self.entries_length(), ENTRY_INDENT) as u64
     }
 
     /// Removes the configuration under a name, if there is one. A refusal changes nothing.

@@ -4,7 +4,7 @@ ghost use Rattle.conf_state.specs.Drafts.{drafted, IsDraftOf};
 ghost use Rattle.conf_state.specs.Commands.{command_of, edit_of, single, batch};
 ghost use Rattle.conf_state.specs.Steps.{all_edited, step};
 
-use crate::command::{Command, Edit};
+use crate::command::{Command, Edit, Edits};
 use crate::draft::{Draft, OnDraft};
 use crate::editing::make_edit;
 use crate::fault::StoreFault;
@@ -34,17 +34,9 @@ pub fn step(
         ⊎ (step state.old (command_of command) room ≡ Err fault)) }
     ensures unchanged { OnErr result (state.new ≡ state.old) }
 {
-    match command {
-        Command::Import { name, tree } => {
-            step_edit(alloc, state, Edit::Import { name, tree }, room)
-        }
-        Command::Set { name, path, value } => {
-            step_edit(alloc, state, Edit::Set { name, path, value }, room)
-        }
-        Command::Delete { name, path } => {
-            step_edit(alloc, state, Edit::Delete { name, path }, room)
-        }
-        Command::Batch { edits } => step_batch(alloc, state, edits, room),
+    match command.into_edits() {
+        Edits::Single(edit) => step_edit(alloc, state, edit, room),
+        Edits::Batch(edits) => step_batch(alloc, state, edits, room),
     }
 }
 
@@ -94,7 +86,12 @@ pub(crate) fn draft_edits<O: Origin>(
 }
 
 /// Performs the command that is this edit alone, in place.
-fn step_edit(alloc: Global, state: &mut State, edit: Edit, room: Room) -> Result<(), StoreFault>
+pub(crate) fn step_edit(
+    alloc: Global,
+    state: &mut State,
+    edit: Edit,
+    room: Room,
+) -> Result<(), StoreFault>
     ensures ok { OnOk result (step state.old (single (edit_of edit)) room ≡ Ok state.new) }
     ensures refused { IfErr result (λ fault. (fault ≡ StoreFault.OutOfMemory)
         ⊎ (step state.old (single (edit_of edit)) room ≡ Err fault)) }

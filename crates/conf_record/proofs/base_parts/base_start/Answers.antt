@@ -1,4 +1,4 @@
-use Rattle.std.proofs.Common.{◌++◌, string_bytes, encode_utf8_all, ap, ◌∙◌}
+use Rattle.std.proofs.Common.{◌++◌, encode_utf8_all, ap, ◌∙◌}
 use Rattle.conf_record.specs.BaseStart.{base_start}
 use Rattle.conf_record.proofs.base_parts.base_start.Goals as goal
 

@@ -1,27 +1,31 @@
-use Rattle.std.proofs.Common.{Err, sym, subst}
-use Rattle.std.proofs.lemmas.Result.{err_from_is_err_and}
+use Rattle.std.proofs.Common.{Err, ap, sym, subst, ◌∙◌}
+use Rattle.std.specs.Str.{chars}
 use Rattle.yaml_data.specs.Seen.{tree_of}
-use Rattle.conf_state.specs.Commands.{text_of}
-use Rattle.conf_state.proofs.StepLemmas.{import-checked, import-refused}
+use Rattle.conf_state.specs.Commands.{text_of, import_as}
+use Rattle.conf_state.specs.Names.{good_name}
+use Rattle.conf_state.specs.declared.fault.StoreFault.TheVariants.{BadName}
+use Rattle.conf_state.proofs.StepLemmas.{edited-named, edited-unnamed}
 use Rattle.conf_state.proofs.editing.import.Goals as goal
 
-pub returns-in_err-check_limits : goal.returns-in_err-check_limits
-returns-in_err-check_limits g c =
+pub returns-then-not-good_name : goal.returns-then-not-good_name
+returns-then-not-good_name g c =
     let e = g.E.Editor in
     let editor = c.args.editor.now in
     let old = c.args.target.now in
-    let p = err_from_is_err_and c.from_residual.result c.from_residual.ensures.1 in
-    rw (p.1, p.2)
-    (subst (λ made. e.Ends editor old made (Err c.in_err-check_limits.field-0.0) old)
-    (sym (import-refused (e.configs editor old) (text_of c.args.name)
-    (tree_of c.args.config) c.in_err-check_limits.field-0.0 c.in_err-check_limits.ensures.refused))
-    (g.met.E.Editor.refused editor old c.in_err-check_limits.field-0.0))
+    let bad = ap (λ bs. good_name (chars bs)) (sym c.deref.ensures) ∙ sym c.good_name.ensures.named ∙ c.if-not-good_name.true in
+    subst (λ made. e.Ends editor old made (Err BadName) old)
+    (sym (edited-unnamed (e.configs editor old) (import_as (text_of c.args.name) (tree_of c.args.config)) bad))
+    (g.met.E.Editor.refused editor old BadName)
+
+pub put_within-requires-clause-named : goal.put_within-requires-clause-named
+put_within-requires-clause-named g c =
+    ap (λ bs. good_name (chars bs)) (sym c.deref.ensures) ∙ sym c.good_name.ensures.named ∙ c.if-not-good_name.false
 
 pub returns : goal.returns
 returns g c =
     let e = g.E.Editor in
     let editor = c.args.editor.now in
     let old = c.args.target.now in
-    subst (λ made. e.Ends editor old made c.put.result c.put.new.target)
-    (sym (import-checked (e.configs editor old) (text_of c.args.name) (tree_of c.args.config) c.in_ok-check_limits.ensures.ok))
-    c.put.ensures
+    let named = ap (λ bs. good_name (chars bs)) (sym c.deref.ensures) ∙ sym c.good_name.ensures.named ∙ c.if-not-good_name.false in
+    subst (λ made. e.Ends editor old made c.put_within.result c.put_within.new.target)
+    (sym (edited-named (e.configs editor old) (import_as (text_of c.args.name) (tree_of c.args.config)) named)) c.put_within.ensures

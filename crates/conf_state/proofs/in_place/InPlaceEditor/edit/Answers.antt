@@ -1,6 +1,6 @@
 use Rattle.std.proofs.Common.{subst}
 use Rattle.std.specs.Str.{chars}
-use Rattle.conf_state.specs.Edits.{configs_after_edit}
+use Rattle.conf_state.specs.Edits.{configs_edited}
 use Rattle.conf_state.specs.Endings.{EndsInPlace}
 use Rattle.conf_state.proofs.in_place.InPlaceEditor.edit.Goals as goal
 
@@ -8,5 +8,5 @@ pub returns : goal.returns
 returns c =
     let old = c.args.target.now in
     subst (λ bs. EndsInPlace c.args.self.now.room old
-    (configs_after_edit old.configs (chars bs) c.args.edit (chars c.args.pointer.now)) c.edit.result c.edit.new.self)
+    (configs_edited old.configs (chars bs) c.args.edit (chars c.args.pointer.now)) c.edit.result c.edit.new.self)
     c.deref.ensures (record { ok = c.edit.ensures.ok; refused = c.edit.ensures.refused; unchanged = c.edit.ensures.unchanged })

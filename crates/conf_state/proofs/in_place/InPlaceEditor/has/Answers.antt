@@ -1,7 +1,14 @@
 use Rattle.std.proofs.Common.{is_some, ap, sym, ◌∙◌}
+use Rattle.std.specs.Str.{chars}
 use Rattle.yaml_data.specs.Seen.{tree_of}
+use Rattle.conf_state.proofs.EditLemmas.{found-good}
 use Rattle.conf_state.proofs.StepLemmas.{is_some-mapped}
 use Rattle.conf_state.proofs.in_place.InPlaceEditor.has.Goals as goal
 
-pub returns : goal.returns
-returns c = c.is_some.ensures ∙ sym (is_some-mapped (λ config. tree_of config.now) c.get.result) ∙ ap is_some c.get.ensures.found
+pub returns-clause-found : goal.returns-clause-found
+returns-clause-found c =
+    c.is_some.ensures ∙ sym (is_some-mapped (λ config. tree_of config.now) c.get.result) ∙ ap is_some c.get.ensures.found
+
+pub returns-clause-named : goal.returns-clause-named
+returns-clause-named c = λ there.
+    found-good c.args.target.now.configs (chars c.args.name.now) c.get.ensures.limits.configs (sym (returns-clause-found c) ∙ there)

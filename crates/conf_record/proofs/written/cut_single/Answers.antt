@@ -3,7 +3,7 @@ use Rattle.std.proofs.lemmas.Option.{IfSome_then}
 use Rattle.conf_record.specs.EditLines.{lines_of}
 use Rattle.conf_record.specs.LineValues.{edit_cut}
 use Rattle.conf_record.proofs.WrittenLemmas.{alone_written}
-use Rattle.conf_record.proofs.next_record.cut_single.Goals as goal
+use Rattle.conf_record.proofs.written.cut_single.Goals as goal
 
 pub returns-clause-written : goal.returns-clause-written
 returns-clause-written c =

@@ -5,7 +5,7 @@ use Rattle.conf_state.specs.Commands.{import_as, set_at, delete_at}
 use Rattle.conf_record.specs.EditLines.{lines_of}
 use Rattle.conf_record.specs.Written.{IsWrittenAs}
 use Rattle.conf_record.proofs.WrittenLemmas.{import_written, set_written, delete_written, value_line}
-use Rattle.conf_record.proofs.next_record.texts_on.Goals as goal
+use Rattle.conf_record.proofs.written.texts_on.Goals as goal
 
 pub returns-in_ok-value-in-Import-clause-written : goal.returns-in_ok-value-in-Import-clause-written
 returns-in_ok-value-in-Import-clause-written c =
