@@ -14,14 +14,13 @@ use Rattle.conf_state.specs.States.{Contents}
 use Rattle.conf_store.specs.Meaning.{FileMeans}
 use Rattle.conf_store.proofs.PieceLemmas.{no_closing}
 use Rattle.conf_history.specs.Copies.{BacksUp, CopiesPieces, CreatesFile, IsCopied, LeavesOldOrCopy, ReadsCopy, RefusesBackup, RefusesFile}
-use Rattle.conf_history.specs.Walks.{IsAtEndOf}
+use Rattle.conf_history.specs.Walks.{IsAtEndOf, Walked}
 use Rattle.conf_history.specs.declared.fault.SalvageFault.{SalvageFault}
 use Rattle.conf_history.specs.declared.fault.SalvageFault.TheVariants.{History, StoreExists, Device, OutOfMemory}
-use Rattle.conf_history.specs.declared.walk.Walk.{Walk}
 use Rattle.conf_history.proofs.WalkLemmas.{end-read}
 
 -- a file was read to its end, and the copy is its pieces
-pub reads-copy : (given left : Option (List ℕ)) (walk : Walk) (pieces : List (List ℕ)) (start : Contents)
+pub reads-copy : (given left : Option (List ℕ)) (walk : Walked) (pieces : List (List ℕ)) (start : Contents)
     (commands : List Command) (copy : List ℕ) → copy ≡ concat pieces
     → IsAtEndOf given left walk pieces start commands → ReadsCopy given left copy
 reads-copy given left walk pieces start commands copy is e =

@@ -3,8 +3,7 @@ pub mod ReadingLemmas
 pub mod SurveyLemmas
 pub mod BesideLemmas
 pub mod CopyLemmas
-pub mod OutputLemmas
 pub mod LogLemmas
 pub mod LineLemmas
 pub mod SalvageLemmas
-pub mod NarrowLemmas
+pub mod ReplayLemmas

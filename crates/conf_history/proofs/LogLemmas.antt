@@ -1,11 +1,10 @@
 -- The log: what is written so far, and how writing it ends.
 use Rattle.std.proofs.Common.{◌≡◌, inl, inr, refl, sym, ◌∙◌, ap, subst, arith, ◌<◌, append_assoc}
-use Rattle.std.specs.Prelude.{ℕ, ◌+◌, false, List, [], ◌∷◌, ◌++◌, length, take, Option, Some, None, Result, Ok, OnOk, OnErr, IfErr, IfSome}
+use Rattle.std.specs.Prelude.{ℕ, ◌+◌, false, List, [], ◌∷◌, ◌++◌, length, take, Option, Some, None, Ok, IfSome}
 use Rattle.std.specs.List.{All, concat}
 use Rattle.std.specs.Io.KnownBytes.{Appends}
 use Rattle.std.proofs.KnownBytes.{Appends-nil, Appends-trans, Consumes-whole}
 use Rattle.std.proofs.lemmas.List.{append-nil}
-use Rattle.std.proofs.lemmas.Result.{on_ok_weaker}
 use Rattle.yaml_grammar.specs.Closings.{ClosesOnce}
 use Rattle.yaml_recognizers.specs.Closings.{SomePieces}
 use Rattle.yaml_docs.specs.PieceReading.{ahead, piece_or_rest}
@@ -16,13 +15,11 @@ use Rattle.conf_store.specs.Meaning.{AreRecords}
 use Rattle.conf_history.specs.Histories.{RefusesReading, RefusesSurvey}
 use Rattle.conf_history.specs.Logs.{entry_bytes, log_bytes, log_of_pieces, BeginsLog, IsUpTo, IsWholeLog, LogsAll}
 use Rattle.conf_history.specs.Logs.{LogsBefore, CutsLog, StopsLog, FailsToLogPiece}
-use Rattle.conf_history.specs.Walks.{HasRead, ArePerformed, IsBetween, IsAtPiece, IsAtEndOf, Performs, AfterGoing}
+use Rattle.conf_history.specs.Walks.{HasRead, ArePerformed, IsBetween, IsAtPiece, IsAtEndOf, Performs, AfterGoing, RefusesPiece, Walked}
 use Rattle.conf_history.specs.declared.log.LogForm.{LogForm}
-use Rattle.conf_history.specs.declared.walk.Walk.{Walk}
 use Rattle.conf_history.specs.declared.fault.HistoryFault.{HistoryFault}
 use Rattle.conf_history.specs.declared.fault.HistoryFault.TheVariants.{Input, Output, NotAStore, Damaged, NoSuchCommand, OutOfMemory}
 use Rattle.conf_history.proofs.WalkLemmas.{known, some-map, begins-with, performs-on, end-read, between-read}
-use Rattle.conf_history.proofs.OutputLemmas.{put-refused}
 use Rattle.conf_history.proofs.ReadingLemmas.{refuses-piece}
 
 some-both : (given : Option (List ℕ)) (P Q R : List ℕ → Type 0) → ((bytes : List ℕ) → P bytes → Q bytes → R bytes)
@@ -84,7 +81,7 @@ module _ (form : LogForm) (pieces : List (List ℕ)) (start : Contents) (command
 
 -- ---- the bytes begin with what is logged
 
-module _ (form : LogForm) (given left : Option (List ℕ)) (walk : Walk) (pieces : List (List ℕ)) (start : Contents)
+module _ (form : LogForm) (given left : Option (List ℕ)) (walk : Walked) (pieces : List (List ℕ)) (start : Contents)
     (commands : List Command) where
   abbrev log_here : List ℕ
   log_here = log_of_pieces form start.count pieces commands
@@ -160,29 +157,37 @@ module _ (form : LogForm) (given left : Option (List ℕ)) (walk : Walk) (pieces
 
 -- ---- the text of one command
 
-module _ (form : LogForm) (old new : Walk) (command : Command) (done : Performs old new command)
+module _ (form : LogForm) (old new : Walked) (command : Command) (done : Performs old new command)
     (held written : Option (List ℕ)) (bytes : List ℕ)
     (is : bytes ≡ entry_bytes form (old.state.count + 1) (piece_or_rest old.pieces) command) where
   -- it was written whole
-  pub entry-whole : (r : Result (Unit {0}) HistoryFault) → OnOk r (Appends held written bytes)
-      → OnOk r ((c : Command) × Performs old new c
-      × Appends held written (entry_bytes form (old.state.count + 1) (piece_or_rest old.pieces) c))
-  entry-whole r = on_ok_weaker r (λ all. (command, done, subst (Appends held written) is all))
+  pub entry-whole : Appends held written bytes → (c : Command) × Performs old new c
+      × Appends held written (entry_bytes form (old.state.count + 1) (piece_or_rest old.pieces) c)
+  entry-whole all = (command, done, subst (Appends held written) is all)
 
   -- or in part
-  pub entry-cut : (r : Result (Unit {0}) HistoryFault) → IfErr r (λ fault. fault ≡ Output)
-      → OnErr r ((kept : ℕ) × (kept < length bytes) × Appends held written (take kept bytes))
-      → IfErr r (FailsToLogPiece form old held written)
-  entry-cut r fault part =
-      put-refused r _ (FailsToLogPiece form old held written) fault part
-      (λ some.
-      (let Part : List ℕ → Type 0 = λ bs. (kept : ℕ) × (kept < length bs) × Appends held written (take kept bs) in
-      let cut = subst Part is some in
-      record { new = new; command = command; done = done; kept = cut.0; out = cut.2; short = cut.1 }))
+  pub entry-cut : (f : HistoryFault) → f ≡ Output
+      → ((kept : ℕ) × (kept < length bytes) × Appends held written (take kept bytes))
+      → FailsToLogPiece form old held written f
+  entry-cut f fault part =
+      let Part : List ℕ → Type 0 = λ bs. (kept : ℕ) × (kept < length bs) × Appends held written (take kept bs) in
+      let cut = subst Part is part in
+      subst (FailsToLogPiece form old held written) (sym fault)
+      (record { new = new; command = command; done = done; kept = cut.0; out = cut.2; short = cut.1 })
+
+-- a piece was not performed, and nothing written
+pub not-performed : (form : LogForm) (walk : Walked) (held : Option (List ℕ)) (f : HistoryFault) → RefusesPiece walk f
+    → FailsToLogPiece form walk held held f
+not-performed form walk held (Damaged bad) r = (r, Appends-nil held)
+not-performed form walk held OutOfMemory r = (r, Appends-nil held)
+not-performed form walk held Output r = absurd r
+not-performed form walk held NotAStore r = absurd r
+not-performed form walk held Input r = absurd r
+not-performed form walk held NoSuchCommand r = absurd r
 
 -- ---- how writing ends
 
-module _ (form : LogForm) (given left : Option (List ℕ)) (walk : Walk) (pieces : List (List ℕ)) (start : Contents)
+module _ (form : LogForm) (given left : Option (List ℕ)) (walk : Walked) (pieces : List (List ℕ)) (start : Contents)
     (commands : List Command) (some : SomePieces) (held mid : Option (List ℕ))
     (out : Appends held mid (log_of_pieces form start.count pieces commands)) where
   abbrev log : List ℕ
@@ -237,7 +242,7 @@ module _ (form : LogForm) (given left : Option (List ℕ)) (walk : Walk) (pieces
   not-next at (Damaged bad) bytes r b = absurd r
 
   -- the next piece could not be had
-  pub next-fails : (before : Option (List ℕ)) (old : Walk) → IsBetween given before old pieces start commands
+  pub next-fails : (before : Option (List ℕ)) (old : Walked) → IsBetween given before old pieces start commands
       → (at : Option ℕ) (f : HistoryFault)
       → IfSome given (λ bytes. RefusesSurvey bytes f) → StopsLog at form given held mid f
   next-fails before old b at f refused = record {

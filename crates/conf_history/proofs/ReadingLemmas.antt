@@ -6,8 +6,7 @@ use Rattle.conf_state.specs.Commands.{Command}
 use Rattle.conf_state.specs.States.{Contents}
 use Rattle.conf_state.specs.Limits.{IsState}
 use Rattle.conf_history.specs.Histories.{HoldsAt, IsBadAt, ReadsState, RefusesReading, RefusesSurvey, StartsAfter}
-use Rattle.conf_history.specs.Walks.{IsBetween, IsAtPiece, IsAtEndOf, RefusesPiece, AfterAdvance, AfterGoing}
-use Rattle.conf_history.specs.declared.walk.Walk.{Walk}
+use Rattle.conf_history.specs.Walks.{IsBetween, IsAtPiece, IsAtEndOf, RefusesPiece, AfterAdvance, AfterGoing, Walked}
 use Rattle.conf_history.specs.declared.fault.HistoryFault.{HistoryFault}
 use Rattle.conf_history.specs.declared.fault.HistoryFault.TheVariants.{Input, Output, NotAStore, Damaged, NoSuchCommand, OutOfMemory}
 use Rattle.conf_history.proofs.WalkLemmas.{any-bytes, some-map, bad-at, end-means, end-up-to, up-to, starts-after, end-read, between-read}
@@ -44,7 +43,7 @@ pub refuses-all : (given : Option (List ℕ)) (at : Option ℕ) (f : HistoryFaul
     → IfSome given (λ bytes. RefusesSurvey bytes f) → IfSome given (λ bytes. RefusesReading bytes at f)
 refuses-all given at f = some-map given _ _ (λ bytes r. survey-reading bytes at f r)
 
-module _ (given left : Option (List ℕ)) (walk : Walk) (pieces : List (List ℕ)) (start : Contents) (commands : List Command) where
+module _ (given left : Option (List ℕ)) (walk : Walked) (pieces : List (List ℕ)) (start : Contents) (commands : List Command) where
   -- the next piece is looked for where the number is not reached
   pub goes-on : (at : Option ℕ) (r : Result Bool HistoryFault) → (at ≢ Some walk.state.count)
       → AfterAdvance given left walk pieces start commands r → AfterGoing at given left walk pieces start commands r

@@ -1,6 +1,6 @@
 -- A survey: what was gone past after a bad piece, and what was found.
 use Rattle.std.proofs.Common.{◌≡◌, refl, sym, ◌∙◌, ap, subst, arith, ◌<◌, ◌≤◌, append_assoc, length-append, length-take}
-use Rattle.std.specs.Prelude.{ℕ, ◌+◌, ◌-◌, suc, List, [], ◌∷◌, ◌++◌, length, drop, Option, Some, None, Err, IfSome}
+use Rattle.std.specs.Prelude.{ℕ, ◌+◌, ◌-◌, suc, List, [], ◌∷◌, ◌++◌, length, drop, Option, Some, None, Result, Ok, Err, IfOk, IfSome}
 use Rattle.std.specs.List.{All, concat}
 use Rattle.std.specs.Io.KnownBytes.{Consumes}
 use Rattle.std.proofs.KnownBytes.{Consumes-nil, Consumes-trans, Consumes-whole}
@@ -21,11 +21,13 @@ use Rattle.conf_history.specs.BadPieces.{IsBadPiece}
 use Rattle.conf_history.specs.Counting.{CountsPieces}
 use Rattle.conf_history.specs.Faults.{fault_of_pieces}
 use Rattle.conf_history.specs.Histories.{IsSurvey, ReadsSurvey, RefusesSurvey}
-use Rattle.conf_history.specs.Walks.{IsAtPiece, IsAtEndOf, IsBadHere, ArePerformed}
+use Rattle.conf_history.specs.Walks.{IsAtPiece, IsAtEndOf, IsBadHere, ArePerformed, RefusesPiece, Walked}
+use Rattle.conf_history.specs.declared.place.BadPiece.{BadPiece}
+use Rattle.conf_history.specs.declared.fault.HistoryFault.{HistoryFault}
+use Rattle.conf_history.specs.declared.fault.HistoryFault.TheVariants.{Input, Output, NotAStore, Damaged, NoSuchCommand, OutOfMemory}
 use Rattle.conf_history.specs.declared.survey.Bad.{Bad}
 use Rattle.conf_history.specs.declared.survey.Findings.{Findings}
-use Rattle.conf_history.specs.declared.walk.Walk.{Walk}
-use Rattle.conf_history.proofs.WalkLemmas.{moved, closed-some, refuses}
+use Rattle.conf_history.proofs.WalkLemmas.{any-bytes, moved, closed-some, refuses}
 
 -- ---- going past pieces
 
@@ -144,7 +146,7 @@ module _ (given mid left : Option (List ℕ)) (old now new : Reading) (count : �
       (let size = sym (ap length on) ∙ length-append (read ++ ahead old) s.more in omega (arith, size, s.total, total)) f a
 
 -- a piece that the walk is at was read too
-pub past-piece : (given left : Option (List ℕ)) (walk : Walk) (pieces : List (List ℕ)) (start : Contents)
+pub past-piece : (given left : Option (List ℕ)) (walk : Walked) (pieces : List (List ℕ)) (start : Contents)
     (commands : List Command) → IsAtPiece given left walk pieces start commands
     → Consumes given left ((concat pieces ++ piece_or_rest walk.pieces) ++ ahead walk.pieces)
     × (bytes_read walk.pieces ≡ length ((concat pieces ++ piece_or_rest walk.pieces) ++ ahead walk.pieces))
@@ -182,12 +184,12 @@ module _ (pieces : List (List ℕ)) (start : Contents) (commands : List Command)
   base-count base is = is ∙ sym (ap (λ (t : Contents). t.count) p.begins)
 
 -- a file without a bad piece
-module _ (given left : Option (List ℕ)) (walk : Walk) (pieces : List (List ℕ)) (start : Contents) (commands : List Command) where
-  pub surveyed-whole : IsAtEndOf given left walk pieces start commands → (base : ℕ) → base ≡ start.count
-      → IsState walk.state → (findings : Findings)
-      → findings ≡ record { base = base; commands = walk.state.count - base; dropped = length (piece_or_rest walk.pieces); bad = None }
+module _ (given left : Option (List ℕ)) (walk : Walked) (pieces : List (List ℕ)) (start : Contents) (commands : List Command) where
+  pub surveyed-whole : IsAtEndOf given left walk pieces start commands → (base count : ℕ) → base ≡ start.count
+      → count ≡ walk.state.count → IsState walk.state → (findings : Findings)
+      → findings ≡ record { base = base; commands = count - base; dropped = length (piece_or_rest walk.pieces); bad = None }
       → ReadsSurvey given left walk.state findings
-  surveyed-whole e base is kept findings found =
+  surveyed-whole e base count is all kept findings found =
       let rest = piece_or_rest walk.pieces in
       let none = sym (append-nil pieces) in
       record {
@@ -204,7 +206,7 @@ module _ (given left : Option (List ℕ)) (walk : Walk) (pieces : List (List ℕ
               };
               mean = e.performed.mean;
               base = base-count pieces start commands walk.state e.performed base is;
-              commands = counted-records pieces start commands walk.state e.performed base is;
+              commands = counted-records pieces start commands walk.state e.performed base is ∙ ap (λ n. suc (n - base)) (sym all);
               dropped = refl;
               bad = tt;
             }));
@@ -216,11 +218,11 @@ module _ (given left : Option (List ℕ)) (walk : Walk) (pieces : List (List ℕ
   -- a file with a bad piece
   pub surveyed-bad : (mid : Option (List ℕ)) (now : Reading) (bad : Bad)
       → IsAtPiece given mid walk pieces start commands → IsBadHere walk bad.piece
-      → CountsPieces given left (concat pieces ++ piece_or_rest walk.pieces) now bad.following → (base : ℕ)
-      → base ≡ start.count → IsState walk.state → (findings : Findings)
-      → findings ≡ record { base = base; commands = walk.state.count - base; dropped = length (piece_or_rest now); bad = Some bad }
+      → CountsPieces given left (concat pieces ++ piece_or_rest walk.pieces) now bad.following → (base count : ℕ)
+      → base ≡ start.count → count ≡ walk.state.count → IsState walk.state → (findings : Findings)
+      → findings ≡ record { base = base; commands = count - base; dropped = length (piece_or_rest now); bad = Some bad }
       → ReadsSurvey given left walk.state findings
-  surveyed-bad mid now bad p here c base is kept findings found =
+  surveyed-bad mid now bad p here c base count is all kept findings found =
       let piece = piece_or_rest walk.pieces in
       let rest = piece_or_rest now in
       let bytes = (concat pieces ++ piece) ++ (concat c.further ++ rest) in
@@ -251,7 +253,7 @@ module _ (given left : Option (List ℕ)) (walk : Walk) (pieces : List (List ℕ
               };
               mean = read.performed.mean;
               base = base-count pieces start commands walk.state read.performed base is;
-              commands = counted-records pieces start commands walk.state read.performed base is;
+              commands = counted-records pieces start commands walk.state read.performed base is ∙ ap (λ n. suc (n - base)) (sym all);
               dropped = refl;
               bad = (is_bad, c.counted);
             }));
@@ -259,3 +261,19 @@ module _ (given left : Option (List ℕ)) (walk : Walk) (pieces : List (List ℕ
         at_end = c.at_end;
         read = (bytes, c.taken, c.short);
       }
+
+-- the findings of some state
+pub found-some : (given left : Option (List ℕ)) (s : Contents) (r : Result Findings HistoryFault)
+    → IfOk r (ReadsSurvey given left s) → IfOk r (λ findings. (x : Contents) × ReadsSurvey given left x findings)
+found-some given left s (Ok findings) reads = (s, reads)
+found-some given left s (Err fault) reads = tt
+
+-- a piece that was not performed, and is not bad
+pub not-bad : (given : Option (List ℕ)) (walk : Walked) (f : HistoryFault) → ((bad : BadPiece) → f ≡ Damaged bad → ⊥)
+    → RefusesPiece walk f → IfSome given (λ bytes. RefusesSurvey bytes f)
+not-bad given walk (Damaged bad) other r = absurd (other bad refl)
+not-bad given walk OutOfMemory other r = any-bytes given _ (λ bytes. tt)
+not-bad given walk NotAStore other r = absurd r
+not-bad given walk Input other r = absurd r
+not-bad given walk Output other r = absurd r
+not-bad given walk NoSuchCommand other r = absurd r

@@ -32,9 +32,9 @@ use Rattle.conf_history.specs.BadPieces.{line_feeds}
 use Rattle.conf_history.specs.Faults.{fault_here, fault_of_pieces}
 use Rattle.conf_history.specs.Histories.{MeansUpTo, IsBadAt, StartsAfter, IsNoStore, RefusesSurvey, ReadsAtMost}
 use Rattle.conf_history.specs.Walks.{IsBetween, IsAtPiece, IsAtEndOf, Performs, IsBadHere, RefusesPiece, HasRoom, AfterAdvance}
+use Rattle.conf_history.specs.Walks.{HasLimits, Walked}
 use Rattle.conf_history.specs.declared.place.BadPiece.{BadPiece}
 use Rattle.conf_history.specs.declared.place.Place.{Place}
-use Rattle.conf_history.specs.declared.walk.Walk.{Walk}
 
 -- ---- known bytes
 
@@ -221,9 +221,22 @@ module _ (given left : Option (List ℕ)) (old now : Reading) (none : ahead old 
         };
       }
 
+-- the first piece was taken out of the reader
+pub taken-out : (given left : Option (List ℕ)) (walk : Walked) (pieces : Reading) (done : List (List ℕ)) (start : Contents)
+    (commands : List Command) → ahead pieces ≡ ahead walk.pieces → bytes_read pieces ≡ bytes_read walk.pieces
+    → HasLimits pieces → IsBetween given left walk done start commands
+    → IsBetween given left (record { pieces = pieces; state = walk.state; place = walk.place }) done start commands
+taken-out given left walk pieces done start commands same read limits is = record {
+  taken = subst (λ further. Consumes given left (concat done ++ further)) (sym same) is.taken;
+  total = read ∙ is.total ∙ ap (λ further. length (concat done ++ further)) (sym same);
+  limits = limits;
+  performed = is.performed;
+  place = is.place;
+}
+
 -- ---- the next piece
 
-module _ (given mid left : Option (List ℕ)) (old : Walk) (now : Reading) (pieces : List (List ℕ)) (start : Contents)
+module _ (given mid left : Option (List ℕ)) (old : Walked) (now : Reading) (pieces : List (List ℕ)) (start : Contents)
     (commands : List Command) (b : IsBetween given mid old pieces start commands) where
   joined-on : (more after : List ℕ) → ahead old.pieces ++ more ≡ after
       → (concat pieces ++ ahead old.pieces) ++ more ≡ concat pieces ++ after
@@ -270,10 +283,10 @@ module _ (given mid left : Option (List ℕ)) (old : Walk) (now : Reading) (piec
 
 -- ---- a piece
 
-module _ (given left : Option (List ℕ)) (old : Walk) (pieces : List (List ℕ)) (start : Contents)
+module _ (given left : Option (List ℕ)) (old : Walked) (pieces : List (List ℕ)) (start : Contents)
     (commands : List Command) (at : IsAtPiece given left old pieces start commands) where
   -- there is room for the numbers of the place
-  pub has-room : HasRoom old
+  pub has-room : HasRoom old.pieces old.place
   has-room =
       let piece = piece_or_rest old.pieces in
       record {
@@ -290,7 +303,7 @@ module _ (given left : Option (List ℕ)) (old : Walk) (pieces : List (List ℕ)
       }
 
   -- a piece that is performed is one of those that were
-  pub performs-on : (new : Walk) (command : Command) → Performs old new command
+  pub performs-on : (new : Walked) (command : Command) → Performs old new command
       → IsBetween given left new (pieces ++ piece_or_rest old.pieces ∷ []) start (commands ++ command ∷ [])
   performs-on new command done =
       let piece = piece_or_rest old.pieces in
@@ -332,7 +345,7 @@ module _ (given left : Option (List ℕ)) (old : Walk) (pieces : List (List ℕ)
       }
 
   -- and fewer bytes are left
-  pub passes : (new : Walk) (command : Command) → Performs old new command → store_limit - new.place.byte < store_limit - old.place.byte
+  pub passes : (new : Walked) (command : Command) → Performs old new command → store_limit - new.place.byte < store_limit - old.place.byte
   passes new command done = omega (arith, done.byte, has-room.short, closed-some (piece_or_rest old.pieces) at.piece)
 
   -- a piece that is none is the first bad one
@@ -362,14 +375,14 @@ module _ (given left : Option (List ℕ)) (old : Walk) (pieces : List (List ℕ)
       )))
 
 -- the fault of a piece that is not performed
-pub refuses-here : (walk : Walk) (f : RecordFault) → RefusesRecord (piece_or_rest walk.pieces) walk.state f
+pub refuses-here : (walk : Walked) (f : RecordFault) → RefusesRecord (piece_or_rest walk.pieces) walk.state f
     → RefusesPiece walk (fault_here walk.place f)
 refuses-here walk (record_fault.Bad why) refused = record { number = refl; byte = refl; line = refl; why = refused }
 refuses-here walk record_fault.OutOfMemory refused = tt
 
 -- ---- the end
 
-module _ (given left : Option (List ℕ)) (walk : Walk) (pieces : List (List ℕ)) (start : Contents) (commands : List Command) where
+module _ (given left : Option (List ℕ)) (walk : Walked) (pieces : List (List ℕ)) (start : Contents) (commands : List Command) where
   -- at the end, the bytes mean the state
   pub end-means : IsAtEndOf given left walk pieces start commands → IfSome given (λ bytes. Means bytes walk.state)
   end-means e =

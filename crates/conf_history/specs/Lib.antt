@@ -8,4 +8,3 @@ pub mod Logs
 pub mod Salvages
 pub mod Walks
 pub mod Bases
-pub mod Narrow

@@ -12,14 +12,13 @@ use Rattle.conf_state.specs.Commands.{Edit, import_as, set_at, delete_at, Comman
 use Rattle.conf_state.specs.States.{Contents}
 use Rattle.conf_store.specs.Meaning.{PiecesMean}
 use Rattle.conf_history.specs.Histories.{ReadsAtMost, RefusesReading}
-use Rattle.conf_history.specs.Walks.{Performs, RefusesPiece}
+use Rattle.conf_history.specs.Walks.{Performs, RefusesPiece, Walked}
 use Rattle.conf_history.specs.declared.fault.HistoryFault.{HistoryFault}
 use Rattle.conf_history.specs.declared.fault.HistoryFault.TheVariants.{Output, Damaged, OutOfMemory}
 use Rattle.conf_history.specs.declared.line.LineForm.{LineForm}
 use Rattle.conf_history.specs.declared.line.LineForm.TheVariants.{Names, Values}
 use Rattle.conf_history.specs.declared.log.LogForm.{LogForm}
 use Rattle.conf_history.specs.declared.log.LogForm.TheVariants.{Lines, Records}
-use Rattle.conf_history.specs.declared.walk.Walk.{Walk}
 
 -- a space and the JSON text of an edit's value, where the line shows it
 abbrev pub value_words : LineForm → Tree → List ℕ
@@ -138,8 +137,8 @@ fault_of_holding fault = fault
 -- ---- one piece
 
 -- the piece was performed, and less than its command was written
-pub record CutsEntry (form : LogForm) (walk : Walk) (held written : Option (List ℕ)) : Type 0 where
-  pub new : Walk
+pub record CutsEntry (form : LogForm) (walk : Walked) (held written : Option (List ℕ)) : Type 0 where
+  pub new : Walked
   pub command : Command
   pub done : Performs walk new command
   pub kept : ℕ
@@ -148,6 +147,6 @@ pub record CutsEntry (form : LogForm) (walk : Walk) (held written : Option (List
   pub short : kept < length (entry_bytes form (walk.state.count + 1) (piece_or_rest walk.pieces) command)
 
 -- why the piece was not written whole
-abbrev pub FailsToLogPiece : LogForm → Walk → Option (List ℕ) → Option (List ℕ) → HistoryFault → Type 0
+abbrev pub FailsToLogPiece : LogForm → Walked → Option (List ℕ) → Option (List ℕ) → HistoryFault → Type 0
 FailsToLogPiece form walk held written Output = CutsEntry form walk held written
 FailsToLogPiece form walk held written fault = RefusesPiece walk fault × Appends held written []

@@ -14,7 +14,7 @@ use crate::fault::{HistoryFault, SalvageFault};
 use crate::walk::Walk;
 use conf_disk::{Disk, Name, reading_is_an_image};
 use conf_journal::{held_store_is_left, held_store_is_the_only_one};
-use conf_store::{CreateFault, OnRefusal, find_no_store, replace_store};
+use conf_store::{CreateFault, find_no_store, replace_store};
 use std::alloc::Global;
 use std::io::Read;
 use yaml_recognizers::closings::one_list_of_pieces;
@@ -25,7 +25,7 @@ use yaml_recognizers::closings::one_list_of_pieces;
 /// The file is read as by [`state_at`](crate::state_at), and can't be changed by this. The bytes after its last closing
 /// line are left out. The new store is made on `disk`, which may have no `store.yaml`, and is synced when this returns
 /// `Ok`. A crash at any moment of the call leaves what it could leave before, or the whole new file. It takes memory
-/// for the state and for the file.
+/// for the file, for the text of its base, and for the configurations that its records put or edit.
 ///
 /// # Errors
 /// The disk is returned with the fault. `History`: the file can't be read, is no store or is damaged; nothing is
@@ -76,8 +76,9 @@ fn read_copy<R: Read>(alloc: Global, reader: &mut R) -> Result<Vec<u8>, HistoryF
     one_list_of_pieces();
     let mut walk = Walk::begin(alloc, reader)?;
     let mut copy = Vec::from_slice(alloc, walk.pieces.piece())?;
+    let mut part = walk.take_part(alloc)?;
     'records: while walk.advance(reader)? {
-        walk.perform_piece(alloc, OnRefusal::DropState)?;
+        part = walk.replay_piece(alloc, part)?;
         copy.extend_from_slice(walk.pieces.piece())?;
     }
     Ok(copy)

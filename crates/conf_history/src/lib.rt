@@ -6,27 +6,31 @@
 //!
 //! - [`state_at`] returns the state after all commands, or after the one with a number.
 //! - [`config_at`] returns one configuration of it, and [`names_at`] the names of all, without building the others.
+//! - [`config_in`] returns one configuration of bytes that were read before.
 //! - [`write_log`] writes which commands the file holds.
-//! - [`survey_store`] says what an opening would find, also in a damaged file.
+//! - [`find_in_store`] says what an opening would find, also in a damaged file. [`survey_store`] adds the state.
 //! - [`salvage`] makes a new store of what stands before the damage.
 //! - [`back_up`] makes a new store with the same base and records.
 #![tactic(auto)]
 
 mod base;
+mod bytes_reading;
 mod copying;
 mod fault;
 mod laws;
 mod line;
 mod log;
-mod narrow;
 mod output;
 mod part_reading;
+mod part_walk;
 mod place;
 mod reading;
 mod saving;
+mod state_walk;
 mod survey;
 mod walk;
 
+pub use bytes_reading::config_in;
 pub use conf_store::NoRecord;
 pub use copying::back_up;
 pub use fault::{HistoryFault, SalvageFault};
@@ -37,4 +41,4 @@ pub use part_reading::{config_at, names_at};
 pub use place::BadPiece;
 pub use reading::state_at;
 pub use saving::salvage;
-pub use survey::{Bad, Findings, Survey, survey_store};
+pub use survey::{Bad, Findings, Survey, find_in_store, survey_store};

@@ -1,16 +1,18 @@
 // Which commands a store's file holds.
-ghost use Rattle.std.specs.Prelude.{◌≡◌, ◌+◌, Some, OnOk, IfErr};
+ghost use Rattle.std.specs.Prelude.{◌≡◌, ◌+◌, Some, OnOk, IfOk, IfErr};
 ghost use Rattle.std.specs.Io.KnownBytes.{Appends};
 ghost use Rattle.yaml_docs.specs.PieceReading.{piece_or_rest};
 ghost use Rattle.conf_state.specs.Commands.{Command as Meant};
 ghost use Rattle.conf_history.specs.Logs.{FailsToLog, FailsToLogPiece, LogsAll, StopsLog, entry_bytes, fault_of_holding};
-ghost use Rattle.conf_history.specs.Walks.{HasRoom, Performs};
+ghost use Rattle.conf_history.specs.Walks.{HasRoom, Performs, with_state};
 
+use crate::base::Base;
 use crate::fault::HistoryFault;
 use crate::line::{LineForm, record_line};
 use crate::output::put_bytes;
+use crate::reading::{check_end, check_start};
 use crate::walk::Walk;
-use conf_store::OnRefusal;
+use conf_state::Part;
 use std::alloc::Global;
 use std::io::{Read, Write};
 use yaml_recognizers::closings::one_list_of_pieces;
@@ -108,34 +110,37 @@ fn log_each<R: Read, W: Write>(
 {
     one_list_of_pieces();
     let mut walk = Walk::begin(alloc, reader)?;
-    walk.check_start(at)?;
-    'records: while walk.goes_on(reader, at)? {
-        log_piece(alloc, &mut walk, form, writer)?;
+    let mut part = walk.take_part(alloc)?;
+    check_start(part.count(), at)?;
+    'records: while walk.goes_on(reader, at, part.count())? {
+        part = log_piece(alloc, &mut walk, part, form, writer)?;
     }
-    walk.check_end(at)?;
+    check_end(part.count(), at)?;
     Ok(())
 }
 
-/// Performs the piece as the next record, and writes its command.
+/// Performs the piece as the next record, and writes its command. Returns the state after it.
 ///
 /// # Errors
-/// Those of [`Walk::perform_piece`]: nothing is written. `Output`: only a part is written.
+/// Those of [`Walk::replay_piece`]: nothing is written. `Output`: only a part is written.
 fn log_piece<W: Write>(
     alloc: Global,
     walk: &mut Walk,
+    part: Part<Base>,
     form: LogForm,
     writer: &mut W,
-) -> Result<(), HistoryFault>
-    requires { HasRoom walk.old }
-    ensures ok { OnOk result ((command : Meant) × Performs walk.old walk.new command
-        × Appends (W.contents writer.old) (W.contents writer.new) (entry_bytes form
-        (walk.old.state.count + 1) (piece_or_rest walk.old.pieces) command)) }
-    ensures refused { IfErr result (FailsToLogPiece form walk.old
+) -> Result<Part<Base>, HistoryFault>
+    requires { HasRoom walk.old.pieces walk.old.place }
+    ensures ok { IfOk result (λ new. (command : Meant)
+        × Performs (with_state walk.old part) (with_state walk.new new) command
+        × Appends (W.contents writer.old) (W.contents writer.new)
+        (entry_bytes form (part.count + 1) (piece_or_rest walk.old.pieces) command)) }
+    ensures refused { IfErr result (FailsToLogPiece form (with_state walk.old part)
         (W.contents writer.old) (W.contents writer.new)) }
 {
     match form {
-        LogForm::Lines(form) => log_line(alloc, walk, form, writer),
-        LogForm::Records => log_record(alloc, walk, writer),
+        LogForm::Lines(form) => log_line(alloc, walk, part, form, writer),
+        LogForm::Records => log_record(alloc, walk, part, writer),
     }
 }
 
@@ -143,31 +148,41 @@ fn log_piece<W: Write>(
 fn log_line<W: Write>(
     alloc: Global,
     walk: &mut Walk,
+    part: Part<Base>,
     form: LineForm,
     writer: &mut W,
-) -> Result<(), HistoryFault>
-    requires { HasRoom walk.old }
-    ensures ok { OnOk result ((command : Meant) × Performs walk.old walk.new command
-        × Appends (W.contents writer.old) (W.contents writer.new) (entry_bytes (LogForm.Lines form)
-        (walk.old.state.count + 1) (piece_or_rest walk.old.pieces) command)) }
-    ensures refused { IfErr result (FailsToLogPiece (LogForm.Lines form) walk.old
+) -> Result<Part<Base>, HistoryFault>
+    requires { HasRoom walk.old.pieces walk.old.place }
+    ensures ok { IfOk result (λ new. (command : Meant)
+        × Performs (with_state walk.old part) (with_state walk.new new) command
+        × Appends (W.contents writer.old) (W.contents writer.new) (entry_bytes
+        (LogForm.Lines form) (part.count + 1) (piece_or_rest walk.old.pieces) command)) }
+    ensures refused { IfErr result (FailsToLogPiece (LogForm.Lines form) (with_state walk.old part)
         (W.contents writer.old) (W.contents writer.new)) }
 {
-    let command = walk.command(alloc)?;
-    let line = record_line(alloc, walk.state.count() + 1, &command, form)?;
-    walk.perform(alloc, command, OnRefusal::DropState)?;
-    put_bytes(writer, line.as_bytes())
+    let command = walk.command(alloc, part.count())?;
+    let line = record_line(alloc, part.count() + 1, &command, form)?;
+    let part = walk.replay(alloc, part, command)?;
+    put_bytes(writer, line.as_bytes())?;
+    Ok(part)
 }
 
 /// The same as the bytes of the record.
-fn log_record<W: Write>(alloc: Global, walk: &mut Walk, writer: &mut W) -> Result<(), HistoryFault>
-    requires { HasRoom walk.old }
-    ensures ok { OnOk result ((command : Meant) × Performs walk.old walk.new command
-        × Appends (W.contents writer.old) (W.contents writer.new) (entry_bytes LogForm.Records
-        (walk.old.state.count + 1) (piece_or_rest walk.old.pieces) command)) }
-    ensures refused { IfErr result (FailsToLogPiece LogForm.Records walk.old
+fn log_record<W: Write>(
+    alloc: Global,
+    walk: &mut Walk,
+    part: Part<Base>,
+    writer: &mut W,
+) -> Result<Part<Base>, HistoryFault>
+    requires { HasRoom walk.old.pieces walk.old.place }
+    ensures ok { IfOk result (λ new. (command : Meant)
+        × Performs (with_state walk.old part) (with_state walk.new new) command
+        × Appends (W.contents writer.old) (W.contents writer.new)
+        (entry_bytes LogForm.Records (part.count + 1) (piece_or_rest walk.old.pieces) command)) }
+    ensures refused { IfErr result (FailsToLogPiece LogForm.Records (with_state walk.old part)
         (W.contents writer.old) (W.contents writer.new)) }
 {
-    walk.perform_piece(alloc, OnRefusal::DropState)?;
-    put_bytes(writer, walk.pieces.piece())
+    let part = walk.replay_piece(alloc, part)?;
+    put_bytes(writer, walk.pieces.piece())?;
+    Ok(part)
 }

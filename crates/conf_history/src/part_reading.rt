@@ -8,8 +8,8 @@ ghost use Rattle.conf_history.specs.Histories.{ReadsState, RefusesReading};
 
 use crate::base::Base;
 use crate::fault::HistoryFault;
-use crate::narrow::NarrowWalk;
 use crate::reading::{check_end, check_start};
+use crate::walk::Walk;
 use conf_state::Part;
 use std::alloc::Global;
 use std::io::Read;
@@ -73,11 +73,12 @@ fn part_at<R: Read>(
         IfSome (R.remaining reader.old) (λ bytes. RefusesReading bytes at fault)) }
 {
     one_list_of_pieces();
-    let mut walk = NarrowWalk::begin(alloc, reader)?;
-    check_start(walk.part.count(), at)?;
-    'records: while walk.goes_on(reader, at)? {
-        walk = walk.perform_piece(alloc)?;
+    let mut walk = Walk::begin(alloc, reader)?;
+    let mut part = walk.take_part(alloc)?;
+    check_start(part.count(), at)?;
+    'records: while walk.goes_on(reader, at, part.count())? {
+        part = walk.replay_piece(alloc, part)?;
     }
-    check_end(walk.part.count(), at)?;
-    Ok(walk.part)
+    check_end(part.count(), at)?;
+    Ok(part)
 }

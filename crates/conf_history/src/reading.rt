@@ -1,10 +1,6 @@
 // The state that a store's file held after a command.
-ghost use Rattle.std.specs.Prelude.{◌≡◌, ◌≢◌, ◌<◌, ◌≤◌, ℕ, List, Option, Some, true, false, OnOk, OnErr, IfOk, IfErr, IfSome};
-ghost use Rattle.conf_state.specs.Commands.{Command as Meant};
-ghost use Rattle.conf_state.specs.Limits.{IsState};
-ghost use Rattle.conf_state.specs.States.{Contents};
+ghost use Rattle.std.specs.Prelude.{◌≡◌, ◌≢◌, ◌<◌, ◌≤◌, ℕ, Some, true, false, OnOk, OnErr, IfOk, IfErr, IfSome};
 ghost use Rattle.conf_history.specs.Histories.{ReadsState, RefusesReading};
-ghost use Rattle.conf_history.specs.Walks.{AfterGoing, HasLimits, IsBetween};
 
 use crate::fault::HistoryFault;
 use crate::walk::Walk;
@@ -41,58 +37,13 @@ pub fn state_at<R: Read>(
 {
     one_list_of_pieces();
     let mut walk = Walk::begin(alloc, reader)?;
-    walk.check_start(at)?;
-    'records: while walk.goes_on(reader, at)? {
-        walk.perform_piece(alloc, OnRefusal::DropState)?;
+    let mut state = walk.state(alloc)?;
+    check_start(state.count(), at)?;
+    'records: while walk.goes_on(reader, at, state.count())? {
+        walk.perform_piece(alloc, &mut state, OnRefusal::DropState)?;
     }
-    walk.check_end(at)?;
-    Ok(walk.state)
-}
-
-impl Walk {
-    /// Fails with `NoSuchCommand` if the number is before that of the base, whose state the walk has.
-    pub fn check_start(&self, at: Option<u64>) -> Result<(), HistoryFault>
-        ensures ok { OnOk result ((number : ℕ) → at ≡ Some number → self.now.state.count ≤ number) }
-        ensures before { OnErr result
-            ((number : ℕ) × (at ≡ Some number) × (number < self.now.state.count)) }
-        ensures fault { IfErr result (λ fault. fault ≡ HistoryFault.NoSuchCommand) }
-    {
-        check_start(self.state.count(), at)
-    }
-
-    /// Goes on to the next piece, if the command with the number is not performed yet. Returns whether there is one.
-    ///
-    /// # Errors
-    /// Those of [`Walk::advance`].
-    pub fn goes_on<R: Read>(
-        &mut self,
-        reader: &mut R,
-        at: Option<u64>,
-    ) -> Result<bool, HistoryFault>
-        requires { HasLimits self.old.pieces }
-        ensures walks { (given : Option (List ℕ)) (pieces : List (List ℕ)) (start : Contents)
-            (commands : List Meant)
-            → IsBetween given (R.remaining reader.old) self.old pieces start commands
-            → AfterGoing at given (R.remaining reader.new) self.new pieces start commands result }
-        ensures state { self.new.state ≡ self.old.state }
-        ensures place { self.new.place ≡ self.old.place }
-    {
-        if is_reached(at, self.state.count()) {
-            return Ok(false);
-        }
-        self.advance(reader)
-    }
-
-    /// Fails with `NoSuchCommand` if the command with the number was not performed.
-    pub fn check_end(&self, at: Option<u64>) -> Result<(), HistoryFault>
-        ensures ok { OnOk result ((number : ℕ) → at ≡ Some number → self.now.state.count ≡ number) }
-        ensures other { OnErr result
-            ((number : ℕ) × (at ≡ Some number) × (self.now.state.count ≢ number)) }
-        ensures fault { IfErr result (λ fault. fault ≡ HistoryFault.NoSuchCommand) }
-        ensures limits { IsState self.now.state }
-    {
-        check_end(self.state.count(), at)
-    }
+    check_end(state.count(), at)?;
+    Ok(state)
 }
 
 /// Fails with `NoSuchCommand` if the number is before that of the base, which has `count` commands.

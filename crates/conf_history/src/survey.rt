@@ -7,7 +7,7 @@ ghost use Rattle.conf_state.specs.Limits.{IsState};
 ghost use Rattle.conf_state.specs.States.{Contents};
 ghost use Rattle.conf_history.specs.Counting.{AfterCount};
 ghost use Rattle.conf_history.specs.Histories.{ReadsSurvey, RefusesSurvey};
-ghost use Rattle.conf_history.specs.Walks.{HasLimits, IsAtPiece, IsBadHere};
+ghost use Rattle.conf_history.specs.Walks.{HasLimits, IsAtPiece, IsBadHere, with_state};
 
 use crate::fault::{HistoryFault, fault_of_pieces};
 use crate::place::BadPiece;
@@ -50,13 +50,38 @@ pub struct Survey {
 /// Finds what an opening of a store would find in its file, and goes past the first bad piece to count what follows. A
 /// damaged file is no fault here.
 ///
-/// The file is read once, to its end. It takes memory for the state, one piece and a chunk of 65,536 bytes, and time
-/// linear in the file.
+/// The file is read once, to its end. Of its configurations only those are built that the records put or edit. It takes
+/// memory for these, for the text of the base, one piece and a chunk of 65,536 bytes, and time linear in the file.
 ///
 /// # Errors
 /// - `Input`: a read failed.
 /// - `NotAStore`: the file has more than 1,073,741,824 bytes or no closing line, or its first piece is no base.
 /// - `OutOfMemory`.
+pub fn find_in_store<R: Read>(alloc: Global, reader: &mut R) -> Result<Findings, HistoryFault>
+    ensures ok { IfOk result (λ findings. (s : Contents)
+        × ReadsSurvey (R.remaining reader.old) (R.remaining reader.new) s findings) }
+    ensures refused { IfErr result (λ fault.
+        IfSome (R.remaining reader.old) (λ bytes. RefusesSurvey bytes fault)) }
+{
+    let mut walk = Walk::begin(alloc, reader)?;
+    let mut part = walk.take_part(alloc)?;
+    let base = part.count();
+    'records: while walk.advance(reader)? {
+        let count = part.count();
+        part = match walk.replay_piece(alloc, part) {
+            Ok(part) => part,
+            Err(HistoryFault::Damaged(bad)) => return walk.find_after(reader, base, count, bad),
+            Err(fault) => return Err(fault),
+        };
+    }
+    Ok(walk.findings(base, part.count(), None))
+}
+
+/// Finds what [`find_in_store`] does, and returns it with the state after the records that were performed. It takes
+/// memory for that state.
+///
+/// # Errors
+/// Those of [`find_in_store`].
 pub fn survey_store<R: Read>(alloc: Global, reader: &mut R) -> Result<Survey, HistoryFault>
     ensures ok { IfOk result (λ found. ReadsSurvey
         (R.remaining reader.old) (R.remaining reader.new) found.state found.findings) }
@@ -64,39 +89,70 @@ pub fn survey_store<R: Read>(alloc: Global, reader: &mut R) -> Result<Survey, Hi
         IfSome (R.remaining reader.old) (λ bytes. RefusesSurvey bytes fault)) }
 {
     let mut walk = Walk::begin(alloc, reader)?;
-    let base = walk.state.count();
+    let mut state = walk.state(alloc)?;
+    let base = state.count();
     'records: while walk.advance(reader)? {
-        match walk.perform_piece(alloc, OnRefusal::KeepState) {
+        match walk.perform_piece(alloc, &mut state, OnRefusal::KeepState) {
             Ok(()) => {}
-            Err(HistoryFault::Damaged(bad)) => return finish_survey(walk, reader, base, bad),
+            Err(HistoryFault::Damaged(bad)) => {
+                let findings = walk.find_after(reader, base, state.count(), bad)?;
+                return Ok(Survey { state, findings });
+            }
             Err(fault) => return Err(fault),
         }
     }
-    Ok(walk.into_survey(base, None))
+    let findings = walk.findings(base, state.count(), None);
+    Ok(Survey { state, findings })
 }
 
-/// Counts what follows a bad piece, at which the walk is.
-fn finish_survey<R: Read>(
-    mut walk: Walk,
-    reader: &mut R,
-    base: u64,
-    piece: BadPiece,
-) -> Result<Survey, HistoryFault>
-    requires limits { HasLimits walk.pieces }
-    requires base { base ≤ walk.state.count }
-    ensures ok { (given : Option (List ℕ)) (pieces : List (List ℕ)) (start : Contents)
-        (commands : List Meant)
-        → IsAtPiece given (R.remaining reader.old) walk pieces start commands
-        → IsBadHere walk piece → base ≡ start.count
-        → IfOk result (λ found.
-        ReadsSurvey given (R.remaining reader.new) found.state found.findings) }
-    ensures refused { (given : Option (List ℕ)) (pieces : List (List ℕ)) (start : Contents)
-        (commands : List Meant)
-        → IsAtPiece given (R.remaining reader.old) walk pieces start commands
-        → IfErr result (λ fault. IfSome given (λ bytes. RefusesSurvey bytes fault)) }
-{
-    let following = count_pieces(&mut walk.pieces, reader)?;
-    Ok(walk.into_survey(base, Some(Bad { piece, following })))
+impl Walk {
+    /// Counts what follows a bad piece, at which the walk is, and returns what was found. The file's base has the count
+    /// `base`, and the state before the piece `count`.
+    ///
+    /// # Errors
+    /// Those of [`Walk::advance`].
+    fn find_after<R: Read>(
+        &mut self,
+        reader: &mut R,
+        base: u64,
+        count: u64,
+        piece: BadPiece,
+    ) -> Result<Findings, HistoryFault>
+        requires limits { HasLimits self.old.pieces }
+        requires base { base ≤ count }
+        ensures ok { (given : Option (List ℕ)) (s : Contents) (pieces : List (List ℕ))
+            (start : Contents) (commands : List Meant)
+            → IsAtPiece given (R.remaining reader.old) (with_state self.old s) pieces start commands
+            → IsBadHere (with_state self.old s) piece
+            → base ≡ start.count → count ≡ s.count → IsState s
+            → IfOk result (ReadsSurvey given (R.remaining reader.new) s) }
+        ensures refused { (given : Option (List ℕ)) (s : Contents) (pieces : List (List ℕ))
+            (start : Contents) (commands : List Meant)
+            → IsAtPiece given (R.remaining reader.old) (with_state self.old s) pieces start commands
+            → IfErr result (λ fault. IfSome given (λ bytes. RefusesSurvey bytes fault)) }
+    {
+        let following = count_pieces(&mut self.pieces, reader)?;
+        Ok(self.findings(base, count, Some(Bad { piece, following })))
+    }
+
+    /// What was found in a file that was read to its end. Its base has the count `base`, and the state after the
+    /// records that were performed `count`.
+    fn findings(&self, base: u64, count: u64, bad: Option<Bad>) -> Findings
+        requires { base ≤ count }
+        ensures { result ≡ record {
+          base = base;
+          commands = count - base;
+          dropped = length (piece_or_rest self.now.pieces);
+          bad = bad;
+        } }
+    {
+        Findings {
+            base,
+            commands: count - base,
+            dropped: self.pieces.piece().len() as u64,
+            bad,
+        }
+    }
 }
 
 /// Goes past all further pieces, and returns how many there are.
@@ -116,32 +172,6 @@ fn count_pieces<R: Read>(pieces: &mut Pieces, reader: &mut R) -> Result<u64, His
             Ok(true) => count += 1,
             Ok(false) => return Ok(count),
             Err(fault) => return Err(fault_of_pieces(fault)),
-        }
-    }
-}
-
-impl Walk {
-    /// The survey of a file that was read to its end, from the count of its base.
-    fn into_survey(self, base: u64, bad: Option<Bad>) -> Survey
-        requires { base ≤ self.state.count }
-        ensures state { result.state ≡ self.state }
-        ensures findings { result.findings ≡ record {
-          base = base;
-          commands = self.state.count - base;
-          dropped = length (piece_or_rest self.pieces);
-          bad = bad;
-        } }
-        ensures limits { IsState self.state }
-    {
-        let findings = Findings {
-            base,
-            commands: self.state.count() - base,
-            dropped: self.pieces.piece().len() as u64,
-            bad,
-        };
-        Survey {
-            state: self.state,
-            findings,
         }
     }
 }

@@ -1,42 +1,40 @@
-// A walk over the pieces of a store's file, with the state after those so far.
-ghost use Rattle.std.specs.Prelude.{◌≡◌, ◌<◌, ◌+◌, ℕ, List, [], ◌∷◌, Option, OnOk, OnErr, IfOk, IfErr, IfSome};
+// A walk over the pieces of a store's file.
+ghost use Rattle.std.specs.Prelude.{◌≡◌, ◌<◌, ◌+◌, ℕ, List, Option, OnOk, IfOk, IfErr, IfSome};
 ghost use Rattle.conf_state.specs.Commands.{Command as Meant, command_of};
 ghost use Rattle.conf_state.specs.States.{Contents};
-ghost use Rattle.conf_record.specs.Documents.{IsRecord};
 ghost use Rattle.yaml_docs.specs.PieceReading.{piece_or_rest};
+ghost use Rattle.conf_record.specs.Documents.{IsRecord};
+ghost use Rattle.conf_store.specs.NextRecords.{RefusesRecord};
 ghost use Rattle.conf_history.specs.Histories.{RefusesSurvey};
-ghost use Rattle.conf_history.specs.Walks.{AfterAdvance, HasLimits, HasRoom, IsBetween, Performs, RefusesPiece};
+ghost use Rattle.conf_history.specs.Walks.{AfterAdvance, AfterGoing, BeginsWith, HasLimits, HasRoom, IsBetween, RefusesPiece, with_state};
 
 use crate::fault::{HistoryFault, fault_of_pieces};
 use crate::place::Place;
+use crate::reading::is_reached;
 use conf_journal::STORE_LIMIT;
-use conf_record::read_base;
-use conf_state::{Command, State};
-use conf_store::{OnRefusal, next_command, replay_command};
+use conf_record::{NoNext, read_next};
+use conf_state::Command;
+use conf_store::{NoRecord, RecordFault};
 use std::alloc::Global;
 use std::io::Read;
 use yaml_docs::Pieces;
 use yaml_recognizers::closings::one_list_of_pieces;
 
-/// A walk over the pieces of a store's file: the state after the pieces so far, and where the next one begins.
+/// A walk over the pieces of a store's file: the piece that it is at, and where the next one begins. What the pieces
+/// before mean is kept beside it, as a [`State`](conf_state::State) or a [`Part`](conf_state::Part).
 #[derive(Drop)]
 pub(crate) struct Walk {
     pub pieces: Pieces,
-    pub state: State,
     pub place: Place,
 }
 
 impl Walk {
-    /// Reads the first piece, a base.
+    /// Reads the first piece, which is to be read as a base.
     ///
     /// # Errors
-    /// `NotAStore` if there is no closing line within the limit, or the first piece is no base. `Input`, `OutOfMemory`.
+    /// `NotAStore` if there is no closing line within the limit. `Input`, `OutOfMemory`.
     pub fn begin<R: Read>(alloc: Global, reader: &mut R) -> Result<Walk, HistoryFault>
-        ensures ok { IfOk result (λ walk. (pieces : List (List ℕ)) × IsBetween
-            (R.remaining reader.old) (R.remaining reader.new) walk pieces walk.state []) }
-        // What was read is that base, which the reader of pieces still has.
-        ensures first { IfOk result (λ walk. IsBetween (R.remaining reader.old)
-            (R.remaining reader.new) walk (piece_or_rest walk.pieces ∷ []) walk.state []) }
+        ensures ok { IfOk result (BeginsWith (R.remaining reader.old) (R.remaining reader.new)) }
         ensures refused { IfErr result (λ fault.
             IfSome (R.remaining reader.old) (λ bytes. RefusesSurvey bytes fault)) }
     {
@@ -47,15 +45,8 @@ impl Walk {
             Ok(false) => return Err(HistoryFault::NotAStore),
             Err(fault) => return Err(fault_of_pieces(fault)),
         }
-        let Some(state) = read_base(alloc, pieces.piece())? else {
-            return Err(HistoryFault::NotAStore);
-        };
         let place = Place::start().after(pieces.piece());
-        Ok(Walk {
-            pieces,
-            state,
-            place,
-        })
+        Ok(Walk { pieces, place })
     }
 
     /// Goes on to the next piece, or to the bytes after the last one. Returns whether there is a piece.
@@ -64,11 +55,11 @@ impl Walk {
     /// `Input` if a read failed. `NotAStore` if the file has more than 1,073,741,824 bytes. `OutOfMemory`.
     pub fn advance<R: Read>(&mut self, reader: &mut R) -> Result<bool, HistoryFault>
         requires { HasLimits self.old.pieces }
-        ensures walks { (given : Option (List ℕ)) (pieces : List (List ℕ)) (start : Contents)
-            (commands : List Meant)
-            → IsBetween given (R.remaining reader.old) self.old pieces start commands
-            → AfterAdvance given (R.remaining reader.new) self.new pieces start commands result }
-        ensures state { self.new.state ≡ self.old.state }
+        ensures walks { (given : Option (List ℕ)) (s : Contents) (pieces : List (List ℕ))
+            (start : Contents) (commands : List Meant)
+            → IsBetween given (R.remaining reader.old) (with_state self.old s) pieces start commands
+            → AfterAdvance given (R.remaining reader.new) (with_state self.new s)
+            pieces start commands result }
         ensures place { self.new.place ≡ self.old.place }
     {
         match self.pieces.advance(reader) {
@@ -77,64 +68,63 @@ impl Walk {
         }
     }
 
-    /// Reads the piece as the next record, and returns its command.
+    /// Goes on to the next piece, if the command with the number is not the last of the `count` ones. Returns whether
+    /// there is one.
+    ///
+    /// # Errors
+    /// Those of [`Walk::advance`].
+    pub fn goes_on<R: Read>(
+        &mut self,
+        reader: &mut R,
+        at: Option<u64>,
+        count: u64,
+    ) -> Result<bool, HistoryFault>
+        requires { HasLimits self.old.pieces }
+        ensures walks { (given : Option (List ℕ)) (s : Contents) (pieces : List (List ℕ))
+            (start : Contents) (commands : List Meant) → count ≡ s.count
+            → IsBetween given (R.remaining reader.old) (with_state self.old s) pieces start commands
+            → AfterGoing at given (R.remaining reader.new) (with_state self.new s)
+            pieces start commands result }
+        ensures place { self.new.place ≡ self.old.place }
+    {
+        if is_reached(at, count) {
+            return Ok(false);
+        }
+        self.advance(reader)
+    }
+
+    /// Reads the piece as the record after `count` commands, and returns its command.
     ///
     /// # Errors
     /// `Damaged` if it is no record, or has another number. `OutOfMemory`.
-    pub fn command(&self, alloc: Global) -> Result<Command, HistoryFault>
-        requires { HasRoom self.now }
-        ensures ok { IfOk result (λ command. IsRecord (piece_or_rest self.now.pieces)
-            (command_of command) (self.now.state.count + 1)) }
-        ensures room { OnOk result (self.now.state.count < u64.MAX) }
-        ensures refused { IfErr result (RefusesPiece self.now) }
+    pub fn command(&self, alloc: Global, count: u64) -> Result<Command, HistoryFault>
+        requires { HasRoom self.now.pieces self.now.place }
+        ensures ok { IfOk result (λ command.
+            IsRecord (piece_or_rest self.now.pieces) (command_of command) (count + 1)) }
+        ensures room { OnOk result (count < u64.MAX) }
+        ensures refused { IfErr result (λ fault. (s : Contents) → s.count ≡ count
+            → RefusesPiece (with_state self.now s) fault) }
     {
-        match next_command(alloc, &self.state, self.pieces.piece()) {
+        match next_command(alloc, count, self.pieces.piece()) {
             Ok(command) => Ok(command),
             Err(fault) => Err(self.place.fault_here(fault)),
         }
     }
+}
 
-    /// Performs the command of the piece, and goes past the piece.
-    ///
-    /// # Errors
-    /// `Damaged` if the state refuses the command. `OutOfMemory`. What becomes of the state says `on_refusal`.
-    pub fn perform(
-        &mut self,
-        alloc: Global,
-        command: Command,
-        on_refusal: OnRefusal,
-    ) -> Result<(), HistoryFault>
-        requires room { HasRoom self.old }
-        requires is_record { IsRecord (piece_or_rest self.old.pieces) (command_of command)
-            (self.old.state.count + 1) }
-        ensures ok { OnOk result (Performs self.old self.new (command_of command)) }
-        ensures refused { IfErr result (RefusesPiece self.old) }
-        ensures unchanged { on_refusal ≡ OnRefusal.KeepState → OnErr result (self.new ≡ self.old) }
-    {
-        match replay_command(alloc, &mut self.state, command, on_refusal) {
-            Ok(_) => {
-                self.place = self.place.after(self.pieces.piece());
-                Ok(())
-            }
-            Err(fault) => Err(self.place.fault_here(fault)),
+/// Reads a piece as the record after `count` commands, and returns its command.
+pub(crate) fn next_command(alloc: Global, count: u64, piece: &[u8]) -> Result<Command, RecordFault>
+    ensures ok { IfOk result (λ command. IsRecord piece.now (command_of command) (count + 1)) }
+    ensures room { OnOk result (count < u64.MAX) }
+    ensures refused { IfErr result (λ fault. (s : Contents) → s.count ≡ count
+        → RefusesRecord piece.now s fault) }
+{
+    match read_next(alloc, piece, count) {
+        Ok(command) => Ok(command),
+        Err(NoNext::NotARecord) => Err(RecordFault::Bad(NoRecord::NotARecord)),
+        Err(NoNext::OtherNumber { found }) => {
+            Err(RecordFault::Bad(NoRecord::WrongNumber { found }))
         }
-    }
-
-    /// Reads the piece as the next record, and performs it.
-    ///
-    /// # Errors
-    /// `Damaged` if it is not the next record. `OutOfMemory`. What becomes of the state says `on_refusal`.
-    pub fn perform_piece(
-        &mut self,
-        alloc: Global,
-        on_refusal: OnRefusal,
-    ) -> Result<(), HistoryFault>
-        requires { HasRoom self.old }
-        ensures ok { OnOk result ((command : Meant) × Performs self.old self.new command) }
-        ensures refused { IfErr result (RefusesPiece self.old) }
-        ensures unchanged { on_refusal ≡ OnRefusal.KeepState → OnErr result (self.new ≡ self.old) }
-    {
-        let command = self.command(alloc)?;
-        self.perform(alloc, command, on_refusal)
+        Err(NoNext::OutOfMemory) => Err(RecordFault::OutOfMemory),
     }
 }

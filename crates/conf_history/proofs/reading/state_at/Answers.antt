@@ -1,36 +1,56 @@
 -- Each turn performs one piece.
-use Rattle.std.proofs.Common.{◌≡◌, ◌≢◌, ◌≤◌, ◌<◌, ◌+◌, ◌-◌, refl, sym, ap, subst, [], ◌∷◌, ◌++◌}
+use Rattle.std.proofs.Common.{◌∙◌, ◌≡◌, ◌≢◌, ◌≤◌, ◌<◌, ◌+◌, ◌-◌, refl, sym, subst, [], ◌∷◌, ◌++◌}
 use Rattle.std.specs.Prelude.{false, Some, Ok}
 use Rattle.std.proofs.lemmas.Result.{err_from_is_err_and}
 use Rattle.yaml_docs.specs.PieceReading.{piece_or_rest}
 use Rattle.conf_journal.specs.Store.{store_limit}
-use Rattle.conf_state.specs.States.{Contents}
 use Rattle.conf_state.specs.declared.room.Room.TheVariants.{Enough}
 use Rattle.conf_state.proofs.RunLaws.{step-one}
-use Rattle.conf_history.specs.Walks.{IsAtPiece, AfterGoing}
+use Rattle.conf_history.specs.Walks.{IsAtPiece, AfterGoing, with_state}
 use Rattle.conf_history.specs.declared.place.Place.{Place}
 use Rattle.conf_history.proofs.WalkLemmas.{has-room, performs-on, passes}
 use Rattle.conf_history.proofs.ReadingLemmas.{before-number, next-number, refuses-all, refuses-before, refuses-piece}
 use Rattle.conf_history.proofs.ReadingLemmas.{refuses-after, reads-state}
 use Rattle.conf_history.proofs.reading.state_at.Goals as goal
 
+pub returns-in_err-state-clause-refused : goal.returns-in_err-state-clause-refused
+returns-in_err-state-clause-refused g c =
+    let given = g.R.Read.remaining c.args.reader.now in
+    let fails = refuses-all given c.args.at c.in_err-state.field-0.0
+    (c.in_err-state.ensures.refused given (g.R.Read.remaining c.begin.new.reader) c.in_ok-walk.ensures.ok) in
+    let p = err_from_is_err_and c.from_residual-in_err-state.result c.from_residual-in_err-state.ensures.1 in
+    rw (p.1, p.2) fails
+
 pub returns-in_err-check_start-clause-refused : goal.returns-in_err-check_start-clause-refused
 returns-in_err-check_start-clause-refused g c =
     let given = g.R.Read.remaining c.args.reader.now in
-    let walk = c.in_ok-walk.walk in
-    let begun = c.in_ok-walk.ensures.ok in
+    let left = g.R.Read.remaining c.begin.new.reader in
+    let walk = with_state c.in_ok-walk.walk c.in_ok-state.state in
+    let begun = c.in_ok-state.ensures.ok given left c.in_ok-walk.ensures.ok in
     let ensures = c.in_err-check_start.ensures in
-    let fails = refuses-before given (g.R.Read.remaining c.begin.new.reader) walk begun.0 walk.state
-    [] c.one_list_of_pieces.ensures.some begun.1 refl c.args.at c.in_err-check_start.field-0.0 ensures.fault ensures.before in
+    let fails = refuses-before given left walk (piece_or_rest c.in_ok-walk.walk.pieces ∷ []) walk.state
+    [] c.one_list_of_pieces.ensures.some begun refl c.args.at c.in_err-check_start.field-0.0 ensures.fault
+    (ensures.before.0, ensures.before.1, subst (λ n. ensures.before.0 < n) c.count.ensures.count ensures.before.2) in
     let p = err_from_is_err_and c.from_residual-in_err-check_start.result c.from_residual-in_err-check_start.ensures.1 in
     rw (p.1, p.2) fails
+
+pub records-init : goal.records-init
+records-init g c =
+    let begun = c.in_ok-state.ensures.ok (g.R.Read.remaining c.args.reader.now) (g.R.Read.remaining c.begin.new.reader)
+    c.in_ok-walk.ensures.ok in
+    record {
+      walked = (piece_or_rest c.in_ok-walk.walk.pieces ∷ [], c.in_ok-state.state, [], begun);
+      limits = begun.limits;
+      up_to = λ number is. subst (λ n. n ≤ number) c.count.ensures.count (c.in_ok-check_start.ensures.ok number is);
+    }
 
 pub returns-in_err-goes_on-clause-refused : goal.returns-in_err-goes_on-clause-refused
 returns-in_err-goes_on-clause-refused g c =
     let given = g.R.Read.remaining c.args.reader.now in
     let walked = c.records.invariant.walked in
     let fails = refuses-all given c.args.at c.in_err-goes_on.field-0.0
-    (c.in_err-goes_on.ensures.walks given walked.0 walked.1 walked.2 walked.3) in
+    (c.in_err-goes_on.ensures.walks given c.records.state walked.0 walked.1 walked.2
+    c.count-in-records.ensures.count walked.3) in
     let p = err_from_is_err_and c.from_residual-in_err-goes_on.result c.from_residual-in_err-goes_on.ensures.1 in
     rw (p.1, p.2) fails
 
@@ -39,11 +59,11 @@ perform_piece-requires g c =
     let given = g.R.Read.remaining c.args.reader.now in
     let inv = c.records.invariant in
     let walked = inv.walked in
-    let walk = c.goes_on.new.self in
+    let walk = with_state c.goes_on.new.self c.records.state in
     let left = g.R.Read.remaining c.goes_on.new.reader in
     let going : (c.args.at ≢ Some walk.state.count) × IsAtPiece given left walk walked.0 walked.1 walked.2 =
     subst (λ b. AfterGoing c.args.at given left walk walked.0 walked.1 walked.2 (Ok b)) c.if-branch.true
-    (c.in_ok-goes_on.ensures.walks given walked.0 walked.1 walked.2 walked.3) in
+    (c.in_ok-goes_on.ensures.walks given c.records.state walked.0 walked.1 walked.2 c.count-in-records.ensures.count walked.3) in
     has-room given left walk walked.0 walked.1 walked.2 going.1
 
 pub records-smaller : goal.records-smaller
@@ -51,36 +71,34 @@ records-smaller g c =
     let given = g.R.Read.remaining c.args.reader.now in
     let inv = c.records.invariant in
     let walked = inv.walked in
-    let walk = c.goes_on.new.self in
+    let walk = with_state c.goes_on.new.self c.records.state in
     let left = g.R.Read.remaining c.goes_on.new.reader in
     let going : (c.args.at ≢ Some walk.state.count) × IsAtPiece given left walk walked.0 walked.1 walked.2 =
     subst (λ b. AfterGoing c.args.at given left walk walked.0 walked.1 walked.2 (Ok b)) c.if-branch.true
-    (c.in_ok-goes_on.ensures.walks given walked.0 walked.1 walked.2 walked.3) in
+    (c.in_ok-goes_on.ensures.walks given c.records.state walked.0 walked.1 walked.2 c.count-in-records.ensures.count walked.3) in
     let done = c.in_ok-perform_piece.ensures.ok in
     subst (λ (p : Place). store_limit - c.perform_piece.new.self.place.byte < store_limit - p.byte)
     c.in_ok-goes_on.ensures.place (passes given left walk walked.0 walked.1 walked.2 going.1
-    c.perform_piece.new.self done.0 done.1)
+    (with_state c.perform_piece.new.self c.perform_piece.new.state) done.0 done.1)
 
 pub records-preserved : goal.records-preserved
 records-preserved g c =
     let given = g.R.Read.remaining c.args.reader.now in
     let inv = c.records.invariant in
     let walked = inv.walked in
-    let walk = c.goes_on.new.self in
+    let walk = with_state c.goes_on.new.self c.records.state in
     let left = g.R.Read.remaining c.goes_on.new.reader in
     let going : (c.args.at ≢ Some walk.state.count) × IsAtPiece given left walk walked.0 walked.1 walked.2 =
     subst (λ b. AfterGoing c.args.at given left walk walked.0 walked.1 walked.2 (Ok b)) c.if-branch.true
-    (c.in_ok-goes_on.ensures.walks given walked.0 walked.1 walked.2 walked.3) in
-    let new = c.perform_piece.new.self in
+    (c.in_ok-goes_on.ensures.walks given c.records.state walked.0 walked.1 walked.2 c.count-in-records.ensures.count walked.3) in
+    let new = with_state c.perform_piece.new.self c.perform_piece.new.state in
     let done = c.in_ok-perform_piece.ensures.ok in
     let next = performs-on given left walk walked.0 walked.1 walked.2 going.1 new done.0 done.1 in
-    let count : walk.state.count ≡ c.records.walk.state.count = ap (λ (t : Contents). t.count) c.in_ok-goes_on.ensures.state in
     let one : new.state.count ≡ walk.state.count + 1 = step-one walk.state new.state done.0 Enough done.1.done in
     record {
       walked = (walked.0 ++ piece_or_rest walk.pieces ∷ [], walked.1, walked.2 ++ done.0 ∷ [], next);
       limits = next.limits;
-      up_to = next-number c.args.at walk.state.count new.state.count going.0 one
-          (λ number is. subst (λ n. n ≤ number) (sym count) (inv.up_to number is));
+      up_to = next-number c.args.at walk.state.count new.state.count going.0 one inv.up_to;
     }
 
 pub returns-in_err-perform_piece-clause-refused : goal.returns-in_err-perform_piece-clause-refused
@@ -88,14 +106,12 @@ returns-in_err-perform_piece-clause-refused g c =
     let given = g.R.Read.remaining c.args.reader.now in
     let inv = c.records.invariant in
     let walked = inv.walked in
-    let walk = c.goes_on.new.self in
+    let walk = with_state c.goes_on.new.self c.records.state in
     let left = g.R.Read.remaining c.goes_on.new.reader in
     let going : (c.args.at ≢ Some walk.state.count) × IsAtPiece given left walk walked.0 walked.1 walked.2 =
     subst (λ b. AfterGoing c.args.at given left walk walked.0 walked.1 walked.2 (Ok b)) c.if-branch.true
-    (c.in_ok-goes_on.ensures.walks given walked.0 walked.1 walked.2 walked.3) in
-    let count : walk.state.count ≡ c.records.walk.state.count = ap (λ (t : Contents). t.count) c.in_ok-goes_on.ensures.state in
-    let before = before-number c.args.at walk.state.count going.0
-    (λ number is. subst (λ n. n ≤ number) (sym count) (inv.up_to number is)) in
+    (c.in_ok-goes_on.ensures.walks given c.records.state walked.0 walked.1 walked.2 c.count-in-records.ensures.count walked.3) in
+    let before = before-number c.args.at walk.state.count going.0 inv.up_to in
     let fails = refuses-piece given left walk walked.0 walked.1 walked.2 c.one_list_of_pieces.ensures.some going.1
     c.args.at before c.in_err-perform_piece.field-0.0 c.in_err-perform_piece.ensures.refused in
     let p = err_from_is_err_and c.from_residual-in_err-perform_piece.result c.from_residual-in_err-perform_piece.ensures.1 in
@@ -106,16 +122,15 @@ returns-in_err-check_end-clause-refused g c =
     let given = g.R.Read.remaining c.args.reader.now in
     let inv = c.records.invariant in
     let walked = inv.walked in
-    let walk = c.goes_on.new.self in
+    let walk = with_state c.goes_on.new.self c.records.state in
     let left = g.R.Read.remaining c.goes_on.new.reader in
     let ended : AfterGoing c.args.at given left walk walked.0 walked.1 walked.2 (Ok false) =
     subst (λ b. AfterGoing c.args.at given left walk walked.0 walked.1 walked.2 (Ok b)) c.if-branch.false
-    (c.in_ok-goes_on.ensures.walks given walked.0 walked.1 walked.2 walked.3) in
-    let count : walk.state.count ≡ c.records.walk.state.count = ap (λ (t : Contents). t.count) c.in_ok-goes_on.ensures.state in
+    (c.in_ok-goes_on.ensures.walks given c.records.state walked.0 walked.1 walked.2 c.count-in-records.ensures.count walked.3) in
     let ensures = c.in_err-check_end.ensures in
-    let fails = refuses-after given left walk walked.0 walked.1 walked.2 c.args.at ended
-    (λ number is. subst (λ n. n ≤ number) (sym count) (inv.up_to number is))
-    c.in_err-check_end.field-0.0 ensures.fault ensures.other in
+    let fails = refuses-after given left walk walked.0 walked.1 walked.2 c.args.at ended inv.up_to
+    c.in_err-check_end.field-0.0 ensures.fault
+    (ensures.other.0, ensures.other.1, subst (λ n. n ≢ ensures.other.0) c.count-2.ensures.count ensures.other.2) in
     let p = err_from_is_err_and c.from_residual-in_err-check_end.result c.from_residual-in_err-check_end.ensures.1 in
     rw (p.1, p.2) fails
 
@@ -124,10 +139,10 @@ returns-clause-ok g c =
     let given = g.R.Read.remaining c.args.reader.now in
     let inv = c.records.invariant in
     let walked = inv.walked in
-    let walk = c.goes_on.new.self in
+    let walk = with_state c.goes_on.new.self c.records.state in
     let left = g.R.Read.remaining c.goes_on.new.reader in
     let ended : AfterGoing c.args.at given left walk walked.0 walked.1 walked.2 (Ok false) =
     subst (λ b. AfterGoing c.args.at given left walk walked.0 walked.1 walked.2 (Ok b)) c.if-branch.false
-    (c.in_ok-goes_on.ensures.walks given walked.0 walked.1 walked.2 walked.3) in
+    (c.in_ok-goes_on.ensures.walks given c.records.state walked.0 walked.1 walked.2 c.count-in-records.ensures.count walked.3) in
     reads-state given left walk walked.0 walked.1 walked.2 c.one_list_of_pieces.ensures.some c.args.at ended
-    c.in_ok-check_end.ensures.ok c.in_ok-check_end.ensures.limits
+    (λ number is. sym c.count-2.ensures.count ∙ c.in_ok-check_end.ensures.ok number is) c.count-2.ensures.limits

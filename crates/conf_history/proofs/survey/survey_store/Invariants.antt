@@ -3,13 +3,14 @@ use Rattle.std.proofs.Common.{◌≡◌, ◌-◌, ℕ, List}
 use Rattle.conf_journal.specs.Store.{store_limit}
 use Rattle.conf_state.specs.Commands.{Command}
 use Rattle.conf_state.specs.States.{Contents}
-use Rattle.conf_history.specs.Walks.{HasLimits, IsBetween}
+use Rattle.conf_history.specs.Walks.{HasLimits, IsBetween, with_state}
 use Rattle.conf_history.proofs.survey.survey_store.Given as goal
 
 abbrev pub invariant-records : goal.invariant-records
 invariant-records g l = record {
   walked : (pieces : List (List ℕ)) × (start : Contents) × (commands : List Command)
-      × IsBetween (g.R.Read.remaining l.fn.reader) (g.R.Read.remaining l.reader) l.walk pieces start commands × (l.base ≡ start.count);
+      × IsBetween (g.R.Read.remaining l.fn.reader) (g.R.Read.remaining l.reader)
+      (with_state l.walk l.state) pieces start commands × (l.base ≡ start.count);
   limits : HasLimits l.walk.pieces;
 }
 

@@ -1,9 +1,8 @@
 -- The first piece is a base, or the file is no store.
-use Rattle.std.proofs.Common.{rules, subst, [], ◌∷◌}
+use Rattle.std.proofs.Common.{subst}
 use Rattle.std.specs.Prelude.{Ok}
 use Rattle.conf_journal.specs.Store.{store_limit}
 use Rattle.yaml_docs.specs.PieceReading.{Advances, AdvancesToPiece, AdvancesToEnd, piece_or_rest}
-use Rattle.conf_record.specs.Documents.{IsBase, IsNoBase}
 use Rattle.conf_history.proofs.WalkLemmas.{own-limits, placed, no-piece, no-base, begun}
 use Rattle.conf_history.proofs.walk.Walk.begin.Goals as goal
 
@@ -18,47 +17,19 @@ returns-in-Ok-false-clause-refused g c =
     (own-limits given left old now (Ok c.in-Ok-false.field-0) c.in_ok-pieces.ensures.sound c.in-Ok-false.ensures) in
     no-piece given left old now c.in_ok-pieces.ensures.unread.0 c.in_ok-pieces.ensures.unread.1 end
 
-pub returns-in_default-clause-refused : goal.returns-in_default-clause-refused
-returns-in_default-clause-refused g c =
-    let given = g.R.Read.remaining c.args.reader.now in
-    let left = g.R.Read.remaining c.advance.new.reader in
-    let old = c.in_ok-pieces.pieces in
-    let now = c.advance.new.self in
-    let first : AdvancesToPiece store_limit store_limit given left old now =
-    subst (λ b. Advances store_limit store_limit given left old now (Ok b)) c.in-Ok-true.field-0-test
-    (own-limits given left old now (Ok c.in-Ok-true.field-0) c.in_ok-pieces.ensures.sound c.in-Ok-true.ensures) in
-    let no : IsNoBase c.piece.result.now = search rules in
-    no-base given left old now c.in_ok-pieces.ensures.unread.0 c.in_ok-pieces.ensures.unread.1
-    c.one_list_of_pieces.ensures.some first (subst IsNoBase c.piece.ensures no)
-
 pub returns-clause-ok : goal.returns-clause-ok
 returns-clause-ok g c =
     let given = g.R.Read.remaining c.args.reader.now in
     let left = g.R.Read.remaining c.advance.new.reader in
     let old = c.in_ok-pieces.pieces in
     let now = c.advance.new.self in
+    let unread = c.in_ok-pieces.ensures.unread in
     let first : AdvancesToPiece store_limit store_limit given left old now =
     subst (λ b. Advances store_limit store_limit given left old now (Ok b)) c.in-Ok-true.field-0-test
     (own-limits given left old now (Ok c.in-Ok-true.field-0) c.in_ok-pieces.ensures.sound c.in-Ok-true.ensures) in
-    let base : IsBase c.piece.result.now c.in-Some.state = search rules in (
-      piece_or_rest now ∷ [],
-      begun given left old now c.in_ok-pieces.ensures.unread.0 c.in_ok-pieces.ensures.unread.1 c.in-Some.state c.after-place.result first
-          (subst (λ b. IsBase b c.in-Some.state) c.piece.ensures base)
-          (placed c.start.result c.after-place.result
-          (piece_or_rest now) c.piece-2.result.now c.start.ensures c.piece-2.ensures c.after-place.ensures),
-    )
-
-pub returns-clause-first : goal.returns-clause-first
-returns-clause-first g c =
-    let given = g.R.Read.remaining c.args.reader.now in
-    let left = g.R.Read.remaining c.advance.new.reader in
-    let old = c.in_ok-pieces.pieces in
-    let now = c.advance.new.self in
-    let first : AdvancesToPiece store_limit store_limit given left old now =
-    subst (λ b. Advances store_limit store_limit given left old now (Ok b)) c.in-Ok-true.field-0-test
-    (own-limits given left old now (Ok c.in-Ok-true.field-0) c.in_ok-pieces.ensures.sound c.in-Ok-true.ensures) in
-    let base : IsBase c.piece.result.now c.in-Some.state = search rules in
-    begun given left old now c.in_ok-pieces.ensures.unread.0 c.in_ok-pieces.ensures.unread.1 c.in-Some.state c.after-place.result first
-    (subst (λ b. IsBase b c.in-Some.state) c.piece.ensures base)
-    (placed c.start.result c.after-place.result
-    (piece_or_rest now) c.piece-2.result.now c.start.ensures c.piece-2.ensures c.after-place.ensures)
+    let after = placed c.start.result c.after-place.result (piece_or_rest now) c.piece.result.now c.start.ensures
+    c.piece.ensures c.after-place.ensures in
+    record {
+      base = λ s is. begun given left old now unread.0 unread.1 s c.after-place.result first is after;
+      none = λ other. no-base given left old now unread.0 unread.1 c.one_list_of_pieces.ensures.some first other;
+    }

@@ -2,25 +2,25 @@
 use Rattle.std.proofs.Common.{sym, subst}
 use Rattle.std.specs.Prelude.{Ok, Err, IfSome}
 use Rattle.conf_history.specs.Histories.{RefusesSurvey}
-use Rattle.conf_history.specs.Narrow.{seen}
+use Rattle.conf_history.specs.Walks.{with_state}
 use Rattle.conf_history.proofs.WalkLemmas.{own-limits, advances, refuses-next}
-use Rattle.conf_history.proofs.narrow.NarrowWalk.advance.Goals as goal
+use Rattle.conf_history.proofs.walk.Walk.advance.Goals as goal
 
 pub returns-in-Ok-clause-walks : goal.returns-in-Ok-clause-walks
-returns-in-Ok-clause-walks g c = λ given pieces start commands b.
+returns-in-Ok-clause-walks g c = λ given s pieces start commands b.
     let mid = g.R.Read.remaining c.args.reader.now in
     let left = g.R.Read.remaining c.advance.new.reader in
     let old = c.args.self.now in
     let now = c.advance.new.self in
-    advances given mid left (seen old) now pieces start commands b c.in-Ok.found
+    advances given mid left (with_state old s) now pieces start commands b c.in-Ok.found
     (own-limits mid left old.pieces now (Ok c.in-Ok.found) c.requires c.in-Ok.ensures)
 
 pub returns-in-Err-clause-walks : goal.returns-in-Err-clause-walks
-returns-in-Err-clause-walks g c = λ given pieces start commands b.
+returns-in-Err-clause-walks g c = λ given s pieces start commands b.
     let mid = g.R.Read.remaining c.args.reader.now in
     let left = g.R.Read.remaining c.advance.new.reader in
     let old = c.args.self.now in
     let now = c.advance.new.self in
     subst (λ fault. IfSome given (λ bytes. RefusesSurvey bytes fault)) (sym c.fault_of_pieces.ensures)
-    (refuses-next given mid left (seen old) now pieces start commands b c.in-Err.fault
+    (refuses-next given mid left (with_state old s) now pieces start commands b c.in-Err.fault
     (own-limits mid left old.pieces now (Err c.in-Err.fault) c.requires c.in-Err.ensures))

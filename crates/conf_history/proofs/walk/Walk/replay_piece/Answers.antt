@@ -1,6 +1,7 @@
+-- A piece that is no next record is the first bad one.
 use Rattle.std.proofs.Common.{sym}
 use Rattle.std.proofs.lemmas.Result.{err_from_is_err_and}
-use Rattle.conf_history.proofs.narrow.replay_piece.Goals as goal
+use Rattle.conf_history.proofs.walk.Walk.replay_piece.Goals as goal
 
 pub returns-in_err-command-clause-refused : goal.returns-in_err-command-clause-refused
 returns-in_err-command-clause-refused c =

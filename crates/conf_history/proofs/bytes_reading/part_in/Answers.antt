@@ -1,0 +1,59 @@
+-- The bytes up to the first closing line are the base, and the others are its records.
+use Rattle.std.proofs.Common.{rules, ◌∙◌, ℕ, List, sym, subst}
+use Rattle.std.specs.Prelude.{IfOk, IfErr, IfSome, IfNone}
+use Rattle.yaml_grammar.specs.Closings.{ClosesOnce}
+use Rattle.yaml_docs.specs.NextClosing.{IsNextClosing, NoClosingAfter, StartsLine}
+use Rattle.conf_record.specs.Documents.{IsBase, IsNoBase}
+use Rattle.conf_store.specs.Opens.{RecoversTo, RefusesBytes}
+use Rattle.conf_store.proofs.RecoveryLemmas.{first-no-base, no-closing-no-base}
+use Rattle.conf_history.proofs.ReplayLemmas.{cut-apart, first-closes}
+use Rattle.conf_history.proofs.bytes_reading.part_in.Goals as goal
+
+pub returns-in_default-clause-refused : goal.returns-in_default-clause-refused
+returns-in_default-clause-refused c =
+    let bytes : List ℕ = c.args.bytes.items in
+    let starts : StartsLine bytes 0 = search rules in
+    no-closing-no-base c.piece_between_closings.ensures.rest bytes starts
+    (subst (λ b. NoClosingAfter b 0) c.deref.ensures.value c.in_default.ensures.none)
+
+pub returns-in-Ok-None-clause-refused : goal.returns-in-Ok-None-clause-refused
+returns-in-Ok-None-clause-refused c =
+    let bytes : List ℕ = c.args.bytes.items in
+    let starts : StartsLine bytes 0 = search rules in
+    let next : IsNextClosing bytes 0 c.in-Some.end =
+    subst (λ b. IsNextClosing b 0 c.in-Some.end) c.deref.ensures.value c.in-Some.ensures.found in
+    first-no-base c.piece_between_closings.ensures.piece c.one_list_of_pieces.ensures.some bytes c.in-Some.end starts next
+    (subst IsNoBase c.truncate.ensures.items
+    (subst (λ r. IfNone r (IsNoBase c.truncate.new.self.items)) c.in-Ok-None.field-0-is c.in-Ok-None.ensures.none))
+
+pub returns-in-Ok-Some-clause-ok : goal.returns-in-Ok-Some-clause-ok
+returns-in-Ok-Some-clause-ok c =
+    let bytes : List ℕ = c.args.bytes.items in
+    let base : List ℕ = c.truncate.new.self.items in
+    let starts : StartsLine bytes 0 = search rules in
+    let next : IsNextClosing bytes 0 c.in-Some.end =
+    subst (λ b. IsNextClosing b 0 c.in-Some.end) c.deref.ensures.value c.in-Some.ensures.found in
+    let closes : ClosesOnce base = subst ClosesOnce (sym c.truncate.ensures.items)
+    (first-closes c.piece_between_closings.ensures.piece bytes c.in-Some.end starts next) in
+    let is : IsBase base c.in-Ok-Some.part =
+    subst (λ r. IfSome r (λ part. IsBase base part)) c.in-Ok-Some.field-0-is c.in-Ok-Some.ensures.some in
+    subst (λ b. IfOk c.replay_records.result (λ read. RecoversTo b read.0 read.1.commands read.1.dropped))
+    (cut-apart bytes c.deref-2.result.now base c.deref-in-Ok-Some.result.now c.in-Some.end c.deref-2.ensures.value
+    c.truncate.ensures.items (c.deref-in-Ok-Some.ensures.value ∙ c.in-Ok.ensures.items))
+    (c.replay_records.ensures.ok base closes is)
+
+pub returns-in-Ok-Some-clause-refused : goal.returns-in-Ok-Some-clause-refused
+returns-in-Ok-Some-clause-refused c =
+    let bytes : List ℕ = c.args.bytes.items in
+    let base : List ℕ = c.truncate.new.self.items in
+    let starts : StartsLine bytes 0 = search rules in
+    let next : IsNextClosing bytes 0 c.in-Some.end =
+    subst (λ b. IsNextClosing b 0 c.in-Some.end) c.deref.ensures.value c.in-Some.ensures.found in
+    let closes : ClosesOnce base = subst ClosesOnce (sym c.truncate.ensures.items)
+    (first-closes c.piece_between_closings.ensures.piece bytes c.in-Some.end starts next) in
+    let is : IsBase base c.in-Ok-Some.part =
+    subst (λ r. IfSome r (λ part. IsBase base part)) c.in-Ok-Some.field-0-is c.in-Ok-Some.ensures.some in
+    subst (λ b. IfErr c.replay_records.result (RefusesBytes b))
+    (cut-apart bytes c.deref-2.result.now base c.deref-in-Ok-Some.result.now c.in-Some.end c.deref-2.ensures.value
+    c.truncate.ensures.items (c.deref-in-Ok-Some.ensures.value ∙ c.in-Ok.ensures.items))
+    (c.replay_records.ensures.refused base closes is)
