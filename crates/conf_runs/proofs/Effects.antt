@@ -1,7 +1,6 @@
 -- What each word does to the folders of a world.
 use Rattle.std.proofs.Common.{◌≡◌, ◌≢◌, inl, inr, ℕ, Bool, true, false, List, [], ◌∷◌, Option, None, Some, Result, Ok}
 use Rattle.std.proofs.Common.{Err, IfOk, refl, sym, ap, subst, codes}
-use Rattle.conf_conditions.specs.Conditions.{Condition, conditions_of}
 use Rattle.conf_disk.specs.Image.{Image}
 use Rattle.conf_disk.specs.Models.{DiskModel}
 use Rattle.conf_files.specs.declared.replace.ReplaceFault.{ReplaceFault}
@@ -30,7 +29,7 @@ use Rattle.conf_tools.specs.Performs.{ChangesAt, FormatsAll, ChecksAll, ImportsR
 use Rattle.conf_tools.specs.Exports.{disk_back}
 use Rattle.conf_tools.specs.Tools.{Taken}
 use Rattle.conf_tools.specs.ProgramCalls.{Call, changing, disk_before, disk_behind, exporting, running}
-use Rattle.conf_tools.specs.StoreWords.{ChangesInFolder, ExportsFromFolder, Inits, MakesChange, MakesInFolder}
+use Rattle.conf_tools.specs.StoreWords.{Condition, conditions_of, ChangesInFolder, ExportsFromFolder, Inits, MakesChange, MakesInFolder}
 use Rattle.conf_tools.specs.StoreWords.{OpensFile, OpensNew, RunsOnFolder, Salvages, SavesFound, SavesInFolder}
 use Rattle.conf_tools.specs.StoreWords.{WritesFindings, status_at_end}
 use Rattle.conf_tools.specs.TextWords.{IfSo, IsSet, ReplacesAt, ReplacesRead, ReportsOnAll, RestylesAll}

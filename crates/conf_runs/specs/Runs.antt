@@ -1,7 +1,6 @@
 -- Runs of the program, one after the other, and what the store in one folder keeps of their commands.
 use Rattle.std.specs.Prelude.{◌≡◌, ◌≢◌, ◌≤◌, ℕ, Bool, true, false, List, [], ◌∷◌, length, take, Option, None, Some, Result, Ok, Err, IfOk}
 use Rattle.std.proofs.Common.{inl, inr}
-use Rattle.conf_conditions.specs.Conditions.{Condition}
 use Rattle.conf_disk.specs.Image.{Image}
 use Rattle.conf_disk.specs.Models.{DiskModel}
 use Rattle.conf_history.specs.Copies.{BacksUp, LeavesOldOrCopy, ReadsCopy}
@@ -28,7 +27,7 @@ use Rattle.conf_tools.specs.Performs.{ChangesAt, ImportsRead, Performs, access_o
 use Rattle.conf_tools.specs.ProgramCalls.{Call, Ending as CallEnding, accepted, answered, changing, disk_before}
 use Rattle.conf_tools.specs.ProgramCalls.{disk_behind, exporting, running}
 use Rattle.conf_tools.specs.ProgramCalls as call
-use Rattle.conf_tools.specs.StoreWords.{ChangesInFolder, ExportsFromFolder, Inits, MakesChange, MakesInFolder}
+use Rattle.conf_tools.specs.StoreWords.{Condition, ChangesInFolder, ExportsFromFolder, Inits, MakesChange, MakesInFolder}
 use Rattle.conf_tools.specs.StoreWords.{RunsOnFolder, SavesFound, SavesInFolder}
 use Rattle.conf_tools.specs.Tools.{Taken}
 use Rattle.conf_tools.specs.Worlds.{Around, WorldModel}

@@ -1,22 +1,28 @@
 -- What an export finds, whether the store was opened or its file was read.
-use Rattle.std.proofs.Common.{◌≡◌, ◌≤◌, ℕ, List, Ok, Err, inl, inr, refl, sym, subst, arith, ⊎_elim}
-use Rattle.std.specs.Prelude.{Result, IfOk, IfErr}
-use Rattle.conf_disk.specs.Folder.{Folder, bytes_under}
+use Rattle.std.proofs.Common.{◌≡◌, ◌≤◌, ◌⊎◌, ℕ, List, Ok, Err, inl, inr, refl, sym, ap, subst, arith, ⊎_elim}
+use Rattle.std.specs.Prelude.{Option, Some, None, Result, IfOk, IfErr, OnOk, Vec}
+use Rattle.std.specs.declared.alloc.Global.{Global}
+use Rattle.conf_disk.specs.Folder.{Folder, Reads, Tells, bytes_under}
 use Rattle.conf_disk.specs.Image.{Image, IsImage, image_now}
 use Rattle.conf_disk.specs.Laws.{ReadingIsAnImage}
 use Rattle.conf_disk.specs.Models.{DiskModel}
 use Rattle.conf_disk.specs.Moments.{LeavesOnly}
+use Rattle.conf_disk.specs.declared.disk.Content.TheVariants.{Bytes}
 use Rattle.conf_disk.specs.declared.disk.Name.TheVariants.{Store}
-use Rattle.conf_disk.proofs.Moments.{LeavesOnly-joined, LeavesOnly-now}
+use Rattle.conf_disk.proofs.Moments.{LeavesOnly-joined, LeavesOnly-now, LeavesOnly-start, LeavesOnly-weaker}
+use Rattle.conf_journal.specs.Store.{store_limit}
 use Rattle.conf_state.specs.States.{Contents}
 use Rattle.conf_store.specs.Calls.{HasFailed}
-use Rattle.conf_store.specs.Files.{FilesStay, IsNewBase}
+use Rattle.conf_store.specs.Files.{FilesStay, IsNewBase, IsOldOrBase}
 use Rattle.conf_store.specs.Meaning.{FileMeans}
-use Rattle.conf_store.specs.Opens.{MeantAtEntry, RefusesOpening}
+use Rattle.conf_store.specs.Opens.{MeantAtEntry, RecoversTo, RefusesBytes, RefusesOpening}
 use Rattle.conf_store.specs.View.{StoreView}
 use Rattle.conf_store.specs.declared.fault.OpenFault.{OpenFault}
 use Rattle.conf_store.specs.declared.fault.OpenFault.TheVariants.{NotAStore, Damaged, Device, OutOfMemory}
+use Rattle.conf_store.proofs.OpenLemmas.{image-meant, not-read}
+use Rattle.conf_store.proofs.RecoveryLemmas.{recovers-means}
 use Rattle.conf_words.specs.declared.invocation.TreeForm.{TreeForm}
+use Rattle.conf_tools.specs.Dropped.{HasNoRest, TellsDroppedOf}
 use Rattle.conf_tools.specs.Exports.{Finds, HasText, LacksText, disk_back}
 use Rattle.conf_tools.specs.Stores.{CannotOpen, OpensOn}
 use Rattle.conf_tools.specs.declared.stores.StoreToolFault.{StoreToolFault}
@@ -56,25 +62,153 @@ module _ {D : Type 0} (model : DiskModel D) where
   refused-now old new Device cannot h = tt
   refused-now old new OutOfMemory cannot h = tt
 
-  -- ---- reading after an opening in which the device failed
+  -- ---- a file that was read
 
-  module _ (old mid : D) (cannot : CannotOpen model old mid Device) where
-    since-opening : (new : D) (state : Contents) → model.failure_count mid ≤ model.failure_count new
+  -- the state of a file that was read as these bytes
+  pub bytes-find : (disk : D) (read : Vec ℕ Global) (state : Contents) (records dropped : ℕ)
+      → (model.honest → Reads (model.folder disk) Store store_limit (Bytes read))
+      → RecoversTo read.items state records dropped → Finds model disk disk state
+  bytes-find disk read state records dropped reads recovers =
+      read-finds disk disk state (λ h. refl) (λ h. bytes-mean (bytes_under (model.folder disk) Store) (reads h))
+    where
+      bytes-mean : (file : Option (List ℕ)) → Tells file store_limit (Bytes read) → FileMeans file state
+      bytes-mean None tells = absurd tells
+      bytes-mean (Some bytes) tells = recovers-means bytes state records dropped
+          (subst (λ b. RecoversTo b state records dropped) tells.0 recovers) tells.1
+
+  -- nothing had to be told of it, where no bytes follow its last whole record
+  pub bytes-whole : {E : Type 0} (hears : E → List ℕ → E → Type 0) (errors : E) (file : Option (List ℕ)) (read : Vec ℕ Global)
+      (state : Contents) (records : ℕ) → Tells file store_limit (Bytes read) → RecoversTo read.items state records 0
+      → TellsDroppedOf hears file errors errors
+  bytes-whole hears errors None read state records tells recovers = absurd tells
+  bytes-whole hears errors (Some bytes) read state records tells recovers = record {
+    s = state;
+    records = records;
+    dropped = 0;
+    recovers = subst (λ b. RecoversTo b state records 0) tells.0 recovers;
+    tells = refl;
+  }
+
+  -- why its bytes were refused
+  pub bytes-lack : (disk : D) (read : Vec ℕ Global) (name : List ℕ) (fault : OpenFault)
+      → (model.honest → Reads (model.folder disk) Store store_limit (Bytes read)) → RefusesBytes read.items fault
+      → LacksText model disk disk name (Open fault)
+  bytes-lack disk read name fault reads refused = (
+    λ h. not-read (bytes_under (model.folder disk) Store) read fault (reads h) refused,
+    λ device. absurd (subst (RefusesBytes read.items) device refused),
+  )
+
+  -- a disk on which nothing was done leaves what it could leave before
+  pub leaves-same : (disk : D) → ((image : Image) → model.left disk (model.moment disk) image → IsImage (model.folder disk) image)
+      → LeavesOnly model disk disk (λ image. MeantAtEntry (model.folder disk) image.store)
+  leaves-same disk only =
+      LeavesOnly-start model disk (λ image. MeantAtEntry (model.folder disk) image.store)
+      (λ image is. image-meant (model.folder disk) image (only image is))
+
+  -- ---- after a file was read, which was as it is
+
+  module _ (old mid : D) (steady : model.failure_count mid ≡ model.failure_count old)
+      (reads : model.honest → image_now (model.folder mid) ≡ image_now (model.folder old)) where
+    failed-before : (new : D) → HasFailed (model.failure_count mid) (model.failure_count new)
+        → HasFailed (model.failure_count old) (model.failure_count new)
+    failed-before new failed = subst (λ n. HasFailed n (model.failure_count new)) steady failed
+
+    same-file : model.honest → bytes_under (model.folder mid) Store ≡ bytes_under (model.folder old) Store
+    same-file h = ap (λ (image : Image). image.store) (reads h)
+
+    found-before : (new : D) (state : Contents) → Finds model mid new state → Finds model old new state
+    found-before new state found = record {
+      at_end = found.at_end;
+      at_start = λ h.
+          ⊎_elim (λ is. inl (subst (λ file. FileMeans file state) (same-file h) is))
+          (λ base. inr (
+            failed-before new base.0,
+            subst (λ file. IsNewBase file (bytes_under (model.folder new) Store)) (same-file h) base.1,
+          ))
+          (found.at_start h);
+    }
+
+    pub text-before : {X : Type 0} (bytes : X → List ℕ) (form : TreeForm) (name : List ℕ)
+        (r : Result (D × X) (D × StoreToolFault))
+        → IfOk r (λ found. HasText model form mid found.0 name (bytes found.1))
+        → IfOk r (λ found. HasText model form old found.0 name (bytes found.1))
+    text-before bytes form name (Ok (new, x)) text =
+        record { state = text.state; finds = found-before new text.state text.finds; exports = text.exports }
+    text-before bytes form name (Err refused) text = tt
+
+    lacks-before : (name : List ℕ) (new : D) (fault : StoreToolFault) → LacksText model mid new name fault
+        → LacksText model old new name fault
+    lacks-before name new (InFolder fault) lacks = absurd lacks
+    lacks-before name new (Open fault) lacks = (lacks.0, λ device. failed-before new (lacks.1 device))
+    lacks-before name new (Session fault) lacks = absurd lacks
+    lacks-before name new (Export fault) lacks =
+        record { state = lacks.state; finds = found-before new lacks.state lacks.finds; why = lacks.why }
+    lacks-before name new (OnCondition fault) lacks = absurd lacks
+    lacks-before name new (Refused fault) lacks = absurd lacks
+    lacks-before name new StoreExists lacks = absurd lacks
+
+    pub refused-before : {X : Type 0} (name : List ℕ) (r : Result (D × X) (D × StoreToolFault))
+        → IfErr r (λ refused. LacksText model mid refused.0 name refused.1)
+        → IfErr r (λ refused. LacksText model old refused.0 name refused.1)
+    refused-before name (Ok found) lacks = tt
+    refused-before name (Err (new, fault)) lacks = lacks-before name new fault lacks
+
+    pub dropped-before : {X E : Type 0} (hears : E → List ℕ → E → Type 0) (from to : E)
+        (r : Result (D × X) (D × StoreToolFault)) → model.honest
+        → OnOk r (HasFailed (model.failure_count mid) (model.failure_count (disk_back r))
+        ⊎ TellsDroppedOf hears (bytes_under (model.folder mid) Store) from to)
+        → OnOk r (HasFailed (model.failure_count old) (model.failure_count (disk_back r))
+        ⊎ TellsDroppedOf hears (bytes_under (model.folder old) Store) from to)
+    dropped-before hears from to (Ok (new, x)) h told =
+        ⊎_elim (λ failed. inl (failed-before new failed))
+        (λ tells. inr (subst (λ file. TellsDroppedOf hears file from to) (same-file h) tells)) told
+    dropped-before hears from to (Err refused) h told = tt
+
+    pub no-rest-before : model.honest → HasNoRest (bytes_under (model.folder old) Store)
+        → HasNoRest (bytes_under (model.folder mid) Store)
+    no-rest-before h none = subst HasNoRest (sym (same-file h)) none
+
+  -- what a crash leaves of two parts of a call
+  pub leaves-both : (old mid new : D)
+      → ((t : ℕ) (image : Image) → t ≤ model.moment mid → IsImage (model.folder mid) image → model.left mid t image)
+      → LeavesOnly model old mid (IsImage (model.folder old))
+      → LeavesOnly model mid new (λ image. MeantAtEntry (model.folder mid) image.store)
+      → LeavesOnly model old new (λ image. MeantAtEntry (model.folder old) image.store)
+  leaves-both old mid new counts first second =
+      LeavesOnly-joined model old mid new (IsImage (model.folder old)) (λ image. MeantAtEntry (model.folder mid) image.store)
+      (λ image. MeantAtEntry (model.folder old) image.store) first second (image-meant (model.folder old))
+      (λ image meant. record {
+        entry = meant.entry;
+        is = LeavesOnly-now model old mid (IsImage (model.folder old)) counts first meant.entry meant.is;
+        alike = meant.alike;
+      })
+
+  -- what a crash leaves of a part that leaves only what it could leave before
+  pub leaves-meant : (old new : D) → LeavesOnly model old new (IsImage (model.folder old))
+      → LeavesOnly model old new (λ image. MeantAtEntry (model.folder old) image.store)
+  leaves-meant old new leaves =
+      LeavesOnly-weaker model old new (IsImage (model.folder old)) (λ image. MeantAtEntry (model.folder old) image.store)
+      leaves (image-meant (model.folder old))
+
+  -- ---- reading after the device failed
+
+  module _ (old mid : D) (failed : HasFailed (model.failure_count old) (model.failure_count mid))
+      (starts : model.honest → IsOldOrBase (bytes_under (model.folder old) Store) (bytes_under (model.folder mid) Store)) where
+    since-failure : (new : D) (state : Contents) → model.failure_count mid ≤ model.failure_count new
         → (model.honest → model.folder new ≡ model.folder mid) → Finds model mid new state
         → Finds model old new state
-    since-opening new state risen same found = record {
+    since-failure new state risen same found = record {
       at_end = found.at_end;
       at_start = λ h.
           ⊎_elim
           (λ kept. inl (subst (λ file. FileMeans file state) kept
           (subst (λ (f : Folder). FileMeans (bytes_under f Store) state) (same h) (found.at_end h))))
           (λ base. inr (
-            failed-on (model.failure_count old) (model.failure_count mid) (model.failure_count new)
-                (cannot.cause refl) risen,
+            failed-on (model.failure_count old) (model.failure_count mid) (model.failure_count new) failed risen,
             subst (λ (f : Folder).
                 IsNewBase (bytes_under (model.folder old) Store) (bytes_under f Store)) (sym (same h)) base,
           ))
-          (cannot.old_or_base h);
+          (starts h);
     }
 
     pub text-since : {X : Type 0} (bytes : X → List ℕ) (form : TreeForm) (name : List ℕ)
@@ -83,7 +217,7 @@ module _ {D : Type 0} (model : DiskModel D) where
         → IfOk r (λ found. HasText model form mid found.0 name (bytes found.1))
         → IfOk r (λ found. HasText model form old found.0 name (bytes found.1))
     text-since bytes form name (Ok (new, x)) risen same text =
-        record { state = text.state; finds = since-opening new text.state risen same text.finds; exports = text.exports }
+        record { state = text.state; finds = since-failure new text.state risen same text.finds; exports = text.exports }
     text-since bytes form name (Err refused) risen same text = tt
 
     lacks-since : (name : List ℕ) (new : D) (fault : StoreToolFault)
@@ -92,12 +226,11 @@ module _ {D : Type 0} (model : DiskModel D) where
     lacks-since name new (InFolder fault) risen same lacks = absurd lacks
     lacks-since name new (Open fault) risen same lacks = (
       lacks.0,
-      λ device. failed-on (model.failure_count old) (model.failure_count mid) (model.failure_count new)
-          (cannot.cause refl) risen,
+      λ device. failed-on (model.failure_count old) (model.failure_count mid) (model.failure_count new) failed risen,
     )
     lacks-since name new (Session fault) risen same lacks = absurd lacks
     lacks-since name new (Export fault) risen same lacks =
-        record { state = lacks.state; finds = since-opening new lacks.state risen same lacks.finds; why = lacks.why }
+        record { state = lacks.state; finds = since-failure new lacks.state risen same lacks.finds; why = lacks.why }
     lacks-since name new (OnCondition fault) risen same lacks = absurd lacks
     lacks-since name new (Refused fault) risen same lacks = absurd lacks
     lacks-since name new StoreExists risen same lacks = absurd lacks
@@ -110,12 +243,21 @@ module _ {D : Type 0} (model : DiskModel D) where
     refused-since name (Ok found) risen same lacks = tt
     refused-since name (Err (new, fault)) risen same lacks = lacks-since name new fault risen same lacks
 
-    -- a crash while the file is read leaves no more than one at the end of the opening
-    pub leaves-since : ((t : ℕ) (image : Image) → t ≤ model.moment mid → IsImage (model.folder mid) image
-        → model.left mid t image) → (new : D) → model.honest → FilesStay model mid new
-        → LeavesOnly model old new (λ image. MeantAtEntry (model.folder old) image.store)
-    leaves-since counts new h stays =
-        LeavesOnly-joined model old mid new (λ image. MeantAtEntry (model.folder old) image.store)
-        (IsImage (model.folder mid)) (λ image. MeantAtEntry (model.folder old) image.store)
-        (cannot.at_any_moment h) stays.any_moment (λ image is. is)
-        (LeavesOnly-now model old mid (λ image. MeantAtEntry (model.folder old) image.store) counts (cannot.at_any_moment h))
+    -- the device has failed
+    pub dropped-since : {X : Type 0} (told : Type 0) (r : Result (D × X) (D × StoreToolFault))
+        → model.failure_count mid ≤ model.failure_count (disk_back r)
+        → OnOk r (HasFailed (model.failure_count old) (model.failure_count (disk_back r)) ⊎ told)
+    dropped-since told (Ok (new, x)) risen =
+        inl (failed-on (model.failure_count old) (model.failure_count mid) (model.failure_count new) failed risen)
+    dropped-since told (Err refused) risen = tt
+
+  -- a crash while the file is read leaves no more than one before
+  pub leaves-since : (old mid : D) → LeavesOnly model old mid (λ image. MeantAtEntry (model.folder old) image.store)
+      → ((t : ℕ) (image : Image) → t ≤ model.moment mid → IsImage (model.folder mid) image → model.left mid t image)
+      → (new : D) → FilesStay model mid new
+      → LeavesOnly model old new (λ image. MeantAtEntry (model.folder old) image.store)
+  leaves-since old mid leaves counts new stays =
+      LeavesOnly-joined model old mid new (λ image. MeantAtEntry (model.folder old) image.store)
+      (IsImage (model.folder mid)) (λ image. MeantAtEntry (model.folder old) image.store)
+      leaves stays.any_moment (λ image is. is)
+      (LeavesOnly-now model old mid (λ image. MeantAtEntry (model.folder old) image.store) counts leaves)

@@ -36,6 +36,10 @@ pub record Finds {D : Type 0} (model : DiskModel D) (old new : D)
       ⊎ (HasFailed (model.failure_count old) (model.failure_count new)
       × IsNewBase (bytes_under (model.folder old) Store) (bytes_under (model.folder new) Store))
 
+-- the bytes are the tree that was found, written in this form in UTF-8
+abbrev pub IsTextOfFound : TreeForm → Result Tree StoreFault → List ℕ → Type 0
+IsTextOfFound form found bytes = (tree : Tree) × (found ≡ Ok tree) × (bytes ≡ encode_utf8_all (tree_text form tree))
+
 -- the bytes are the configuration under the name, written in this form in UTF-8
 pub record IsTextOf (form : TreeForm) (state : Contents) (name bytes : List ℕ) : Type 0 where
   pub tree : Tree

@@ -1,23 +1,28 @@
 // The text of one configuration of a store, over any disk.
-ghost use Rattle.std.specs.Prelude.{◌≡◌, ◌≤◌, ◌⊎◌, IfOk, IfErr, Err, string_bytes};
+ghost use Rattle.std.specs.Prelude.{◌≡◌, ◌≤◌, ◌⊎◌, IfOk, IfErr, Err, OnOk, string_bytes};
 ghost use Rattle.std.specs.Str.{chars};
-ghost use Rattle.conf_disk.specs.Folder.{bytes_under};
+ghost use Rattle.conf_disk.specs.Folder.{Reads, bytes_under};
 ghost use Rattle.conf_disk.specs.Moments.{LeavesOnly};
-ghost use Rattle.conf_store.specs.Calls.{tree_named};
+ghost use Rattle.conf_journal.specs.Store.{store_limit};
+ghost use Rattle.conf_store.specs.Calls.{HasFailed, tree_named};
 ghost use Rattle.conf_store.specs.Files.{FilesStay};
 ghost use Rattle.conf_store.specs.Opens.{MeantAtEntry};
-ghost use Rattle.conf_tools.specs.Dropped.{HasNoRest, TellsDropped};
-ghost use Rattle.conf_tools.specs.Exports.{HasText, IsTextOf, LacksText, disk_back};
+ghost use Rattle.conf_tools.specs.Dropped.{HasNoRest, TellsDropped, TellsDroppedOf};
+ghost use Rattle.conf_tools.specs.Exports.{HasText, IsTextOf, IsTextOfFound, LacksText, disk_back};
+ghost use Rattle.conf_tools.specs.Reads.{tree_found, tree_or};
 
 use crate::dropped::open_told;
 use crate::listener::Listener;
 use crate::reads::{config_of, tree_text};
 use crate::stores::StoreToolFault;
-use conf_disk::{Disk, Name, reading_is_an_image};
+use conf_disk::{Content, Disk, DiskFault, Name, reading_is_an_image};
+use conf_history::config_in;
+use conf_journal::load;
 use conf_state::{State, StoreFault};
 use conf_store::{OpenFault, Store, read_state};
 use conf_words::TreeForm;
 use std::alloc::Global;
+use yaml_tree::Config;
 
 /// The configuration that a state has under a name, written in a form.
 ///
@@ -86,12 +91,117 @@ fn read_text<D: Disk + Drop>(
     }
 }
 
-/// Opens the store on `disk`, and returns the configuration under a name, written in a form, with the disk. One line to
-/// `errors` says how many bytes opening dropped, if there were any.
+/// The configuration that was found under a name, written in a form.
 ///
-/// If the device fails while the store is opened, `store.yaml` is read as it stands, and nothing more is written or
-/// synced. So the configuration can be had from a folder that can't be written. But a crash may take back the last
-/// commands that were read so.
+/// # Errors
+/// Those of [`text_in`].
+fn found_text(
+    alloc: Global,
+    found: Option<&Config>,
+    name: &str,
+    form: TreeForm,
+) -> Result<String, StoreFault>
+    ensures ok { IfOk result (λ text.
+        IsTextOfFound form (tree_or (tree_found found.entry) (chars name.now)) (string_bytes text)) }
+    ensures refused { IfErr result (λ fault. (fault ≡ StoreFault.OutOfMemory)
+        ⊎ (tree_or (tree_found found.entry) (chars name.now) ≡ Err fault)) }
+{
+    match config_of(found, name) {
+        Ok(config) => Ok(tree_text(alloc, config.tree(), form)?),
+        Err(fault) => Err(fault),
+    }
+}
+
+/// Opens the store on `disk`, and returns the configuration under a name, as [`export_text`] does. All configurations
+/// of the store are built.
+///
+/// # Errors
+/// Those of [`export_text`].
+fn open_text<D: Disk + Drop, E: Listener>(
+    alloc: Global,
+    disk: D,
+    name: &str,
+    form: TreeForm,
+    errors: &mut E,
+) -> Result<(D, String), (D, StoreToolFault)>
+    ensures ok { IfOk result (λ r. HasText D.model form disk r.0
+        (chars name.now) (string_bytes r.1)) }
+    ensures refused { IfErr result (λ r. LacksText D.model disk r.0
+        (chars name.now) r.1) }
+    ensures crashes { D.model.honest → LeavesOnly D.model disk (disk_back result)
+        (λ image. MeantAtEntry (D.model.folder disk) image.store) }
+    ensures told { TellsDropped E.hears errors.old errors.new }
+    ensures dropped { D.model.honest → OnOk result
+        (HasFailed (D.model.failure_count disk) (D.model.failure_count (disk_back result))
+        ⊎ TellsDroppedOf E.hears (bytes_under (D.model.folder disk) Name.Store) errors.old errors.new) }
+    ensures quiet { D.model.honest → HasNoRest (bytes_under (D.model.folder disk) Name.Store)
+        → errors.new ≡ errors.old }
+{
+    reading_is_an_image();
+    let store = match open_told(alloc, disk, errors) {
+        Ok(store) => store,
+        Err((disk, OpenFault::Device)) => return read_text(alloc, disk, name, form),
+        Err((disk, fault)) => return Err((disk, StoreToolFault::Open(fault))),
+    };
+    let exported = text_of(alloc, &store, name, form);
+    let disk = store.close();
+    match exported {
+        Ok(text) => Ok((disk, text)),
+        Err(fault) => Err((disk, StoreToolFault::Export(fault))),
+    }
+}
+
+/// Returns the configuration under a name, as [`export_text`] does, where `store.yaml` was read as `content`. Where an
+/// opening would write no file, no other configuration is built.
+///
+/// # Errors
+/// Those of [`export_text`].
+fn export_read<D: Disk + Drop, E: Listener>(
+    alloc: Global,
+    disk: D,
+    content: Content,
+    name: &str,
+    form: TreeForm,
+    errors: &mut E,
+) -> Result<(D, String), (D, StoreToolFault)>
+    requires { D.model.honest → Reads (D.model.folder disk) Name.Store store_limit content }
+    ensures ok { IfOk result (λ r. HasText D.model form disk r.0
+        (chars name.now) (string_bytes r.1)) }
+    ensures refused { IfErr result (λ r. LacksText D.model disk r.0
+        (chars name.now) r.1) }
+    ensures crashes { D.model.honest → LeavesOnly D.model disk (disk_back result)
+        (λ image. MeantAtEntry (D.model.folder disk) image.store) }
+    ensures told { TellsDropped E.hears errors.old errors.new }
+    ensures dropped { D.model.honest → OnOk result
+        (HasFailed (D.model.failure_count disk) (D.model.failure_count (disk_back result))
+        ⊎ TellsDroppedOf E.hears (bytes_under (D.model.folder disk) Name.Store) errors.old errors.new) }
+    ensures quiet { D.model.honest → HasNoRest (bytes_under (D.model.folder disk) Name.Store)
+        → errors.new ≡ errors.old }
+{
+    let Content::Bytes(bytes) = content else {
+        return open_text(alloc, disk, name, form, errors);
+    };
+    let (config, opened) = match config_in(alloc, bytes, name) {
+        Ok(read) => read,
+        Err(fault) => return Err((disk, StoreToolFault::Open(fault))),
+    };
+    if opened.dropped > 0 {
+        return open_text(alloc, disk, name, form, errors);
+    }
+    match found_text(alloc, config.as_ref(), name, form) {
+        Ok(text) => Ok((disk, text)),
+        Err(fault) => Err((disk, StoreToolFault::Export(fault))),
+    }
+}
+
+/// Returns the configuration that the store on `disk` has under a name, written in a form, with the disk. The folder
+/// and `store.yaml` are synced. If there is no such file, or bytes follow its last whole record, the store is opened,
+/// which writes the file anew; one line to `errors` says how many bytes that dropped, if there were any. Otherwise no
+/// file changes, and no other configuration is built.
+///
+/// If the device fails at that, `store.yaml` is read as it stands, and nothing more is written or synced. So the
+/// configuration can be had from a folder that can't be written. But a crash may take back the last commands that were
+/// read so.
 ///
 /// Whatever this returns, a crash at any moment leaves a `store.yaml` that means what it might have meant before.
 ///
@@ -113,20 +223,18 @@ pub fn export_text<D: Disk + Drop, E: Listener>(
     ensures crashes { D.model.honest → LeavesOnly D.model disk (disk_back result)
         (λ image. MeantAtEntry (D.model.folder disk) image.store) }
     ensures told { TellsDropped E.hears errors.old errors.new }
+    // The line says how many bytes followed the last whole record of the file, if the device didn't fail.
+    ensures dropped { D.model.honest → OnOk result
+        (HasFailed (D.model.failure_count disk) (D.model.failure_count (disk_back result))
+        ⊎ TellsDroppedOf E.hears (bytes_under (D.model.folder disk) Name.Store) errors.old errors.new) }
     // Nothing is told if no bytes are dropped.
     ensures quiet { D.model.honest → HasNoRest (bytes_under (D.model.folder disk) Name.Store)
         → errors.new ≡ errors.old }
 {
-    reading_is_an_image();
-    let store = match open_told(alloc, disk, errors) {
-        Ok(store) => store,
-        Err((disk, OpenFault::Device)) => return read_text(alloc, disk, name, form),
-        Err((disk, fault)) => return Err((disk, StoreToolFault::Open(fault))),
-    };
-    let exported = text_of(alloc, &store, name, form);
-    let disk = store.close();
-    match exported {
-        Ok(text) => Ok((disk, text)),
-        Err(fault) => Err((disk, StoreToolFault::Export(fault))),
+    let mut disk = disk;
+    match load(alloc, &mut disk) {
+        Ok(content) => export_read(alloc, disk, content, name, form, errors),
+        Err(DiskFault::Device) => read_text(alloc, disk, name, form),
+        Err(DiskFault::OutOfMemory) => Err((disk, StoreToolFault::Open(OpenFault::OutOfMemory))),
     }
 }

@@ -40,6 +40,7 @@ mod texts;
 mod world;
 
 pub use changes::{Change, change_store, make_store};
+pub use conf_conditions::ConditionFault;
 pub use exports::export_text;
 pub use file_texts::{Restyled, check_file, list_changed, restyle};
 pub use file_words::Report;

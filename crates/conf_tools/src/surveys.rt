@@ -6,7 +6,7 @@ ghost use Rattle.conf_tools.specs.Surveys.{CannotWrite, RefusesWriting, WritesSu
 use crate::findings::findings_text;
 use crate::reading_fault::ReadingFault;
 use crate::texts::write_whole;
-use conf_history::{Bad, Findings, HistoryFault, survey_store};
+use conf_history::{Bad, Findings, HistoryFault, find_in_store};
 use std::alloc::Global;
 use std::io::{Read, Write};
 
@@ -20,10 +20,10 @@ pub enum Soundness {
 }
 
 /// Writes what an opening of a store would find in its file, as a YAML mapping in the one style, and returns whether it
-/// could be opened. The file is read as by [`survey_store`].
+/// could be opened. The file is read as by [`find_in_store`].
 ///
 /// # Errors
-/// - `History` if [`survey_store`] fails, or memory runs out. Nothing is written.
+/// - `History` if [`find_in_store`] fails, or memory runs out. Nothing is written.
 /// - `Output` if the writer fails. Some of the text may be written.
 pub fn write_survey<R: Read, W: Write>(
     alloc: Global,
@@ -35,12 +35,12 @@ pub fn write_survey<R: Read, W: Write>(
     ensures refused { IfErr result (RefusesWriting (R.remaining reader.old)
         (W.contents writer.old) (W.contents writer.new)) }
 {
-    let found = match survey_store(alloc, reader) {
-        Ok(found) => found,
+    let findings = match find_in_store(alloc, reader) {
+        Ok(findings) => findings,
         Err(fault) => return Err(ReadingFault::History(fault)),
     };
-    match write_findings(alloc, &found.findings, writer) {
-        Ok(()) => Ok(soundness_of(&found.findings.bad)),
+    match write_findings(alloc, &findings, writer) {
+        Ok(()) => Ok(soundness_of(&findings.bad)),
         Err(fault) => Err(fault),
     }
 }

@@ -1,10 +1,9 @@
 // The names by which faults are told, beside the messages of their own crates.
-use conf_conditions::ConditionFault;
 use conf_folder::FolderFault;
 use conf_history::{BadPiece, HistoryFault, NoRecord, SalvageFault};
 use conf_session::SessionFault;
 use conf_store::OpenFault;
-use conf_tools::{ReadingFault, StoreToolFault};
+use conf_tools::{ConditionFault, ReadingFault, StoreToolFault};
 use std::alloc::{AllocError, Global};
 use std::fmt::Display;
 use tree_path::PathFault;
