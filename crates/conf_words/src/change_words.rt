@@ -3,27 +3,25 @@ ghost use Rattle.std.specs.Prelude.{IfSome};
 ghost use Rattle.conf_words.specs.Invocations.{HasFittingFiles};
 
 use crate::arguments::{
-    FILE, FOLDER, NAME, POINTER, WHOLE, YAML, explain_arg, flag_arg, folder_arg, name_arg,
-    reporting_of, whole_pointer_arg,
+    Argument, EXPLAIN_ARGUMENT, FILE, FOLDER, FOLDER_ARGUMENT, Form, NAME, NAME_ARGUMENT, POINTER,
+    POINTER_ARGUMENT, Relation, WHOLE, YAML, reporting_of,
 };
-use crate::conditions::{conditions_of, with_conditions};
+use crate::conditions::{IF_ABSENT_ARGUMENT, IF_COUNT_ARGUMENT, IF_VALUE_ARGUMENT, conditions_of};
 use crate::invocation::{Grouping, Invocation, MissingStore, STANDARD_INPUT, Value};
+use crate::listing::Listing;
 use crate::refusal::refused;
 use crate::unparsed::Unparsed;
-use clap::{Arg, ArgMatches, Command, value_parser};
-use std::alloc::{AllocError, Global};
+use clap::ArgMatches;
+use std::alloc::Global;
 
-const INIT_HELP: &str = "\
+pub(crate) const INIT: Listing = Listing {
+    about: "Makes a folder with an empty store",
+    arguments: &[FOLDER_ARGUMENT],
+    help: "\
 A folder that is there serves too. It is refused if it has a store.yaml (StoreExists).
 
-Example:  confstore init store";
-
-pub(crate) fn init_arguments<'a>(
-    alloc: Global,
-    init: Command<'a>,
-) -> Result<Command<'a>, AllocError> {
-    init.after_help(INIT_HELP).arg(folder_arg(alloc))
-}
+Example:  confstore init store",
+};
 
 pub(crate) fn init_invocation<'w>(words: &ArgMatches<'w>) -> Option<Invocation<'w>>
     ensures { IfSome result HasFittingFiles }
@@ -33,7 +31,29 @@ pub(crate) fn init_invocation<'w>(words: &ArgMatches<'w>) -> Option<Invocation<'
     })
 }
 
-const IMPORT_HELP: &str = "\
+pub(crate) const IMPORT: Listing = Listing {
+    about: "Reads a YAML text, and puts its tree under a name",
+    arguments: &[
+        Argument {
+            name: MAKE_STORE,
+            help: "Makes a store in the folder, if it has none",
+            form: Form::Flag,
+            relation: Relation::Free,
+        },
+        EXPLAIN_ARGUMENT,
+        IF_VALUE_ARGUMENT,
+        IF_ABSENT_ARGUMENT,
+        IF_COUNT_ARGUMENT,
+        FOLDER_ARGUMENT,
+        NAME_ARGUMENT,
+        Argument {
+            name: FILE,
+            help: "The file of the text; standard input if it is left out or `-`",
+            form: Form::Optional,
+            relation: Relation::Free,
+        },
+    ],
+    help: "\
 A configuration that has the name is replaced. Nothing is printed where it is done. Comments and
 quotes are not kept, and `3` is written `\"3\"`. A folder without a store is refused (NotAStore), and
 stays as it is, unless --init is given. If a condition does not hold, nothing changes (Unmet).
@@ -46,28 +66,11 @@ Examples:
   confstore import store web web.yaml
   confstore import --init store web web.yaml
   confstore import store web web.yaml --if-absent
-  printf 'port: 80\\n' | confstore import store web";
-
-const TEXT_FILE_HELP: &str = "The file of the text; standard input if it is left out or `-`";
+  printf 'port: 80\\n' | confstore import store web",
+};
 
 /// The word of `import` that has a store made where there is none.
-const INIT: &str = "init";
-
-const IMPORT_INIT_HELP: &str = "Makes a store in the folder, if it has none";
-
-pub(crate) fn import_arguments<'a>(
-    alloc: Global,
-    import: Command<'a>,
-) -> Result<Command<'a>, AllocError> {
-    let import = import
-        .after_help(IMPORT_HELP)
-        .arg(flag_arg(alloc, INIT, IMPORT_INIT_HELP))?
-        .arg(explain_arg(alloc))?;
-    with_conditions(alloc, import)?
-        .arg(folder_arg(alloc))?
-        .arg(name_arg(alloc))?
-        .arg(Arg::new(alloc, FILE).help(TEXT_FILE_HELP))
-}
+const MAKE_STORE: &str = "init";
 
 pub(crate) fn import_invocation<'w>(words: &ArgMatches<'w>) -> Option<Invocation<'w>>
     ensures { IfSome result HasFittingFiles }
@@ -83,14 +86,49 @@ pub(crate) fn import_invocation<'w>(words: &ArgMatches<'w>) -> Option<Invocation
 }
 
 fn missing_of(words: &ArgMatches<'_>) -> MissingStore {
-    if words.get_flag(INIT) {
+    if words.get_flag(MAKE_STORE) {
         MissingStore::Made
     } else {
         MissingStore::Refused
     }
 }
 
-const SET_HELP: &str = "\
+pub(crate) const SET: Listing = Listing {
+    about: "Sets the value at a JSON Pointer of a configuration",
+    arguments: &[
+        Argument {
+            name: YAML,
+            help: "Reads VALUE, or standard input if that is `-`, as a YAML text",
+            form: Form::Flag,
+            relation: Relation::Free,
+        },
+        Argument {
+            name: FROM_FILE,
+            help: "Takes the bytes of FILE, or of standard input for `-`, as the text, in place of VALUE",
+            form: Form::Word(FILE),
+            relation: Relation::Excludes(&[YAML]),
+        },
+        ALLOW_WHOLE_ARGUMENT,
+        EXPLAIN_ARGUMENT,
+        IF_VALUE_ARGUMENT,
+        IF_ABSENT_ARGUMENT,
+        IF_COUNT_ARGUMENT,
+        FOLDER_ARGUMENT,
+        NAME_ARGUMENT,
+        Argument {
+            name: POINTER,
+            help: "A JSON Pointer, as /port or /tags/0",
+            form: Form::Required,
+            relation: Relation::Free,
+        },
+        Argument {
+            name: VALUE,
+            help: "The value; after `--` if it begins with `-` and is no number",
+            form: Form::OptionalText,
+            relation: Relation::Replaces(FROM_FILE),
+        },
+    ],
+    help: "\
 VALUE is the text itself. With --yaml it is read as a YAML text, so that a list or a mapping can be
 set; then `-` stands for standard input. With --file in place of VALUE, the bytes of FILE are the text,
 also a line feed at their end; they have to be UTF-8. The pointer \"\" needs --whole: it stands for the
@@ -105,68 +143,24 @@ Examples:
   confstore set store web /port 81 --if-value 80
   confstore set store web /tags '[a, b]' --yaml
   confstore set store web /tags - --yaml < tags.yaml
-  confstore set store web /key --file key.pem";
-
-const POINTER_HELP: &str = "A JSON Pointer, as /port or /tags/0";
+  confstore set store web /key --file key.pem",
+};
 
 /// The argument of `set` that is the value.
 const VALUE: &str = "VALUE";
 
-const VALUE_HELP: &str = "The value; after `--` if it begins with `-` and is no number";
-
 /// The word of `set` and `delete` that allows the empty pointer, which stands for the whole configuration.
 const ALLOW_WHOLE: &str = "whole";
 
-const ALLOW_WHOLE_HELP: &str = "Allows the pointer \"\", which stands for the whole configuration";
-
-const SET_YAML_HELP: &str = "Reads VALUE, or standard input if that is `-`, as a YAML text";
+const ALLOW_WHOLE_ARGUMENT: Argument = Argument {
+    name: ALLOW_WHOLE,
+    help: "Allows the pointer \"\", which stands for the whole configuration",
+    form: Form::Flag,
+    relation: Relation::Free,
+};
 
 /// The word of `set` that gives the file of a text in place of the value. It excludes [`YAML`].
 const FROM_FILE: &str = "file";
-
-const FROM_FILE_HELP: &str =
-    "Takes the bytes of FILE, or of standard input for `-`, as the text, in place of VALUE";
-
-pub(crate) fn set_arguments<'a>(
-    alloc: Global,
-    set: Command<'a>,
-) -> Result<Command<'a>, AllocError> {
-    let set = with_set_flags(alloc, set.after_help(SET_HELP))?;
-    with_place(alloc, with_conditions(alloc, set)?)?.arg(value_arg(alloc)?)
-}
-
-/// The word `set` with its own flags.
-fn with_set_flags<'a>(alloc: Global, set: Command<'a>) -> Result<Command<'a>, AllocError> {
-    set.arg(flag_arg(alloc, YAML, SET_YAML_HELP))?
-        .arg(from_file(alloc)?)?
-        .arg(flag_arg(alloc, ALLOW_WHOLE, ALLOW_WHOLE_HELP))?
-        .arg(explain_arg(alloc))
-}
-
-/// A word with the place of a value in a store.
-fn with_place<'a>(alloc: Global, word: Command<'a>) -> Result<Command<'a>, AllocError> {
-    word.arg(folder_arg(alloc))?
-        .arg(name_arg(alloc))?
-        .arg(Arg::new(alloc, POINTER).required(true).help(POINTER_HELP))
-}
-
-/// The file of a text.
-fn from_file<'a>(alloc: Global) -> Result<Arg<'a>, AllocError> {
-    Arg::new(alloc, FROM_FILE)
-        .long(FROM_FILE)
-        .value_name(FILE)
-        .help(FROM_FILE_HELP)
-        .conflicts_with(YAML)
-}
-
-/// The value, which has to be there if no file gives one.
-fn value_arg<'a>(alloc: Global) -> Result<Arg<'a>, AllocError> {
-    Arg::new(alloc, VALUE)
-        .allow_negative_numbers(true)
-        .help(VALUE_HELP)
-        .required_unless_present(FROM_FILE)?
-        .conflicts_with(FROM_FILE)
-}
 
 pub(crate) fn set_invocation<'w>(words: &ArgMatches<'w>) -> Option<Invocation<'w>>
     ensures { IfSome result HasFittingFiles }
@@ -205,27 +199,26 @@ fn value_of<'w>(words: &ArgMatches<'w>) -> Option<Value<'w>> {
     }
 }
 
-const DELETE_HELP: &str = "\
+pub(crate) const DELETE: Listing = Listing {
+    about: "Removes a configuration, or what is at a JSON Pointer of it",
+    arguments: &[
+        ALLOW_WHOLE_ARGUMENT,
+        IF_VALUE_ARGUMENT,
+        IF_ABSENT_ARGUMENT,
+        IF_COUNT_ARGUMENT,
+        FOLDER_ARGUMENT,
+        NAME_ARGUMENT,
+        POINTER_ARGUMENT,
+    ],
+    help: "\
 Nothing is printed where it is done. Without POINTER the whole configuration is removed; the pointer
 \"\" needs --whole. If a condition does not hold, nothing changes (Unmet).
 
 Examples:
   confstore delete store web /tags/0
   confstore delete store web
-  confstore delete store web --if-count 12";
-
-pub(crate) fn delete_arguments<'a>(
-    alloc: Global,
-    delete: Command<'a>,
-) -> Result<Command<'a>, AllocError> {
-    let delete = delete
-        .after_help(DELETE_HELP)
-        .arg(flag_arg(alloc, ALLOW_WHOLE, ALLOW_WHOLE_HELP))?;
-    with_conditions(alloc, delete)?
-        .arg(folder_arg(alloc))?
-        .arg(name_arg(alloc))?
-        .arg(whole_pointer_arg(alloc))
-}
+  confstore delete store web --if-count 12",
+};
 
 pub(crate) fn delete_invocation<'w>(words: &ArgMatches<'w>) -> Option<Invocation<'w>>
     ensures { IfSome result HasFittingFiles }
@@ -238,34 +231,35 @@ pub(crate) fn delete_invocation<'w>(words: &ArgMatches<'w>) -> Option<Invocation
     })
 }
 
-const COPY_HELP: &str = "\
+pub(crate) const COPY: Listing = Listing {
+    about: "Puts a copy of a configuration under another name",
+    arguments: &[
+        IF_VALUE_ARGUMENT,
+        IF_ABSENT_ARGUMENT,
+        IF_COUNT_ARGUMENT,
+        FOLDER_ARGUMENT,
+        NAME_ARGUMENT,
+        TO_ARGUMENT,
+    ],
+    help: "\
 A configuration that has the name TO is replaced, unless --if-absent is given. All of it is done or
 nothing, in one command. Nothing is printed where it is done. If a condition does not hold, nothing
 changes (Unmet); --if-value and --if-absent look at TO.
 
 Examples:
   confstore copy store web web-old
-  confstore copy store web web-old --if-absent";
+  confstore copy store web web-old --if-absent",
+};
 
 /// The argument of `copy` and `rename` that is the other name.
 const TO: &str = "TO";
 
-const TO_HELP: &str = "The other name; after `--` if it begins with `-`";
-
-/// A word that gives a configuration another name, with its arguments.
-fn with_names<'a>(alloc: Global, word: Command<'a>) -> Result<Command<'a>, AllocError> {
-    with_conditions(alloc, word)?
-        .arg(folder_arg(alloc))?
-        .arg(name_arg(alloc))?
-        .arg(Arg::new(alloc, TO).required(true).help(TO_HELP))
-}
-
-pub(crate) fn copy_arguments<'a>(
-    alloc: Global,
-    copy: Command<'a>,
-) -> Result<Command<'a>, AllocError> {
-    with_names(alloc, copy.after_help(COPY_HELP))
-}
+const TO_ARGUMENT: Argument = Argument {
+    name: TO,
+    help: "The other name; after `--` if it begins with `-`",
+    form: Form::Required,
+    relation: Relation::Free,
+};
 
 pub(crate) fn copy_invocation<'w>(words: &ArgMatches<'w>) -> Option<Invocation<'w>>
     ensures { IfSome result HasFittingFiles }
@@ -278,7 +272,17 @@ pub(crate) fn copy_invocation<'w>(words: &ArgMatches<'w>) -> Option<Invocation<'
     })
 }
 
-const RENAME_HELP: &str = "\
+pub(crate) const RENAME: Listing = Listing {
+    about: "Gives a configuration another name",
+    arguments: &[
+        IF_VALUE_ARGUMENT,
+        IF_ABSENT_ARGUMENT,
+        IF_COUNT_ARGUMENT,
+        FOLDER_ARGUMENT,
+        NAME_ARGUMENT,
+        TO_ARGUMENT,
+    ],
+    help: "\
 A configuration that has the name TO is replaced, unless --if-absent is given; it keeps the place of TO
 among the names, and a new name comes last. All of it is done or nothing, in one command. Nothing is
 printed where it is done. If a condition does not hold, nothing changes (Unmet); --if-value and
@@ -286,14 +290,8 @@ printed where it is done. If a condition does not hold, nothing changes (Unmet);
 
 Examples:
   confstore rename store web site
-  confstore rename store web site --if-absent";
-
-pub(crate) fn rename_arguments<'a>(
-    alloc: Global,
-    rename: Command<'a>,
-) -> Result<Command<'a>, AllocError> {
-    with_names(alloc, rename.after_help(RENAME_HELP))
-}
+  confstore rename store web site --if-absent",
+};
 
 pub(crate) fn rename_invocation<'w>(words: &ArgMatches<'w>) -> Option<Invocation<'w>>
     ensures { IfSome result HasFittingFiles }
@@ -306,19 +304,14 @@ pub(crate) fn rename_invocation<'w>(words: &ArgMatches<'w>) -> Option<Invocation
     })
 }
 
-const CHECKPOINT_HELP: &str = "\
+pub(crate) const CHECKPOINT: Listing = Listing {
+    about: "Makes the store file as short as its state",
+    arguments: &[FOLDER_ARGUMENT],
+    help: "\
 What earlier commands were is gone then.
 
-Example:  confstore checkpoint store";
-
-pub(crate) fn checkpoint_arguments<'a>(
-    alloc: Global,
-    checkpoint: Command<'a>,
-) -> Result<Command<'a>, AllocError> {
-    checkpoint
-        .after_help(CHECKPOINT_HELP)
-        .arg(folder_arg(alloc))
-}
+Example:  confstore checkpoint store",
+};
 
 pub(crate) fn checkpoint_invocation<'w>(words: &ArgMatches<'w>) -> Option<Invocation<'w>>
     ensures { IfSome result HasFittingFiles }
@@ -328,7 +321,24 @@ pub(crate) fn checkpoint_invocation<'w>(words: &ArgMatches<'w>) -> Option<Invoca
     })
 }
 
-const RUN_HELP: &str = "\
+pub(crate) const RUN: Listing = Listing {
+    about: "Performs the commands on standard input on the store in a folder",
+    arguments: &[
+        Argument {
+            name: GROUP,
+            help: "Syncs once for all commands that one read brings, and then answers them",
+            form: Form::Flag,
+            relation: Relation::Free,
+        },
+        Argument {
+            name: CHECKPOINT_AFTER,
+            help: "Makes a checkpoint each time the store file has grown by so many bytes; needs --group",
+            form: Form::Number("BYTES", 1),
+            relation: Relation::Needs(GROUP),
+        },
+        FOLDER_ARGUMENT,
+    ],
+    help: "\
 Each command is a YAML document that a line of `...` closes. It is performed as soon as that line
 has come, and answered by one document. `ok` comes after the change is on the disk.
 
@@ -359,39 +369,14 @@ Example:
   mkdir store
   printf '%s\\n' --- 'import: web' 'text: \"host: example\"' ... | confstore run store
 
-The `---` before a command may be left out. Other YAML readers want one after each `...`.";
+The `---` before a command may be left out. Other YAML readers want one after each `...`.",
+};
 
 /// The word of `run` that has the commands of one read share a sync.
 const GROUP: &str = "group";
 
-const GROUP_HELP: &str = "Syncs once for all commands that one read brings, and then answers them";
-
 /// The word of `run` that says after how many bytes a checkpoint is made. It needs [`GROUP`].
 const CHECKPOINT_AFTER: &str = "checkpoint-after";
-
-const BYTES: &str = "BYTES";
-
-const CHECKPOINT_AFTER_HELP: &str =
-    "Makes a checkpoint each time the store file has grown by so many bytes; needs --group";
-
-pub(crate) fn run_arguments<'a>(
-    alloc: Global,
-    run: Command<'a>,
-) -> Result<Command<'a>, AllocError> {
-    run.after_help(RUN_HELP)
-        .arg(flag_arg(alloc, GROUP, GROUP_HELP))?
-        .arg(checkpoint_after(alloc)?)?
-        .arg(folder_arg(alloc))
-}
-
-fn checkpoint_after<'a>(alloc: Global) -> Result<Arg<'a>, AllocError> {
-    Arg::new(alloc, CHECKPOINT_AFTER)
-        .long(CHECKPOINT_AFTER)
-        .value_name(BYTES)
-        .value_parser(value_parser!(u64).range(1..))
-        .help(CHECKPOINT_AFTER_HELP)
-        .requires_arg(GROUP)
-}
 
 pub(crate) fn run_invocation<'w>(words: &ArgMatches<'w>) -> Option<Invocation<'w>>
     ensures { IfSome result HasFittingFiles }

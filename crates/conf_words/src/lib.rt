@@ -8,6 +8,7 @@ mod conditions;
 mod escapes;
 mod folder_word;
 mod invocation;
+mod listing;
 mod read_words;
 mod refusal;
 mod subcommand;

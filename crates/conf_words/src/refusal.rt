@@ -1,7 +1,7 @@
 // What the program says of wrong words.
 use crate::escapes::escaped;
 use crate::unparsed::Unparsed;
-use crate::words::command;
+use crate::words::matches_of;
 use clap::error::ErrorKind;
 use std::alloc::{AllocError, Global};
 
@@ -33,7 +33,7 @@ pub(crate) fn wrong_words(alloc: Global, words: &[String]) -> Result<String, All
 
 /// Why the words, which are shown as they are, are wrong.
 fn refusal_of(alloc: Global, words: &[String]) -> Result<String, AllocError> {
-    match command(alloc, words)?.try_get_matches_from(words) {
+    match matches_of(alloc, words) {
         Ok(_matches) => refusal(alloc, OTHER),
         Err(error) if error.kind() == ErrorKind::OutOfMemory => Err(AllocError),
         Err(error) => format!(in alloc; "{error}"),

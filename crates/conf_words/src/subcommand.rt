@@ -45,7 +45,7 @@ pub enum Subcommand {
 
 impl Subcommand {
     /// All of them, in the order of the help.
-    pub const ALL: [Subcommand; 19] = [
+    pub(crate) const ALL: [Subcommand; 19] = [
         Subcommand::Init,
         Subcommand::Import,
         Subcommand::Set,
@@ -77,14 +77,14 @@ impl Subcommand {
     }
 
     /// The subcommand of this name; `None` if there is none.
-    pub fn named(name: &str) -> Option<Subcommand> {
+    pub(crate) fn named(name: &str) -> Option<Subcommand> {
         Subcommand::ALL
             .into_iter()
             .find(|subcommand| subcommand.name() == name)
     }
 
     /// The word that asks for it.
-    pub fn name(self) -> &'static str {
+    pub(crate) fn name(self) -> &'static str {
         match self {
             Subcommand::Init => "init",
             Subcommand::Import => "import",
@@ -105,33 +105,6 @@ impl Subcommand {
             Subcommand::Backup => "backup",
             Subcommand::Format => "format",
             Subcommand::Check => "check",
-        }
-    }
-
-    /// What the program's help says of it, in a line.
-    pub fn about(self) -> &'static str {
-        match self {
-            Subcommand::Init => "Makes a folder with an empty store",
-            Subcommand::Import => "Reads a YAML text, and puts its tree under a name",
-            Subcommand::Set => "Sets the value at a JSON Pointer of a configuration",
-            Subcommand::Delete => "Removes a configuration, or what is at a JSON Pointer of it",
-            Subcommand::Copy => "Puts a copy of a configuration under another name",
-            Subcommand::Rename => "Gives a configuration another name",
-            Subcommand::Checkpoint => "Makes the store file as short as its state",
-            Subcommand::Run => "Performs the commands on standard input on the store in a folder",
-            Subcommand::Export => "Writes a configuration of the store in a folder",
-            Subcommand::Names => "Writes the names of the configurations of a store",
-            Subcommand::Get => "Writes the value at a JSON Pointer of a configuration",
-            Subcommand::Keys => "Writes the keys of a mapping, or the indexes of a list",
-            Subcommand::Exists => "Tells whether something is at a JSON Pointer, by the status",
-            Subcommand::Log =>
-                "Writes the commands that a store has accepted since its last checkpoint",
-            Subcommand::Verify => "Reads a whole store, and writes whether it can be opened",
-            Subcommand::Salvage =>
-                "Makes a new store of what a damaged one says before its first bad piece",
-            Subcommand::Backup => "Makes a new store with the same base and records as another one",
-            Subcommand::Format => "Writes the tree of a YAML text in the one style",
-            Subcommand::Check => "Writes where YAML texts depart from the one style",
         }
     }
 }

@@ -2,26 +2,51 @@
 ghost use Rattle.std.specs.Prelude.{IfNone, IfOk, map};
 ghost use Rattle.conf_words.specs.Invocations.{FilesFit, HasFittingFiles};
 
-use crate::arguments::{FILE, explain_arg, flag_arg, reporting_of};
+use crate::arguments::{Argument, EXPLAIN_ARGUMENT, FILE, Form, Relation, reporting_of};
 use crate::invocation::{Comments, Formatting, Invocation, STANDARD_INPUT};
+use crate::listing::Listing;
 use crate::refusal::{OTHER, refused};
 use crate::unparsed::Unparsed;
-use clap::{Arg, ArgMatches, Command};
+use clap::ArgMatches;
 use std::alloc::{AllocError, Global};
 
-const FILES_HELP: &str = "The files of the texts; standard input if none is given, or for `-`";
-
-/// The argument that names any number of files.
-fn files_arg<'a>(alloc: Global) -> Arg<'a> {
-    Arg::new(alloc, FILE).num_args(1..).help(FILES_HELP)
-}
+const FILES_ARGUMENT: Argument = Argument {
+    name: FILE,
+    help: "The files of the texts; standard input if none is given, or for `-`",
+    form: Form::Several,
+    relation: Relation::Free,
+};
 
 /// The files that the words name.
 fn files_of<'m, 'w>(words: &'m ArgMatches<'w>) -> &'m [&'w str] {
     words.get_strs(FILE).unwrap_or_default()
 }
 
-const FORMAT_HELP: &str = "\
+pub(crate) const FORMAT: Listing = Listing {
+    about: "Writes the tree of a YAML text in the one style",
+    arguments: &[
+        Argument {
+            name: IN_PLACE,
+            help: "Replaces each FILE that would change by its text in the one style",
+            form: Form::ShortFlag('i'),
+            relation: Relation::Needs(FILE),
+        },
+        Argument {
+            name: DROP_COMMENTS,
+            help: "Replaces a FILE with comments too, which are lost",
+            form: Form::Flag,
+            relation: Relation::Needs(IN_PLACE),
+        },
+        Argument {
+            name: ONLY_CHECK,
+            help: "Changes nothing, and names each FILE that would change",
+            form: Form::Flag,
+            relation: Relation::Excludes(&[IN_PLACE, DROP_COMMENTS]),
+        },
+        EXPLAIN_ARGUMENT,
+        FILES_ARGUMENT,
+    ],
+    help: "\
 One FILE, or standard input, is written to standard output. More FILEs need -i or --check. Each FILE
 is tried, and the status is the worst. Comments and quotes are not kept, and `3` is written `\"3\"`.
 
@@ -39,42 +64,17 @@ With --check the status is 1 where a FILE would change.
 Examples:
   confstore format < web.yaml
   confstore format -i *.yaml
-  confstore format --check *.yaml";
+  confstore format --check *.yaml",
+};
 
 /// The word of `format` that has each file replaced.
 const IN_PLACE: &str = "in-place";
 
-const IN_PLACE_HELP: &str = "Replaces each FILE that would change by its text in the one style";
-
 /// The word of `format` that has files replaced that have comments. It needs [`IN_PLACE`].
 const DROP_COMMENTS: &str = "drop-comments";
 
-const DROP_COMMENTS_HELP: &str = "Replaces a FILE with comments too, which are lost";
-
 /// The word of `format` that has the files named that would change.
 const ONLY_CHECK: &str = "check";
-
-const ONLY_CHECK_HELP: &str = "Changes nothing, and names each FILE that would change";
-
-pub(crate) fn format_arguments<'a>(
-    alloc: Global,
-    format: Command<'a>,
-) -> Result<Command<'a>, AllocError> {
-    let in_place = flag_arg(alloc, IN_PLACE, IN_PLACE_HELP)
-        .short('i')
-        .requires_arg(FILE)?;
-    let drop_comments = flag_arg(alloc, DROP_COMMENTS, DROP_COMMENTS_HELP).requires_arg(IN_PLACE)?;
-    let only_check = flag_arg(alloc, ONLY_CHECK, ONLY_CHECK_HELP)
-        .conflicts_with(IN_PLACE)?
-        .conflicts_with(DROP_COMMENTS)?;
-    format
-        .after_help(FORMAT_HELP)
-        .arg(in_place)?
-        .arg(drop_comments)?
-        .arg(only_check)?
-        .arg(explain_arg(alloc))?
-        .arg(files_arg(alloc))
-}
 
 pub(crate) fn format_invocation<'w>(
     alloc: Global,
@@ -129,7 +129,10 @@ fn comments_of(words: &ArgMatches<'_>) -> Comments {
     }
 }
 
-const CHECK_HELP: &str = "\
+pub(crate) const CHECK: Listing = Listing {
+    about: "Writes where YAML texts depart from the one style",
+    arguments: &[EXPLAIN_ARGUMENT, FILES_ARGUMENT],
+    help: "\
 Each finding is one line: of a FILE as `web.yaml:3: S1 the line ends in a space or TAB`, and of
 standard input without a FILE as `S1 3`, the rule and the number of the line, from 1.
   S1  the line ends in a space or TAB
@@ -146,17 +149,8 @@ where something is, or a text is refused, and 3 where a FILE can't be read.
 
 Examples:
   confstore check *.yaml
-  confstore check < file";
-
-pub(crate) fn check_arguments<'a>(
-    alloc: Global,
-    check: Command<'a>,
-) -> Result<Command<'a>, AllocError> {
-    check
-        .after_help(CHECK_HELP)
-        .arg(explain_arg(alloc))?
-        .arg(files_arg(alloc))
-}
+  confstore check < file",
+};
 
 pub(crate) fn check_invocation<'w>(
     alloc: Global,

@@ -3,21 +3,18 @@ ghost use Rattle.std.specs.Prelude.{IfOk};
 ghost use Rattle.conf_words.specs.Invocations.{HasFittingFiles};
 
 use crate::change_words::{
-    checkpoint_arguments, checkpoint_invocation, copy_arguments, copy_invocation, delete_arguments,
-    delete_invocation, import_arguments, import_invocation, init_arguments, init_invocation,
-    rename_arguments, rename_invocation, run_arguments, run_invocation, set_arguments,
-    set_invocation, test_pointer,
+    checkpoint_invocation, copy_invocation, delete_invocation, import_invocation, init_invocation,
+    rename_invocation, run_invocation, set_invocation, test_pointer,
 };
 use crate::invocation::Invocation;
+use crate::listing::listed;
 use crate::read_words::{
-    backup_arguments, backup_invocation, exists_arguments, exists_invocation, export_arguments,
-    export_invocation, get_arguments, get_invocation, keys_arguments, keys_invocation,
-    log_arguments, log_invocation, names_arguments, names_invocation, salvage_arguments,
-    salvage_invocation, verify_arguments, verify_invocation,
+    backup_invocation, exists_invocation, export_invocation, get_invocation, keys_invocation,
+    log_invocation, names_invocation, salvage_invocation, verify_invocation,
 };
 use crate::refusal::{OTHER, refused, wrong_words};
 use crate::subcommand::Subcommand;
-use crate::text_words::{check_arguments, check_invocation, format_arguments, format_invocation};
+use crate::text_words::{check_invocation, format_invocation};
 use crate::unparsed::Unparsed;
 use clap::error::ErrorKind;
 use clap::{ArgMatches, Command, Error};
@@ -54,7 +51,7 @@ A fault is one line on standard error, as `confstore: KeyTwice`.
 pub fn parse<'w>(alloc: Global, words: &'w [String]) -> Result<Invocation<'w>, Unparsed>
     ensures { IfOk result HasFittingFiles }
 {
-    match command(alloc, words)?.try_get_matches_from(words) {
+    match matches_of(alloc, words) {
         Ok(matches) => invocation_of(alloc, &matches),
         Err(error) => Err(unparsed(alloc, words, &error)?),
     }
@@ -71,71 +68,32 @@ fn unparsed(alloc: Global, words: &[String], error: &Error) -> Result<Unparsed, 
     }
 }
 
+/// Returns what clap finds in the words. Its error is of the kind `OutOfMemory` if memory runs out.
+pub(crate) fn matches_of<'w>(alloc: Global, words: &'w [String]) -> Result<ArgMatches<'w>, Error> {
+    command(alloc, words)?.try_get_matches_from(words)
+}
+
 /// Returns the words that the program takes, with their help and the version. `words` are those that it is given, of
 /// which the first is its name. If the second is a subcommand, no other is listed, so that a start takes less time. It
 /// fails only if memory runs out.
-pub(crate) fn command<'a>(alloc: Global, words: &[String]) -> Result<Command<'a>, AllocError> {
-    let program = Command::new(alloc, "confstore")
-        .version(VERSION)
-        .about(ABOUT)
-        .after_help(GROUPS_AND_STATUSES)
-        .subcommand_required(true);
-    match Subcommand::asked_in(words) {
-        Some(asked) => with_subcommand(alloc, program, asked),
-        None => with_all_subcommands(alloc, program),
-    }
-}
-
-/// The program with all subcommands.
-fn with_all_subcommands<'a>(
-    alloc: Global,
-    program: Command<'a>,
-) -> Result<Command<'a>, AllocError> {
-    let mut program = program;
+fn command<'a>(alloc: Global, words: &[String]) -> Result<Command<'a>, AllocError> {
+    let asked = Subcommand::asked_in(words);
+    let mut program = program(alloc);
     for subcommand in Subcommand::ALL {
-        program = with_subcommand(alloc, program, subcommand)?;
+        if asked.is_none_or(|asked| asked == subcommand) {
+            program = program.subcommand(listed(alloc, subcommand)?)?;
+        }
     }
     Ok(program)
 }
 
-/// The program with one more subcommand.
-fn with_subcommand<'a>(
-    alloc: Global,
-    program: Command<'a>,
-    subcommand: Subcommand,
-) -> Result<Command<'a>, AllocError> {
-    let (name, about): (&'a str, &'a str) = (subcommand.name(), subcommand.about());
-    let listed = Command::new(alloc, name).about(about);
-    program.subcommand(with_arguments(alloc, subcommand, listed)?)
-}
-
-/// A subcommand with its arguments and its help.
-fn with_arguments<'a>(
-    alloc: Global,
-    subcommand: Subcommand,
-    listed: Command<'a>,
-) -> Result<Command<'a>, AllocError> {
-    match subcommand {
-        Subcommand::Init => init_arguments(alloc, listed),
-        Subcommand::Import => import_arguments(alloc, listed),
-        Subcommand::Set => set_arguments(alloc, listed),
-        Subcommand::Delete => delete_arguments(alloc, listed),
-        Subcommand::Copy => copy_arguments(alloc, listed),
-        Subcommand::Rename => rename_arguments(alloc, listed),
-        Subcommand::Checkpoint => checkpoint_arguments(alloc, listed),
-        Subcommand::Run => run_arguments(alloc, listed),
-        Subcommand::Export => export_arguments(alloc, listed),
-        Subcommand::Names => names_arguments(alloc, listed),
-        Subcommand::Get => get_arguments(alloc, listed),
-        Subcommand::Keys => keys_arguments(alloc, listed),
-        Subcommand::Exists => exists_arguments(alloc, listed),
-        Subcommand::Log => log_arguments(alloc, listed),
-        Subcommand::Verify => verify_arguments(alloc, listed),
-        Subcommand::Salvage => salvage_arguments(alloc, listed),
-        Subcommand::Backup => backup_arguments(alloc, listed),
-        Subcommand::Format => format_arguments(alloc, listed),
-        Subcommand::Check => check_arguments(alloc, listed),
-    }
+/// The program without its subcommands.
+fn program<'a>(alloc: Global) -> Command<'a> {
+    Command::new(alloc, "confstore")
+        .version(VERSION)
+        .about(ABOUT)
+        .after_help(GROUPS_AND_STATUSES)
+        .subcommand_required(true)
 }
 
 /// What the words ask for that these are the matches of. Matches have a subcommand, and each argument that it requires:
