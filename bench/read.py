@@ -2,10 +2,10 @@
 """Times the reading of texts, beside libyaml, libfyaml and rapidyaml.
 
 It makes nine corpora of 1 MiB each, and reads them to events and to a tree in a loop inside one process, as the peers
-do, and once by `confstore format` beside what the peers take to read and write the same text. It prints MB/s, the ratio
-to the best peer, the greatest memory, how many pages of memory the system hands out in a round, and with `-i`
-instructions a byte as valgrind counts them. At the end come the geometric mean of the ratios and the worst corpus.
-`bench/growth.py` says how the time a byte grows with the length of a text.
+do, and once by `confstore format` beside what the peers take to read and write the same text. The row `styled` is the
+tree of the text that `format` writes. It prints MB/s, the ratio to the best peer, the greatest memory, how many pages of
+memory the system hands out in a round, and with `-i` instructions a byte as valgrind counts them. At the end come the
+geometric mean of the ratios and the worst corpus. `bench/growth.py` says how the time a byte grows with the length of a text.
 
 With malloc's own settings some of the programs give memory back in each round, and the system hands it out anew. On
 some machines that takes as long as the reading. So all is measured twice: with malloc's own settings, and with malloc
@@ -203,6 +203,15 @@ class Comparison:
         print(f" | {ratio:4.2f} times the best peer")
         return ratio
 
+    def of_styled(self, path: str, folder: str) -> None:
+        """Prints how fast the text of a file in the one style is read to a tree."""
+        styled = os.path.join(folder, "styled.yaml")
+        with open(path, "rb") as source, open(styled, "wb") as target:
+            subprocess.run([PROGRAM, "format"], stdin=source, stdout=target, check=True)
+        words = [DRIVER, "read", "tree", styled]
+        [turns] = self.reading.round_turns([words])
+        print(f"  styled {self.part('confstore', words, os.path.getsize(styled), turns)}")
+
     def event_bytes(self, path: str, floor: int) -> float:
         """How much memory an event takes: what a run takes more than on a short text, without the text itself."""
         words = [DRIVER, "read", "events", path, "1"]
@@ -217,7 +226,9 @@ class Comparison:
             print(f"{name}: {self.event_bytes(path, floor):.0f} bytes an event")
             for work in ("events", "tree"):
                 ratios[work][name] = self.of_work(work, path)
-            ratios["format"][name] = self.of_format(self.style_limited(folder, CORPORA[name]))
+            limited = self.style_limited(folder, CORPORA[name])
+            ratios["format"][name] = self.of_format(limited)
+            self.of_styled(limited, folder)
         for work, of_names in ratios.items():
             worst = min(of_names, key=lambda name: of_names[name])
             print(
