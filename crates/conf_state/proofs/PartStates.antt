@@ -1,18 +1,21 @@
 -- A draft and a count as a state, and the state after one command more.
-use Rattle.std.proofs.Common.{◌≡◌, ℕ, ◌+◌, ◌<◌, ◌≤◌, ◌^◌, min, List, Result, Ok, ap, sym, subst, ◌∙◌, arith}
+use Rattle.std.proofs.Common.{◌≡◌, ◌⊎◌, inr, ℕ, ◌+◌, ◌<◌, ◌≤◌, ◌^◌, min, List, Result, Ok, Err, OnOk, IfErr, refl, ap, sym, subst, ◌∙◌}
+use Rattle.std.proofs.Common.{arith}
 use Rattle.conf_state.specs.BaseTexts.{base_length, framed_length, entries_length}
-use Rattle.conf_state.specs.Commands.{Edit, single}
+use Rattle.conf_state.specs.Commands.{Command}
 use Rattle.conf_state.specs.Drafts.{drafted, IsDraftOf}
 use Rattle.conf_state.specs.Limits.{IsState}
 use Rattle.conf_state.specs.Parts.{IsPart}
 use Rattle.conf_state.specs.States.{Entry, Contents, base_limit, count_limit}
-use Rattle.conf_state.specs.Steps.{and_then, edited, next_state, step}
+use Rattle.conf_state.specs.Steps.{and_then, next_state, performed, step}
 use Rattle.conf_state.specs.declared.draft.Draft.{Draft}
 use Rattle.conf_state.specs.declared.fault.StoreFault.{StoreFault}
+use Rattle.conf_state.specs.declared.fault.StoreFault.TheVariants.{OutOfMemory}
 use Rattle.conf_state.specs.declared.room.Room.TheVariants.{Enough}
 use Rattle.conf_state.proofs.BaseLemmas.{base_length-framed}
 use Rattle.conf_state.proofs.CountLemmas.{next_state-short}
 use Rattle.conf_state.proofs.OriginLemmas.{drafted-within}
+use Rattle.conf_state.proofs.PlanningLemmas.{or_so}
 
 module _ (es : List Entry) (draft : Draft) (of : IsDraftOf es draft) (count : ℕ) where
   abbrev made : ℕ → Contents
@@ -55,7 +58,43 @@ module _ (es : List Entry) (draft : Draft) (of : IsDraftOf es draft) (count : �
     };
   }
 
--- an edit that was made, and then the next state
-pub edit-then : (s : Contents) (edit : Edit) (new : List Entry) (r : Result Contents StoreFault) → edited s.configs edit ≡ Ok new
-    → next_state s Enough new ≡ r → step s (single edit) Enough ≡ r
-edit-then s edit new r made is = ap (λ o. and_then o (next_state s Enough)) made ∙ is
+-- a command whose edits are made on a draft, and then a check whether there is room for it
+module _ (es : List Entry) (old new : Draft) (of : IsDraftOf es new) (count : ℕ) (command : Command)
+    (made : performed (drafted es old) command ≡ Ok (drafted es new)) where
+  abbrev before : Contents
+  before = record { configs = drafted es old; count = count }
+
+  -- what a check says of each state with this count, and configurations of this length
+  abbrev Says : (Contents → List Entry → Result Contents StoreFault) → Type 0
+  Says outcome = (s : Contents) (configs : List Entry) → s.count ≡ count → new.length ≡ min (entries_length configs) 18446744073709551615
+      → next_state s Enough configs ≡ outcome s configs
+
+  abbrev counted_on : Contents → List Entry → Result Contents StoreFault
+  counted_on s configs = Ok (record { configs = configs; count = s.count + 1 })
+
+  pub checked-part : (r : Result (Unit {0}) StoreFault) → OnOk r (Says counted_on) → OnOk r (count < count_limit)
+      → OnOk r (new.length ≤ base_limit) → OnOk r (IsPart es new (count + 1))
+  checked-part (Ok u) ok below short =
+      part-next es new of count below before _ (ok before (drafted es new) refl (omega (arith, of.counted, short))) refl
+  checked-part (Err fault) ok below short = tt
+
+  pub checked-ok : (r : Result (Unit {0}) StoreFault) → OnOk r (Says counted_on) → OnOk r (new.length ≤ base_limit)
+      → OnOk r (step before command Enough ≡ Ok (record { configs = drafted es new; count = count + 1 }))
+  checked-ok (Ok u) ok short =
+      ap (λ o. and_then o (next_state before Enough)) made ∙ ok before (drafted es new) refl (omega (arith, of.counted, short))
+  checked-ok (Err fault) ok short = tt
+
+  pub checked-refused : (r : Result (Unit {0}) StoreFault) → new.length ≡ min new.length 18446744073709551615
+      → IfErr r (λ fault. Says (λ s configs. Err fault))
+      → IfErr r (λ fault. (fault ≡ OutOfMemory) ⊎ (step before command Enough ≡ Err fault))
+  checked-refused (Ok u) fits refused = tt
+  checked-refused (Err fault) fits refused =
+      inr (ap (λ o. and_then o (next_state before Enough)) made
+      ∙ refused before (drafted es new) refl (fits ∙ ap (λ n. min n 18446744073709551615) of.counted))
+
+-- a command whose edits are refused on a draft is refused
+pub refused-before : (s : Contents) (command : Command) (r : Result (Unit {0}) StoreFault)
+    → IfErr r (λ fault. (fault ≡ OutOfMemory) ⊎ (performed s.configs command ≡ Err fault))
+    → IfErr r (λ fault. (fault ≡ OutOfMemory) ⊎ (step s command Enough ≡ Err fault))
+refused-before s command (Ok u) refused = tt
+refused-before s command (Err fault) refused = or_so (λ is. ap (λ o. and_then o (next_state s Enough)) is) refused

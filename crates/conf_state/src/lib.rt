@@ -16,6 +16,7 @@ mod counting;
 mod draft;
 mod draft_length;
 mod draft_names;
+mod drafting;
 mod editing;
 mod entries;
 mod fault;

@@ -1,22 +1,22 @@
 // A state of which only some configurations are built.
-ghost use Rattle.std.specs.Prelude.{◌≡◌, ◌⊎◌, Ok, Err, IfOk, IfErr, IfSome, IfNone, [], map, option_map};
+ghost use Rattle.std.specs.Prelude.{◌≡◌, ◌⊎◌, ◌+◌, Ok, Err, OnOk, IfOk, IfErr, IfSome, IfNone, map, option_map};
 ghost use Rattle.std.specs.Str.{chars};
 ghost use Rattle.yaml_data.specs.Seen.{tree_of};
-ghost use Rattle.conf_state.specs.Commands.{command_of, edit_of, text_of, single, batch};
+ghost use Rattle.conf_state.specs.Commands.{command_of, text_of};
 ghost use Rattle.conf_state.specs.Drafts.{drafted, IsDraftOf};
 ghost use Rattle.conf_state.specs.Limits.{IsState};
+ghost use Rattle.conf_state.specs.Parts.{IsPart};
 ghost use Rattle.conf_state.specs.States.{config_named, names_of};
-ghost use Rattle.conf_state.specs.Steps.{next_state, step};
+ghost use Rattle.conf_state.specs.Steps.{step};
 
 use crate::base::{BASE_LIMIT, base_length};
-use crate::command::{Command, Edit, Edits};
+use crate::command::Command;
 use crate::counting::check_room;
-use crate::draft::{Draft, OnDraft};
-use crate::editing::make_edit;
+use crate::draft::Draft;
+use crate::drafting::draft_command;
 use crate::fault::StoreFault;
 use crate::origin::Origin;
 use crate::room::Room;
-use crate::steps::draft_edits;
 use std::alloc::{AllocError, Global};
 use std::marker::Model;
 use yaml_config::Config;
@@ -28,6 +28,8 @@ use yaml_config::Config;
 #[derive(Drop)]
 pub struct Part<O: Origin> {
     origin: O,
+    /// How many commands were accepted before the first that this part performs.
+    start: u64,
     draft: Draft,
     count: u64,
 }
@@ -41,11 +43,13 @@ impl<O: Origin> Model for Part<O> {
     ghost coded = { contents_code };
 
     ghost use Rattle.conf_state.specs.Drafts.{drafted};
+    ghost use Rattle.conf_state.specs.Limits.{IsState};
     ghost use Rattle.conf_state.specs.Parts.{IsPart};
 
     ghost view = { λ p. record { configs = drafted (O.configs p.origin) p.draft; count = p.count } };
 
-    ghost invariant = { λ p. IsPart (O.configs p.origin) p.draft p.count };
+    ghost invariant = { λ p. IsPart (O.configs p.origin) p.draft p.count
+        × IsState (record { configs = O.configs p.origin; count = p.start }) };
 }
 
 impl<O: Origin> Part<O> {
@@ -63,6 +67,7 @@ impl<O: Origin> Part<O> {
         }
         Some(Part {
             origin,
+            start: count,
             draft,
             count,
         })
@@ -92,65 +97,46 @@ impl<O: Origin> Part<O> {
         self.draft.names(alloc, &self.origin)
     }
 
-    /// Performs a command as [`step`](crate::step) does, where there is room for its record.
-    pub fn replay(self, alloc: Global, command: Command) -> Result<Part<O>, StoreFault>
-        ensures ok { IfOk result (λ part. step self (command_of command) Room.Enough ≡ Ok part) }
+    /// Performs a command as [`step`](crate::step) does, where there is room for its record. After a refusal the part
+    /// has to be dropped.
+    pub fn replay(&mut self, alloc: Global, command: Command) -> Result<(), StoreFault>
+        ensures ok { OnOk result (step self.old (command_of command) Room.Enough ≡ Ok self.new) }
         ensures refused { IfErr result (λ fault. (fault ≡ StoreFault.OutOfMemory)
-            ⊎ (step self (command_of command) Room.Enough ≡ Err fault)) }
+            ⊎ (step self.old (command_of command) Room.Enough ≡ Err fault)) }
     {
-        match command.into_edits() {
-            Edits::Single(edit) => self.replay_edit(alloc, edit),
-            Edits::Batch(edits) => self.replay_batch(alloc, edits),
+        match draft_next(alloc, &self.origin, &mut self.draft, self.count, command) {
+            Ok(()) => {
+                self.count += 1;
+                Ok(())
+            }
+            Err(fault) => {
+                self.draft = Draft::new(alloc, &self.origin);
+                self.count = self.start;
+                Err(fault)
+            }
         }
-    }
-
-    /// Performs the command that is this edit alone.
-    fn replay_edit(self, alloc: Global, edit: Edit) -> Result<Part<O>, StoreFault>
-        ensures ok { IfOk result (λ part. step self (single (edit_of edit)) Room.Enough ≡ Ok part) }
-        ensures refused { IfErr result (λ fault. (fault ≡ StoreFault.OutOfMemory)
-            ⊎ (step self (single (edit_of edit)) Room.Enough ≡ Err fault)) }
-    {
-        let Part {
-            origin,
-            mut draft,
-            count,
-        } = self;
-        make_edit(alloc, &OnDraft { origin: &origin }, &mut draft, edit)?;
-        next_part(origin, draft, count)
-    }
-
-    /// Performs a batch.
-    fn replay_batch(self, alloc: Global, edits: Vec<Edit>) -> Result<Part<O>, StoreFault>
-        ensures ok { IfOk result (λ part.
-            step self (batch (map edit_of edits.items)) Room.Enough ≡ Ok part) }
-        ensures refused { IfErr result (λ fault. (fault ≡ StoreFault.OutOfMemory)
-            ⊎ (step self (batch (map edit_of edits.items)) Room.Enough ≡ Err fault)) }
-    {
-        if edits.is_empty() {
-            return Err(StoreFault::EmptyBatch);
-        }
-        let Part {
-            origin,
-            draft,
-            count,
-        } = self;
-        let draft = draft_edits(alloc, &origin, draft, edits)?;
-        next_part(origin, draft, count)
     }
 }
 
-/// The part after one command more, which made this draft.
-fn next_part<O: Origin>(origin: O, draft: Draft, count: u64) -> Result<Part<O>, StoreFault>
-    requires { IsDraftOf (O.configs origin) draft }
-    ensures ok { IfOk result (λ part. next_state (record { configs = []; count = count })
-        Room.Enough (drafted (O.configs origin) draft) ≡ Ok part) }
-    ensures refused { IfErr result (λ fault. next_state (record { configs = []; count = count })
-        Room.Enough (drafted (O.configs origin) draft) ≡ Err fault) }
+/// Makes the edits of a command on a draft of an origin, as the next one after `count` commands. After a refusal the
+/// draft has to be dropped.
+fn draft_next<O: Origin>(
+    alloc: Global,
+    origin: &O,
+    draft: &mut Draft,
+    count: u64,
+    command: Command,
+) -> Result<(), StoreFault>
+    requires { IsDraftOf (O.configs origin.now) draft.old }
+    ensures part { OnOk result (IsPart (O.configs origin.now) draft.new (count + 1)) }
+    ensures ok { OnOk result (step
+        (record { configs = drafted (O.configs origin.now) draft.old; count = count })
+        (command_of command) Room.Enough
+        ≡ Ok (record { configs = drafted (O.configs origin.now) draft.new; count = count + 1 })) }
+    ensures refused { IfErr result (λ fault. (fault ≡ StoreFault.OutOfMemory) ⊎ (step
+        (record { configs = drafted (O.configs origin.now) draft.old; count = count })
+        (command_of command) Room.Enough ≡ Err fault)) }
 {
-    check_room(count, draft.length, Room::Enough)?;
-    Ok(Part {
-        origin,
-        draft,
-        count: count + 1,
-    })
+    draft_command(alloc, origin, draft, command)?;
+    check_room(count, draft.length, Room::Enough)
 }

@@ -4,10 +4,11 @@ ghost use Rattle.conf_state.specs.Commands.{command_of, edit_of, batch};
 ghost use Rattle.conf_state.specs.Steps.{step};
 
 use crate::command::{Command, Edit, Edits};
+use crate::drafting::draft_batch;
 use crate::fault::StoreFault;
 use crate::room::Room;
 use crate::state::State;
-use crate::steps::{draft_edits, step_edit};
+use crate::steps::step_edit;
 use std::alloc::Global;
 
 /// Performs a command as [`step`](crate::step) does, where there is room for its record. After a refusal the state
@@ -30,10 +31,7 @@ fn replay_batch(alloc: Global, state: &mut State, edits: Vec<Edit>) -> Result<()
     ensures refused { IfErr result (λ fault. (fault ≡ StoreFault.OutOfMemory)
         ⊎ (step state.old (batch (map edit_of edits.items)) Room.Enough ≡ Err fault)) }
 {
-    if edits.is_empty() {
-        return Err(StoreFault::EmptyBatch);
-    }
-    let held = state.take_configs(alloc);
-    let draft = draft_edits(alloc, state, held, edits)?;
-    state.fill(draft, Room::Enough)
+    let mut held = state.take_configs(alloc);
+    draft_batch(alloc, state, &mut held, edits)?;
+    state.fill(held, Room::Enough)
 }

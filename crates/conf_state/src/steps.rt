@@ -1,15 +1,14 @@
 // One command on a state.
-ghost use Rattle.std.specs.Prelude.{◌≡◌, ◌⊎◌, Ok, Err, IfOk, OnOk, OnErr, IfErr, map};
-ghost use Rattle.conf_state.specs.Drafts.{drafted, IsDraftOf};
+ghost use Rattle.std.specs.Prelude.{◌≡◌, ◌⊎◌, Ok, Err, OnOk, OnErr, IfErr, map};
 ghost use Rattle.conf_state.specs.Commands.{command_of, edit_of, single, batch};
-ghost use Rattle.conf_state.specs.Steps.{all_edited, step};
+ghost use Rattle.conf_state.specs.Steps.{step};
 
 use crate::command::{Command, Edit, Edits};
-use crate::draft::{Draft, OnDraft};
+use crate::draft::Draft;
+use crate::drafting::draft_edits;
 use crate::editing::make_edit;
 use crate::fault::StoreFault;
 use crate::in_place::InPlace;
-use crate::origin::Origin;
 use crate::room::Room;
 use crate::state::State;
 use std::alloc::Global;
@@ -57,32 +56,11 @@ fn step_batch(
         0 => Err(StoreFault::EmptyBatch),
         1 => step_edit(alloc, state, edits.pop().unwrap(), room),
         _ => {
-            let draft = draft_edits(alloc, state, Draft::new(alloc, state), edits)?;
+            let mut draft = Draft::new(alloc, state);
+            draft_edits(alloc, state, &mut draft, edits)?;
             state.take(draft, room)
         }
     }
-}
-
-/// What edits make of a draft of an origin, one after the other.
-pub(crate) fn draft_edits<O: Origin>(
-    alloc: Global,
-    origin: &O,
-    mut draft: Draft,
-    edits: Vec<Edit>,
-) -> Result<Draft, StoreFault>
-    requires { IsDraftOf (O.configs origin.now) draft }
-    ensures draft { IfOk result (IsDraftOf (O.configs origin.now)) }
-    ensures ok { IfOk result (λ new.
-        all_edited (drafted (O.configs origin.now) draft) (map edit_of edits.items)
-        ≡ Ok (drafted (O.configs origin.now) new)) }
-    ensures refused { IfErr result (λ fault. (fault ≡ StoreFault.OutOfMemory)
-        ⊎ (all_edited (drafted (O.configs origin.now) draft) (map edit_of edits.items)
-        ≡ Err fault)) }
-{
-    for edit in edits {
-        make_edit(alloc, &OnDraft { origin }, &mut draft, edit)?;
-    }
-    Ok(draft)
 }
 
 /// Performs the command that is this edit alone, in place.
