@@ -5,6 +5,7 @@ use Rattle.std.specs.Prelude.{[], ◌∷◌, ◌++◌, length, Some, None}
 use Rattle.std.specs.List.{list_all}
 use Rattle.std.specs.Str.{IsUtf8, IsCharBoundary}
 use Rattle.std.proofs.lemmas.Bool.{and_from, and_left, and_parts, and_right, or_left, or_right, or_from, cases_Bool}
+use Rattle.std.proofs.lemmas.Bool.Decides.{nat_tests}
 use Rattle.std.proofs.lemmas.Bool.{cases_lt, cond_both, cond-false, false≢true, not_from_false}
 use Rattle.std.proofs.lemmas.List.{drop_more}
 use Rattle.std.proofs.lemmas.List.Sums.{list_all-from_AllPass}
@@ -209,6 +210,23 @@ prefix_short n text at margin u b s l =
     prefix_is n text at margin false s.above s.boundary
     (subst (λ (t : List ℕ). Prefixes n t (rest text margin) false) (sym (spaced_to text at margin u b s))
     (short_prefix n (margin - at) (rest text margin) l s.stop))
+
+unspaced : (text : List ℕ) → first white text ≡ false → first space text ≡ false
+unspaced [] h = refl
+unspaced (c ∷ cs) h = grind (arith, nat_tests)
+
+some_needed : (n : ℕ) → (suc n == 0) ≡ false
+some_needed n = grind (arith, nat_tests)
+
+-- an empty line is indented only if it needs no spaces
+pub prefix_empty : (n : ℕ) (text : List ℕ) (at next : ℕ) → IsCharBoundary text at → IsBreak text at next → IsPrefix n text at at (n == 0)
+prefix_empty zero text at next b f =
+    prefix_is zero text at at true (omega arith) b
+    (indented_prefix zero [] (rest text at) refl (break_unwhite (rest text at) f.break (rest text next) f.reads))
+prefix_empty (suc n) text at next b f =
+    subst (λ indented. IsPrefix (suc n) text at at indented) (sym (some_needed n))
+    (prefix_is (suc n) text at at false (omega arith) b (short_prefix (suc n) zero (rest text at) (omega arith)
+    (unspaced (rest text at) (break_unwhite (rest text at) f.break (rest text next) f.reads))))
 
 -- ---- the lines of a fold
 

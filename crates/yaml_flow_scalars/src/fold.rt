@@ -62,6 +62,12 @@ fn line_prefix(text: &str, at: usize, indent: u64) -> Prefix
     requires { IsCharBoundary text.now at }
     ensures { IsPrefix indent text.now at result.end result.indented }
 {
+    if let Some(_) = break_end(text, at) {
+        return Prefix {
+            end: at,
+            indented: indent == 0,
+        };
+    }
     let margin = spaces_end(text, at);
     if ((margin - at) as u64) < indent {
         return Prefix {

@@ -49,6 +49,11 @@ missing text h = rw h refl
 pub comment_missing : (bs : List ℕ) (i : ℕ) → IsCharBoundary bs i → first hash (rest bs i) ≡ false → IsCommentEnd bs i i
 comment_missing bs i b h = record { above = omega arith; boundary = b; leaves = missing (rest bs i) h }
 
+-- where a line feed is, no comment begins
+pub feed_no_hash : (text : List ℕ) → first (is_sign 10) text ≡ true → first hash text ≡ false
+feed_no_hash [] h = refl
+feed_no_hash (c ∷ cs) h = grind (arith, nat_tests)
+
 -- ---- the content of a line
 
 -- what follows white space, where a comment may be

@@ -90,6 +90,17 @@ fn after_content(text: &str, at: usize, content: usize) -> Option<usize>
     Some(stop.next)
 }
 
+/// Returns the place after a line that starts at `at` with its line feed, and so is empty. Returns None at any other.
+fn empty_line_end(text: &str, at: usize) -> Option<usize>
+    requires { IsCharBoundary text.now at }
+    ensures { IfSome result (IsLineEnd true text.now at) }
+{
+    if !stands_at(text, at, b'\n') {
+        return None;
+    }
+    after_content(text, at, at)
+}
+
 /// Returns the first line from the line at `at` on that holds more than whitespace and a comment, or the end of the
 /// text (6.6, `s-l-comments`). A line starts at `at`, or the text ends there. Each line before it is read once.
 #[inline(always)]
@@ -100,6 +111,10 @@ pub fn solid_line(text: &str, at: usize) -> Line
 {
     let mut start = at;
     'lines: loop {
+        if let Some(next) = empty_line_end(text, start) {
+            start = next;
+            continue;
+        }
         let first = spaces_end(text, start);
         if solid_at(text, first) {
             return Line { start, first };

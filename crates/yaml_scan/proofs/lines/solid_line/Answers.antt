@@ -8,7 +8,13 @@ pub lines-init : goal.lines-init
 lines-init c = comment_lines_none c.args.text.now c.args.at c.requires
 
 pub lines-preserved : goal.lines-preserved
-lines-preserved c = comment_lines_more c.args.text.now c.args.at c.lines.start c.in-Some.next c.lines.invariant c.in-Some.ensures.found
+lines-preserved c =
+    comment_lines_more c.args.text.now c.args.at c.lines.start c.in-Some-comment_line_end.next c.lines.invariant
+    c.in-Some-comment_line_end.ensures.found
+
+pub lines-preserved-in-Some : goal.lines-preserved-in-Some
+lines-preserved-in-Some c =
+    comment_lines_more c.args.text.now c.args.at c.lines.start c.in-Some.next c.lines.invariant c.in-Some.ensures
 
 pub returns-then-solid_at-clause-found : goal.returns-then-solid_at-clause-found
 returns-then-solid_at-clause-found c =
@@ -19,10 +25,10 @@ returns-then-solid_at-clause-found c =
 pub returns-then-solid_at-clause-starts : goal.returns-then-solid_at-clause-starts
 returns-then-solid_at-clause-starts c = c.lines.invariant.starts
 
-pub returns-in_default-clause-found : goal.returns-in_default-clause-found
-returns-in_default-clause-found c =
+pub returns-in_default-comment_line_end-clause-found : goal.returns-in_default-comment_line_end-clause-found
+returns-in_default-comment_line_end-clause-found c =
     solid_line_is c.args.text.now c.args.at c.lines.start c.spaces_end-first.result c.lines.invariant c.spaces_end-first.ensures
-    (no_line_end (rest c.args.text.now c.lines.start) c.in_default.ensures.none)
+    (no_line_end (rest c.args.text.now c.lines.start) c.in_default-comment_line_end.ensures.none)
 
-pub returns-in_default-clause-starts : goal.returns-in_default-clause-starts
-returns-in_default-clause-starts c = c.lines.invariant.starts
+pub returns-in_default-comment_line_end-clause-starts : goal.returns-in_default-comment_line_end-clause-starts
+returns-in_default-comment_line_end-clause-starts c = c.lines.invariant.starts
