@@ -70,7 +70,7 @@ impl<'a> Reader<'a> {
     }
 
     /// Reads what a block node begins with, of any kind, as [`Reader::leaf`] does.
-    #[inline(never)]
+    #[inline(always)]
     fn any_leaf(&mut self, text: &'a str, leaf: Leaf) -> Result<Next, ScanFault>
         requires at { IsCharBoundary text.now leaf.at }
         requires least { leaf.least ≤ 2 ^ 63 }
@@ -110,6 +110,7 @@ impl<'a> Reader<'a> {
 
     /// Reads a flow node, which may be the first key of a mapping. Where the value of the key is the rest of the line,
     /// it reads this too.
+    #[inline(never)]
     fn flow_leaf(&mut self, text: &'a str, leaf: Leaf) -> Result<Next, ScanFault>
         requires at { IsCharBoundary text.now leaf.at }
         requires pairs { IfSome leaf.pairs (λ indent. indent ≤ leaf.at) }
