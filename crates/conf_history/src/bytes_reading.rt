@@ -1,5 +1,5 @@
 // One configuration that the bytes of a store's file hold, which were read before.
-ghost use Rattle.std.specs.Prelude.{◌≡◌, ◌++◌, ℕ, List, option_map, IfOk, IfErr};
+ghost use Rattle.std.specs.Prelude.{◌≡◌, ◌++◌, ℕ, List, option_map, OnOk, IfOk, IfErr};
 ghost use Rattle.std.specs.Str.{chars};
 ghost use Rattle.yaml_data.specs.Seen.{tree_of};
 ghost use Rattle.yaml_grammar.specs.Closings.{ClosesOnce};
@@ -68,57 +68,56 @@ fn part_in(alloc: Global, bytes: Vec<u8>) -> Result<(Part<Base>, Opened), OpenFa
     let mut base = bytes;
     base.truncate(end);
     match read_part(alloc, base) {
-        Ok(Some(part)) => replay_records(alloc, part, &records),
+        Ok(Some(mut part)) => match replay_records(alloc, &mut part, &records) {
+            Ok(opened) => Ok((part, opened)),
+            Err(fault) => Err(fault),
+        },
         Ok(None) => Err(OpenFault::NotAStore),
         Err(_) => Err(OpenFault::OutOfMemory),
     }
 }
 
-/// Performs the records after a base, at whose state it starts. Counts them, and the bytes after the last one.
+/// Performs the records after a base on its part. Counts them, and the bytes after the last one.
 ///
 /// # Errors
-/// `Damaged` with the number of the first piece that is not the next record. `OutOfMemory`.
-fn replay_records(
-    alloc: Global,
-    start: Part<Base>,
-    records: &[u8],
-) -> Result<(Part<Base>, Opened), OpenFault>
-    ensures ok { (base : List ℕ) → ClosesOnce base → IsBase base start → IfOk result (λ read.
-        RecoversTo (base ++ records.now) read.0 read.1.commands read.1.dropped) }
-    ensures refused { (base : List ℕ) → ClosesOnce base → IsBase base start →
+/// `Damaged` with the number of the first piece that is not the next record. `OutOfMemory`. The part has to be dropped.
+fn replay_records(alloc: Global, part: &mut Part<Base>, records: &[u8]) -> Result<Opened, OpenFault>
+    ensures ok { (base : List ℕ) → ClosesOnce base → IsBase base part.old → IfOk result (λ opened.
+        RecoversTo (base ++ records.now) part.new opened.commands opened.dropped) }
+    ensures refused { (base : List ℕ) → ClosesOnce base → IsBase base part.old →
         IfErr result (RefusesBytes (base ++ records.now)) }
 {
     documents_are_read();
     piece_between_closings();
     one_list_of_pieces();
-    let mut part = start;
     let mut at = 0;
     let mut commands = 0u64;
     'records: while let Some(end) = next_close(records, at) {
-        part = match replay_record(alloc, part, &records[at..end]) {
-            Ok(next) => next,
+        match replay_record(alloc, part, &records[at..end]) {
+            Ok(()) => {}
             Err(RecordFault::Bad(_)) => {
                 return Err(OpenFault::Damaged {
                     number: commands + 1,
                 });
             }
             Err(RecordFault::OutOfMemory) => return Err(OpenFault::OutOfMemory),
-        };
+        }
         commands += 1;
         at = end;
     }
     let dropped = (records.len() - at) as u64;
-    Ok((part, Opened { commands, dropped }))
+    Ok(Opened { commands, dropped })
 }
 
-/// Performs the command of a piece, if the piece is the next record.
-fn replay_record(alloc: Global, part: Part<Base>, piece: &[u8]) -> Result<Part<Base>, RecordFault>
-    ensures ok { IfOk result (IsNextRecord piece.now part) }
-    ensures refused { IfErr result (RefusesRecord piece.now part) }
+/// Performs the command of a piece on a part, if the piece is the next record. After a refusal the part has to be
+/// dropped.
+fn replay_record(alloc: Global, part: &mut Part<Base>, piece: &[u8]) -> Result<(), RecordFault>
+    ensures ok { OnOk result (IsNextRecord piece.now part.old part.new) }
+    ensures refused { IfErr result (RefusesRecord piece.now part.old) }
 {
     let command = next_command(alloc, part.count(), piece)?;
     match part.replay(alloc, command) {
-        Ok(part) => Ok(part),
+        Ok(()) => Ok(()),
         Err(StoreFault::OutOfMemory) => Err(RecordFault::OutOfMemory),
         Err(fault) => Err(RecordFault::Bad(NoRecord::Refused(fault))),
     }

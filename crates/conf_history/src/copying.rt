@@ -78,7 +78,7 @@ fn read_copy<R: Read>(alloc: Global, reader: &mut R) -> Result<Vec<u8>, HistoryF
     let mut copy = Vec::from_slice(alloc, walk.pieces.piece())?;
     let mut part = walk.take_part(alloc)?;
     'records: while walk.advance(reader)? {
-        part = walk.replay_piece(alloc, part)?;
+        walk.replay_piece(alloc, &mut part)?;
         copy.extend_from_slice(walk.pieces.piece())?;
     }
     Ok(copy)

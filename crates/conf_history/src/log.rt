@@ -113,29 +113,29 @@ fn log_each<R: Read, W: Write>(
     let mut part = walk.take_part(alloc)?;
     check_start(part.count(), at)?;
     'records: while walk.goes_on(reader, at, part.count())? {
-        part = log_piece(alloc, &mut walk, part, form, writer)?;
+        log_piece(alloc, &mut walk, &mut part, form, writer)?;
     }
     check_end(part.count(), at)?;
     Ok(())
 }
 
-/// Performs the piece as the next record, and writes its command. Returns the state after it.
+/// Performs the piece as the next record, and writes its command.
 ///
 /// # Errors
-/// Those of [`Walk::replay_piece`]: nothing is written. `Output`: only a part is written.
+/// Those of [`Walk::replay_piece`]: nothing is written. `Output`: not all of the command is written.
 fn log_piece<W: Write>(
     alloc: Global,
     walk: &mut Walk,
-    part: Part<Base>,
+    part: &mut Part<Base>,
     form: LogForm,
     writer: &mut W,
-) -> Result<Part<Base>, HistoryFault>
+) -> Result<(), HistoryFault>
     requires { HasRoom walk.old.pieces walk.old.place }
-    ensures ok { IfOk result (λ new. (command : Meant)
-        × Performs (with_state walk.old part) (with_state walk.new new) command
+    ensures ok { OnOk result ((command : Meant)
+        × Performs (with_state walk.old part.old) (with_state walk.new part.new) command
         × Appends (W.contents writer.old) (W.contents writer.new)
-        (entry_bytes form (part.count + 1) (piece_or_rest walk.old.pieces) command)) }
-    ensures refused { IfErr result (FailsToLogPiece form (with_state walk.old part)
+        (entry_bytes form (part.old.count + 1) (piece_or_rest walk.old.pieces) command)) }
+    ensures refused { IfErr result (FailsToLogPiece form (with_state walk.old part.old)
         (W.contents writer.old) (W.contents writer.new)) }
 {
     match form {
@@ -148,41 +148,41 @@ fn log_piece<W: Write>(
 fn log_line<W: Write>(
     alloc: Global,
     walk: &mut Walk,
-    part: Part<Base>,
+    part: &mut Part<Base>,
     form: LineForm,
     writer: &mut W,
-) -> Result<Part<Base>, HistoryFault>
+) -> Result<(), HistoryFault>
     requires { HasRoom walk.old.pieces walk.old.place }
-    ensures ok { IfOk result (λ new. (command : Meant)
-        × Performs (with_state walk.old part) (with_state walk.new new) command
+    ensures ok { OnOk result ((command : Meant)
+        × Performs (with_state walk.old part.old) (with_state walk.new part.new) command
         × Appends (W.contents writer.old) (W.contents writer.new) (entry_bytes
-        (LogForm.Lines form) (part.count + 1) (piece_or_rest walk.old.pieces) command)) }
-    ensures refused { IfErr result (FailsToLogPiece (LogForm.Lines form) (with_state walk.old part)
-        (W.contents writer.old) (W.contents writer.new)) }
+        (LogForm.Lines form) (part.old.count + 1) (piece_or_rest walk.old.pieces) command)) }
+    ensures refused { IfErr result (FailsToLogPiece (LogForm.Lines form)
+        (with_state walk.old part.old) (W.contents writer.old) (W.contents writer.new)) }
 {
     let command = walk.command(alloc, part.count())?;
     let line = record_line(alloc, part.count() + 1, &command, form)?;
-    let part = walk.replay(alloc, part, command)?;
+    walk.replay(alloc, part, command)?;
     put_bytes(writer, line.as_bytes())?;
-    Ok(part)
+    Ok(())
 }
 
 /// The same as the bytes of the record.
 fn log_record<W: Write>(
     alloc: Global,
     walk: &mut Walk,
-    part: Part<Base>,
+    part: &mut Part<Base>,
     writer: &mut W,
-) -> Result<Part<Base>, HistoryFault>
+) -> Result<(), HistoryFault>
     requires { HasRoom walk.old.pieces walk.old.place }
-    ensures ok { IfOk result (λ new. (command : Meant)
-        × Performs (with_state walk.old part) (with_state walk.new new) command
-        × Appends (W.contents writer.old) (W.contents writer.new)
-        (entry_bytes LogForm.Records (part.count + 1) (piece_or_rest walk.old.pieces) command)) }
-    ensures refused { IfErr result (FailsToLogPiece LogForm.Records (with_state walk.old part)
+    ensures ok { OnOk result ((command : Meant)
+        × Performs (with_state walk.old part.old) (with_state walk.new part.new) command
+        × Appends (W.contents writer.old) (W.contents writer.new) (entry_bytes LogForm.Records
+        (part.old.count + 1) (piece_or_rest walk.old.pieces) command)) }
+    ensures refused { IfErr result (FailsToLogPiece LogForm.Records (with_state walk.old part.old)
         (W.contents writer.old) (W.contents writer.new)) }
 {
-    let part = walk.replay_piece(alloc, part)?;
+    walk.replay_piece(alloc, part)?;
     put_bytes(writer, walk.pieces.piece())?;
-    Ok(part)
+    Ok(())
 }

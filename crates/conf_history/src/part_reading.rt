@@ -77,7 +77,7 @@ fn part_at<R: Read>(
     let mut part = walk.take_part(alloc)?;
     check_start(part.count(), at)?;
     'records: while walk.goes_on(reader, at, part.count())? {
-        part = walk.replay_piece(alloc, part)?;
+        walk.replay_piece(alloc, &mut part)?;
     }
     check_end(part.count(), at)?;
     Ok(part)

@@ -1,5 +1,5 @@
 // A walk that builds only the configurations that records change.
-ghost use Rattle.std.specs.Prelude.{◌≡◌, ◌+◌, ℕ, List, [], ◌∷◌, Option, OnErr, IfOk, IfErr, IfSome, IfNone};
+ghost use Rattle.std.specs.Prelude.{◌≡◌, ◌+◌, ℕ, List, [], ◌∷◌, Option, OnOk, OnErr, IfOk, IfErr, IfSome, IfNone};
 ghost use Rattle.conf_state.specs.Commands.{Command as Meant, command_of};
 ghost use Rattle.conf_record.specs.Documents.{IsBase, IsNoBase, IsRecord};
 ghost use Rattle.yaml_docs.specs.PieceReading.{piece_or_rest};
@@ -33,28 +33,29 @@ impl Walk {
         }
     }
 
-    /// Performs the command of the piece, and goes past the piece. Returns the state after it.
+    /// Performs the command of the piece on the part, and goes past the piece.
     ///
     /// # Errors
-    /// `Damaged` if the state refuses the command. `OutOfMemory`. The walk stays as it was.
+    /// `Damaged` if the state refuses the command. `OutOfMemory`. The walk stays as it was, and the part has to be
+    /// dropped.
     pub fn replay(
         &mut self,
         alloc: Global,
-        part: Part<Base>,
+        part: &mut Part<Base>,
         command: Command,
-    ) -> Result<Part<Base>, HistoryFault>
+    ) -> Result<(), HistoryFault>
         requires room { HasRoom self.old.pieces self.old.place }
         requires is_record { IsRecord (piece_or_rest self.old.pieces) (command_of command)
-            (part.count + 1) }
-        ensures ok { IfOk result (λ new.
-            Performs (with_state self.old part) (with_state self.new new) (command_of command)) }
-        ensures refused { IfErr result (RefusesPiece (with_state self.old part)) }
+            (part.old.count + 1) }
+        ensures ok { OnOk result (Performs (with_state self.old part.old)
+            (with_state self.new part.new) (command_of command)) }
+        ensures refused { IfErr result (RefusesPiece (with_state self.old part.old)) }
         ensures walk { OnErr result (self.new ≡ self.old) }
     {
         match part.replay(alloc, command) {
-            Ok(part) => {
+            Ok(()) => {
                 self.place = self.place.after(self.pieces.piece());
-                Ok(part)
+                Ok(())
             }
             Err(StoreFault::OutOfMemory) => Err(HistoryFault::OutOfMemory),
             Err(fault) => {
@@ -64,19 +65,15 @@ impl Walk {
         }
     }
 
-    /// Reads the piece as the next record, performs it, and goes past the piece. Returns the state after it.
+    /// Reads the piece as the next record, performs it on the part, and goes past the piece.
     ///
     /// # Errors
-    /// `Damaged` if it is not the next record. `OutOfMemory`. The walk stays as it was.
-    pub fn replay_piece(
-        &mut self,
-        alloc: Global,
-        part: Part<Base>,
-    ) -> Result<Part<Base>, HistoryFault>
+    /// `Damaged` if it is not the next record. `OutOfMemory`. The walk stays as it was, and the part has to be dropped.
+    pub fn replay_piece(&mut self, alloc: Global, part: &mut Part<Base>) -> Result<(), HistoryFault>
         requires { HasRoom self.old.pieces self.old.place }
-        ensures ok { IfOk result (λ new. (command : Meant)
-            × Performs (with_state self.old part) (with_state self.new new) command) }
-        ensures refused { IfErr result (RefusesPiece (with_state self.old part)) }
+        ensures ok { OnOk result ((command : Meant)
+            × Performs (with_state self.old part.old) (with_state self.new part.new) command) }
+        ensures refused { IfErr result (RefusesPiece (with_state self.old part.old)) }
         ensures walk { OnErr result (self.new ≡ self.old) }
     {
         let command = self.command(alloc, part.count())?;

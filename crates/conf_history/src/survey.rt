@@ -68,11 +68,11 @@ pub fn find_in_store<R: Read>(alloc: Global, reader: &mut R) -> Result<Findings,
     let base = part.count();
     'records: while walk.advance(reader)? {
         let count = part.count();
-        part = match walk.replay_piece(alloc, part) {
-            Ok(part) => part,
+        match walk.replay_piece(alloc, &mut part) {
+            Ok(()) => {}
             Err(HistoryFault::Damaged(bad)) => return walk.find_after(reader, base, count, bad),
             Err(fault) => return Err(fault),
-        };
+        }
     }
     Ok(walk.findings(base, part.count(), None))
 }

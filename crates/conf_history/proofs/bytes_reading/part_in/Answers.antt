@@ -1,6 +1,6 @@
 -- The bytes up to the first closing line are the base, and the others are its records.
 use Rattle.std.proofs.Common.{rules, ◌∙◌, ℕ, List, sym, subst}
-use Rattle.std.specs.Prelude.{IfOk, IfErr, IfSome, IfNone}
+use Rattle.std.specs.Prelude.{IfSome, IfNone}
 use Rattle.yaml_grammar.specs.Closings.{ClosesOnce}
 use Rattle.yaml_docs.specs.NextClosing.{IsNextClosing, NoClosingAfter, StartsLine}
 use Rattle.conf_record.specs.Documents.{IsBase, IsNoBase}
@@ -26,8 +26,8 @@ returns-in-Ok-None-clause-refused c =
     (subst IsNoBase c.truncate.ensures.items
     (subst (λ r. IfNone r (IsNoBase c.truncate.new.self.items)) c.in-Ok-None.field-0-is c.in-Ok-None.ensures.none))
 
-pub returns-in-Ok-Some-clause-ok : goal.returns-in-Ok-Some-clause-ok
-returns-in-Ok-Some-clause-ok c =
+pub returns-in-Ok-replay_records-clause-ok : goal.returns-in-Ok-replay_records-clause-ok
+returns-in-Ok-replay_records-clause-ok c =
     let bytes : List ℕ = c.args.bytes.items in
     let base : List ℕ = c.truncate.new.self.items in
     let starts : StartsLine bytes 0 = search rules in
@@ -37,10 +37,11 @@ returns-in-Ok-Some-clause-ok c =
     (first-closes c.piece_between_closings.ensures.piece bytes c.in-Some.end starts next) in
     let is : IsBase base c.in-Ok-Some.part =
     subst (λ r. IfSome r (λ part. IsBase base part)) c.in-Ok-Some.field-0-is c.in-Ok-Some.ensures.some in
-    subst (λ b. IfOk c.replay_records.result (λ read. RecoversTo b read.0 read.1.commands read.1.dropped))
+    let opened = c.in-Ok-replay_records.opened in
+    subst (λ b. RecoversTo b c.replay_records.new.part opened.commands opened.dropped)
     (cut-apart bytes c.deref-2.result.now base c.deref-in-Ok-Some.result.now c.in-Some.end c.deref-2.ensures.value
     c.truncate.ensures.items (c.deref-in-Ok-Some.ensures.value ∙ c.in-Ok.ensures.items))
-    (c.replay_records.ensures.ok base closes is)
+    (c.in-Ok-replay_records.ensures.ok base closes is)
 
 pub returns-in-Ok-Some-clause-refused : goal.returns-in-Ok-Some-clause-refused
 returns-in-Ok-Some-clause-refused c =
@@ -53,7 +54,7 @@ returns-in-Ok-Some-clause-refused c =
     (first-closes c.piece_between_closings.ensures.piece bytes c.in-Some.end starts next) in
     let is : IsBase base c.in-Ok-Some.part =
     subst (λ r. IfSome r (λ part. IsBase base part)) c.in-Ok-Some.field-0-is c.in-Ok-Some.ensures.some in
-    subst (λ b. IfErr c.replay_records.result (RefusesBytes b))
+    subst (λ b. RefusesBytes b c.in-Err-replay_records.fault)
     (cut-apart bytes c.deref-2.result.now base c.deref-in-Ok-Some.result.now c.in-Some.end c.deref-2.ensures.value
     c.truncate.ensures.items (c.deref-in-Ok-Some.ensures.value ∙ c.in-Ok.ensures.items))
-    (c.replay_records.ensures.refused base closes is)
+    (c.in-Err-replay_records.ensures.refused base closes is)

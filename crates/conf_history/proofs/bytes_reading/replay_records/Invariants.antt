@@ -7,7 +7,7 @@ use Rattle.conf_history.proofs.bytes_reading.replay_records.Given as goal
 abbrev pub invariant-records : goal.invariant-records
 invariant-records l = record {
   starts : StartsLine l.records l.at;
-  read : Replayed l.fn.start l.records l.at l.part l.commands;
+  read : Replayed l.fn.part l.records l.at l.part l.commands;
   few : l.commands ≤ l.at;
 }
 

@@ -67,10 +67,10 @@ records-smaller g c =
     let going : IsAtPiece given left walk walked.0 walked.1 walked.2 =
     subst (λ b. AfterAdvance given left walk walked.0 walked.1 walked.2 (Ok b)) c.if-branch.true
     (c.in_ok-advance.ensures.walks given c.records.part walked.0 walked.1 walked.2 walked.3) in
-    let done = c.in_ok-part-2.ensures.ok in
+    let done = c.in_ok-replay_piece.ensures.ok in
     subst (λ (p : Place). store_limit - c.replay_piece.new.self.place.byte < store_limit - p.byte)
     c.in_ok-advance.ensures.place (passes given left walk walked.0 walked.1 walked.2 going
-    (with_state c.replay_piece.new.self c.in_ok-part-2.part) done.0 done.1)
+    (with_state c.replay_piece.new.self c.replay_piece.new.part) done.0 done.1)
 
 pub records-preserved : goal.records-preserved
 records-preserved g c =
@@ -81,9 +81,9 @@ records-preserved g c =
     let going : IsAtPiece given left walk walked.0 walked.1 walked.2 =
     subst (λ b. AfterAdvance given left walk walked.0 walked.1 walked.2 (Ok b)) c.if-branch.true
     (c.in_ok-advance.ensures.walks given c.records.part walked.0 walked.1 walked.2 walked.3) in
-    let done = c.in_ok-part-2.ensures.ok in
+    let done = c.in_ok-replay_piece.ensures.ok in
     let next = performs-on given left walk walked.0 walked.1 walked.2 going
-    (with_state c.replay_piece.new.self c.in_ok-part-2.part) done.0 done.1 in
+    (with_state c.replay_piece.new.self c.replay_piece.new.part) done.0 done.1 in
     let piece = piece_or_rest walk.pieces in
     let copied : c.piece-in-records.result.now ≡ piece = c.piece-in-records.ensures ∙ ap (λ (p : Reading). piece_or_rest p) done.1.pieces in
     record {
@@ -98,8 +98,8 @@ records-preserved g c =
       limits = next.limits;
     }
 
-pub returns-in_err-part-2-clause-refused : goal.returns-in_err-part-2-clause-refused
-returns-in_err-part-2-clause-refused g c =
+pub returns-in_err-replay_piece-clause-refused : goal.returns-in_err-replay_piece-clause-refused
+returns-in_err-replay_piece-clause-refused g c =
     let given = g.R.Read.remaining c.args.reader.now in
     let walked = c.records.invariant.walked in
     let walk = with_state c.advance.new.self c.records.part in
@@ -108,8 +108,8 @@ returns-in_err-part-2-clause-refused g c =
     subst (λ b. AfterAdvance given left walk walked.0 walked.1 walked.2 (Ok b)) c.if-branch.true
     (c.in_ok-advance.ensures.walks given c.records.part walked.0 walked.1 walked.2 walked.3) in
     let fails = refuses-piece given left walk walked.0 walked.1 walked.2 c.one_list_of_pieces.ensures.some going None
-    tt c.in_err-part-2.field-0.0 c.in_err-part-2.ensures.refused in
-    let p = err_from_is_err_and c.from_residual-in_err-part-2.result c.from_residual-in_err-part-2.ensures.1 in
+    tt c.in_err-replay_piece.field-0.0 c.in_err-replay_piece.ensures.refused in
+    let p = err_from_is_err_and c.from_residual-in_err-replay_piece.result c.from_residual-in_err-replay_piece.ensures.1 in
     rw (p.1, p.2) fails
 
 pub returns-in_err-extend_from_slice-clause-refused : goal.returns-in_err-extend_from_slice-clause-refused

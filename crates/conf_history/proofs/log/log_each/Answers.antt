@@ -110,10 +110,10 @@ records-smaller g c =
     let going : (c.args.at ≢ Some walk.state.count) × IsAtPiece given left walk walked.0 walked.1 walked.2 =
     subst (λ b. AfterGoing c.args.at given left walk walked.0 walked.1 walked.2 (Ok b)) c.if-branch.true
     (c.in_ok-goes_on.ensures.walks given c.records.part walked.0 walked.1 walked.2 c.count-in-records.ensures.count walked.3) in
-    let done = c.in_ok-part-2.ensures.ok in
+    let done = c.in_ok-log_piece.ensures.ok in
     subst (λ (p : Place). store_limit - c.log_piece.new.walk.place.byte < store_limit - p.byte)
     c.in_ok-goes_on.ensures.place (passes given left walk walked.0 walked.1 walked.2 going.1
-    (with_state c.log_piece.new.walk c.in_ok-part-2.part) done.0 done.1)
+    (with_state c.log_piece.new.walk c.log_piece.new.part) done.0 done.1)
 
 pub records-preserved : goal.records-preserved
 records-preserved g c =
@@ -128,8 +128,8 @@ records-preserved g c =
     let going : (c.args.at ≢ Some walk.state.count) × IsAtPiece given left walk walked.0 walked.1 walked.2 =
     subst (λ b. AfterGoing c.args.at given left walk walked.0 walked.1 walked.2 (Ok b)) c.if-branch.true
     (c.in_ok-goes_on.ensures.walks given c.records.part walked.0 walked.1 walked.2 c.count-in-records.ensures.count walked.3) in
-    let new = with_state c.log_piece.new.walk c.in_ok-part-2.part in
-    let done = c.in_ok-part-2.ensures.ok in
+    let new = with_state c.log_piece.new.walk c.log_piece.new.part in
+    let done = c.in_ok-log_piece.ensures.ok in
     let next = performs-on given left walk walked.0 walked.1 walked.2 going.1 new done.0 done.1 in
     let one : new.state.count ≡ walk.state.count + 1 = step-one walk.state new.state done.0 Enough done.1.done in
     record {
@@ -145,8 +145,8 @@ records-preserved g c =
       up_to = next-number c.args.at walk.state.count new.state.count going.0 one inv.up_to;
     }
 
-pub returns-in_err-part-2-clause-refused : goal.returns-in_err-part-2-clause-refused
-returns-in_err-part-2-clause-refused g c =
+pub returns-in_err-log_piece-clause-refused : goal.returns-in_err-log_piece-clause-refused
+returns-in_err-log_piece-clause-refused g c =
     let given = g.R.Read.remaining c.args.reader.now in
     let held = g.W.Write.contents c.args.writer.now in
     let mid = g.W.Write.contents c.records.writer in
@@ -161,8 +161,8 @@ returns-in_err-part-2-clause-refused g c =
     let before = before-number c.args.at walk.state.count going.0 inv.up_to in
     let fails = piece-fails c.args.form given left walk walked.0 walked.1 walked.2 some held mid walked.4 c.args.at
     before (g.W.Write.contents c.log_piece.new.writer) going.1
-    c.in_err-part-2.field-0.0 c.in_err-part-2.ensures.refused in
-    let p = err_from_is_err_and c.from_residual-in_err-part-2.result c.from_residual-in_err-part-2.ensures.1 in
+    c.in_err-log_piece.field-0.0 c.in_err-log_piece.ensures.refused in
+    let p = err_from_is_err_and c.from_residual-in_err-log_piece.result c.from_residual-in_err-log_piece.ensures.1 in
     rw (p.1, p.2) fails
 
 pub returns-in_err-check_end-clause-refused : goal.returns-in_err-check_end-clause-refused

@@ -10,8 +10,8 @@ use Rattle.conf_history.proofs.log.log_line.Goals as goal
 
 pub returns-in_err-command-clause-refused : goal.returns-in_err-command-clause-refused
 returns-in_err-command-clause-refused g c =
-    let refused = c.in_err-command.ensures.refused c.args.part (sym c.count.ensures.count) in
-    let fails = not-performed (Lines c.args.form) (with_state c.args.walk.now c.args.part)
+    let refused = c.in_err-command.ensures.refused c.args.part.now (sym c.count.ensures.count) in
+    let fails = not-performed (Lines c.args.form) (with_state c.args.walk.now c.args.part.now)
     (g.W.Write.contents c.args.writer.now) c.in_err-command.field-0.0 refused in
     let p = err_from_is_err_and c.from_residual.result c.from_residual.ensures.1 in
     rw (p.1, p.2) fails
@@ -19,12 +19,12 @@ returns-in_err-command-clause-refused g c =
 pub returns-in_err-put_bytes-clause-refused : goal.returns-in_err-put_bytes-clause-refused
 returns-in_err-put_bytes-clause-refused g c =
     let command = command_of c.in_ok-command.command in
-    let same : c.as_bytes.result.now ≡ encode_utf8_all (command_line c.args.form (c.args.part.count + 1) command) =
+    let same : c.as_bytes.result.now ≡ encode_utf8_all (command_line c.args.form (c.args.part.now.count + 1) command) =
     c.as_bytes.ensures.value ∙ c.in_ok-line.ensures
     ∙ ap (λ n. encode_utf8_all (command_line c.args.form (n + 1) command)) c.count-2.ensures.count in
     let f = c.in_err-put_bytes.field-0.0 in
-    let fails = entry-cut (Lines c.args.form) (with_state c.args.walk.now c.args.part)
-    (with_state c.replay.new.self c.in_ok-part.part) command c.in_ok-part.ensures.ok
+    let fails = entry-cut (Lines c.args.form) (with_state c.args.walk.now c.args.part.now)
+    (with_state c.replay.new.self c.replay.new.part) command c.in_ok-replay.ensures.ok
     (g.W.Write.contents c.args.writer.now) (g.W.Write.contents c.put_bytes.new.writer) c.as_bytes.result.now same
     f c.in_err-put_bytes.ensures.fault c.in_err-put_bytes.ensures.part in
     let p = err_from_is_err_and c.from_residual-in_err-put_bytes.result c.from_residual-in_err-put_bytes.ensures.1 in
@@ -33,10 +33,10 @@ returns-in_err-put_bytes-clause-refused g c =
 pub returns-clause-ok : goal.returns-clause-ok
 returns-clause-ok g c =
     let command = command_of c.in_ok-command.command in
-    let same : c.as_bytes.result.now ≡ encode_utf8_all (command_line c.args.form (c.args.part.count + 1) command) =
+    let same : c.as_bytes.result.now ≡ encode_utf8_all (command_line c.args.form (c.args.part.now.count + 1) command) =
     c.as_bytes.ensures.value ∙ c.in_ok-line.ensures
     ∙ ap (λ n. encode_utf8_all (command_line c.args.form (n + 1) command)) c.count-2.ensures.count in
-    entry-whole (Lines c.args.form) (with_state c.args.walk.now c.args.part)
-    (with_state c.replay.new.self c.in_ok-part.part) command c.in_ok-part.ensures.ok
+    entry-whole (Lines c.args.form) (with_state c.args.walk.now c.args.part.now)
+    (with_state c.replay.new.self c.replay.new.part) command c.in_ok-replay.ensures.ok
     (g.W.Write.contents c.args.writer.now) (g.W.Write.contents c.put_bytes.new.writer) c.as_bytes.result.now same
     c.in_ok-put_bytes.ensures.whole

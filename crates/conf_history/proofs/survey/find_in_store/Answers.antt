@@ -60,7 +60,7 @@ records-smaller g c =
     let done = c.in-Ok.ensures.ok in
     subst (λ (p : Place). store_limit - c.replay_piece.new.self.place.byte < store_limit - p.byte)
     c.in_ok-advance.ensures.place (passes given left walk walked.0 walked.1 walked.2 going
-    (with_state c.replay_piece.new.self c.in-Ok.part) done.0 done.1)
+    (with_state c.replay_piece.new.self c.replay_piece.new.part) done.0 done.1)
 
 pub records-preserved : goal.records-preserved
 records-preserved g c =
@@ -72,7 +72,7 @@ records-preserved g c =
     subst (λ b. AfterAdvance given left walk walked.0 walked.1 walked.2 (Ok b)) c.if-branch.true
     (c.in_ok-advance.ensures.walks given c.records.part walked.0 walked.1 walked.2 walked.3) in
     let done = c.in-Ok.ensures.ok in
-    let next = performs-on given left walk walked.0 walked.1 walked.2 going (with_state c.replay_piece.new.self c.in-Ok.part)
+    let next = performs-on given left walk walked.0 walked.1 walked.2 going (with_state c.replay_piece.new.self c.replay_piece.new.part)
     done.0 done.1 in
     record {
       walked = (walked.0 ++ piece_or_rest walk.pieces ∷ [], walked.1, walked.2 ++ done.0 ∷ [], next, walked.4);
