@@ -152,7 +152,7 @@ fn open_text<D: Disk + Drop, E: Listener>(
 }
 
 /// Returns the configuration under a name, as [`export_text`] does, where `store.yaml` was read as `content`. Where an
-/// opening would write no file, no other configuration is built.
+/// opening would write no file, of the other configurations only those are built that the records put or edit.
 ///
 /// # Errors
 /// Those of [`export_text`].
@@ -197,7 +197,7 @@ fn export_read<D: Disk + Drop, E: Listener>(
 /// Returns the configuration that the store on `disk` has under a name, written in a form, with the disk. The folder
 /// and `store.yaml` are synced. If there is no such file, or bytes follow its last whole record, the store is opened,
 /// which writes the file anew; one line to `errors` says how many bytes that dropped, if there were any. Otherwise no
-/// file changes, and no other configuration is built.
+/// file changes, and of the other configurations only those are built that the records put or edit.
 ///
 /// If the device fails at that, `store.yaml` is read as it stands, and nothing more is written or synced. So the
 /// configuration can be had from a folder that can't be written. But a crash may take back the last commands that were
