@@ -1,6 +1,6 @@
 -- A survey: what was gone past after a bad piece, and what was found.
 use Rattle.std.proofs.Common.{◌≡◌, refl, sym, ◌∙◌, ap, subst, arith, ◌<◌, ◌≤◌, append_assoc, length-append, length-take}
-use Rattle.std.specs.Prelude.{ℕ, ◌+◌, ◌-◌, suc, List, [], ◌∷◌, ◌++◌, length, drop, Option, Some, None, Result, Ok, Err, IfOk, IfSome}
+use Rattle.std.specs.Prelude.{ℕ, ◌+◌, ◌-◌, suc, List, [], ◌∷◌, ◌++◌, length, drop, Option, Some, None, Err, IfSome}
 use Rattle.std.specs.List.{All, concat}
 use Rattle.std.specs.Io.KnownBytes.{Consumes}
 use Rattle.std.proofs.KnownBytes.{Consumes-nil, Consumes-trans, Consumes-whole}
@@ -261,12 +261,6 @@ module _ (given left : Option (List ℕ)) (walk : Walked) (pieces : List (List �
         at_end = c.at_end;
         read = (bytes, c.taken, c.short);
       }
-
--- the findings of some state
-pub found-some : (given left : Option (List ℕ)) (s : Contents) (r : Result Findings HistoryFault)
-    → IfOk r (ReadsSurvey given left s) → IfOk r (λ findings. (x : Contents) × ReadsSurvey given left x findings)
-found-some given left s (Ok findings) reads = (s, reads)
-found-some given left s (Err fault) reads = tt
 
 -- a piece that was not performed, and is not bad
 pub not-bad : (given : Option (List ℕ)) (walk : Walked) (f : HistoryFault) → ((bad : BadPiece) → f ≡ Damaged bad → ⊥)

@@ -9,11 +9,11 @@ ghost use Rattle.conf_store.specs.NextRecords.{RefusesRecord};
 ghost use Rattle.conf_store.specs.Opens.{IsNextRecord, RecoversTo, RefusesBytes};
 
 use crate::base::Base;
-use crate::part_walk::read_part;
+use crate::replayed::Replayed;
 use crate::walk::next_command;
 use conf_record::documents_are_read;
-use conf_state::{Part, StoreFault};
-use conf_store::{NoRecord, OpenFault, Opened, RecordFault};
+use conf_state::Part;
+use conf_store::{OnRefusal, OpenFault, Opened, RecordFault};
 use std::alloc::Global;
 use yaml_config::Config;
 use yaml_docs::next_close;
@@ -67,7 +67,7 @@ fn part_in(alloc: Global, bytes: Vec<u8>) -> Result<(Part<Base>, Opened), OpenFa
     };
     let mut base = bytes;
     base.truncate(end);
-    match read_part(alloc, base) {
+    match Part::of_base(alloc, base) {
         Ok(Some(mut part)) => match replay_records(alloc, &mut part, &records) {
             Ok(opened) => Ok((part, opened)),
             Err(fault) => Err(fault),
@@ -116,9 +116,5 @@ fn replay_record(alloc: Global, part: &mut Part<Base>, piece: &[u8]) -> Result<(
     ensures refused { IfErr result (RefusesRecord piece.now part.old) }
 {
     let command = next_command(alloc, part.count(), piece)?;
-    match part.replay(alloc, command) {
-        Ok(()) => Ok(()),
-        Err(StoreFault::OutOfMemory) => Err(RecordFault::OutOfMemory),
-        Err(fault) => Err(RecordFault::Bad(NoRecord::Refused(fault))),
-    }
+    part.perform(alloc, command, OnRefusal::DropState)
 }

@@ -10,11 +10,13 @@ ghost use Rattle.conf_history.specs.Copies.{BacksUp, CreatesFile, LeavesOldOrCop
 ghost use Rattle.conf_history.specs.Histories.{RefusesReading};
 ghost use Rattle.conf_history.specs.declared.fault.HistoryFault.{HistoryFault};
 
+use crate::base::Base;
 use crate::fault::{HistoryFault, SalvageFault};
 use crate::walk::Walk;
 use conf_disk::{Disk, Name, reading_is_an_image};
 use conf_journal::{held_store_is_left, held_store_is_the_only_one};
-use conf_store::{CreateFault, find_no_store, replace_store};
+use conf_state::Part;
+use conf_store::{CreateFault, OnRefusal, find_no_store, replace_store};
 use std::alloc::Global;
 use std::io::Read;
 use yaml_recognizers::closings::one_list_of_pieces;
@@ -76,9 +78,9 @@ fn read_copy<R: Read>(alloc: Global, reader: &mut R) -> Result<Vec<u8>, HistoryF
     one_list_of_pieces();
     let mut walk = Walk::begin(alloc, reader)?;
     let mut copy = Vec::from_slice(alloc, walk.pieces.piece())?;
-    let mut part = walk.take_part(alloc)?;
+    let mut part: Part<Base> = walk.take_base(alloc)?;
     'records: while walk.advance(reader)? {
-        walk.replay_piece(alloc, &mut part)?;
+        walk.replay_piece(alloc, &mut part, OnRefusal::DropState)?;
         copy.extend_from_slice(walk.pieces.piece())?;
     }
     Ok(copy)

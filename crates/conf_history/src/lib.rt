@@ -22,11 +22,10 @@ mod line;
 mod log;
 mod output;
 mod part_reading;
-mod part_walk;
 mod place;
 mod reading;
+mod replayed;
 mod saving;
-mod state_walk;
 mod survey;
 mod walk;
 

@@ -13,6 +13,7 @@ use crate::output::put_bytes;
 use crate::reading::{check_end, check_start};
 use crate::walk::Walk;
 use conf_state::Part;
+use conf_store::OnRefusal;
 use std::alloc::Global;
 use std::io::{Read, Write};
 use yaml_recognizers::closings::one_list_of_pieces;
@@ -110,7 +111,7 @@ fn log_each<R: Read, W: Write>(
 {
     one_list_of_pieces();
     let mut walk = Walk::begin(alloc, reader)?;
-    let mut part = walk.take_part(alloc)?;
+    let mut part: Part<Base> = walk.take_base(alloc)?;
     check_start(part.count(), at)?;
     'records: while walk.goes_on(reader, at, part.count())? {
         log_piece(alloc, &mut walk, &mut part, form, writer)?;
@@ -162,7 +163,7 @@ fn log_line<W: Write>(
 {
     let command = walk.command(alloc, part.count())?;
     let line = record_line(alloc, part.count() + 1, &command, form)?;
-    walk.replay(alloc, part, command)?;
+    walk.replay(alloc, part, command, OnRefusal::DropState)?;
     put_bytes(writer, line.as_bytes())?;
     Ok(())
 }
@@ -182,7 +183,7 @@ fn log_record<W: Write>(
     ensures refused { IfErr result (FailsToLogPiece LogForm.Records (with_state walk.old part.old)
         (W.contents writer.old) (W.contents writer.new)) }
 {
-    walk.replay_piece(alloc, part)?;
+    walk.replay_piece(alloc, part, OnRefusal::DropState)?;
     put_bytes(writer, walk.pieces.piece())?;
     Ok(())
 }

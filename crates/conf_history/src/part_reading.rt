@@ -8,13 +8,11 @@ ghost use Rattle.conf_history.specs.Histories.{ReadsState, RefusesReading};
 
 use crate::base::Base;
 use crate::fault::HistoryFault;
-use crate::reading::{check_end, check_start};
-use crate::walk::Walk;
+use crate::reading::read_up_to;
 use conf_state::Part;
 use std::alloc::Global;
 use std::io::Read;
 use yaml_config::Config;
-use yaml_recognizers::closings::one_list_of_pieces;
 
 /// Reads the configuration that a store's file held under a name: after all its commands, or after the one with the
 /// number `at`. Returns `None` if no configuration had the name.
@@ -37,7 +35,7 @@ pub fn config_at<R: Read>(
     ensures refused { IfErr result (λ fault.
         IfSome (R.remaining reader.old) (λ bytes. RefusesReading bytes at fault)) }
 {
-    let part = part_at(alloc, reader, at)?;
+    let part: Part<Base> = read_up_to(alloc, reader, at)?;
     Ok(part.copy_of(alloc, name)?)
 }
 
@@ -57,28 +55,6 @@ pub fn names_at<R: Read>(
     ensures refused { IfErr result (λ fault.
         IfSome (R.remaining reader.old) (λ bytes. RefusesReading bytes at fault)) }
 {
-    let part = part_at(alloc, reader, at)?;
+    let part: Part<Base> = read_up_to(alloc, reader, at)?;
     Ok(part.names(alloc)?)
-}
-
-/// Reads the state that a store's file held, as [`state_at`](crate::state_at) does, without building it.
-fn part_at<R: Read>(
-    alloc: Global,
-    reader: &mut R,
-    at: Option<u64>,
-) -> Result<Part<Base>, HistoryFault>
-    ensures ok { IfOk result
-        (ReadsState (R.remaining reader.old) (R.remaining reader.new) at) }
-    ensures refused { IfErr result (λ fault.
-        IfSome (R.remaining reader.old) (λ bytes. RefusesReading bytes at fault)) }
-{
-    one_list_of_pieces();
-    let mut walk = Walk::begin(alloc, reader)?;
-    let mut part = walk.take_part(alloc)?;
-    check_start(part.count(), at)?;
-    'records: while walk.goes_on(reader, at, part.count())? {
-        walk.replay_piece(alloc, &mut part)?;
-    }
-    check_end(part.count(), at)?;
-    Ok(part)
 }

@@ -3,6 +3,7 @@ ghost use Rattle.std.specs.Prelude.{◌≡◌, ◌≢◌, ◌<◌, ◌≤◌, �
 ghost use Rattle.conf_history.specs.Histories.{ReadsState, RefusesReading};
 
 use crate::fault::HistoryFault;
+use crate::replayed::Replayed;
 use crate::walk::Walk;
 use conf_state::State;
 use conf_store::OnRefusal;
@@ -35,15 +36,32 @@ pub fn state_at<R: Read>(
     ensures refused { IfErr result (λ fault.
         IfSome (R.remaining reader.old) (λ bytes. RefusesReading bytes at fault)) }
 {
+    read_up_to(alloc, reader, at)
+}
+
+/// Reads what a store's file held, as [`state_at`] does.
+///
+/// # Errors
+/// Those of [`state_at`].
+pub(crate) fn read_up_to<R: Read, T: Replayed>(
+    alloc: Global,
+    reader: &mut R,
+    at: Option<u64>,
+) -> Result<T, HistoryFault>
+    ensures ok { IfOk result (λ held.
+        ReadsState (R.remaining reader.old) (R.remaining reader.new) at (T.contents held)) }
+    ensures refused { IfErr result (λ fault.
+        IfSome (R.remaining reader.old) (λ bytes. RefusesReading bytes at fault)) }
+{
     one_list_of_pieces();
     let mut walk = Walk::begin(alloc, reader)?;
-    let mut state = walk.state(alloc)?;
-    check_start(state.count(), at)?;
-    'records: while walk.goes_on(reader, at, state.count())? {
-        walk.perform_piece(alloc, &mut state, OnRefusal::DropState)?;
+    let mut held: T = walk.take_base(alloc)?;
+    check_start(held.accepted(), at)?;
+    'records: while walk.goes_on(reader, at, held.accepted())? {
+        walk.replay_piece(alloc, &mut held, OnRefusal::DropState)?;
     }
-    check_end(state.count(), at)?;
-    Ok(state)
+    check_end(held.accepted(), at)?;
+    Ok(held)
 }
 
 /// Fails with `NoSuchCommand` if the number is before that of the base, which has `count` commands.

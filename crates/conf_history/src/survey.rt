@@ -9,10 +9,12 @@ ghost use Rattle.conf_history.specs.Counting.{AfterCount};
 ghost use Rattle.conf_history.specs.Histories.{ReadsSurvey, RefusesSurvey};
 ghost use Rattle.conf_history.specs.Walks.{HasLimits, IsAtPiece, IsBadHere, with_state};
 
+use crate::base::Base;
 use crate::fault::{HistoryFault, fault_of_pieces};
 use crate::place::BadPiece;
+use crate::replayed::Replayed;
 use crate::walk::Walk;
-use conf_state::State;
+use conf_state::{Part, State};
 use conf_store::OnRefusal;
 use std::alloc::Global;
 use std::io::Read;
@@ -63,18 +65,8 @@ pub fn find_in_store<R: Read>(alloc: Global, reader: &mut R) -> Result<Findings,
     ensures refused { IfErr result (λ fault.
         IfSome (R.remaining reader.old) (λ bytes. RefusesSurvey bytes fault)) }
 {
-    let mut walk = Walk::begin(alloc, reader)?;
-    let mut part = walk.take_part(alloc)?;
-    let base = part.count();
-    'records: while walk.advance(reader)? {
-        let count = part.count();
-        match walk.replay_piece(alloc, &mut part) {
-            Ok(()) => {}
-            Err(HistoryFault::Damaged(bad)) => return walk.find_after(reader, base, count, bad),
-            Err(fault) => return Err(fault),
-        }
-    }
-    Ok(walk.findings(base, part.count(), None))
+    let (_, findings) = survey_pieces::<R, Part<Base>>(alloc, reader)?;
+    Ok(findings)
 }
 
 /// Finds what [`find_in_store`] does, and returns it with the state after the records that were performed. It takes
@@ -88,21 +80,40 @@ pub fn survey_store<R: Read>(alloc: Global, reader: &mut R) -> Result<Survey, Hi
     ensures refused { IfErr result (λ fault.
         IfSome (R.remaining reader.old) (λ bytes. RefusesSurvey bytes fault)) }
 {
+    let (state, findings) = survey_pieces::<R, State>(alloc, reader)?;
+    Ok(Survey { state, findings })
+}
+
+/// Finds what [`find_in_store`] does, and returns it with what the commands were performed on.
+///
+/// # Errors
+/// Those of [`find_in_store`].
+fn survey_pieces<R: Read, T: Replayed>(
+    alloc: Global,
+    reader: &mut R,
+) -> Result<(T, Findings), HistoryFault>
+    ensures ok { IfOk result (λ found. (s : Contents)
+        × ReadsSurvey (R.remaining reader.old) (R.remaining reader.new) s found.1
+        × T.Keeps found.0 s) }
+    ensures refused { IfErr result (λ fault.
+        IfSome (R.remaining reader.old) (λ bytes. RefusesSurvey bytes fault)) }
+{
     let mut walk = Walk::begin(alloc, reader)?;
-    let mut state = walk.state(alloc)?;
-    let base = state.count();
+    let mut held: T = walk.take_base(alloc)?;
+    let base = held.accepted();
     'records: while walk.advance(reader)? {
-        match walk.perform_piece(alloc, &mut state, OnRefusal::KeepState) {
+        let count = held.accepted();
+        match walk.replay_piece(alloc, &mut held, OnRefusal::KeepState) {
             Ok(()) => {}
             Err(HistoryFault::Damaged(bad)) => {
-                let findings = walk.find_after(reader, base, state.count(), bad)?;
-                return Ok(Survey { state, findings });
+                let findings = walk.find_after(reader, base, count, bad)?;
+                return Ok((held, findings));
             }
             Err(fault) => return Err(fault),
         }
     }
-    let findings = walk.findings(base, state.count(), None);
-    Ok(Survey { state, findings })
+    let findings = walk.findings(base, held.accepted(), None);
+    Ok((held, findings))
 }
 
 impl Walk {

@@ -70,7 +70,7 @@ records-smaller g c =
     let done = c.in_ok-replay_piece.ensures.ok in
     subst (λ (p : Place). store_limit - c.replay_piece.new.self.place.byte < store_limit - p.byte)
     c.in_ok-advance.ensures.place (passes given left walk walked.0 walked.1 walked.2 going
-    (with_state c.replay_piece.new.self c.replay_piece.new.part) done.0 done.1)
+    (with_state c.replay_piece.new.self c.replay_piece.new.held) done.0 done.1)
 
 pub records-preserved : goal.records-preserved
 records-preserved g c =
@@ -83,7 +83,7 @@ records-preserved g c =
     (c.in_ok-advance.ensures.walks given c.records.part walked.0 walked.1 walked.2 walked.3) in
     let done = c.in_ok-replay_piece.ensures.ok in
     let next = performs-on given left walk walked.0 walked.1 walked.2 going
-    (with_state c.replay_piece.new.self c.replay_piece.new.part) done.0 done.1 in
+    (with_state c.replay_piece.new.self c.replay_piece.new.held) done.0 done.1 in
     let piece = piece_or_rest walk.pieces in
     let copied : c.piece-in-records.result.now ≡ piece = c.piece-in-records.ensures ∙ ap (λ (p : Reading). piece_or_rest p) done.1.pieces in
     record {

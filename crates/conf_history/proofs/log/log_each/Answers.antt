@@ -35,7 +35,7 @@ pub returns-in_err-check_start-clause-refused : goal.returns-in_err-check_start-
 returns-in_err-check_start-clause-refused g c =
     let given = g.R.Read.remaining c.args.reader.now in
     let left = g.R.Read.remaining c.begin.new.reader in
-    let walk = with_state c.take_part.new.self c.in_ok-part.part in
+    let walk = with_state c.take_base.new.self c.in_ok-part.part in
     let begun = c.in_ok-part.ensures.ok given left c.in_ok-walk.ensures.ok in
     let ensures = c.in_err-check_start.ensures in
     let f = c.in_err-check_start.field-0.0 in

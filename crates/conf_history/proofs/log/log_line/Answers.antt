@@ -24,7 +24,7 @@ returns-in_err-put_bytes-clause-refused g c =
     ∙ ap (λ n. encode_utf8_all (command_line c.args.form (n + 1) command)) c.count-2.ensures.count in
     let f = c.in_err-put_bytes.field-0.0 in
     let fails = entry-cut (Lines c.args.form) (with_state c.args.walk.now c.args.part.now)
-    (with_state c.replay.new.self c.replay.new.part) command c.in_ok-replay.ensures.ok
+    (with_state c.replay.new.self c.replay.new.held) command c.in_ok-replay.ensures.ok
     (g.W.Write.contents c.args.writer.now) (g.W.Write.contents c.put_bytes.new.writer) c.as_bytes.result.now same
     f c.in_err-put_bytes.ensures.fault c.in_err-put_bytes.ensures.part in
     let p = err_from_is_err_and c.from_residual-in_err-put_bytes.result c.from_residual-in_err-put_bytes.ensures.1 in
@@ -37,6 +37,6 @@ returns-clause-ok g c =
     c.as_bytes.ensures.value ∙ c.in_ok-line.ensures
     ∙ ap (λ n. encode_utf8_all (command_line c.args.form (n + 1) command)) c.count-2.ensures.count in
     entry-whole (Lines c.args.form) (with_state c.args.walk.now c.args.part.now)
-    (with_state c.replay.new.self c.replay.new.part) command c.in_ok-replay.ensures.ok
+    (with_state c.replay.new.self c.replay.new.held) command c.in_ok-replay.ensures.ok
     (g.W.Write.contents c.args.writer.now) (g.W.Write.contents c.put_bytes.new.writer) c.as_bytes.result.now same
     c.in_ok-put_bytes.ensures.whole

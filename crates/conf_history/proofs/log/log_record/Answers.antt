@@ -11,7 +11,7 @@ pub returns-in_err-put_bytes-clause-refused : goal.returns-in_err-put_bytes-clau
 returns-in_err-put_bytes-clause-refused g c =
     let done = c.in_ok-replay_piece.ensures.ok in
     let f = c.in_err-put_bytes.field-0.0 in
-    let fails = entry-cut Records (with_state c.args.walk.now c.args.part.now) (with_state c.replay_piece.new.self c.replay_piece.new.part)
+    let fails = entry-cut Records (with_state c.args.walk.now c.args.part.now) (with_state c.replay_piece.new.self c.replay_piece.new.held)
     done.0 done.1 (g.W.Write.contents c.args.writer.now) (g.W.Write.contents c.put_bytes.new.writer) c.piece.result.now
     (c.piece.ensures ∙ ap piece_or_rest done.1.pieces) f c.in_err-put_bytes.ensures.fault c.in_err-put_bytes.ensures.part in
     let p = err_from_is_err_and c.from_residual-in_err-put_bytes.result c.from_residual-in_err-put_bytes.ensures.1 in
@@ -20,6 +20,6 @@ returns-in_err-put_bytes-clause-refused g c =
 pub returns-clause-ok : goal.returns-clause-ok
 returns-clause-ok g c =
     let done = c.in_ok-replay_piece.ensures.ok in
-    entry-whole Records (with_state c.args.walk.now c.args.part.now) (with_state c.replay_piece.new.self c.replay_piece.new.part)
+    entry-whole Records (with_state c.args.walk.now c.args.part.now) (with_state c.replay_piece.new.self c.replay_piece.new.held)
     done.0 done.1 (g.W.Write.contents c.args.writer.now) (g.W.Write.contents c.put_bytes.new.writer) c.piece.result.now
     (c.piece.ensures ∙ ap piece_or_rest done.1.pieces) c.in_ok-put_bytes.ensures.whole

@@ -4,6 +4,6 @@ use Rattle.std.proofs.lemmas.Result.{err_from_is_err_and}
 use Rattle.conf_history.proofs.walk.Walk.replay_piece.Goals as goal
 
 pub returns-in_err-command-clause-refused : goal.returns-in_err-command-clause-refused
-returns-in_err-command-clause-refused c =
+returns-in_err-command-clause-refused g c =
     let p = err_from_is_err_and c.from_residual.result c.from_residual.ensures.1 in
-    rw (p.1, p.2) (c.in_err-command.ensures.refused c.args.part.now (sym c.count.ensures.count))
+    rw (p.1, p.2) (c.in_err-command.ensures.refused (g.T.Replayed.contents c.args.held.now) (sym c.accepted.ensures.count))

@@ -4,13 +4,13 @@ use Rattle.conf_journal.specs.Store.{store_limit}
 use Rattle.conf_state.specs.Commands.{Command}
 use Rattle.conf_state.specs.States.{Contents}
 use Rattle.conf_history.specs.Walks.{HasLimits, IsBetween, with_state}
-use Rattle.conf_history.proofs.survey.find_in_store.Given as goal
+use Rattle.conf_history.proofs.survey.survey_pieces.Given as goal
 
 abbrev pub invariant-records : goal.invariant-records
 invariant-records g l = record {
   walked : (pieces : List (List ℕ)) × (start : Contents) × (commands : List Command)
       × IsBetween (g.R.Read.remaining l.fn.reader) (g.R.Read.remaining l.reader)
-      (with_state l.walk l.part) pieces start commands × (l.base ≡ start.count);
+      (with_state l.walk (g.T.Replayed.contents l.held)) pieces start commands × (l.base ≡ start.count);
   limits : HasLimits l.walk.pieces;
 }
 

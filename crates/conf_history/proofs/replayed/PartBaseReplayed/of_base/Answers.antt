@@ -2,7 +2,7 @@
 use Rattle.std.proofs.Common.{ap, subst, ◌∙◌}
 use Rattle.std.specs.Prelude.{IfNone, IfOk}
 use Rattle.conf_record.specs.Documents.{IsNoBase}
-use Rattle.conf_history.proofs.part_walk.read_part.Goals as goal
+use Rattle.conf_history.proofs.replayed.PartBaseReplayed.of_base.Goals as goal
 
 pub returns-in-Err-default-OtherForm-clause-none : goal.returns-in-Err-default-OtherForm-clause-none
 returns-in-Err-default-OtherForm-clause-none c =
