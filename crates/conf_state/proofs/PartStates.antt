@@ -91,10 +91,3 @@ module _ (es : List Entry) (old new : Draft) (of : IsDraftOf es new) (count : �
   checked-refused (Err fault) fits refused =
       inr (ap (λ o. and_then o (next_state before Enough)) made
       ∙ refused before (drafted es new) refl (fits ∙ ap (λ n. min n 18446744073709551615) of.counted))
-
--- a command whose edits are refused on a draft is refused
-pub refused-before : (s : Contents) (command : Command) (r : Result (Unit {0}) StoreFault)
-    → IfErr r (λ fault. (fault ≡ OutOfMemory) ⊎ (performed s.configs command ≡ Err fault))
-    → IfErr r (λ fault. (fault ≡ OutOfMemory) ⊎ (step s command Enough ≡ Err fault))
-refused-before s command (Ok u) refused = tt
-refused-before s command (Err fault) refused = or_so (λ is. ap (λ o. and_then o (next_state s Enough)) is) refused
