@@ -48,7 +48,7 @@ BESIDE = "crates/text_probe/src/main.rt"
 # The crates of most copies.
 FEW = "confstore: conf_words conf_state\nconf_words:\nconf_state:\ntext_probe: conf_words\n"
 # A start may take as much of processors more than the program as this many starts of bash, which measure how busy the
-# machine is (it takes some eight, and fifty where it reads all sources), and a first start these seconds.
+# machine is (it takes some eight, and fifty where it reads all sources), and a first start these seconds of them.
 MOST_COST = 15
 MOST_FIRST = 2.0
 
@@ -239,9 +239,9 @@ def try_starts(scene: Scene, whole: Path, failures: Failures) -> None:
     """First and later starts in a copy that nothing was built in."""
     scene.was_proving()
     copy = scene.copy(whole)
-    start = time.monotonic()
+    start = processor_time()
     first = scene.format(copy)
-    took = time.monotonic() - start
+    took = processor_time() - start
     failures.expect("first start", (first.returncode, first.stdout), (0, FORMATTED))
     failures.expect("first start: under two seconds", took < MOST_FIRST, True)
     failures.expect("first start: one line", len(lines_of(first)), 1)

@@ -1,36 +1,78 @@
 #!/usr/bin/env bash
 # Tries the edits of crates/CRATE/must-fail-beside: wrong bodies that the prover has to refuse, beside those that the
-# gate tries (crates/CRATE/must-fail). They are tried in a copy of the repository, so nothing here is changed.
+# gate tries (crates/CRATE/must-fail). They are tried in a copy of the repository, so nothing here is changed. What an
+# earlier check kept in a crate's out/ is used, so run `rt check` in the crate first.
 #
-#   checks/wrong_bodies.sh [CRATE..]     the crates that are named, or all
+#   checks/wrong_bodies.sh [CRATE..]          the crates that are named, or all
+#   checks/wrong_bodies.sh --since COMMIT     those whose code, definitions, proofs or edits changed since the commit
 #
-# A crate takes 1 to 10 minutes. The last line is 'N refused, M not'; the status is 0 if M is 0.
+# A crate takes 1 to 10 minutes, and a line says how long. The last line is 'N refused, M not'; the status is 0 if M is
+# 0, and 2 if the words are wrong.
 set -u
 top=$(cd "$(dirname "${BASH_SOURCE[0]}")/.." && pwd) || exit 1
-if [ $# -eq 0 ]; then
-    cd "$top/crates" || exit 1
-    set -- */must-fail-beside
-    set -- "${@%/must-fail-beside}"
-fi
+cd "$top/crates" || exit 1
+
+usage() {
+    echo "wrong_bodies.sh: $1: checks/wrong_bodies.sh [CRATE.. | --since COMMIT]" >&2
+    exit 2
+}
+
+# The crates that have edits beside the gate, each on a line.
+all_crates() { find . -mindepth 2 -maxdepth 2 -name must-fail-beside -printf '%h\n' | sed 's|^\./||' | LC_ALL=C sort; }
+
+# Those of them that changed since a commit, whether or not the change is committed.
+changed_crates() { # COMMIT
+    local changed
+    changed=$({ git diff --name-only --relative "$1" -- . && git ls-files --others --exclude-standard .; } | cut -d/ -f1)
+    all_crates | grep -Fx -f <(echo "$changed")
+}
+
+case ${1-} in
+    --since)
+        [ $# -eq 2 ] || usage "--since wants a commit"
+        git rev-parse --quiet --verify "$2^{commit}" >/dev/null || usage "there is no commit $2"
+        mapfile -t crates < <(changed_crates "$2")
+        ;;
+    -*) usage "there is no option $1" ;;
+    "") mapfile -t crates < <(all_crates) ;;
+    *) crates=("$@") ;;
+esac
+for crate in "${crates[@]}"; do [ -d "$crate/must-fail-beside" ] || usage "$crate has no edits beside the gate"; done
+
 work=$(mktemp -d) || exit 1
 trap 'rm -rf "$work"' EXIT
-cp "$top/crates.txt" "$top/HANDLES" "$work/" && cp -a "$top/crates" "$work/" || exit 1
-git init -q "$work" || exit 1
-rm -rf "$work"/crates/*/must-fail
+trap 'exit 1' INT TERM HUP
 
+# Copies the crates. What checks kept takes gigabytes, so it gets second names where both are on one device: rt replaces
+# these files, and never writes into one.
+copy_crates() {
+    local kept
+    cp "$top/crates.txt" "$top/HANDLES" "$work/" && mkdir "$work/crates" &&
+        tar -cf - --exclude=out --exclude='must-fail*' . | tar -xf - -C "$work/crates" || return
+    for kept in */out; do
+        [ -d "$kept" ] || continue
+        cp -al "$kept" "$work/crates/$kept" 2>/dev/null ||
+            { rm -rf "${work:?}/crates/$kept" && cp -a "$kept" "$work/crates/$kept"; } || return
+    done
+    git init -q "$work"
+}
+
+copy_crates || exit 1
 refused=0
 passed=0
-for crate in "$@"; do
+for crate in "${crates[@]}"; do
     edits=$top/crates/$crate/must-fail-beside
-    [ -d "$edits" ] || { echo "$crate has no edits beside the gate" >&2; exit 1; }
+    tried=$(find "$edits" -name '*.edit' | wc -l)
+    SECONDS=0
     cp -a "$edits" "$work/crates/$crate/must-fail" || exit 1
     log=$work/$crate.log
     (cd "$work" && PYTHONUNBUFFERED=1 rt must-fail "$crate") >"$log" 2>&1
     grep -E '\.edit: ' "$log" || cat "$log"
-    tried=$(find "$edits" -name '*.edit' | wc -l)
     good=$(grep -c '\.edit: refused, as it must be' "$log")
+    echo "$crate: $good of $tried refused in $SECONDS s"
     refused=$((refused + good))
     passed=$((passed + tried - good))
+    rm -rf "$work/crates/$crate/must-fail"
 done
 echo "$refused refused, $passed not"
 [ "$passed" -eq 0 ]
