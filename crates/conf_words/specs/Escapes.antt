@@ -1,5 +1,5 @@
 -- What is shown of a text whose characters may not all be shown as they are.
-use Rattle.std.specs.Prelude.{ℕ, nat_le, Bool, ◌||◌, ◌&&◌, ◌==◌, if◌then◌else◌, List, [], ◌∷◌, ◌++◌}
+use Rattle.std.specs.Prelude.{◌≡◌, ℕ, nat_le, Bool, ◌||◌, ◌&&◌, ◌==◌, if◌then◌else◌, List, [], ◌∷◌, ◌++◌}
 use Rattle.std.specs.Char.Escape.{escape_default}
 
 -- whether a character is one of these, from the first to the last
@@ -21,3 +21,7 @@ escaped_char c = if c == 0x5c || is_hidden c then escape_default c else c ∷ []
 abbrev pub escaped : List ℕ → List ℕ
 escaped [] = []
 escaped (c ∷ cs) = escaped_char c ++ escaped cs
+
+-- no two texts are shown alike
+abbrev pub AreShownApart : Type 0
+AreShownApart = (text other : List ℕ) → escaped text ≡ escaped other → text ≡ other

@@ -7,8 +7,8 @@ use std::alloc::{AllocError, Global};
 
 /// A text for a line that a person reads: a name of a file, or a word that the program was given. The characters that
 /// could change what a terminal shows are escaped, as `\u{1b}` and `\n`: C0, C1 and DEL, the separators of lines and
-/// paragraphs, and what turns the direction of a text. So is `\`, as `\\`, so that no two texts are shown alike. It
-/// fails only if memory runs out.
+/// paragraphs, and what turns the direction of a text. So is `\`, as `\\`: no two texts are shown alike
+/// ([`no_two_texts_are_shown_alike`](crate::no_two_texts_are_shown_alike)). It fails only if memory runs out.
 pub fn escaped(alloc: Global, text: &str) -> Result<String, AllocError>
     ensures { IfOk result (λ shown.
         string_bytes shown ≡ encode_utf8_all (escaped (chars text.now))) }

@@ -8,6 +8,7 @@ mod conditions;
 mod escapes;
 mod folder_word;
 mod invocation;
+mod laws;
 mod listing;
 mod read_words;
 mod refusal;
@@ -22,6 +23,7 @@ pub use invocation::{
     Comments, Conditions, Formatting, Grouping, Invocation, LogForm, MissingStore, MissingValue,
     NamesForm, RawEnd, Reporting, STANDARD_INPUT, TreeForm, Value, ValueForm, Wanted,
 };
+pub use laws::no_two_texts_are_shown_alike;
 pub use subcommand::Subcommand;
 pub use unparsed::Unparsed;
 pub use words::parse;
