@@ -7,14 +7,17 @@ use Rattle.conf_disk.specs.Image.{Image, IsImage, image_now}
 use Rattle.conf_disk.specs.Laws.{ReadingIsAnImage}
 use Rattle.conf_disk.specs.Models.{DiskModel}
 use Rattle.conf_disk.specs.Moments.{LeavesOnly}
-use Rattle.conf_disk.specs.declared.disk.Content.TheVariants.{Bytes}
+use Rattle.conf_disk.specs.declared.disk.Content.{Content}
+use Rattle.conf_disk.specs.declared.disk.Content.TheVariants.{Bytes, Missing}
 use Rattle.conf_disk.specs.declared.disk.Name.TheVariants.{Store}
 use Rattle.conf_disk.proofs.Moments.{LeavesOnly-joined, LeavesOnly-now, LeavesOnly-start, LeavesOnly-weaker}
 use Rattle.conf_journal.specs.Store.{store_limit}
 use Rattle.conf_state.specs.States.{Contents}
-use Rattle.conf_store.specs.Calls.{HasFailed}
+use Rattle.conf_state.specs.declared.fault.StoreFault.{StoreFault}
+use Rattle.conf_state.specs.declared.fault.StoreFault.TheVariants.{OutOfMemory as OutOfMemoryHere}
+use Rattle.conf_store.specs.Calls.{HasFailed, tree_named}
 use Rattle.conf_store.specs.Files.{FilesStay, IsNewBase, IsOldOrBase}
-use Rattle.conf_store.specs.Meaning.{FileMeans}
+use Rattle.conf_store.specs.Meaning.{FileMeans, empty_state}
 use Rattle.conf_store.specs.Opens.{MeantAtEntry, RecoversTo, RefusesBytes, RefusesOpening}
 use Rattle.conf_store.specs.View.{StoreView}
 use Rattle.conf_store.specs.declared.fault.OpenFault.{OpenFault}
@@ -23,7 +26,7 @@ use Rattle.conf_store.proofs.OpenLemmas.{image-meant, not-read}
 use Rattle.conf_store.proofs.RecoveryLemmas.{recovers-means}
 use Rattle.conf_words.specs.declared.invocation.TreeForm.{TreeForm}
 use Rattle.conf_tools.specs.Dropped.{HasNoRest, TellsDroppedOf}
-use Rattle.conf_tools.specs.Exports.{Finds, HasText, LacksText, disk_back}
+use Rattle.conf_tools.specs.Exports.{Finds, HasNoTextIn, HasText, IsTextIn, IsTextOf, IsTextOfFound, LacksText, disk_back}
 use Rattle.conf_tools.specs.Stores.{CannotOpen, OpensOn}
 use Rattle.conf_tools.specs.declared.stores.StoreToolFault.{StoreToolFault}
 use Rattle.conf_tools.specs.declared.stores.StoreToolFault.TheVariants.{Folder as InFolder, Open, Session, Export}
@@ -34,6 +37,62 @@ use Rattle.conf_tools.specs.declared.stores.StoreToolFault.TheVariants.{StoreExi
 failed-on : (before now later : ℕ) → HasFailed before now → now ≤ later → HasFailed before later
 failed-on before now later (inl more) le = inl (omega (arith, more, le))
 failed-on before now later (inr spent) le = inr spent
+
+-- ---- a file that was read
+
+-- bytes that were read mean what the file means
+pub bytes-mean : (file : Option (List ℕ)) (read : Vec ℕ Global) (state : Contents) (records dropped : ℕ)
+    → Tells file store_limit (Bytes read) → RecoversTo read.items state records dropped → FileMeans file state
+bytes-mean None read state records dropped tells recovers = absurd tells
+bytes-mean (Some bytes) read state records dropped tells recovers = recovers-means bytes state records dropped
+    (subst (λ b. RecoversTo b state records dropped) tells.0 recovers) tells.1
+
+-- a missing file means the empty state
+pub missing-means : (file : Option (List ℕ)) → Tells file store_limit Missing → FileMeans file empty_state
+missing-means None tells = refl
+missing-means (Some bytes) tells = absurd tells
+
+-- why the bytes of a file were refused
+pub bytes-none : (content : Content) (read : Vec ℕ Global) (name : List ℕ) (fault : OpenFault) → content ≡ Bytes read
+    → RefusesBytes read.items fault → HasNoTextIn content name (Open fault)
+bytes-none content read name fault is refused = (
+  λ file tells. not-read file read fault (subst (λ (content : Content). Tells file store_limit content) is tells) refused,
+  λ device. subst (RefusesBytes read.items) device refused,
+)
+
+-- what was found under a name in a state is its own
+pub found-named : {X : Type 0} (bytes : X → List ℕ) (form : TreeForm) (state : Contents) (name : List ℕ) (r : Result X StoreFault)
+    → IfOk r (λ text. IsTextOfFound form (tree_named state name) (bytes text))
+    → IfOk r (λ text. IsTextOf form state name (bytes text))
+found-named bytes form state name (Ok text) found = record { tree = found.0; named = found.1; is = found.2 }
+found-named bytes form state name (Err fault) found = tt
+
+module _ (content : Content) (name : List ℕ) (state : Contents)
+    (means : (file : Option (List ℕ)) → Tells file store_limit content → FileMeans file state) where
+  -- the text of a configuration that was found
+  pub exports-text : {X : Type 0} (bytes : X → List ℕ) (form : TreeForm) (exported : Result X StoreFault)
+      (r : Result X StoreToolFault) → IfOk r (λ text. exported ≡ Ok text)
+      → IfOk exported (λ text. IsTextOf form state name (bytes text))
+      → IfOk r (λ text. IsTextIn form content name (bytes text))
+  exports-text bytes form exported (Ok text) told exports = record {
+    state = state;
+    means = means;
+    exports = subst (λ r. IfOk r (λ text. IsTextOf form state name (bytes text))) told exports;
+  }
+  exports-text bytes form exported (Err fault) told exports = tt
+
+  -- or why there is none
+  pub exports-none : {X : Type 0} (exported : Result X StoreFault) (r : Result X StoreToolFault)
+      → IfErr r (λ fault. (of : StoreFault) × (exported ≡ Err of) × (fault ≡ Export of))
+      → IfErr exported (λ fault. (fault ≡ OutOfMemoryHere) ⊎ (tree_named state name ≡ Err fault))
+      → IfErr r (HasNoTextIn content name)
+  exports-none exported (Ok text) told why = tt
+  exports-none exported (Err fault) told why =
+      subst (HasNoTextIn content name) (sym told.2) (
+        state,
+        means,
+        subst (λ r. IfErr r (λ fault. (fault ≡ OutOfMemoryHere) ⊎ (tree_named state name ≡ Err fault))) told.1 why,
+      )
 
 module _ {D : Type 0} (model : DiskModel D) where
   -- the state of an open store
@@ -52,6 +111,38 @@ module _ {D : Type 0} (model : DiskModel D) where
     at_start = λ h. inl (means h);
   }
 
+  -- the text in a file that was read, which stays as it is
+  pub text-read : {X : Type 0} (bytes : X → List ℕ) (form : TreeForm) (old new : D) (name : List ℕ) (content : Content) (text : X)
+      → (model.honest → model.folder new ≡ model.folder old)
+      → (model.honest → Reads (model.folder old) Store store_limit content)
+      → IsTextIn form content name (bytes text) → HasText model form old new name (bytes text)
+  text-read bytes form old new name content text same reads is = record {
+    state = is.state;
+    finds = read-finds old new is.state same (λ h. is.means (bytes_under (model.folder old) Store) (reads h));
+    exports = is.exports;
+  }
+
+  -- or why it has none
+  pub lacks-read : (old new : D) (name : List ℕ) (content : Content) (fault : StoreToolFault)
+      → (model.honest → model.folder new ≡ model.folder old)
+      → (model.honest → Reads (model.folder old) Store store_limit content)
+      → HasNoTextIn content name fault → LacksText model old new name fault
+  lacks-read old new name content (InFolder fault) same reads none = absurd none
+  lacks-read old new name content (Open fault) same reads none = (
+    λ h. subst (λ (f : Folder). RefusesOpening fault (bytes_under f Store)) (sym (same h))
+        (none.0 (bytes_under (model.folder old) Store) (reads h)),
+    λ device. absurd (none.1 device),
+  )
+  lacks-read old new name content (Session fault) same reads none = absurd none
+  lacks-read old new name content (Export fault) same reads none = record {
+    state = none.0;
+    finds = read-finds old new none.0 same (λ h. none.1 (bytes_under (model.folder old) Store) (reads h));
+    why = none.2;
+  }
+  lacks-read old new name content (OnCondition fault) same reads none = absurd none
+  lacks-read old new name content (Refused fault) same reads none = absurd none
+  lacks-read old new name content StoreExists same reads none = absurd none
+
   -- what was refused at opening is refused of the file as it is then
   pub refused-now : (old new : D) (fault : OpenFault) → CannotOpen model old new fault → model.honest
       → RefusesOpening fault (bytes_under (model.folder new) Store)
@@ -62,19 +153,13 @@ module _ {D : Type 0} (model : DiskModel D) where
   refused-now old new Device cannot h = tt
   refused-now old new OutOfMemory cannot h = tt
 
-  -- ---- a file that was read
-
   -- the state of a file that was read as these bytes
   pub bytes-find : (disk : D) (read : Vec ℕ Global) (state : Contents) (records dropped : ℕ)
       → (model.honest → Reads (model.folder disk) Store store_limit (Bytes read))
       → RecoversTo read.items state records dropped → Finds model disk disk state
   bytes-find disk read state records dropped reads recovers =
-      read-finds disk disk state (λ h. refl) (λ h. bytes-mean (bytes_under (model.folder disk) Store) (reads h))
-    where
-      bytes-mean : (file : Option (List ℕ)) → Tells file store_limit (Bytes read) → FileMeans file state
-      bytes-mean None tells = absurd tells
-      bytes-mean (Some bytes) tells = recovers-means bytes state records dropped
-          (subst (λ b. RecoversTo b state records dropped) tells.0 recovers) tells.1
+      read-finds disk disk state (λ h. refl)
+      (λ h. bytes-mean (bytes_under (model.folder disk) Store) read state records dropped (reads h) recovers)
 
   -- nothing had to be told of it, where no bytes follow its last whole record
   pub bytes-whole : {E : Type 0} (hears : E → List ℕ → E → Type 0) (errors : E) (file : Option (List ℕ)) (read : Vec ℕ Global)

@@ -1,9 +1,11 @@
 -- What an export finds, and in which state.
-use Rattle.std.specs.Prelude.{◌≡◌, ◌⊎◌, ℕ, List, Result, Ok, Err, encode_utf8_all}
+use Rattle.std.specs.Prelude.{◌≡◌, ◌≢◌, ◌⊎◌, ℕ, List, Option, Result, Ok, Err, encode_utf8_all}
 use Rattle.yaml_grammar.specs.Trees.{Tree}
-use Rattle.conf_disk.specs.Folder.{bytes_under}
+use Rattle.conf_disk.specs.Folder.{Tells, bytes_under}
 use Rattle.conf_disk.specs.Models.{DiskModel}
+use Rattle.conf_disk.specs.declared.disk.Content.{Content}
 use Rattle.conf_disk.specs.declared.disk.Name.TheVariants.{Store}
+use Rattle.conf_journal.specs.Store.{store_limit}
 use Rattle.conf_state.specs.States.{Contents}
 use Rattle.conf_state.specs.declared.fault.StoreFault.{StoreFault}
 use Rattle.conf_state.specs.declared.fault.StoreFault.TheVariants.{OutOfMemory}
@@ -46,6 +48,12 @@ pub record IsTextOf (form : TreeForm) (state : Contents) (name bytes : List ℕ)
   pub named : tree_named state name ≡ Ok tree
   pub is : bytes ≡ encode_utf8_all (tree_text form tree)
 
+-- the same of the state that a file means which was read as this content
+pub record IsTextIn (form : TreeForm) (content : Content) (name bytes : List ℕ) : Type 0 where
+  pub state : Contents
+  pub means : (file : Option (List ℕ)) → Tells file store_limit content → FileMeans file state
+  pub exports : IsTextOf form state name bytes
+
 -- the same of the state that an export finds
 pub record HasText {D : Type 0} (model : DiskModel D) (form : TreeForm) (old new : D)
     (name bytes : List ℕ) : Type 0 where
@@ -59,6 +67,17 @@ pub record HasNoText {D : Type 0} (model : DiskModel D) (old new : D)
   pub state : Contents
   pub finds : Finds model old new state
   pub why : (fault ≡ OutOfMemory) ⊎ (tree_named state name ≡ Err fault)
+
+-- Why a file that was read as this content gives no text: it means nothing, memory ran out, or the state that it means
+-- has no configuration under the name.
+abbrev pub HasNoTextIn : Content → List ℕ → StoreToolFault → Type 0
+HasNoTextIn content name (Open fault) =
+    ((file : Option (List ℕ)) → Tells file store_limit content → RefusesOpening fault file)
+    × (fault ≢ OpenFaults.Device)
+HasNoTextIn content name (Export fault) =
+    (state : Contents) × ((file : Option (List ℕ)) → Tells file store_limit content → FileMeans file state)
+    × ((fault ≡ OutOfMemory) ⊎ (tree_named state name ≡ Err fault))
+HasNoTextIn content name fault = ⊥
 
 -- Why there is no text. At Device the device failed.
 abbrev pub LacksText : {D : Type 0} → DiskModel D → D → D → List ℕ → StoreToolFault → Type 0

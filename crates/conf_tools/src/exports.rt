@@ -1,5 +1,5 @@
 // The text of one configuration of a store, over any disk.
-ghost use Rattle.std.specs.Prelude.{◌≡◌, ◌≤◌, ◌⊎◌, IfOk, IfErr, Err, OnOk, string_bytes};
+ghost use Rattle.std.specs.Prelude.{◌≡◌, ◌≤◌, ◌⊎◌, IfOk, IfErr, Ok, Err, OnOk, string_bytes};
 ghost use Rattle.std.specs.Str.{chars};
 ghost use Rattle.conf_disk.specs.Folder.{Reads, bytes_under};
 ghost use Rattle.conf_disk.specs.Moments.{LeavesOnly};
@@ -8,7 +8,7 @@ ghost use Rattle.conf_store.specs.Calls.{HasFailed, tree_named};
 ghost use Rattle.conf_store.specs.Files.{FilesStay};
 ghost use Rattle.conf_store.specs.Opens.{MeantAtEntry};
 ghost use Rattle.conf_tools.specs.Dropped.{HasNoRest, TellsDropped, TellsDroppedOf};
-ghost use Rattle.conf_tools.specs.Exports.{HasText, IsTextOf, IsTextOfFound, LacksText, disk_back};
+ghost use Rattle.conf_tools.specs.Exports.{HasNoTextIn, HasText, IsTextIn, IsTextOf, IsTextOfFound, LacksText, disk_back};
 ghost use Rattle.conf_tools.specs.Reads.{tree_found, tree_or};
 
 use crate::dropped::open_told;
@@ -17,33 +17,17 @@ use crate::reads::{config_of, tree_text};
 use crate::stores::StoreToolFault;
 use conf_disk::{Content, Disk, DiskFault, Name, reading_is_an_image};
 use conf_history::config_in;
-use conf_journal::load;
-use conf_state::{State, StoreFault};
-use conf_store::{OpenFault, Store, read_state};
+use conf_journal::{STORE_LIMIT, load};
+use conf_state::StoreFault;
+use conf_store::{OpenFault, Store};
 use conf_words::TreeForm;
 use std::alloc::Global;
 use yaml_tree::Config;
 
-/// The configuration that a state has under a name, written in a form.
-///
-/// # Errors
-/// `BadName` if the name may not be used, `NoConfig` if no configuration has it, and `OutOfMemory`.
-fn text_in(alloc: Global, state: &State, name: &str, form: TreeForm) -> Result<String, StoreFault>
-    ensures ok { IfOk result (λ text.
-        IsTextOf form state.now (chars name.now) (string_bytes text)) }
-    ensures refused { IfErr result (λ fault.
-        (fault ≡ StoreFault.OutOfMemory) ⊎ (tree_named state.now (chars name.now) ≡ Err fault)) }
-{
-    match config_of(state.get(name), name) {
-        Ok(config) => Ok(tree_text(alloc, config.tree(), form)?),
-        Err(fault) => Err(fault),
-    }
-}
-
 /// The configuration that an open store has under a name, written in a form.
 ///
 /// # Errors
-/// Those of [`text_in`].
+/// `BadName` if the name may not be used, `NoConfig` if no configuration has it, and `OutOfMemory`.
 fn text_of<D: Disk>(
     alloc: Global,
     store: &Store<D>,
@@ -81,20 +65,58 @@ fn read_text<D: Disk + Drop>(
     ensures risen { D.model.failure_count disk ≤ D.model.failure_count (disk_back result) }
 {
     let mut disk = disk;
-    let state = match read_state(alloc, &mut disk) {
-        Ok((state, _)) => state,
-        Err(fault) => return Err((disk, StoreToolFault::Open(fault))),
+    match disk.read(alloc, Name::Store, STORE_LIMIT) {
+        Ok(content) => match text_in(alloc, content, name, form) {
+            Ok(text) => Ok((disk, text)),
+            Err(fault) => Err((disk, fault)),
+        },
+        Err(DiskFault::Device) => Err((disk, StoreToolFault::Open(OpenFault::Device))),
+        Err(DiskFault::OutOfMemory) => Err((disk, StoreToolFault::Open(OpenFault::OutOfMemory))),
+    }
+}
+
+/// The configuration under a name, written in a form, where `store.yaml` was read as `content`. Of the others only
+/// those are built that the records put or edit.
+///
+/// # Errors
+/// `Open` if what was read means nothing, and `Export` as [`export_text`] says.
+fn text_in(
+    alloc: Global,
+    content: Content,
+    name: &str,
+    form: TreeForm,
+) -> Result<String, StoreToolFault>
+    ensures ok { IfOk result (λ text. IsTextIn form content (chars name.now) (string_bytes text)) }
+    ensures refused { IfErr result (HasNoTextIn content (chars name.now)) }
+{
+    let bytes = match content {
+        Content::Bytes(bytes) => bytes,
+        Content::Missing => return export_or_fault(found_text(alloc, None, name, form)),
+        Content::TooLong => return Err(StoreToolFault::Open(OpenFault::NotAStore)),
     };
-    match text_in(alloc, &state, name, form) {
-        Ok(text) => Ok((disk, text)),
-        Err(fault) => Err((disk, StoreToolFault::Export(fault))),
+    let (config, _) = match config_in(alloc, bytes, name) {
+        Ok(read) => read,
+        Err(fault) => return Err(StoreToolFault::Open(fault)),
+    };
+    export_or_fault(found_text(alloc, config.as_ref(), name, form))
+}
+
+/// A text, or the fault of an export.
+fn export_or_fault(exported: Result<String, StoreFault>) -> Result<String, StoreToolFault>
+    ensures ok { IfOk result (λ text. exported ≡ Ok text) }
+    ensures fault { IfErr result (λ fault. (of : StoreFault) × (exported ≡ Err of)
+        × (fault ≡ StoreToolFault.Export of)) }
+{
+    match exported {
+        Ok(text) => Ok(text),
+        Err(fault) => Err(StoreToolFault::Export(fault)),
     }
 }
 
 /// The configuration that was found under a name, written in a form.
 ///
 /// # Errors
-/// Those of [`text_in`].
+/// Those of [`text_of`].
 fn found_text(
     alloc: Global,
     found: Option<&Config>,

@@ -1,13 +1,15 @@
--- What was read is the state that the file means.
-use Rattle.conf_tools.proofs.ExportLemmas.{read-finds}
+-- What was read is what the file holds, and a read changes nothing.
+use Rattle.std.specs.Prelude.{string_bytes}
+use Rattle.std.specs.Str.{chars}
+use Rattle.conf_tools.proofs.ExportLemmas.{lacks-read, text-read}
 use Rattle.conf_tools.proofs.exports.read_text.Goals as goal
 
 pub returns-in-Ok-text_in-clause-ok : goal.returns-in-Ok-text_in-clause-ok
 returns-in-Ok-text_in-clause-ok g c =
-    let d = g.D.Disk in
-    record {
-      state = c.in-Ok.state;
-      finds = read-finds d.model c.args.disk c.read_state.new.disk c.in-Ok.state (λ h. c.in-Ok.ensures.same h)
-          (λ h. c.in-Ok.ensures.means h);
-      exports = c.in-Ok-text_in.ensures.ok;
-    }
+    text-read g.D.Disk.model string_bytes c.args.form c.args.disk c.read.new.self (chars c.args.name.now) c.in-Ok.content
+    c.in-Ok-text_in.text (λ h. c.read.ensures.same h) (λ h. c.in-Ok.ensures.content h) c.in-Ok-text_in.ensures.ok
+
+pub returns-in-Err-clause-refused : goal.returns-in-Err-clause-refused
+returns-in-Err-clause-refused g c =
+    lacks-read g.D.Disk.model c.args.disk c.read.new.self (chars c.args.name.now) c.in-Ok.content
+    c.in-Err.fault (λ h. c.read.ensures.same h) (λ h. c.in-Ok.ensures.content h) c.in-Err.ensures.refused
